@@ -5,63 +5,53 @@ use Rattle.std.specs.Prelude.{IfErr, OnOk}
 use Rattle.std.specs.Io.KnownBytes.{Appends, Keeps}
 use Rattle.binfarce_bytes.specs.Format.{format_of}
 use Rattle.binfarce_bytes.specs.Refusal.{Refusal}
+use Rattle.binfarce.specs.Symbol.{Listed}
 use Rattle.binfarce_bytes.specs.declared.format.Format.{Format}
 use Rattle.binfarce_bytes.specs.declared.format.Format.TheVariants as formats
 use Rattle.binfarce_tools.specs.declared.SymbolTable.{SymbolTable}
 use Rattle.binfarce_tools.proofs.TablesRead.{format_of_first}
-use Rattle.binfarce_tools.specs.AllAnswer.{all_answer_of, all_symbols_answer, one_answer}
-use Rattle.binfarce_tools.specs.Answer.{NeedsMemory, answer_of, symbols_answer}
+use Rattle.binfarce_tools.specs.AllAnswer.{all_symbols_answer, one_answer}
+use Rattle.binfarce_tools.specs.Answer.{symbols_answer}
+use Rattle.binfarce_tools.specs.Selection.{answer_in, section_of}
 use Rattle.binfarce_tools.specs.Writing.{AppendsBeginning, IsDue, Leaves, Outcome, EndsAs, unknown_format, wrong_usage}
 use Rattle.binfarce_command.specs.Faults.{outcome_of}
 use Rattle.binfarce_command.specs.Files.{IsUnreadable, Refused, Reports, ReportsWhy, ShowsHeld, ShowsOne, heading, refused, shown}
 use Rattle.binfarce_command.specs.Headed.{pending, taken, writer_of}
 use Rattle.binfarce_command.specs.Input.{IsReadOf}
-use Rattle.binfarce_command.specs.Show.{Ends, IsShownText, MayEnd, Showing, TakesText, section_of, showing, showing_in}
+use Rattle.binfarce_command.specs.Show.{Fits, IsAskedText, IsShownText, MayEnd, MemoryFor, TakesText, answer_for}
 use Rattle.binfarce_command.specs.declared.fault.Fault.{Fault}
 use Rattle.binfarce_command.specs.declared.fault.Fault.TheVariants.{Unreadable, Input, OutOfMemory, Write, Unknown, Parse, TooLarge, NoSection, NoBytes, PastEnd, SharedAddresses, Missing}
 use Rattle.binfarce_command.specs.declared.headed.Headed.{Headed}
 use Rattle.binfarce_command.specs.declared.show.Asked.{Asked}
-use Rattle.binfarce_command.specs.declared.show.Kind.{Kind}
-use Rattle.binfarce_command.specs.declared.show.Kind.TheVariants.{Listing, Sums, Picture}
+
+-- the showing of a file that is read ends so
+abbrev Ends : Asked → (file : List ℕ) → Outcome → Type 0
+Ends asked file o = EndsAs (Fits asked.kind) (MemoryFor asked.symbols file) (answer_for asked.symbols file) o
 
 -- a file of an unknown format has no answer
-no_answer : (which : SymbolTable) (file section : List ℕ) → format_of file ≡ formats.Unknown → answer_of which file section ≡ None
-unfolding symbols_answer
-no_answer which file section is = ap (λ (f : Format). symbols_answer which f file section) is
+no_answer : (which : SymbolTable) (file : List ℕ) (section : Option (List ℕ)) → format_of file ≡ formats.Unknown → answer_in which file section ≡ None
+unfolding answer_in symbols_answer all_symbols_answer
+no_answer which file (Some section) is = ap (λ (f : Format). symbols_answer which f file section) is
+no_answer which file None is = ap (λ (f : Format). one_answer (all_symbols_answer which f file)) is
 
 unknown_too : (file bytes : List ℕ) → format_of file ≡ formats.Unknown → bytes ≡ take 8 file → format_of bytes ≡ formats.Unknown
 unknown_too file bytes unknown is = ap format_of is ∙ format_of_first file ∙ unknown
 
-no_all_answer : (which : SymbolTable) (file : List ℕ) → format_of file ≡ formats.Unknown → all_answer_of which file ≡ None
-unfolding all_symbols_answer
-no_all_answer which file is = ap (λ (f : Format). all_symbols_answer which f file) is
-
-no_showing : (section : Option (List ℕ)) (kind : Kind) (which : SymbolTable) (file : List ℕ) → format_of file ≡ formats.Unknown → (showing_in section kind which file).answer ≡ None
-no_showing (Some section) kind which file is = no_answer which file section is
-no_showing None Listing which file is = no_all_answer which file is
-no_showing None Sums which file is = ap one_answer (no_all_answer which file is)
-no_showing None Picture which file is = ap one_answer (no_all_answer which file is)
-
-no_shown : (asked : Asked) (file : List ℕ) → format_of file ≡ formats.Unknown → (showing asked file).answer ≡ None
-no_shown asked file is = no_showing (section_of asked.symbols) asked.kind asked.symbols.which file is
+no_shown : (asked : Asked) (file : List ℕ) → format_of file ≡ formats.Unknown → answer_for asked.symbols file ≡ None
+no_shown asked file is = no_answer asked.symbols.which file (section_of asked.symbols.selection) is
 
 -- a text of what was read of a file is one of the file
 pub text_of_file : (asked : Asked) (file bytes text : List ℕ) → IsReadOf file bytes → IsShownText asked bytes text → IsShownText asked file text
 text_of_file asked file bytes text (inl same) is = subst (λ (f : List ℕ). IsShownText asked f text) same is
-text_of_file asked file bytes text (inr (unknown, first)) is = let s = showing asked bytes in
-    absurd (subst (λ (answer : Option (Result s.Held Refusal)). IsDue s.IsText answer text) (no_shown asked bytes (unknown_too file bytes unknown first)) is)
+text_of_file asked file bytes text (inr (unknown, first)) is =
+    absurd (subst (λ (answer : Option (Result Listed Refusal)). IsDue (IsAskedText asked bytes) answer text) (no_shown asked bytes (unknown_too file bytes unknown first)) is)
 
 -- of a file of an unknown format that is reported, and nothing else
-ends_unknown : (s : Showing) (o : Outcome) → s.answer ≡ None → Ends s o → o ≡ unknown_format
-ends_unknown s o none ends = subst (λ (answer : Option (Result s.Held Refusal)). EndsAs s.IsMade s.NeedsMemory answer o) none ends
-
-unknown_ends : (s : Showing) (o : Outcome) → s.answer ≡ None → o ≡ unknown_format → Ends s o
-unknown_ends s o none is = subst (λ (answer : Option (Result s.Held Refusal)). EndsAs s.IsMade s.NeedsMemory answer o) (sym none) is
-
-ends_of_file : (asked : Asked) (file bytes : List ℕ) (o : Outcome) → IsReadOf file bytes → Ends (showing asked bytes) o → Ends (showing asked file) o
-ends_of_file asked file bytes o (inl same) ends = subst (λ (f : List ℕ). Ends (showing asked f) o) same ends
+ends_of_file : (asked : Asked) (file bytes : List ℕ) (o : Outcome) → IsReadOf file bytes → Ends asked bytes o → Ends asked file o
+ends_of_file asked file bytes o (inl same) ends = subst (λ (f : List ℕ). Ends asked f o) same ends
 ends_of_file asked file bytes o (inr (unknown, first)) ends =
-    unknown_ends (showing asked file) o (no_shown asked file unknown) (ends_unknown (showing asked bytes) o (no_shown asked bytes (unknown_too file bytes unknown first)) ends)
+    let EndsBy : List ℕ → Option (Result Listed Refusal) → Type 0 = λ f answer. EndsAs (Fits asked.kind) (MemoryFor asked.symbols f) answer o in
+    subst (EndsBy file) (sym (no_shown asked file unknown)) (subst (EndsBy bytes) (no_shown asked bytes (unknown_too file bytes unknown first)) ends)
 
 -- the showing of what was read of a file ends as that of the file may
 pub end_of_file : (P Q : Type 0) → (P → Q) → (asked : Asked) (file bytes : List ℕ) (o : Outcome) → IsReadOf file bytes → MayEnd P asked bytes o → MayEnd Q asked file o
@@ -82,7 +72,7 @@ no_usage fits memory (Some (Ok listed)) (inr (inr (never, is))) = cc
 never_wrong : (MayFail : Type 0) (asked : Asked) (file : List ℕ) → MayEnd MayFail asked file wrong_usage → ⊥
 never_wrong MayFail asked file (inl (may, is)) = cc
 never_wrong MayFail asked file (inr (inl is)) = cc
-never_wrong MayFail asked file (inr (inr ends)) = let s = showing asked file in no_usage s.IsMade s.NeedsMemory s.answer ends
+never_wrong MayFail asked file (inr (inr ends)) = no_usage (Fits asked.kind) (MemoryFor asked.symbols file) (answer_for asked.symbols file) ends
 
 -- what is left of a heading precedes the text
 pub after_heading : (old mid : Option (List ℕ)) (left text : List ℕ) → Appends (option_map (λ b. b ++ left) old) mid text → Appends old mid (left ++ text)
@@ -117,7 +107,7 @@ failed fault = Err fault
 
 module _ {W : Type 0} (contents : W → Option (List ℕ)) (asked : Asked) (MayFail : Type 0) (file : List ℕ) (old mid : Headed W) where
   -- a file whose showing failed
-  pub unshown : (e : Fault) → e ≢ Input → MayEnd MayFail asked file (outcome_of (Err e)) → TakesText (showing asked file) (taken contents old) (taken contents mid) (outcome_of (Err e)) → Leaves old mid (outcome_of (Err e))
+  pub unshown : (e : Fault) → e ≢ Input → MayEnd MayFail asked file (outcome_of (Err e)) → TakesText asked file (taken contents old) (taken contents mid) (outcome_of (Err e)) → Leaves old mid (outcome_of (Err e))
       → ShowsHeld asked MayFail file (pending old) (contents (writer_of old)) (contents (writer_of mid)) (taken contents mid) (Err e)
   unshown Write other ends (text, due, begins) leaves = (text, due, beginning_after (contents (writer_of old)) (taken contents mid) (pending old) text begins)
   unshown Unreadable other ends takes leaves = (other, ends, ap (λ (s : Headed W). contents (writer_of s)) leaves)
@@ -148,7 +138,7 @@ module _ {W : Type 0} (contents : W → Option (List ℕ)) (asked : Asked) (MayF
   Held new result = ShowsHeld asked MayFail file (pending old) (contents (writer_of old)) (contents (writer_of new)) (taken contents new) result
 
   -- the same, as `?` passes the fault on
-  pub show_failed : (e : Fault) (result : Result (Unit {0}) Fault) → IsErrAnd result (λ f. f ≡ e) → failed e ≢ failed Input → MayEnd MayFail asked file (outcome_of (Err e)) → TakesText (showing asked file) (taken contents old) (taken contents mid) (outcome_of (Err e)) → Leaves old mid (outcome_of (Err e))
+  pub show_failed : (e : Fault) (result : Result (Unit {0}) Fault) → IsErrAnd result (λ f. f ≡ e) → failed e ≢ failed Input → MayEnd MayFail asked file (outcome_of (Err e)) → TakesText asked file (taken contents old) (taken contents mid) (outcome_of (Err e)) → Leaves old mid (outcome_of (Err e))
       → Held mid result
   show_failed e (Ok x) is other ends takes leaves = absurd is
   show_failed e (Err f) is other ends takes leaves = subst (λ (f : Fault). Held mid (Err f)) (sym is) (unshown e (λ same. other (ap failed same)) ends takes leaves)

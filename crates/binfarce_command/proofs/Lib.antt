@@ -3,7 +3,6 @@ pub mod Streams
 pub mod Shown
 pub mod Lines
 pub mod AddressWords
-mod Sections
-mod AllPlaces
+mod Outcomes
 mod FileLoop
 mod FileFates

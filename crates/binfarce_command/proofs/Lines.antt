@@ -1,22 +1,16 @@
 -- How the lines of standard input are answered: where the file isn't read, and where its entries can be had.
 use Rattle.std.proofs.Common.{◌≡◌, inl, inr, ap, ℕ, Bool, false, List, [], Option, Some, None, Result, Ok, Err, IsErrAnd, refl, sym, subst, append-nil}
 use Rattle.std.specs.Io.KnownBytes.{Appends, Consumes}
-use Rattle.binfarce.specs.Format.{format_of}
 use Rattle.binfarce.specs.Refusal.{Refusal, refusal_of}
-use Rattle.binfarce.specs.SectionEntries.{AllSymbols}
 use Rattle.binfarce.specs.Symbol.{Entry, Listed}
 use Rattle.binfarce_addresses.specs.PlacesViews.{IsMadeOf}
 use Rattle.binfarce_addresses.specs.Stream.{Streams}
 use Rattle.binfarce_addresses.specs.declared.stream.LinesError.{LinesError}
 use Rattle.binfarce_tables.specs.declared.error.ReadError.{ReadError}
 use Rattle.binfarce_tables.specs.declared.error.ReadError.TheVariants.{Refused, Unreadable, OutOfMemory}
-use Rattle.binfarce_tools.specs.Answer.{answer_of, NeedsMemory}
-use Rattle.binfarce_tools.specs.AllAnswer.{all_answer_of, AllNeedsMemory, one_answer}
-use Rattle.binfarce_tools.specs.AllTables.{ReadsAllTables}
-use Rattle.binfarce_tools.specs.Tables.{ReadsTables}
-use Rattle.binfarce_tools.specs.declared.SymbolTable.{SymbolTable}
+use Rattle.binfarce_tools.specs.Tables.{ReadsAs}
 use Rattle.binfarce_tools.specs.declared.list.ListError.TheVariants as errors
-use Rattle.binfarce_command.specs.At.{AnswersLines, HasPlaces, IsUntouched, addresses_are_shared, lines_end}
+use Rattle.binfarce_command.specs.At.{AnswersLines, HasPlaces, IsUntouched, lines_end}
 use Rattle.binfarce_command.specs.Faults.{lines_fault, read_fault}
 use Rattle.binfarce_command.specs.declared.fault.Fault.{Fault}
 use Rattle.binfarce_command.specs.declared.fault.Fault.TheVariants.{OutOfMemory as Full}
@@ -45,62 +39,36 @@ untouched given old = (none_read given, none_written old)
     none_written None = tt
     none_written (Some taken) = sym (append-nil taken)
 
-not_read : (which : SymbolTable) (may : Type 0) (share : Bool) (bytes section : List ℕ) (base : ℕ) (given old : Option (List ℕ)) (e : ReadError) → ReadsTables may which bytes section (Err e)
-    → AnswersLines may share (NeedsMemory (format_of bytes) bytes) (answer_of which bytes section) base given given old old (Err (read_fault e))
-not_read which may share bytes section base given old (Refused p) reads =
-    let P : Option (Result Listed Refusal) → Type 0 = λ answer. IsMadeOf (NeedsMemory (format_of bytes) bytes) answer (Err (errors.Parse p)) in
-    let refused : P (Some (Err (refusal_of p))) = inl (p, refl, refl) in
-    inr (inr (inl (errors.Parse p, subst P (sym reads) refused, refl, untouched given old)))
-not_read which may share bytes section base given old Unreadable reads = inl (inl (reads, refl), untouched given old)
-not_read which may share bytes section base given old OutOfMemory reads = inl (inr refl, untouched given old)
-
 -- nothing was answered where the file isn't read
-pub unread : (which : SymbolTable) (may : Type 0) (share : Bool) (bytes section : List ℕ) (base : ℕ) (given old : Option (List ℕ)) (e : ReadError) (result : Result ℕ Fault) → ReadsTables may which bytes section (Err e) → IsErrAnd result (λ x. x ≡ read_fault e)
-    → AnswersLines may share (NeedsMemory (format_of bytes) bytes) (answer_of which bytes section) base given given old old result
-unread which may share bytes section base given old e (Ok x) reads is = absurd is
-unread which may share bytes section base given old e (Err x) reads is =
-    let P : Fault → Type 0 = λ f. AnswersLines may share (NeedsMemory (format_of bytes) bytes) (answer_of which bytes section) base given given old old (Err f) in
-    subst P (sym is) (not_read which may share bytes section base given old e reads)
-
--- lines that are answered of a file that may be unreadable in some cases are answered of one that may be so in more
-pub answers_as_well : (P Q : Type 0) → (P → Q) → (share : Bool) (memory : Result Listed Refusal → Type 0) (answer : Option (Result Listed Refusal)) (base : ℕ) (given left old new : Option (List ℕ)) (result : Result ℕ Fault)
-    → AnswersLines P share memory answer base given left old new result → AnswersLines Q share memory answer base given left old new result
-answers_as_well P Q more share memory answer base given left old new result (inl (inl (may, is), rest)) = inl (inl (more may, is), rest)
-answers_as_well P Q more share memory answer base given left old new result (inl (inr is, rest)) = inl (inr is, rest)
-answers_as_well P Q more share memory answer base given left old new result (inr answers) = inr answers
-
--- so of all sections
-not_read_all : (which : SymbolTable) (may : Type 0) (share : Bool) (bytes : List ℕ) (base : ℕ) (given old : Option (List ℕ)) (e : ReadError) → ReadsAllTables may which bytes (Err e)
-    → AnswersLines may share (AllNeedsMemory bytes) (one_answer (all_answer_of which bytes)) base given given old old (Err (read_fault e))
-not_read_all which may share bytes base given old (Refused p) reads =
-    let P : Option (Result AllSymbols Refusal) → Type 0 = λ answer. IsMadeOf (AllNeedsMemory bytes) (one_answer answer) (Err (errors.Parse p)) in
-    let refused : P (Some (Err (refusal_of p))) = inl (p, refl, refl) in
-    inr (inr (inl (errors.Parse p, subst P (sym reads) refused, refl, untouched given old)))
-not_read_all which may share bytes base given old Unreadable reads = inl (inl (reads, refl), untouched given old)
-not_read_all which may share bytes base given old OutOfMemory reads = inl (inr refl, untouched given old)
-
-pub unread_all : (which : SymbolTable) (may : Type 0) (share : Bool) (bytes : List ℕ) (base : ℕ) (given old : Option (List ℕ)) (e : ReadError) (result : Result ℕ Fault) → ReadsAllTables may which bytes (Err e) → IsErrAnd result (λ x. x ≡ read_fault e)
-    → AnswersLines may share (AllNeedsMemory bytes) (one_answer (all_answer_of which bytes)) base given given old old result
-unread_all which may share bytes base given old e (Ok x) reads is = absurd is
-unread_all which may share bytes base given old e (Err x) reads is =
-    let P : Fault → Type 0 = λ f. AnswersLines may share (AllNeedsMemory bytes) (one_answer (all_answer_of which bytes)) base given given old old (Err f) in
-    subst P (sym is) (not_read_all which may share bytes base given old e reads)
+pub unread : {T : Type 0} (AreTables : T → Type 0) (may : Type 0) (share : Bool) (memory : Result Listed Refusal → Type 0) (answer : Option (Result Listed Refusal)) (base : ℕ) (given old : Option (List ℕ)) (e : ReadError) (result : Result ℕ Fault)
+    → ReadsAs AreTables may answer (Err e) → IsErrAnd result (λ x. x ≡ read_fault e) → AnswersLines may share memory answer base given given old old result
+unread AreTables may share memory answer base given old e (Ok x) reads is = absurd is
+unread AreTables may share memory answer base given old e (Err x) reads is =
+    let P : Fault → Type 0 = λ f. AnswersLines may share memory answer base given given old old (Err f) in subst P (sym is) (by_error e reads)
+  where
+    by_error : (e : ReadError) → ReadsAs AreTables may answer (Err e) → AnswersLines may share memory answer base given given old old (Err (read_fault e))
+    by_error (Refused p) reads =
+        let P : Option (Result Listed Refusal) → Type 0 = λ answer. IsMadeOf memory answer (Err (errors.Parse p)) in
+        let refused : P (Some (Err (refusal_of p))) = inl (p, refl, refl) in
+        inr (inr (inl (errors.Parse p, subst P (sym reads) refused, refl, untouched given old)))
+    by_error Unreadable reads = inl (inl (reads, refl), untouched given old)
+    by_error OutOfMemory reads = inl (inr refl, untouched given old)
 
 -- the answering failed
 abbrev failed : Fault → Result ℕ Fault
 failed fault = Err fault
 
 -- nothing was answered of a file whose places can't be had
-no_places : (may : Type 0) (memory : Result Listed Refusal → Type 0) (answer : Option (Result AllSymbols Refusal)) (base : ℕ) (given old : Option (List ℕ)) (e : Fault) → HasPlaces memory answer (Err e)
-    → AnswersLines may (addresses_are_shared answer) memory (one_answer answer) base given given old old (Err e)
-no_places may memory answer base given old e (inl (shared, is)) = inr (inl (shared, ap failed is, untouched given old))
-no_places may memory answer base given old e (inr (error, made, is)) = inr (inr (inl (error, made, ap failed is, untouched given old)))
+no_places : (may : Type 0) (share : Bool) (memory : Result Listed Refusal → Type 0) (answer : Option (Result Listed Refusal)) (base : ℕ) (given old : Option (List ℕ)) (e : Fault) → HasPlaces share memory answer (Err e)
+    → AnswersLines may share memory answer base given given old old (Err e)
+no_places may share memory answer base given old e (inl (shared, is)) = inr (inl (shared, ap failed is, untouched given old))
+no_places may share memory answer base given old e (inr (error, made, is)) = inr (inr (inl (error, made, ap failed is, untouched given old)))
 
-pub without_places : (may : Type 0) (memory : Result Listed Refusal → Type 0) (answer : Option (Result AllSymbols Refusal)) (base : ℕ) (given old : Option (List ℕ)) (e : Fault) (result : Result ℕ Fault) → HasPlaces memory answer (Err e) → IsErrAnd result (λ x. x ≡ e)
-    → AnswersLines may (addresses_are_shared answer) memory (one_answer answer) base given given old old result
-without_places may memory answer base given old e (Ok x) has is = absurd is
-without_places may memory answer base given old e (Err x) has is =
-    let P : Fault → Type 0 = λ f. AnswersLines may (addresses_are_shared answer) memory (one_answer answer) base given given old old (Err f) in subst P (sym is) (no_places may memory answer base given old e has)
+pub without_places : (may : Type 0) (share : Bool) (memory : Result Listed Refusal → Type 0) (answer : Option (Result Listed Refusal)) (base : ℕ) (given old : Option (List ℕ)) (e : Fault) (result : Result ℕ Fault) → HasPlaces share memory answer (Err e) → IsErrAnd result (λ x. x ≡ e)
+    → AnswersLines may share memory answer base given given old old result
+without_places may share memory answer base given old e (Ok x) has is = absurd is
+without_places may share memory answer base given old e (Err x) has is =
+    let P : Fault → Type 0 = λ f. AnswersLines may share memory answer base given given old old (Err f) in subst P (sym is) (no_places may share memory answer base given old e has)
 
 -- nothing was answered where an allocation failed
 pub no_memory : (may : Type 0) (share : Bool) (memory : Result Listed Refusal → Type 0) (answer : Option (Result Listed Refusal)) (base : ℕ) (given old : Option (List ℕ)) (result : Result ℕ Fault) → IsErrAnd result (λ x. x ≡ Full)

@@ -1,8 +1,19 @@
--- Addresses by the function symbols of all sections.
-use Rattle.std.proofs.Common.{◌≡◌, ◌≢◌, ℕ, Bool, Result, Ok, Err, IsErrAnd, refl, sym, subst}
+-- How a call ended that failed before its first write.
+use Rattle.std.proofs.Common.{◌≡◌, ◌≢◌, ◌∙◌, inl, inr, ℕ, Bool, true, List, Option, Some, None, Result, Ok, Err, IsErrAnd, refl, sym, ap, subst}
+use Rattle.binfarce.specs.Refusal.{Refusal, refusal_of}
+use Rattle.binfarce.specs.SectionEntries.{AllSymbols}
+use Rattle.binfarce.specs.Symbol.{Listed}
+use Rattle.binfarce_addresses.specs.PlacesViews.{IsMadeOf}
+use Rattle.binfarce_tables.specs.declared.error.ReadError.{ReadError}
+use Rattle.binfarce_tables.specs.declared.error.ReadError.TheVariants as reading
+use Rattle.binfarce_tools.specs.AllAnswer.{all_answer_of, as_one, one_answer}
+use Rattle.binfarce_tools.specs.Selection.{addresses_are_shared, answer_in, share_in}
+use Rattle.binfarce_tools.specs.Tables.{ReadsAs}
+use Rattle.binfarce_tools.specs.declared.SymbolTable.{SymbolTable}
+use Rattle.binfarce_tools.specs.declared.list.ListError.TheVariants as listing
 use Rattle.binfarce_tools.specs.Writing.{Fails}
-use Rattle.binfarce_command.specs.At.{lines_outcome}
-use Rattle.binfarce_command.specs.Faults.{outcome_of}
+use Rattle.binfarce_command.specs.At.{HasPlaces, IsShared, lines_outcome}
+use Rattle.binfarce_command.specs.Faults.{list_fault, outcome_of, read_fault}
 use Rattle.binfarce_command.specs.declared.fault.Fault.{Fault}
 use Rattle.binfarce_command.specs.declared.fault.Fault.TheVariants.{Unreadable, Input, OutOfMemory, Write, Unknown, Parse, TooLarge, NoSection, NoBytes, PastEnd, SharedAddresses, Missing}
 
@@ -28,3 +39,34 @@ still_so failed e (Err f) is other = subst (λ (f : Fault). Fails failed failed 
 pub lines_still_so : (failed : Bool) (e : Fault) (result : Result ℕ Fault) → IsErrAnd result (λ f. f ≡ e) → e ≢ Write → Fails failed failed (lines_outcome result)
 lines_still_so failed e (Ok x) is other = absurd is
 lines_still_so failed e (Err f) is other = still_so failed e (Err f) is other
+
+-- sections that share addresses are those of a file that is answered
+shared_answer : (which : SymbolTable) (file : List ℕ) (section : Option (List ℕ)) → share_in which file section ≡ true → (listed : Listed) × (answer_in which file section ≡ Some (Ok listed))
+unfolding answer_in
+shared_answer which file (Some name) shared = absurd cc
+shared_answer which file None shared = by_answer (all_answer_of which file) shared
+  where
+    by_answer : (answer : Option (Result AllSymbols Refusal)) → addresses_are_shared answer ≡ true → (listed : Listed) × (one_answer answer ≡ Some (Ok listed))
+    by_answer None shared = absurd cc
+    by_answer (Some (Err refusal)) shared = absurd cc
+    by_answer (Some (Ok all)) shared = (as_one all, refl)
+
+-- so they aren't refused, and where they aren't read it is for another reason
+pub shared_unread : {T : Type 0} (AreTables : T → Type 0) (MayFail : Type 0) (which : SymbolTable) (file : List ℕ) (section : Option (List ℕ)) (e : ReadError) (result : Result (Unit {0}) Fault)
+    → share_in which file section ≡ true → ReadsAs AreTables MayFail (answer_in which file section) (Err e) → IsErrAnd result (λ f. f ≡ read_fault e) → IsShared MayFail result
+shared_unread AreTables MayFail which file section e (Ok x) shared reads is = absurd is
+shared_unread AreTables MayFail which file section (reading.Refused p) (Err f) shared reads is =
+    let answered = shared_answer which file section shared in
+    let never : Path (Option (Result Listed Refusal)) (Some (Ok answered.0)) (Some (Err (refusal_of p))) = sym answered.1 ∙ reads in absurd cc
+shared_unread AreTables MayFail which file section reading.Unreadable (Err f) shared reads is = inr (inl (reads, is))
+shared_unread AreTables MayFail which file section reading.OutOfMemory (Err f) shared reads is = inr (inr is)
+
+-- and their places aren't had
+pub shared_places : (MayFail : Type 0) (which : SymbolTable) (file : List ℕ) (section : Option (List ℕ)) (memory : Result Listed Refusal → Type 0) (e : Fault) (result : Result (Unit {0}) Fault)
+    → share_in which file section ≡ true → HasPlaces (share_in which file section) memory (answer_in which file section) (Err e) → IsErrAnd result (λ f. f ≡ e) → IsShared MayFail result
+shared_places MayFail which file section memory e (Ok x) shared has is = absurd is
+shared_places MayFail which file section memory e (Err f) shared (inl (share, same)) is = inl (is ∙ same)
+shared_places MayFail which file section memory e (Err f) shared (inr (error, made, same)) is =
+    let answered = shared_answer which file section shared in
+    let full : error ≡ listing.OutOfMemory = subst (λ (answer : Option (Result Listed Refusal)). IsMadeOf memory answer (Err error)) answered.1 made in
+    inr (inr (is ∙ same ∙ ap list_fault full))

@@ -2,18 +2,15 @@
 use Rattle.std.specs.Prelude.{◌≡◌, ◌⊎◌, ℕ, Bool, true, false, List, [], ◌∷◌, Option, Some, None, Result, Ok, Err}
 use Rattle.std.specs.Io.KnownBytes.{Appends, Consumes}
 use Rattle.binfarce.specs.Refusal.{Refusal}
-use Rattle.binfarce.specs.SectionEntries.{AllSymbols}
 use Rattle.binfarce.specs.Symbol.{Entry, Listed}
 use Rattle.binfarce_addresses.specs.Address.{address_of}
 use Rattle.binfarce_addresses.specs.PlacesViews.{IsMadeOf}
 use Rattle.binfarce_addresses.specs.Stream.{Streams}
 use Rattle.binfarce_addresses.specs.declared.stream.LinesError.{LinesError}
 use Rattle.binfarce_tools.specs.declared.list.ListError.{ListError}
-use Rattle.binfarce_tools.specs.AllAnswer.{all_answer_of, one_answer}
-use Rattle.binfarce_tools.specs.declared.SymbolTable.{SymbolTable}
+use Rattle.binfarce_tools.specs.Selection.{section_of, share_in}
 use Rattle.binfarce_tools.specs.Writing.{Outcome, written}
 use Rattle.binfarce_command.specs.Faults.{lines_fault, list_fault, outcome_of}
-use Rattle.binfarce_command.specs.Show.{section_of}
 use Rattle.binfarce_command.specs.declared.show.Symbols.{Symbols}
 use Rattle.binfarce_words.specs.Words.{Wrong, no_address}
 use Rattle.binfarce_command.specs.declared.fault.Fault.{Fault}
@@ -47,29 +44,19 @@ abbrev pub lines_outcome : Result ℕ Fault → Outcome
 lines_outcome (Ok count) = written
 lines_outcome (Err fault) = outcome_of (Err fault)
 
--- an answer is that of an object file, whose sections share addresses
-abbrev pub addresses_are_shared : Option (Result AllSymbols Refusal) → Bool
-addresses_are_shared None = false
-addresses_are_shared (Some (Err refusal)) = false
-addresses_are_shared (Some (Ok all)) = all.shares_addresses
-
 -- the function symbols that are taken share addresses: those of all sections of an object file
-abbrev pub share_in : (section : Option (List ℕ)) → SymbolTable → (file : List ℕ) → Bool
-share_in (Some section) which file = false
-share_in None which file = addresses_are_shared (all_answer_of which file)
-
 abbrev pub share_addresses : Symbols → (file : List ℕ) → Bool
-share_addresses symbols file = share_in (section_of symbols) symbols.which file
+share_addresses symbols file = share_in symbols.which file (section_of symbols.selection)
 
 -- so they aren't looked up: that is reported, unless the file can't be read, which is reported only where MayFail says so, or an allocation failed
 abbrev pub IsShared : {T : Type 0} → (MayFail : Type 0) → Result T Fault → Type 0
 IsShared MayFail (Ok value) = ⊥
 IsShared MayFail (Err e) = (e ≡ SharedAddresses) ⊎ (MayFail × (e ≡ Unreadable)) ⊎ (e ≡ OutOfMemory)
 
--- what is made of a file whose answer for all sections is this: places of its entries, unless it is an object file
-abbrev pub HasPlaces : (Result Listed Refusal → Type 0) → Option (Result AllSymbols Refusal) → Result (List Entry) Fault → Type 0
-HasPlaces NeedsMemory answer (Ok entries) = (addresses_are_shared answer ≡ false) × IsMadeOf NeedsMemory (one_answer answer) (Ok entries)
-HasPlaces NeedsMemory answer (Err e) = ((addresses_are_shared answer ≡ true) × (e ≡ SharedAddresses)) ⊎ ((error : ListError) × IsMadeOf NeedsMemory (one_answer answer) (Err error) × (e ≡ list_fault error))
+-- what is made of a file whose answer is this: places of its entries, unless they share addresses
+abbrev pub HasPlaces : (share : Bool) → (Result Listed Refusal → Type 0) → Option (Result Listed Refusal) → Result (List Entry) Fault → Type 0
+HasPlaces share NeedsMemory answer (Ok entries) = (share ≡ false) × IsMadeOf NeedsMemory answer (Ok entries)
+HasPlaces share NeedsMemory answer (Err e) = ((share ≡ true) × (e ≡ SharedAddresses)) ⊎ ((error : ListError) × IsMadeOf NeedsMemory answer (Err error) × (e ≡ list_fault error))
 
 -- how the lines of standard input are answered, of a file whose answer is this: the file can't be read, which is reported only where MayFail says so, or an allocation failed; its function symbols share addresses; the file is refused; or its entries answer the lines
 abbrev pub AnswersLines : Type 0 → (share : Bool) → (Result Listed Refusal → Type 0) → Option (Result Listed Refusal) → ℕ → Option (List ℕ) → Option (List ℕ) → Option (List ℕ) → Option (List ℕ) → Result ℕ Fault → Type 0

@@ -28,6 +28,7 @@ use crate::show::{Asked, Kind, Symbols};
 use binfarce_bytes::source::Source;
 use binfarce_filtering::stream::{StreamError, filter_stream};
 use binfarce_tools::SymbolTable;
+use binfarce_tools::tables::Selection;
 use binfarce_words::words::{Call, Command, Given, Wrong, read_call};
 use std::alloc::Global;
 use std::env;
@@ -243,12 +244,12 @@ fn symbols_of<'a>(given: &Given<'a>) -> Symbols<'a> {
     } else {
         SymbolTable::Symtab
     };
-    let section = if given.all {
-        None
+    let selection = if given.all {
+        Selection::All
     } else {
-        Some(given.section.unwrap_or(".text"))
+        Selection::Section(given.section.unwrap_or(".text"))
     };
-    Symbols { which, section }
+    Symbols { which, selection }
 }
 
 // The first operand.

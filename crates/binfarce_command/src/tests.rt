@@ -6,6 +6,7 @@ use crate::files::{System, show_files};
 use crate::headed::Headed;
 use crate::show::{Asked, Kind, Symbols};
 use binfarce_tools::SymbolTable;
+use binfarce_tools::tables::Selection;
 use std::alloc::Global;
 use std::fmt::Write;
 use std::io::{self, Error, ErrorKind};
@@ -14,7 +15,7 @@ use test_samples::streams::{Held, Opened, Source, Target};
 
 const TABLES: Symbols<'static> = Symbols {
     which: SymbolTable::Symtab,
-    section: Some(".text"),
+    selection: Selection::Section(".text"),
 };
 
 // The path of each file, its bytes, and how it ends.

@@ -12,11 +12,12 @@ ghost use Rattle.binfarce_list.specs.Program.{outcome_of, is_usage};
 ghost use Rattle.binfarce_list.specs.declared.program.Fault.TheVariants.{Usage};
 
 use binfarce_bytes::source::Source;
+use binfarce_tools::SymbolTable;
 use binfarce_tools::list::{ListError, Out, list, list_tables};
 use binfarce_tools::program::{
     Failure, file_and_section, is_read_at_offsets, read_whole, tables_failure,
 };
-use binfarce_tools::tables::read;
+use binfarce_tools::tables::{Selection, read};
 use std::alloc::Global;
 use std::io::{Read, Write};
 use thiserror::Error;
@@ -100,6 +101,7 @@ pub fn run<F: Read + Source, W: Write>(
 /// The same of a source that is read at offsets: only its headers, its symbol table and the names are read.
 ///
 /// `File` where the source can't be read at offsets, or a read of it fails; `List` as in `run`.
+#[tactic(auto, unfolding(binfarce_tools::specs::Selection::answer_in, binfarce_tools::specs::Selection::MemoryIn))]
 pub fn run_at<S: Source, W: Write>(
     alloc: Global,
     source: &S,
@@ -115,7 +117,12 @@ pub fn run_at<S: Source, W: Write>(
     ensures fails { Fails (has_failed out.old) (has_failed out.new) (outcome_of result) }
     ensures leaves { Leaves out.old out.new (outcome_of result) }
 {
-    let tables = match read(alloc, source, section) {
+    let tables = match read(
+        alloc,
+        source,
+        SymbolTable::Symtab,
+        Selection::Section(section),
+    ) {
         Ok(tables) => tables,
         Err(e) => return Err(Fault::from(tables_failure(e))),
     };

@@ -1,7 +1,7 @@
 //! Listings and reports.
 
+pub mod all_tables;
 pub mod dynamic_tables;
-pub mod list_everything;
 pub mod list_text;
 pub mod listing;
 pub mod sizes;

@@ -2,10 +2,10 @@
 
 use binfarce_tables::ReadError;
 use binfarce_tools::SymbolTable;
-use binfarce_tools::all::{list_all, map_all, read_all, report_all};
-use binfarce_tools::list::{Out, list};
-use binfarce_tools::map::map;
-use binfarce_tools::report::report;
+use binfarce_tools::list::{Out, list, list_tables};
+use binfarce_tools::map::{map, map_tables};
+use binfarce_tools::report::{report, report_tables};
+use binfarce_tools::tables::{Selection, read};
 use std::alloc::{AllocError, Global};
 use test_samples::programs::text_of;
 
@@ -54,7 +54,7 @@ pub fn text_of_all(alloc: Global, words: &str, file: &[u8]) -> Result<String, Al
         "dynsym" => SymbolTable::Dynsym,
         _ => SymbolTable::Symtab,
     };
-    let tables = match read_all(alloc, &file, which) {
+    let tables = match read(alloc, &file, which, Selection::All) {
         Ok(tables) => tables,
         Err(ReadError::Refused(error)) => return format!(in alloc; "{error}"),
         Err(error) => return format!(in alloc; "{error:?}"),
@@ -62,15 +62,15 @@ pub fn text_of_all(alloc: Global, words: &str, file: &[u8]) -> Result<String, Al
     let mut out = Out::new(Vec::new(alloc));
     match what {
         "list" => {
-            let ended = list_all(alloc, &tables, &mut out);
+            let ended = list_tables(alloc, &tables, &mut out);
             text_of(alloc, ended, out.into_inner())
         }
         "report" => {
-            let ended = report_all(alloc, &tables, &mut out);
+            let ended = report_tables(alloc, &tables, &mut out);
             text_of(alloc, ended, out.into_inner())
         }
         _ => {
-            let ended = map_all(alloc, &tables, &mut out);
+            let ended = map_tables(alloc, &tables, &mut out);
             text_of(alloc, ended, out.into_inner())
         }
     }
@@ -78,7 +78,7 @@ pub fn text_of_all(alloc: Global, words: &str, file: &[u8]) -> Result<String, Al
 
 /// Whether the sections share their addresses, and which of some numbers no section has.
 pub fn shares_addresses(alloc: Global, file: &[u8]) -> Result<String, AllocError> {
-    let tables = match read_all(alloc, &file, SymbolTable::Symtab) {
+    let tables = match read(alloc, &file, SymbolTable::Symtab, Selection::All) {
         Ok(tables) => tables,
         Err(error) => return format!(in alloc; "{error:?}"),
     };

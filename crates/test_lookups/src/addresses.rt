@@ -5,8 +5,9 @@ use crate::words::{known, number, push_hex, push_number, push_words};
 use binfarce_addresses::at::{Places, at, at_tables};
 use binfarce_addresses::parse_address;
 use binfarce_addresses::stream::{LinesError, answer_lines, push_lines as push_lines_of};
+use binfarce_tools::SymbolTable;
 use binfarce_tools::list::Out;
-use binfarce_tools::tables::read;
+use binfarce_tools::tables::{Selection, read};
 use std::alloc::Global;
 use std::cell::Cell;
 use std::io::{self, ErrorKind, Read, Write};
@@ -45,7 +46,12 @@ pub(crate) fn push_lines(of: &Asking<'_>, text: &mut Vec<u8>) -> io::Result<()> 
         return write!(text, "{e}");
     }
     let mut out = Out::new(Vec::new(of.alloc));
-    if let Ok(tables) = read(of.alloc, &of.file, ".text") {
+    if let Ok(tables) = read(
+        of.alloc,
+        &of.file,
+        SymbolTable::Symtab,
+        Selection::Section(".text"),
+    ) {
         let _ = at_tables(of.alloc, &tables, base, &addresses, &mut out);
     }
     if out.into_inner() != written {

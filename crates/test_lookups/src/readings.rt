@@ -8,8 +8,7 @@ use binfarce_bytes::source::Source;
 use binfarce_sections::error::SectionError;
 use binfarce_tables::{elf32, elf64, macho, pe};
 use binfarce_tools::SymbolTable;
-use binfarce_tools::all::read_all;
-use binfarce_tools::tables::read_by;
+use binfarce_tools::tables::{Selection, read as read_tables};
 use std::io::{self, ErrorKind, Write};
 use test_reading::{Asked, parts, whole};
 use test_samples::files::File;
@@ -68,10 +67,10 @@ fn read<S: Source>(of: &Asking<'_>, source: &S, reading: Reading<'_>) -> Result<
         Reading::Sections => read_sections(of, source)?,
         Reading::Asked(asked) => return parts(of.alloc, of.kind, source, asked).ended,
         Reading::Functions(which, name) => {
-            let _ = read_by(of.alloc, source, which, name)?;
+            let _ = read_tables(of.alloc, source, which, Selection::Section(name))?;
         }
         Reading::AllFunctions(which) => {
-            let _ = read_all(of.alloc, source, which)?;
+            let _ = read_tables(of.alloc, source, which, Selection::All)?;
         }
     }
     Ok(())

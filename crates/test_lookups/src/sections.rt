@@ -5,8 +5,8 @@ use crate::words::{end_line, push_number, push_runs, push_words, words_of};
 use binfarce_sections::bytes::{section_bytes, write_section};
 use binfarce_sections::list::list_sections;
 use binfarce_tools::SymbolTable;
-use binfarce_tools::all::read_all;
 use binfarce_tools::list::{Out, Sink};
+use binfarce_tools::tables::{Selection, read};
 use std::io::{self, Write};
 use test_reading::{Asked, parts, whole};
 use test_samples::first_bytes;
@@ -38,7 +38,7 @@ pub(crate) fn push_shown(
 
 /// Adds the names of sections 0, 1, 2 and of the greatest number, and whether they share addresses.
 pub(crate) fn push_names(of: &Asking<'_>, text: &mut Vec<u8>) -> io::Result<()> {
-    let Ok(tables) = read_all(of.alloc, &of.file, SymbolTable::Symtab) else {
+    let Ok(tables) = read(of.alloc, &of.file, SymbolTable::Symtab, Selection::All) else {
         return push_words(text, "refused");
     };
     for number in [0, 1, 2, u32::MAX] {

@@ -30,6 +30,7 @@ use crate::erased::binfarce_command::show::{Asked, Kind, Symbols};
 use crate::erased::binfarce_bytes::source::Source;
 use crate::erased::binfarce_filtering::stream::{StreamError, filter_stream};
 use crate::erased::binfarce_tools::SymbolTable;
+use crate::erased::binfarce_tools::tables::Selection;
 use crate::erased::binfarce_words::words::{Call, Command, Given, Wrong, read_call};
 use crate::shim::alloc::Global;
 use crate::shim::env;
@@ -245,12 +246,12 @@ fn symbols_of<'a>(given: &Given<'a>) -> Symbols<'a> {
     } else {
         SymbolTable::Symtab
     };
-    let section = if given.all {
-        None
+    let selection = if given.all {
+        Selection::All
     } else {
-        Some(given.section.unwrap_or(".text"))
+        Selection::Section(given.section.unwrap_or(".text"))
     };
-    Symbols { which, section }
+    Symbols { which, selection }
 }
 
 // The first operand.

@@ -2,7 +2,6 @@
 
 //! Listings of the function symbols of executables, and reports and pictures of their sizes by crate.
 
-pub mod all;
 pub mod functions;
 mod head;
 pub mod list;

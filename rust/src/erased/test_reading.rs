@@ -129,7 +129,7 @@ fn functions_of<S: Source>(alloc: Global, kind: File, source: &S, name: Option<&
                 let parts = crate::erased::binfarce_tables::elf64::read_all(alloc, source, order, SYMTAB)?;
                 return Ok(text_of_all(alloc, parts.functions())?);
             };
-            let parts = crate::erased::binfarce_tables::elf64::read(alloc, source, order, name)?;
+            let parts = crate::erased::binfarce_tables::elf64::read_by(alloc, source, order, SYMTAB, name)?;
             let (functions, size) = parts.functions();
             Ok(text_of(alloc, functions, size)?)
         }

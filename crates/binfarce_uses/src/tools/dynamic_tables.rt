@@ -5,13 +5,18 @@ ghost use Rattle.binfarce_tools.specs.declared.SymbolTable.TheVariants.{Dynsym};
 use binfarce_bytes::source::Source;
 use binfarce_tables::ReadError;
 use binfarce_tools::SymbolTable;
-use binfarce_tools::tables::{Tables, read_by};
+use binfarce_tools::tables::{Selection, Tables, read};
 use std::alloc::Global;
 
 /// The tables of the function symbols of `.text` in the dynamic symbol table.
 pub fn dynamic_tables<S: Source>(alloc: Global, source: &S) -> Result<Tables<'static>, ReadError>
     ensures { (file : List ℕ) → S.bytes source.now ≡ Some file
-        → ReadsTables (S.may_fail source.now ≡ true) Dynsym file (codes ".text") result }
+        → ReadsTables (S.may_fail source.now ≡ true) Dynsym file (Some (codes ".text")) result }
 {
-    read_by(alloc, source, SymbolTable::Dynsym, ".text")
+    read(
+        alloc,
+        source,
+        SymbolTable::Dynsym,
+        Selection::Section(".text"),
+    )
 }

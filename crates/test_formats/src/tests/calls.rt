@@ -6,11 +6,10 @@ use binfarce_bytes::parser::{number_at, slice_at};
 use binfarce_tables::begun::Begun;
 use binfarce_tables::part;
 use binfarce_tools::SymbolTable;
-use binfarce_tools::all::{read_all, sums_of_all};
 use binfarce_tools::functions::functions_of_file;
 use binfarce_tools::list::Out;
 use binfarce_tools::report::{sums_of_file, sums_of_tables};
-use binfarce_tools::tables::read;
+use binfarce_tools::tables::{Selection, read};
 use binfarce_tools::writing::write_whole;
 use std::test::Fail;
 use test_samples::elf::ELF64_LITTLE;
@@ -49,12 +48,23 @@ fn sums(rt: HostRuntime) -> Result<(), Fail> {
     let file = ELF64_LITTLE.as_slice();
     let sums = sums_of_file(rt.alloc(), file, ".text")?;
     assert_eq!(rt; (sums.total, sums.section_size), (16, 32));
-    let tables = read(rt.alloc(), &file, ".text").map_err(|_| "not read")?;
+    let tables = read(
+        rt.alloc(),
+        &file,
+        SymbolTable::Symtab,
+        Selection::Section(".text"),
+    )
+    .map_err(|_| "not read")?;
     let sums = sums_of_tables(rt.alloc(), &tables)?;
     assert_eq!(rt; (sums.total, sums.section_size), (16, 32));
-    let tables = read_all(rt.alloc(), &file, SymbolTable::Symtab).map_err(|_| "not read")?;
-    let sums = sums_of_all(rt.alloc(), &tables)?;
+    let tables = read(rt.alloc(), &file, SymbolTable::Symtab, Selection::All).map_err(
+        |_| "not read",
+    )?;
+    let sums = sums_of_tables(rt.alloc(), &tables)?;
     assert_eq!(rt; (sums.total, sums.section_size), (32, 32));
+    let (mut functions, size) = tables.functions(rt.alloc())?.into_list();
+    assert_eq!(rt; functions.next().map(|f| f.address), Some(0x1000));
+    assert_eq!(rt; size, None);
     let (mut functions, size) = functions_of_file(rt.alloc(), file, ".text")?;
     assert_eq!(rt; functions.next().map(|f| f.address), Some(0x1000));
     assert_eq!(rt; size, 32);

@@ -8,7 +8,6 @@ use crate::erased::binfarce_addresses::digits::{push_address, push_offset};
 use crate::erased::binfarce_addresses::names::{Names, name_of, names_of};
 use crate::erased::binfarce_addresses::ranges::{AddressRange, Found, Ranges};
 use crate::erased::binfarce::FunctionSymbol;
-use crate::erased::binfarce_tools::all::AllTables;
 use crate::erased::binfarce_tools::functions::{Functions, functions_of_file};
 use crate::erased::binfarce_tools::list::{ListError, Sink};
 use crate::erased::binfarce_tools::tables::Tables;
@@ -37,26 +36,16 @@ impl<'a> Places<'a> {
         Ok(places)
     }
 
-    /// The places of the function symbols of a file's tables: for the section that they were read for.
+    /// The places of the function symbols of a file's tables: for the selection that they were read for. The sections of
+    /// an object file share addresses (`Tables::shares_addresses`), so with all of them an address may symbolize to another
+    /// section's symbol.
     ///
     /// # Errors
     ///
     /// As `of_file`.
     pub fn of_tables(alloc: Global, tables: &'a Tables<'_>) -> Result<Places<'a>, ListError> {
-        let (functions, _) = tables.functions(alloc)?;
+        let (functions, _) = tables.functions(alloc)?.into_list();
         let places = places_of(alloc, functions)?;
-        Ok(places)
-    }
-
-    /// The places of the function symbols of all sections of a file. The sections of an object file share addresses
-    /// (`AllTables::shares_addresses`), so an address may symbolize to another section's symbol.
-    ///
-    /// # Errors
-    ///
-    /// As `AllTables::functions`; `OutOfMemory` where any other allocation failed.
-    pub fn of_all(alloc: Global, tables: &'a AllTables) -> Result<Places<'a>, ListError> {
-        let functions = tables.functions(alloc)?;
-        let places = places_of(alloc, Functions::All(functions))?;
         Ok(places)
     }
 
@@ -293,7 +282,7 @@ pub fn at<S: Sink>(
     at_tables(alloc, &Tables::whole(file, section), base, addresses, out)
 }
 
-/// As `at`, from the tables of a file: for the section that they were read for.
+/// As `at`, from the tables of a file: for the selection that they were read for.
 ///
 /// # Errors
 ///

@@ -5,13 +5,12 @@
 use crate::shim::Vec;
 use crate::erased::binfarce_command::fault::Fault;
 use crate::erased::binfarce_command::show::Symbols;
-use crate::erased::binfarce_addresses::at::{Places, at_tables, write_lines};
+use crate::erased::binfarce_addresses::at::{Places, write_lines};
 use crate::erased::binfarce_addresses::parse_address;
 use crate::erased::binfarce_addresses::stream::answer_lines;
 use crate::erased::binfarce_bytes::source::Source;
-use crate::erased::binfarce_tools::all::{AllTables, read_all};
-use crate::erased::binfarce_tools::list::{ListError, Sink};
-use crate::erased::binfarce_tools::tables::{Tables, read_by};
+use crate::erased::binfarce_tools::list::Sink;
+use crate::erased::binfarce_tools::tables::{Tables, read};
 use crate::erased::binfarce_words::words::Wrong;
 use crate::shim::alloc::Global;
 use crate::shim::io::Read;
@@ -50,44 +49,14 @@ pub fn answer_all<S: Source, K: Sink>(
     addresses: &[u64],
     out: &mut K,
 ) -> Result<(), Fault> {
-    match symbols.section {
-        Some(section) => {
-            let tables = read_by(alloc, source, symbols.which, section)?;
-            answer_tables(alloc, &tables, base, addresses, out)
-        }
-        None => {
-            let tables = read_all(alloc, source, symbols.which)?;
-            answer_all_tables(alloc, &tables, base, addresses, out)
-        }
-    }
-}
-
-// The same of a section, of the tables of the source.
-fn answer_tables<K: Sink>(
-    alloc: Global,
-    tables: &Tables<'_>,
-    base: u64,
-    addresses: &[u64],
-    out: &mut K,
-) -> Result<(), Fault> {
-    Ok(at_tables(alloc, tables, base, addresses, out)?)
-}
-
-// The same of all sections.
-fn answer_all_tables<K: Sink>(
-    alloc: Global,
-    tables: &AllTables,
-    base: u64,
-    addresses: &[u64],
-    out: &mut K,
-) -> Result<(), Fault> {
-    let places = places_of_all(alloc, tables)?;
+    let tables = read(alloc, source, symbols.which, symbols.selection)?;
+    let places = places_of(alloc, &tables)?;
     Ok(write_lines(alloc, &places, base, addresses, out)?)
 }
 
-// The places of the function symbols of all sections.
-fn places_of_all(alloc: Global, tables: &AllTables) -> Result<Places<'_>, Fault> {
-    let places = Places::of_all(alloc, tables)?;
+// The places of the function symbols.
+fn places_of<'a>(alloc: Global, tables: &'a Tables<'_>) -> Result<Places<'a>, Fault> {
+    let places = Places::of_tables(alloc, tables)?;
     if tables.shares_addresses() {
         return Err(Fault::SharedAddresses);
     }
@@ -108,48 +77,9 @@ pub fn answer_input<S: Source, I: Read, K: Sink>(
     input: &mut I,
     out: &mut K,
 ) -> Result<u64, Fault> {
-    match symbols.section {
-        Some(section) => {
-            let tables = read_by(alloc, source, symbols.which, section)?;
-            answer_in_tables(alloc, &tables, base, input, out)
-        }
-        None => {
-            let tables = read_all(alloc, source, symbols.which)?;
-            answer_in_all(alloc, &tables, base, input, out)
-        }
-    }
-}
-
-// The same of a section, of the tables of the source.
-fn answer_in_tables<I: Read, K: Sink>(
-    alloc: Global,
-    tables: &Tables<'_>,
-    base: u64,
-    input: &mut I,
-    out: &mut K,
-) -> Result<u64, Fault> {
-    let places = named_places(alloc, tables)?;
-    let missing = answer_lines(alloc, &places, base, input, out)?;
-    Ok(missing)
-}
-
-// The same of all sections.
-fn answer_in_all<I: Read, K: Sink>(
-    alloc: Global,
-    tables: &AllTables,
-    base: u64,
-    input: &mut I,
-    out: &mut K,
-) -> Result<u64, Fault> {
-    let mut places = places_of_all(alloc, tables)?;
+    let tables = read(alloc, source, symbols.which, symbols.selection)?;
+    let mut places = places_of(alloc, &tables)?;
     places.keep_names(alloc)?;
     let missing = answer_lines(alloc, &places, base, input, out)?;
     Ok(missing)
-}
-
-// The places of the function symbols, with their names.
-fn named_places<'a>(alloc: Global, tables: &'a Tables<'_>) -> Result<Places<'a>, ListError> {
-    let mut places = Places::of_tables(alloc, tables)?;
-    places.keep_names(alloc)?;
-    Ok(places)
 }

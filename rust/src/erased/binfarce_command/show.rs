@@ -5,11 +5,10 @@
 use crate::erased::binfarce_command::fault::Fault;
 use crate::erased::binfarce_bytes::source::Source;
 use crate::erased::binfarce_tools::SymbolTable;
-use crate::erased::binfarce_tools::all::{AllTables, list_all, map_all, read_all, report_all};
 use crate::erased::binfarce_tools::list::{Sink, list_tables};
 use crate::erased::binfarce_tools::map::map_tables;
 use crate::erased::binfarce_tools::report::report_tables;
-use crate::erased::binfarce_tools::tables::{Tables, read_by};
+use crate::erased::binfarce_tools::tables::{Selection, Tables, read};
 use crate::shim::alloc::Global;
 
 /// How function symbols are shown.
@@ -28,8 +27,8 @@ pub enum Kind {
 pub struct Symbols<'a> {
     /// The symbol table that they are read by.
     pub which: SymbolTable,
-    /// The section of an ELF file; of a Mach-O or PE file they are those of the code. Without it those of all sections.
-    pub section: Option<&'a str>,
+    /// Those of a section, or of all sections.
+    pub selection: Selection<'a>,
 }
 
 /// What is shown of a file.
@@ -54,19 +53,11 @@ pub fn show<S: Source, K: Sink>(
     source: &S,
     out: &mut K,
 ) -> Result<(), Fault> {
-    match asked.symbols.section {
-        Some(section) => {
-            let tables = read_by(alloc, source, asked.symbols.which, section)?;
-            show_tables(alloc, asked.kind, &tables, out)
-        }
-        None => {
-            let tables = read_all(alloc, source, asked.symbols.which)?;
-            show_all(alloc, asked.kind, &tables, out)
-        }
-    }
+    let tables = read(alloc, source, asked.symbols.which, asked.symbols.selection)?;
+    show_tables(alloc, asked.kind, &tables, out)
 }
 
-// The same of a section, of the tables of the source.
+// The same, of the tables of the source.
 fn show_tables<K: Sink>(
     alloc: Global,
     kind: Kind,
@@ -77,19 +68,5 @@ fn show_tables<K: Sink>(
         Kind::Listing => Ok(list_tables(alloc, tables, out)?),
         Kind::Sums => Ok(report_tables(alloc, tables, out)?),
         Kind::Picture => Ok(map_tables(alloc, tables, out)?),
-    }
-}
-
-// The same of all sections.
-fn show_all<K: Sink>(
-    alloc: Global,
-    kind: Kind,
-    tables: &AllTables,
-    out: &mut K,
-) -> Result<(), Fault> {
-    match kind {
-        Kind::Listing => Ok(list_all(alloc, tables, out)?),
-        Kind::Sums => Ok(report_all(alloc, tables, out)?),
-        Kind::Picture => Ok(map_all(alloc, tables, out)?),
     }
 }

@@ -9,6 +9,7 @@ use crate::erased::binfarce_command::files::{System, show_files};
 use crate::erased::binfarce_command::headed::Headed;
 use crate::erased::binfarce_command::show::{Asked, Kind, Symbols};
 use crate::erased::binfarce_tools::SymbolTable;
+use crate::erased::binfarce_tools::tables::Selection;
 use crate::shim::alloc::Global;
 use crate::shim::io::{self, Error, ErrorKind};
 use crate::erased::test_samples::elf::{ELF64_LITTLE, LISTING};
@@ -16,7 +17,7 @@ use crate::erased::test_samples::streams::{Held, Opened, Source, Target};
 
 const TABLES: Symbols<'static> = Symbols {
     which: SymbolTable::Symtab,
-    section: Some(".text"),
+    selection: Selection::Section(".text"),
 };
 
 // The path of each file, its bytes, and how it ends.

@@ -4,11 +4,12 @@
 
 use crate::shim::String;
 use crate::erased::binfarce_bytes::source::Source;
+use crate::erased::binfarce_tools::SymbolTable;
 use crate::erased::binfarce_tools::list::{ListError, Out, list, list_tables};
 use crate::erased::binfarce_tools::program::{
     Failure, file_and_section, is_read_at_offsets, read_whole, tables_failure,
 };
-use crate::erased::binfarce_tools::tables::read;
+use crate::erased::binfarce_tools::tables::{Selection, read};
 use crate::shim::alloc::Global;
 use crate::shim::io::{Read, Write};
 
@@ -86,7 +87,12 @@ pub fn run_at<S: Source, W: Write>(
     section: &str,
     out: &mut Out<W>,
 ) -> Result<(), Fault> {
-    let tables = match read(alloc, source, section) {
+    let tables = match read(
+        alloc,
+        source,
+        SymbolTable::Symtab,
+        Selection::Section(section),
+    ) {
         Ok(tables) => tables,
         Err(e) => return Err(Fault::from(tables_failure(e))),
     };

@@ -3,10 +3,10 @@
 //! The function symbols of a file of any format.
 
 use crate::shim::Vec;
-use crate::erased::binfarce_tools::all::AllFunctions;
 use crate::erased::binfarce_tools::list::ListError;
 use crate::erased::binfarce::{
-    ByteOrder, Format, FunctionSymbol, ParseError, detect_format, elf32, elf64, macho, pe,
+    ByteOrder, Format, FunctionSymbol, ParseError, SectionFunction, detect_format, elf32, elf64,
+    macho, pe,
 };
 use crate::shim::alloc::Global;
 
@@ -43,6 +43,58 @@ impl<'a> Arranged<'a> {
         let function = *self.functions.get(self.next)?;
         self.next += 1;
         Some(function)
+    }
+}
+
+/// An iterator over the function symbols of all sections of a file, in the order of its listing.
+pub enum AllFunctions<'a> {
+    Elf32(elf32::AllFunctions<'a>),
+    Elf64(elf64::AllFunctions<'a>),
+    Arranged(AllArranged<'a>),
+}
+
+/// The function symbols of a list with their sections, from an index on.
+pub struct AllArranged<'a> {
+    functions: Vec<SectionFunction<'a>>,
+    next: usize,
+}
+
+impl<'a> Iterator for AllFunctions<'a> {
+    type Item = SectionFunction<'a>;
+
+    fn next(&mut self) -> Option<SectionFunction<'a>> {
+        match self {
+            AllFunctions::Elf32(functions) => functions.next(),
+            AllFunctions::Elf64(functions) => functions.next(),
+            AllFunctions::Arranged(functions) => functions.next(),
+        }
+    }
+}
+
+impl<'a> AllArranged<'a> {
+    // The first of those that are left, which the others follow.
+    fn next(&mut self) -> Option<SectionFunction<'a>> {
+        let function = *self.functions.get(self.next)?;
+        self.next += 1;
+        Some(function)
+    }
+}
+
+/// The function symbols of a selection.
+pub enum Selected<'a> {
+    /// Those of a section, and the section's size.
+    Section(Functions<'a>, u64),
+    /// Those of all sections.
+    All(AllFunctions<'a>),
+}
+
+impl<'a> Selected<'a> {
+    /// The function symbols as one list, and the section's size: `None` for all sections.
+    pub fn into_list(self) -> (Functions<'a>, Option<u64>) {
+        match self {
+            Selected::Section(functions, size) => (functions, Some(size)),
+            Selected::All(functions) => (Functions::All(functions), None),
+        }
     }
 }
 
@@ -98,4 +150,9 @@ fn read_pe(alloc: Global, file: &[u8]) -> Result<(Functions<'_>, u64), ParseErro
 pub(crate) fn all_of<'a>(listed: (Vec<FunctionSymbol<'a>>, u64)) -> (Functions<'a>, u64) {
     let (functions, size) = listed;
     (Functions::Arranged(Arranged { functions, next: 0 }), size)
+}
+
+// All functions of a list with their sections.
+pub(crate) fn all_in_sections(functions: Vec<SectionFunction<'_>>) -> AllFunctions<'_> {
+    AllFunctions::Arranged(AllArranged { functions, next: 0 })
 }

@@ -3,11 +3,11 @@
 //! Lists the function symbols of an executable, a line each.
 
 use crate::shim::String;
-use crate::erased::binfarce_tools::functions::Functions;
+use crate::erased::binfarce_tools::functions::{AllFunctions, Functions, Selected};
 use crate::erased::binfarce_tools::head::push_head;
 use crate::erased::binfarce_tools::tables::Tables;
 use crate::erased::binfarce_tools::writing::write_whole;
-use crate::erased::binfarce::{FunctionSymbol, ParseError};
+use crate::erased::binfarce::{FunctionSymbol, ParseError, SectionFunction};
 use crate::erased::binfarce_names::demangle::Demangler;
 use crate::shim::alloc::{AllocError, Global};
 use std::error::Error;
@@ -126,7 +126,9 @@ pub fn list<S: Sink>(
     list_tables(alloc, &Tables::whole(file, section), out)
 }
 
-/// As `list`, from the tables of a file: for the section that they were read for.
+/// As `list`, from the tables of a file: for the selection that they were read for. Of all sections a line is
+/// `{address:016x} {size:>10} {section} {trimmed}`, with the section's name, or its number in brackets where it has none;
+/// and there is no last line.
 ///
 /// # Errors
 ///
@@ -136,13 +138,21 @@ pub fn list_tables<S: Sink>(
     tables: &Tables<'_>,
     out: &mut S,
 ) -> Result<(), ListError> {
-    let (functions, size) = tables.functions(alloc)?;
-    let text = listing(alloc, functions, size)?;
+    let selected = tables.functions(alloc)?;
+    let text = listing(alloc, tables, selected)?;
     write_whole(out, text.as_bytes())
 }
 
-// The whole listing.
-fn listing(alloc: Global, functions: Functions<'_>, size: u64) -> Result<String, AllocError> {
+// The whole listing of a selection.
+fn listing(alloc: Global, tables: &Tables<'_>, selected: Selected<'_>) -> Result<String, AllocError> {
+    match selected {
+        Selected::Section(functions, size) => section_listing(alloc, functions, size),
+        Selected::All(functions) => sections_listing(alloc, functions, tables),
+    }
+}
+
+// The whole listing of a section.
+fn section_listing(alloc: Global, functions: Functions<'_>, size: u64) -> Result<String, AllocError> {
     let mut text = String::new(alloc);
     let mut demangler = Demangler::new(alloc);
     for function in functions {
@@ -161,4 +171,43 @@ fn push_line(
     push_head(text, function.address, function.size)?;
     demangler.push_trimmed(text, function.name)?;
     text.push_str("\n")
+}
+
+// The whole listing of all sections.
+fn sections_listing(
+    alloc: Global,
+    functions: AllFunctions<'_>,
+    tables: &Tables<'_>,
+) -> Result<String, AllocError> {
+    let mut text = String::new(alloc);
+    let mut demangler = Demangler::new(alloc);
+    for function in functions {
+        push_section_line(&mut demangler, &mut text, tables, function)?;
+    }
+    Ok(text)
+}
+
+// Appends the line of a function symbol, with its section, to the text.
+fn push_section_line(
+    demangler: &mut Demangler,
+    text: &mut String,
+    tables: &Tables<'_>,
+    function: SectionFunction<'_>,
+) -> Result<(), AllocError> {
+    push_head(text, function.function.address, function.function.size)?;
+    push_section(text, tables, function.section)?;
+    text.push_str(" ")?;
+    demangler.push_trimmed(text, function.function.name)?;
+    text.push_str("\n")
+}
+
+// Appends a section's name, or its number in brackets where it has none, to the text.
+fn push_section(text: &mut String, tables: &Tables<'_>, number: u32) -> Result<(), AllocError> {
+    match tables.section_name(number) {
+        Some(name) => text.push_str(name),
+        None => {
+            write!(text, "[{number}]")?;
+            Ok(())
+        }
+    }
 }

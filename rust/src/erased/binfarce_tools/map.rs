@@ -28,7 +28,8 @@ pub fn map<S: Sink>(
     map_tables(alloc, &Tables::whole(file, section), out)
 }
 
-/// As `map`, from the tables of a file: for the section that they were read for.
+/// As `map`, from the tables of a file: for the selection that they were read for. The whole of all sections is the sum of
+/// all sizes.
 ///
 /// # Errors
 ///
@@ -43,7 +44,7 @@ pub fn map_tables<S: Sink>(
 }
 
 // The whole picture.
-pub(crate) fn picture(alloc: Global, sums: &CrateSums) -> Result<String, AllocError> {
+fn picture(alloc: Global, sums: &CrateSums) -> Result<String, AllocError> {
     let bars = bars_of(alloc, sums)?;
     chart(alloc, bars.as_slice(), sums.section_size)
 }

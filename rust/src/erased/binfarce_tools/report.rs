@@ -86,7 +86,8 @@ pub fn report<S: Sink>(
     report_tables(alloc, &Tables::whole(file, section), out)
 }
 
-/// As `report`, from the tables of a file: for the section that they were read for.
+/// As `report`, from the tables of a file: for the selection that they were read for. Of all sections there is no last
+/// line.
 ///
 /// # Errors
 ///
@@ -96,17 +97,18 @@ pub fn report_tables<S: Sink>(
     tables: &Tables<'_>,
     out: &mut S,
 ) -> Result<(), ReportError> {
-    let sums = sums_of_tables(alloc, tables)?;
-    write_made(out, report_text(alloc, &sums))
+    let (functions, size) = tables.functions(alloc)?.into_list();
+    let sums = crate_sums(alloc, functions, size)?;
+    write_made(out, report_text(alloc, &sums, size))
 }
 
-/// How many bytes the function symbols of a file's section take, by crate.
+/// How many bytes the function symbols of a selection take, by crate.
 pub struct CrateSums {
     /// The sum of the sizes of each crate's symbols, by the crate's name.
     pub crates: BTreeMap<String, u64>,
     /// The sum of all sizes.
     pub total: u64,
-    /// The section's size.
+    /// The section's size, or for all sections the sum of all sizes.
     pub section_size: u64,
 }
 
@@ -125,15 +127,16 @@ pub fn sums_of_file(alloc: Global, file: &[u8], section: &str) -> Result<CrateSu
 ///
 /// As `report_tables`, but for `Write`.
 pub fn sums_of_tables(alloc: Global, tables: &Tables<'_>) -> Result<CrateSums, ReportError> {
-    let (functions, size) = tables.functions(alloc)?;
+    let (functions, size) = tables.functions(alloc)?.into_list();
     crate_sums(alloc, functions, size)
 }
 
-// The sums of the functions, with the section's size. `TooLarge` where the sum of all exceeds 64 bits.
-pub(crate) fn crate_sums(
+// The sums of the functions, with the section's size, or without one the sum of all sizes. `TooLarge` where the sum of all
+// exceeds 64 bits.
+fn crate_sums(
     alloc: Global,
     functions: Functions<'_>,
-    section_size: u64,
+    section_size: Option<u64>,
 ) -> Result<CrateSums, ReportError> {
     let mut crates = BTreeMap::new(alloc);
     let mut total = 0u64;
@@ -147,7 +150,7 @@ pub(crate) fn crate_sums(
     Ok(CrateSums {
         crates,
         total,
-        section_size,
+        section_size: section_size.unwrap_or(total),
     })
 }
 
@@ -199,15 +202,17 @@ pub(crate) fn write_made<S: Sink>(
     Ok(())
 }
 
-// The whole report.
-fn report_text(alloc: Global, sums: &CrateSums) -> Result<String, AllocError> {
+// The whole report, with the section's size, or of all sections without one.
+fn report_text(alloc: Global, sums: &CrateSums, size: Option<u64>) -> Result<String, AllocError> {
     let mut text = sums_text(alloc, sums)?;
-    writeln!(text, "text {}", sums.section_size)?;
+    if let Some(size) = size {
+        writeln!(text, "text {size}")?;
+    }
     Ok(text)
 }
 
 // The lines of the crates, and that of the sum of all sizes.
-pub(crate) fn sums_text(alloc: Global, sums: &CrateSums) -> Result<String, AllocError> {
+fn sums_text(alloc: Global, sums: &CrateSums) -> Result<String, AllocError> {
     let mut text = String::new(alloc);
     for (name, sum) in sums.crates.iter() {
         push_crate_line(&mut text, name.as_str(), *sum)?;

@@ -2,7 +2,9 @@
 
 //! The tables of a file's function symbols, read from a source.
 
-use crate::erased::binfarce_tools::functions::{Functions, all_of, functions_of_file};
+use crate::erased::binfarce_tools::functions::{
+    AllFunctions, Functions, Selected, all_in_sections, all_of, functions_of_file,
+};
 use crate::erased::binfarce_tools::list::ListError;
 use crate::erased::binfarce::{Format, ParseError, SymbolTable, detect_format};
 use crate::erased::binfarce_bytes::source::Source;
@@ -10,7 +12,16 @@ use crate::erased::binfarce_tables::begun::Begun;
 use crate::erased::binfarce_tables::{ReadError, elf32, elf64, macho, pe};
 use crate::shim::alloc::Global;
 
-/// The tables of a file for the function symbols of a section: those that were read, or a whole file in memory.
+/// Which function symbols of a file are taken.
+#[derive(Debug, Clone, Copy)]
+pub enum Selection<'a> {
+    /// Those of a section of an ELF file; of a Mach-O or PE file those of the text.
+    Section(&'a str),
+    /// Those of all sections.
+    All,
+}
+
+/// The tables of a file for the function symbols of a selection: those that were read, or a whole file in memory.
 pub enum Tables<'a> {
     /// The parts of an ELF file of 32 bits.
     Elf32(elf32::Parts),
@@ -20,6 +31,14 @@ pub enum Tables<'a> {
     Macho(macho::Parts),
     /// The parts of a PE file.
     Pe(pe::Parts),
+    /// The parts of an ELF file of 32 bits, for all sections.
+    AllElf32(elf32::AllParts),
+    /// The parts of an ELF file of 64 bits, for all sections.
+    AllElf64(elf64::AllParts),
+    /// The parts of a Mach-O file, for all sections.
+    AllMacho(macho::AllParts),
+    /// The parts of a PE file, for all sections.
+    AllPe(pe::AllParts),
     /// Nothing: the file's first bytes name no supported format.
     Unknown,
     /// All bytes of a file, and the section.
@@ -32,72 +51,107 @@ impl<'a> Tables<'a> {
         Self::Whole { file, section }
     }
 
-    /// The function symbols of the section and the symbol table that the tables were read for, and the section's size.
-    /// For the symbol table these are the answer of `functions_of_file`.
+    /// The function symbols that the tables were read for, by the symbol table that they were read by. Those of a section
+    /// are, for the symbol table, the answer of `functions_of_file`, and those of all sections that of `all_functions` of
+    /// a reader.
     ///
     /// # Errors
     ///
-    /// As `functions_of_file`.
-    pub fn functions(&self, alloc: Global) -> Result<(Functions<'_>, u64), ListError> {
+    /// As `functions_of_file`: for all sections, `Parse` where a Mach-O file's rows are refused.
+    pub fn functions(&self, alloc: Global) -> Result<Selected<'_>, ListError> {
         match self {
             Tables::Elf32(parts) => {
                 let (functions, size) = parts.functions();
-                Ok((Functions::Elf32(functions), size))
+                Ok(Selected::Section(Functions::Elf32(functions), size))
             }
             Tables::Elf64(parts) => {
                 let (functions, size) = parts.functions();
-                Ok((Functions::Elf64(functions), size))
+                Ok(Selected::Section(Functions::Elf64(functions), size))
             }
             Tables::Macho(parts) => {
-                let listed = parts.functions(alloc)?;
-                Ok(all_of(listed))
+                let (functions, size) = all_of(parts.functions(alloc)?);
+                Ok(Selected::Section(functions, size))
             }
             Tables::Pe(parts) => {
-                let listed = parts.functions(alloc)?;
-                Ok(all_of(listed))
+                let (functions, size) = all_of(parts.functions(alloc)?);
+                Ok(Selected::Section(functions, size))
+            }
+            Tables::AllElf32(parts) => Ok(Selected::All(AllFunctions::Elf32(parts.functions()))),
+            Tables::AllElf64(parts) => Ok(Selected::All(AllFunctions::Elf64(parts.functions()))),
+            Tables::AllMacho(parts) => {
+                let functions = parts.functions(alloc)?;
+                Ok(Selected::All(all_in_sections(functions)))
+            }
+            Tables::AllPe(parts) => {
+                let functions = parts.functions(alloc)?;
+                Ok(Selected::All(all_in_sections(functions)))
             }
             Tables::Unknown => Err(ListError::Unknown),
-            Tables::Whole { file, section } => functions_of_file(alloc, file, section),
+            Tables::Whole { file, section } => {
+                let (functions, size) = functions_of_file(alloc, file, section)?;
+                Ok(Selected::Section(functions, size))
+            }
+        }
+    }
+
+    /// The name of the section of this number, a slice of the tables. `None` where there is no such section, where it has
+    /// no valid name, and where the tables are those of one section.
+    pub fn section_name(&self, number: u32) -> Option<&str> {
+        self.name_read(number)
+    }
+
+    fn name_read(&self, number: u32) -> Option<&str> {
+        match self {
+            Tables::AllElf32(parts) => parts.section_name(number),
+            Tables::AllElf64(parts) => parts.section_name(number),
+            Tables::AllMacho(parts) => parts.section_name(number),
+            Tables::AllPe(parts) => parts.section_name(number),
+            _ => None,
+        }
+    }
+
+    /// Whether the sections that the tables were read for share addresses: all sections of an object file do (in ELF
+    /// `ET_REL`, in Mach-O `MH_OBJECT`), and those of a PE file, whose addresses are offsets in a section.
+    pub fn shares_addresses(&self) -> bool {
+        self.sharing_read()
+    }
+
+    fn sharing_read(&self) -> bool {
+        match self {
+            Tables::AllElf32(parts) => parts.shares_addresses(),
+            Tables::AllElf64(parts) => parts.shares_addresses(),
+            Tables::AllMacho(parts) => parts.shares_addresses(),
+            Tables::AllPe(_) => true,
+            _ => false,
         }
     }
 }
 
-/// Reads the tables of a file for the function symbols of a section: its first 64 bytes, which name its format, and the
-/// parts that `binfarce_tables` reads of a file of that format. Of a file of an unknown format no other byte is read.
-/// Each part that is kept takes no more memory than the file has bytes of it.
+/// Reads the tables of a file for the function symbols of a selection, by this symbol table: its first 64 bytes, which
+/// name its format, and the parts that `binfarce_tables` reads of a file of that format. Of a file of an unknown format
+/// no other byte is read. Each part that is kept takes no more memory than the file has bytes of it.
 ///
 /// # Errors
 ///
-/// `Refused` with the error of the format's reader; `Unreadable` where the source can't be read at offsets, or a read
-/// of it fails, and never for a source that can't fail, such as bytes in memory; `OutOfMemory` where an allocation
-/// fails.
+/// `Refused` with the error of the format's reader, and `SectionIsMissing` of `.dynsym` for the dynamic symbol table of
+/// a Mach-O or PE file; `Unreadable` where the source can't be read at offsets, or a read of it fails, and never for a
+/// source that can't fail, such as bytes in memory; `OutOfMemory` where an allocation fails.
 pub fn read<S: Source>(
     alloc: Global,
     source: &S,
-    section: &str,
-) -> Result<Tables<'static>, ReadError> {
-    read_by(alloc, source, SymbolTable::Symtab, section)
-}
-
-/// As `read`, but of an ELF file it reads this symbol table and its strings.
-///
-/// # Errors
-///
-/// Those of `read`. For the dynamic symbol table, `Refused` has the error of `dynamic_functions` of an ELF reader, and
-/// `SectionIsMissing` of `.dynsym` for a Mach-O or PE file.
-pub fn read_by<S: Source>(
-    alloc: Global,
-    source: &S,
     which: SymbolTable,
-    section: &str,
+    selection: Selection<'_>,
 ) -> Result<Tables<'static>, ReadError> {
     let begun = Begun::new(alloc, source)?;
     let format = detect_format(begun.head());
-    read_as(alloc, &begun, format, which, section)
+    match selection {
+        Selection::Section(section) => read_section(alloc, &begun, format, which, section),
+        Selection::All => read_sections(alloc, &begun, format, which),
+    }
 }
 
-// The tables of a file of this format.
-fn read_as<S: Source>(
+// The tables of a file of this format for a section.
+fn read_section<S: Source>(
     alloc: Global,
     source: &S,
     format: Format,
@@ -127,8 +181,38 @@ fn read_as<S: Source>(
     }
 }
 
+// The tables of a file of this format for all sections.
+fn read_sections<S: Source>(
+    alloc: Global,
+    source: &S,
+    format: Format,
+    which: SymbolTable,
+) -> Result<Tables<'static>, ReadError> {
+    match format {
+        Format::Elf32 { byte_order } => {
+            let parts = elf32::read_all(alloc, source, byte_order, which)?;
+            Ok(Tables::AllElf32(parts))
+        }
+        Format::Elf64 { byte_order } => {
+            let parts = elf64::read_all(alloc, source, byte_order, which)?;
+            Ok(Tables::AllElf64(parts))
+        }
+        Format::Macho => {
+            has_table(which)?;
+            let parts = macho::read_all(alloc, source)?;
+            Ok(Tables::AllMacho(parts))
+        }
+        Format::PE => {
+            has_table(which)?;
+            let parts = pe::read_all(alloc, source)?;
+            Ok(Tables::AllPe(parts))
+        }
+        Format::Unknown => Ok(Tables::Unknown),
+    }
+}
+
 // Whether a Mach-O or PE file has this symbol table: none has a dynamic one.
-pub(crate) fn has_table(which: SymbolTable) -> Result<(), ParseError> {
+fn has_table(which: SymbolTable) -> Result<(), ParseError> {
     match which {
         SymbolTable::Symtab => Ok(()),
         SymbolTable::Dynsym => Err(ParseError::SectionIsMissing(which.name())),

@@ -5,10 +5,10 @@
 use crate::shim::{String, Vec};
 use crate::erased::binfarce_tables::ReadError;
 use crate::erased::binfarce_tools::SymbolTable;
-use crate::erased::binfarce_tools::all::{list_all, map_all, read_all, report_all};
-use crate::erased::binfarce_tools::list::{Out, list};
-use crate::erased::binfarce_tools::map::map;
-use crate::erased::binfarce_tools::report::report;
+use crate::erased::binfarce_tools::list::{Out, list, list_tables};
+use crate::erased::binfarce_tools::map::{map, map_tables};
+use crate::erased::binfarce_tools::report::{report, report_tables};
+use crate::erased::binfarce_tools::tables::{Selection, read};
 use crate::shim::alloc::{AllocError, Global};
 use crate::erased::test_samples::programs::text_of;
 
@@ -57,7 +57,7 @@ pub fn text_of_all(alloc: Global, words: &str, file: &[u8]) -> Result<String, Al
         "dynsym" => SymbolTable::Dynsym,
         _ => SymbolTable::Symtab,
     };
-    let tables = match read_all(alloc, &file, which) {
+    let tables = match read(alloc, &file, which, Selection::All) {
         Ok(tables) => tables,
         Err(ReadError::Refused(error)) => return String::formatted(alloc, format_args!("{error}")),
         Err(error) => return String::formatted(alloc, format_args!("{error:?}")),
@@ -65,15 +65,15 @@ pub fn text_of_all(alloc: Global, words: &str, file: &[u8]) -> Result<String, Al
     let mut out = Out::new(Vec::new(alloc));
     match what {
         "list" => {
-            let ended = list_all(alloc, &tables, &mut out);
+            let ended = list_tables(alloc, &tables, &mut out);
             text_of(alloc, ended, out.into_inner())
         }
         "report" => {
-            let ended = report_all(alloc, &tables, &mut out);
+            let ended = report_tables(alloc, &tables, &mut out);
             text_of(alloc, ended, out.into_inner())
         }
         _ => {
-            let ended = map_all(alloc, &tables, &mut out);
+            let ended = map_tables(alloc, &tables, &mut out);
             text_of(alloc, ended, out.into_inner())
         }
     }
@@ -81,7 +81,7 @@ pub fn text_of_all(alloc: Global, words: &str, file: &[u8]) -> Result<String, Al
 
 /// Whether the sections share their addresses, and which of some numbers no section has.
 pub fn shares_addresses(alloc: Global, file: &[u8]) -> Result<String, AllocError> {
-    let tables = match read_all(alloc, &file, SymbolTable::Symtab) {
+    let tables = match read(alloc, &file, SymbolTable::Symtab, Selection::All) {
         Ok(tables) => tables,
         Err(error) => return String::formatted(alloc, format_args!("{error:?}")),
     };

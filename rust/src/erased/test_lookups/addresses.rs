@@ -10,8 +10,9 @@ use crate::erased::binfarce_addresses::parse_address;
 use crate::erased::binfarce_addresses::stream::{
     LinesError, answer_lines, push_lines as push_lines_of,
 };
+use crate::erased::binfarce_tools::SymbolTable;
 use crate::erased::binfarce_tools::list::Out;
-use crate::erased::binfarce_tools::tables::read;
+use crate::erased::binfarce_tools::tables::{Selection, read};
 use crate::shim::alloc::Global;
 use std::cell::Cell;
 use crate::shim::io::{self, ErrorKind, Read, Write};
@@ -50,7 +51,12 @@ pub(crate) fn push_lines(of: &Asking<'_>, text: &mut Vec<u8>) -> io::Result<()> 
         return write!(text, "{e}");
     }
     let mut out = Out::new(Vec::new(of.alloc));
-    if let Ok(tables) = read(of.alloc, &of.file, ".text") {
+    if let Ok(tables) = read(
+        of.alloc,
+        &of.file,
+        SymbolTable::Symtab,
+        Selection::Section(".text"),
+    ) {
         let _ = at_tables(of.alloc, &tables, base, &addresses, &mut out);
     }
     if out.into_inner() != written {

@@ -13,8 +13,7 @@ use crate::erased::binfarce_bytes::source::Source;
 use crate::erased::binfarce_sections::error::SectionError;
 use crate::erased::binfarce_tables::{elf32, elf64, macho, pe};
 use crate::erased::binfarce_tools::SymbolTable;
-use crate::erased::binfarce_tools::all::read_all;
-use crate::erased::binfarce_tools::tables::read_by;
+use crate::erased::binfarce_tools::tables::{Selection, read as read_tables};
 use crate::shim::io::{self, ErrorKind, Write};
 use crate::erased::test_reading::{Asked, parts, whole};
 use crate::erased::test_samples::files::File;
@@ -73,10 +72,10 @@ fn read<S: Source>(of: &Asking<'_>, source: &S, reading: Reading<'_>) -> Result<
         Reading::Sections => read_sections(of, source)?,
         Reading::Asked(asked) => return parts(of.alloc, of.kind, source, asked).ended,
         Reading::Functions(which, name) => {
-            let _ = read_by(of.alloc, source, which, name)?;
+            let _ = read_tables(of.alloc, source, which, Selection::Section(name))?;
         }
         Reading::AllFunctions(which) => {
-            let _ = read_all(of.alloc, source, which)?;
+            let _ = read_tables(of.alloc, source, which, Selection::All)?;
         }
     }
     Ok(())

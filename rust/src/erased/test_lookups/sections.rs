@@ -8,8 +8,8 @@ use crate::erased::test_lookups::words::{end_line, push_number, push_runs, push_
 use crate::erased::binfarce_sections::bytes::{section_bytes, write_section};
 use crate::erased::binfarce_sections::list::list_sections;
 use crate::erased::binfarce_tools::SymbolTable;
-use crate::erased::binfarce_tools::all::read_all;
 use crate::erased::binfarce_tools::list::{Out, Sink};
+use crate::erased::binfarce_tools::tables::{Selection, read};
 use crate::shim::io::{self, Write};
 use crate::erased::test_reading::{Asked, parts, whole};
 use crate::erased::test_samples::first_bytes;
@@ -41,7 +41,7 @@ pub(crate) fn push_shown(
 
 /// Adds the names of sections 0, 1, 2 and of the greatest number, and whether they share addresses.
 pub(crate) fn push_names(of: &Asking<'_>, text: &mut Vec<u8>) -> io::Result<()> {
-    let Ok(tables) = read_all(of.alloc, &of.file, SymbolTable::Symtab) else {
+    let Ok(tables) = read(of.alloc, &of.file, SymbolTable::Symtab, Selection::All) else {
         return push_words(text, "refused");
     };
     for number in [0, 1, 2, u32::MAX] {

@@ -6,10 +6,10 @@ use crate::erased::binfarce::ParseError;
 use crate::erased::binfarce_image::image::ImageError;
 use crate::erased::binfarce_tables::ReadError;
 use crate::erased::binfarce_tools::SymbolTable;
-use crate::erased::binfarce_tools::all::{list_all, map_all, read_all, report_all};
-use crate::erased::binfarce_tools::list::{ListError, Out, list};
-use crate::erased::binfarce_tools::map::map;
-use crate::erased::binfarce_tools::report::{ReportError, report};
+use crate::erased::binfarce_tools::list::{ListError, Out, list, list_tables};
+use crate::erased::binfarce_tools::map::{map, map_tables};
+use crate::erased::binfarce_tools::report::{ReportError, report, report_tables};
+use crate::erased::binfarce_tools::tables::{Selection, read};
 use crate::shim::alloc::{AllocError, Global};
 use crate::erased::test_image_samples::tally::{Row, Tally};
 use crate::erased::test_image_samples::{FIRST_SIZE, file_beside};
@@ -162,16 +162,16 @@ const ALL_PICTURE: &str =
 
 fn is_written(alloc: Global, call: All, text: &str) -> Row {
     let file = elf::ELF64_LITTLE.as_slice();
-    let tables = match read_all(alloc, &file, SymbolTable::Symtab) {
+    let tables = match read(alloc, &file, SymbolTable::Symtab, Selection::All) {
         Ok(tables) => tables,
         Err(ReadError::OutOfMemory) => return Err(AllocError),
         Err(_) => return Ok(false),
     };
     let mut out = Out::new(Expected::new(text.as_bytes()));
     let result = match call {
-        All::List => list_all(alloc, &tables, &mut out).map_err(ReportError::from),
-        All::Report => report_all(alloc, &tables, &mut out),
-        All::Map => map_all(alloc, &tables, &mut out),
+        All::List => list_tables(alloc, &tables, &mut out).map_err(ReportError::from),
+        All::Report => report_tables(alloc, &tables, &mut out),
+        All::Map => map_tables(alloc, &tables, &mut out),
     };
     let written = out.into_inner();
     match result {

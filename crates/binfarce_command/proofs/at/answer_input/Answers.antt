@@ -1,29 +1,41 @@
-use Rattle.std.proofs.Common.{◌≡◌, true, false, ℕ, List, Option}
-use Rattle.binfarce.specs.Format.{format_of}
-use Rattle.binfarce_tools.specs.AllAnswer.{all_answer_of, AllNeedsMemory, one_answer}
-use Rattle.binfarce_tools.specs.Answer.{answer_of, NeedsMemory}
-use Rattle.binfarce_command.specs.At.{AnswersLines, addresses_are_shared, share_in}
-use Rattle.binfarce_command.specs.Show.{MemoryIn, answer_in}
-use Rattle.binfarce_command.proofs.Lines.{answers_as_well, unread, unread_all}
-use Rattle.binfarce_command.proofs.Sections.{by_section}
+use Rattle.std.proofs.Common.{◌≡◌, true, Ok, List, sym, subst}
+use Rattle.binfarce.specs.Symbol.{Entry}
+use Rattle.binfarce_tools.specs.Selection.{section_of}
+use Rattle.binfarce_tools.specs.Tables.{AreTablesOf}
+use Rattle.binfarce_command.specs.At.{HasPlaces, share_addresses}
+use Rattle.binfarce_command.specs.Show.{MemoryFor, answer_for}
+use Rattle.binfarce_command.proofs.Outcomes.{lines_still_so}
+use Rattle.binfarce_command.proofs.Lines.{answered_less, answered_lines, no_memory, unread, without_places}
 use Rattle.binfarce_command.proofs.at.answer_input.Goals as goal
 
-pub returns-in_err-tables-in-Some-clause-answers : goal.returns-in_err-tables-in-Some-clause-answers
-returns-in_err-tables-in-Some-clause-answers g c = λ file is.
-    by_section (λ (s : Option (List ℕ)). AnswersLines (g.S.Source.may_fail c.args.source.now ≡ true) (share_in s c.args.symbols.now.which file) (MemoryIn s file) (answer_in s c.args.symbols.now.which file) c.args.base (g.I.Read.remaining c.args.input.now) (g.I.Read.remaining c.args.input.now) (g.K.Sink.taken c.args.out.now) (g.K.Sink.taken c.args.out.now) c.from_residual.result) c.args.symbols.now _ c.in-Some.is
-    (unread c.args.symbols.now.which _ false file c.in-Some.section.now c.args.base _ _ c.in_err-tables-in-Some.field-0.0 c.from_residual.result (c.in_err-tables-in-Some.ensures.answer file is) c.from_residual.ensures.1)
+pub returns-in_err-tables-clause-answers : goal.returns-in_err-tables-clause-answers
+returns-in_err-tables-clause-answers g c = λ file is.
+    let symbols = c.args.symbols.now in
+    unread (AreTablesOf symbols.which file (section_of symbols.selection)) _ (share_addresses symbols file) (MemoryFor symbols file) (answer_for symbols file) c.args.base _ _ c.in_err-tables.field-0.0 c.from_residual.result (c.in_err-tables.ensures.answer file is) c.from_residual.ensures.1
 
-pub returns-in_err-tables-in-None-clause-answers : goal.returns-in_err-tables-in-None-clause-answers
-returns-in_err-tables-in-None-clause-answers g c = λ file is.
-    by_section (λ (s : Option (List ℕ)). AnswersLines (g.S.Source.may_fail c.args.source.now ≡ true) (share_in s c.args.symbols.now.which file) (MemoryIn s file) (answer_in s c.args.symbols.now.which file) c.args.base (g.I.Read.remaining c.args.input.now) (g.I.Read.remaining c.args.input.now) (g.K.Sink.taken c.args.out.now) (g.K.Sink.taken c.args.out.now) c.from_residual-in_err-tables-in-None.result) c.args.symbols.now _ c.in-None.is
-    (unread_all c.args.symbols.now.which _ (addresses_are_shared (all_answer_of c.args.symbols.now.which file)) file c.args.base _ _ c.in_err-tables-in-None.field-0.0 c.from_residual-in_err-tables-in-None.result (c.in_err-tables-in-None.ensures.answer file is) c.from_residual-in_err-tables-in-None.ensures.1)
+pub returns-in_err-places-clause-answers : goal.returns-in_err-places-clause-answers
+returns-in_err-places-clause-answers g c = λ file is.
+    let symbols = c.args.symbols.now in
+    without_places _ (share_addresses symbols file) (MemoryFor symbols file) (answer_for symbols file) c.args.base _ _ c.in_err-places.field-0.0 c.from_residual-in_err-places.result
+    (c.in_err-places.ensures.has symbols.which file (section_of symbols.selection) (c.in_ok-tables.ensures.answer file is)) c.from_residual-in_err-places.ensures.1
 
-pub returns-in_ok-tables-in-Some-clause-answers : goal.returns-in_ok-tables-in-Some-clause-answers
-returns-in_ok-tables-in-Some-clause-answers g c = λ file is.
-    by_section (λ (s : Option (List ℕ)). AnswersLines (g.S.Source.may_fail c.args.source.now ≡ true) (share_in s c.args.symbols.now.which file) (MemoryIn s file) (answer_in s c.args.symbols.now.which file) c.args.base (g.I.Read.remaining c.args.input.now) (g.I.Read.remaining c.answer_in_tables.new.input) (g.K.Sink.taken c.args.out.now) (g.K.Sink.taken c.answer_in_tables.new.out) c.answer_in_tables.result) c.args.symbols.now _ c.in-Some.is
-    (answers_as_well ⊥ _ absurd false (NeedsMemory (format_of file) file) (answer_of c.args.symbols.now.which file c.in-Some.section.now) c.args.base _ _ _ _ c.answer_in_tables.result (c.answer_in_tables.ensures.answers c.args.symbols.now.which file c.in-Some.section.now (c.in_ok-tables-in-Some.ensures.answer file is)))
+pub returns-in_err-places-clause-fails : goal.returns-in_err-places-clause-fails
+returns-in_err-places-clause-fails g c = lines_still_so (g.K.Sink.has_failed c.args.out.now) c.in_err-places.field-0.0 c.from_residual-in_err-places.result c.from_residual-in_err-places.ensures.1 c.in_err-places.ensures.unwritten
 
-pub returns-in_ok-tables-in-None-clause-answers : goal.returns-in_ok-tables-in-None-clause-answers
-returns-in_ok-tables-in-None-clause-answers g c = λ file is.
-    by_section (λ (s : Option (List ℕ)). AnswersLines (g.S.Source.may_fail c.args.source.now ≡ true) (share_in s c.args.symbols.now.which file) (MemoryIn s file) (answer_in s c.args.symbols.now.which file) c.args.base (g.I.Read.remaining c.args.input.now) (g.I.Read.remaining c.answer_in_all.new.input) (g.K.Sink.taken c.args.out.now) (g.K.Sink.taken c.answer_in_all.new.out) c.answer_in_all.result) c.args.symbols.now _ c.in-None.is
-    (answers_as_well ⊥ _ absurd (addresses_are_shared (all_answer_of c.args.symbols.now.which file)) (AllNeedsMemory file) (one_answer (all_answer_of c.args.symbols.now.which file)) c.args.base _ _ _ _ c.answer_in_all.result (c.answer_in_all.ensures.answers c.args.symbols.now.which file (c.in_ok-tables-in-None.ensures.answer file is)))
+pub returns-in_err-keep_names-clause-answers : goal.returns-in_err-keep_names-clause-answers
+returns-in_err-keep_names-clause-answers g c = λ file is.
+    let symbols = c.args.symbols.now in
+    no_memory _ (share_addresses symbols file) (MemoryFor symbols file) (answer_for symbols file) c.args.base _ _ c.from_residual-in_err-keep_names.result c.from_residual-in_err-keep_names.ensures.1
+
+pub returns-in_err-missing-clause-answers : goal.returns-in_err-missing-clause-answers
+returns-in_err-missing-clause-answers g c = λ file is.
+    let symbols = c.args.symbols.now in
+    let has = subst (λ (entries : List Entry). HasPlaces (share_addresses symbols file) (MemoryFor symbols file) (answer_for symbols file) (Ok entries)) (sym c.keep_names.ensures) (c.in_ok-places.ensures.has symbols.which file (section_of symbols.selection) (c.in_ok-tables.ensures.answer file is)) in
+    answered_less _ (share_addresses symbols file) (MemoryFor symbols file) (answer_for symbols file) c.keep_names.new.self c.args.base _ _ _ _ c.in_err-missing.field-0.0 c.from_residual-in_err-missing.result
+    has.0 has.1 c.in_err-missing.ensures.answers c.from_residual-in_err-missing.ensures.1
+
+pub returns-clause-answers : goal.returns-clause-answers
+returns-clause-answers g c = λ file is.
+    let symbols = c.args.symbols.now in
+    let has = subst (λ (entries : List Entry). HasPlaces (share_addresses symbols file) (MemoryFor symbols file) (answer_for symbols file) (Ok entries)) (sym c.keep_names.ensures) (c.in_ok-places.ensures.has symbols.which file (section_of symbols.selection) (c.in_ok-tables.ensures.answer file is)) in
+    answered_lines _ (share_addresses symbols file) (MemoryFor symbols file) (answer_for symbols file) c.keep_names.new.self c.args.base _ _ _ _ (Ok c.in_ok-missing.missing) has.0 has.1 c.in_ok-missing.ensures.answers

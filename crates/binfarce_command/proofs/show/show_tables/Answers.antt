@@ -1,6 +1,7 @@
-use Rattle.std.proofs.Common.{Some, sym, subst}
-use Rattle.binfarce_tools.specs.Writing.{Outcome, written}
-use Rattle.binfarce_command.specs.Show.{TakesText, showing_in}
+use Rattle.std.proofs.Common.{sym, subst}
+use Rattle.binfarce_tools.specs.Selection.{answer_in}
+use Rattle.binfarce_tools.specs.Writing.{Outcome, Takes, written}
+use Rattle.binfarce_command.specs.Show.{IsTextOf}
 use Rattle.binfarce_command.specs.declared.show.Kind.{Kind}
 use Rattle.binfarce_command.specs.declared.show.Kind.TheVariants.{Listing, Sums, Picture}
 use Rattle.binfarce_command.proofs.Shown.{list_in, report_in}
@@ -8,27 +9,27 @@ use Rattle.binfarce_command.proofs.show.show_tables.Goals as goal
 
 pub returns-in_err-list_tables-in-Listing-clause-takes : goal.returns-in_err-list_tables-in-Listing-clause-takes
 returns-in_err-list_tables-in-Listing-clause-takes g c = λ which file section are.
-    list_in (λ (k : Kind) (o : Outcome). TakesText (showing_in (Some section) k which file) (g.K.Sink.taken c.args.out.now) (g.K.Sink.taken c.list_tables.new.out) o) c.args.kind Listing c.in-Listing.is c.in_err-list_tables-in-Listing.field-0.0 c.from_residual.result c.from_residual.ensures.1
+    list_in (λ (k : Kind) (o : Outcome). Takes (IsTextOf k which file section) (answer_in which file section) (g.K.Sink.taken c.args.out.now) (g.K.Sink.taken c.list_tables.new.out) o) c.args.kind Listing c.in-Listing.is c.in_err-list_tables-in-Listing.field-0.0 c.from_residual.result c.from_residual.ensures.1
     (c.in_err-list_tables-in-Listing.ensures.takes which file section are)
 
 pub returns-in_ok-list_tables-in-Listing-clause-takes : goal.returns-in_ok-list_tables-in-Listing-clause-takes
 returns-in_ok-list_tables-in-Listing-clause-takes g c = λ which file section are.
-    subst (λ (k : Kind). TakesText (showing_in (Some section) k which file) (g.K.Sink.taken c.args.out.now) (g.K.Sink.taken c.list_tables.new.out) written) (sym c.in-Listing.is) (c.in_ok-list_tables-in-Listing.ensures.takes which file section are)
+    subst (λ (k : Kind). Takes (IsTextOf k which file section) (answer_in which file section) (g.K.Sink.taken c.args.out.now) (g.K.Sink.taken c.list_tables.new.out) written) (sym c.in-Listing.is) (c.in_ok-list_tables-in-Listing.ensures.takes which file section are)
 
 pub returns-in_err-report_tables-in-Sums-clause-takes : goal.returns-in_err-report_tables-in-Sums-clause-takes
 returns-in_err-report_tables-in-Sums-clause-takes g c = λ which file section are.
-    report_in (λ (k : Kind) (o : Outcome). TakesText (showing_in (Some section) k which file) (g.K.Sink.taken c.args.out.now) (g.K.Sink.taken c.report_tables.new.out) o) c.args.kind Sums c.in-Sums.is c.in_err-report_tables-in-Sums.field-0.0 c.from_residual-in_err-report_tables-in-Sums.result c.from_residual-in_err-report_tables-in-Sums.ensures.1
+    report_in (λ (k : Kind) (o : Outcome). Takes (IsTextOf k which file section) (answer_in which file section) (g.K.Sink.taken c.args.out.now) (g.K.Sink.taken c.report_tables.new.out) o) c.args.kind Sums c.in-Sums.is c.in_err-report_tables-in-Sums.field-0.0 c.from_residual-in_err-report_tables-in-Sums.result c.from_residual-in_err-report_tables-in-Sums.ensures.1
     (c.in_err-report_tables-in-Sums.ensures.takes which file section are)
 
 pub returns-in_ok-report_tables-in-Sums-clause-takes : goal.returns-in_ok-report_tables-in-Sums-clause-takes
 returns-in_ok-report_tables-in-Sums-clause-takes g c = λ which file section are.
-    subst (λ (k : Kind). TakesText (showing_in (Some section) k which file) (g.K.Sink.taken c.args.out.now) (g.K.Sink.taken c.report_tables.new.out) written) (sym c.in-Sums.is) (c.in_ok-report_tables-in-Sums.ensures.takes which file section are)
+    subst (λ (k : Kind). Takes (IsTextOf k which file section) (answer_in which file section) (g.K.Sink.taken c.args.out.now) (g.K.Sink.taken c.report_tables.new.out) written) (sym c.in-Sums.is) (c.in_ok-report_tables-in-Sums.ensures.takes which file section are)
 
 pub returns-in_err-map_tables-in-Picture-clause-takes : goal.returns-in_err-map_tables-in-Picture-clause-takes
 returns-in_err-map_tables-in-Picture-clause-takes g c = λ which file section are.
-    report_in (λ (k : Kind) (o : Outcome). TakesText (showing_in (Some section) k which file) (g.K.Sink.taken c.args.out.now) (g.K.Sink.taken c.map_tables.new.out) o) c.args.kind Picture c.in-Picture.is c.in_err-map_tables-in-Picture.field-0.0 c.from_residual-in_err-map_tables-in-Picture.result c.from_residual-in_err-map_tables-in-Picture.ensures.1
+    report_in (λ (k : Kind) (o : Outcome). Takes (IsTextOf k which file section) (answer_in which file section) (g.K.Sink.taken c.args.out.now) (g.K.Sink.taken c.map_tables.new.out) o) c.args.kind Picture c.in-Picture.is c.in_err-map_tables-in-Picture.field-0.0 c.from_residual-in_err-map_tables-in-Picture.result c.from_residual-in_err-map_tables-in-Picture.ensures.1
     (c.in_err-map_tables-in-Picture.ensures.takes which file section are)
 
 pub returns-in_ok-map_tables-in-Picture-clause-takes : goal.returns-in_ok-map_tables-in-Picture-clause-takes
 returns-in_ok-map_tables-in-Picture-clause-takes g c = λ which file section are.
-    subst (λ (k : Kind). TakesText (showing_in (Some section) k which file) (g.K.Sink.taken c.args.out.now) (g.K.Sink.taken c.map_tables.new.out) written) (sym c.in-Picture.is) (c.in_ok-map_tables-in-Picture.ensures.takes which file section are)
+    subst (λ (k : Kind). Takes (IsTextOf k which file section) (answer_in which file section) (g.K.Sink.taken c.args.out.now) (g.K.Sink.taken c.map_tables.new.out) written) (sym c.in-Picture.is) (c.in_ok-map_tables-in-Picture.ensures.takes which file section are)

@@ -9,11 +9,10 @@ use crate::erased::binfarce_bytes::parser::{number_at, slice_at};
 use crate::erased::binfarce_tables::begun::Begun;
 use crate::erased::binfarce_tables::part;
 use crate::erased::binfarce_tools::SymbolTable;
-use crate::erased::binfarce_tools::all::{read_all, sums_of_all};
 use crate::erased::binfarce_tools::functions::functions_of_file;
 use crate::erased::binfarce_tools::list::Out;
 use crate::erased::binfarce_tools::report::{sums_of_file, sums_of_tables};
-use crate::erased::binfarce_tools::tables::read;
+use crate::erased::binfarce_tools::tables::{Selection, read};
 use crate::erased::binfarce_tools::writing::write_whole;
 use crate::shim::test::Fail;
 use crate::erased::test_samples::elf::ELF64_LITTLE;
@@ -56,12 +55,23 @@ fn sums() -> Result<(), Fail> {
     let file = ELF64_LITTLE.as_slice();
     let sums = sums_of_file(rt.alloc(), file, ".text")?;
     assert_eq!((sums.total, sums.section_size), (16, 32));
-    let tables = read(rt.alloc(), &file, ".text").map_err(|_| "not read")?;
+    let tables = read(
+        rt.alloc(),
+        &file,
+        SymbolTable::Symtab,
+        Selection::Section(".text"),
+    )
+    .map_err(|_| "not read")?;
     let sums = sums_of_tables(rt.alloc(), &tables)?;
     assert_eq!((sums.total, sums.section_size), (16, 32));
-    let tables = read_all(rt.alloc(), &file, SymbolTable::Symtab).map_err(|_| "not read")?;
-    let sums = sums_of_all(rt.alloc(), &tables)?;
+    let tables = read(rt.alloc(), &file, SymbolTable::Symtab, Selection::All).map_err(
+        |_| "not read",
+    )?;
+    let sums = sums_of_tables(rt.alloc(), &tables)?;
     assert_eq!((sums.total, sums.section_size), (32, 32));
+    let (mut functions, size) = tables.functions(rt.alloc())?.into_list();
+    assert_eq!(functions.next().map(|f| f.address), Some(0x1000));
+    assert_eq!(size, None);
     let (mut functions, size) = functions_of_file(rt.alloc(), file, ".text")?;
     assert_eq!(functions.next().map(|f| f.address), Some(0x1000));
     assert_eq!(size, 32);

@@ -1,41 +1,17 @@
 -- Names in a run, and what is shown of a run up to a position.
 use Rattle.std.proofs.Common.{◌≡◌, ℕ, ◌+◌, ◌<◌, ◌≤◌, Bool, true, false, cond, not, ◌&&◌, ◌==◌, List, [], ◌∷◌, ◌++◌, length, drop, take, get_or, refl, sym, ◌∙◌, ap, subst, arith, append_assoc, append-nil}
-use Rattle.std.proofs.lemmas.Bool.{and_parts, false≢true}
+use Rattle.std.proofs.lemmas.Bool.{false≢true}
 use Rattle.std.proofs.lemmas.Bool.Decides.{nat_tests}
 use Rattle.std.proofs.lemmas.List.{drop-drop, drop_all}
 use Rattle.std.specs.Cmp.Derive.{both_true}
-use Rattle.std.specs.List.{prefix_len}
 use Rattle.std.specs.Str.{bytes_eq}
 use Rattle.binfarce_legacy.specs.Legacy.{Element, Reads, ends_in_hash}
 use Rattle.binfarce_legacy.proofs.ElementLemmas.{reads_one_way}
-use Rattle.binfarce_filtering.specs.Filter.{IsLegacyUpTo, IsNameLength, IsRead, IsReadable, IsSymbolLength, begins_name, begins_symbol, begins_v0, byte_then, ends_name, dropped, is_dot, llvm_length, name_then, no_more, rest_stays}
+use Rattle.binfarce_filtering.specs.Filter.{IsLegacyUpTo, IsNameLength, IsRead, IsReadable, IsSymbolLength, begins_name, begins_v0, byte_then, ends_name, dropped, llvm_length, name_then, no_more, rest_stays}
 
-first_is : (b : ℕ) → (95 == b) ≡ true → not (is_dot b) ≡ true
-first_is b is = grind (arith, nat_tests)
-
--- a v0 name has a byte at least
-pub v0_some : (run : List ℕ) → begins_v0 run ≡ true → 0 < prefix_len (λ b. not (is_dot b)) run
-v0_some [] is = absurd (false≢true is)
-v0_some (b ∷ run) is =
-    let first = (and_parts _ _ (and_parts _ _ is).0).0 in
-    let more : prefix_len (λ b. not (is_dot b)) (b ∷ run) ≡ 1 + prefix_len (λ b. not (is_dot b)) run = ap (λ t. cond t (1 + prefix_len (λ b. not (is_dot b)) run) 0) (first_is b first) in
-    omega (arith, more)
-
--- the length of a symbol, by what it begins with
-pub symbol_length : (t : Bool) (run : List ℕ) (n : ℕ) → begins_v0 run ≡ t → IsSymbolLength t run n → IsSymbolLength (begins_v0 run) run n
-symbol_length t run n is len = let P : Bool → Type 0 = λ x. IsSymbolLength x run n in subst P (sym is) len
-
--- and where it begins as no v0 name, that of a legacy name
+-- where no v0 name begins, the length of a symbol is that of a legacy name
 pub no_symbol : (run : List ℕ) → begins_v0 run ≡ false → ((n : ℕ) → ¬ (IsLegacyUpTo run n)) → (n : ℕ) → ¬ (IsSymbolLength (begins_v0 run) run n)
 no_symbol run is none n len = let P : Bool → Type 0 = λ x. IsSymbolLength x run n in none n (subst P is len)
-
--- the elements that follow the prefix, of which the last is a hash, and what follows them
-pub legacy_here : (run part rest : List ℕ) (end : ℕ) (hash : Bool) → part ≡ drop 3 run → (elements : List Element) × Reads part elements (drop end part) × (hash ≡ ends_in_hash elements)
-    → rest ≡ drop (3 + end) run → hash ≡ true → ends_name rest ≡ true → IsLegacyUpTo run (3 + end)
-legacy_here run part rest end hash from found behind is ends =
-    let P : List ℕ → Type 0 = λ x. Reads x found.0 (drop end x) in
-    let Q : List ℕ → Type 0 = λ x. Reads (drop 3 run) found.0 x in
-    (found.0, subst Q (drop-drop end 3 run) (subst P from found.1), sym found.2 ∙ is, ap ends_name (sym behind) ∙ ends)
 
 -- the last of the elements is no hash, or no name ends after them
 pub legacy_other : (run part rest : List ℕ) (end : ℕ) (hash : Bool) → part ≡ drop 3 run → (elements : List Element) × Reads part elements (drop end part) × (hash ≡ ends_in_hash elements)
@@ -46,10 +22,6 @@ legacy_other run part rest end hash from found behind other k is =
     let here : Reads (drop 3 run) found.0 (drop (3 + end) run) = subst Q (drop-drop end 3 run) (subst P from found.1) in
     let same = reads_one_way (drop 3 run) found.0 is.0 (drop (3 + end) run) (drop k run) here is.1 in
     false≢true (sym other ∙ both_true (found.2 ∙ ap ends_in_hash same.0 ∙ is.2) (ap ends_name (behind ∙ same.1) ∙ is.3))
-
--- there are no such elements
-pub legacy_none : (run part : List ℕ) → part ≡ drop 3 run → ((elements : List Element) (rest : List ℕ) → ¬ (Reads part elements rest)) → (k : ℕ) → ¬ (IsLegacyUpTo run k)
-legacy_none run part from none k is = let P : List ℕ → Type 0 = λ x. Reads x is.0 (drop k run) in none is.0 (drop k run) (subst P (sym from) is.1)
 
 -- a byte where no name begins stays
 pub byte_read : (full first : Bool) (run rest : List ℕ) → 0 < length run → begins_name first run ≡ false → IsRead full false (drop 1 run) rest → IsRead full first run (get_or run 0 0 ∷ rest)

@@ -60,10 +60,6 @@ filtered_same full text other filtered also same both is =
     let P : List ℕ → Type 0 = λ x. IsFiltered full x also in
     subst P same (subst (λ (x : List ℕ). IsFiltered full text x) both is)
 
--- nothing replaces nothing
-pub continues_none : (full : Bool) → Continues full [] []
-continues_none full more filtered is = is
-
 -- a run, and a byte that no run has after it
 pub run_and_byte : (full : Bool) (run readable : List ℕ) (b : ℕ) (more filtered : List ℕ) → is_run run ≡ true → IsShown full run readable → is_run_byte b ≡ false
     → IsFiltered full more filtered → IsFiltered full (run ++ b ∷ more) (readable ++ b ∷ filtered)

@@ -1,5 +1,5 @@
 -- The parts of a file that are read, and the law that no other byte of the file matters.
-use Rattle.std.specs.Prelude.{◌≡◌, ◌↔◌, ℕ, List, [], ◌∷◌, length, min, Result}
+use Rattle.std.specs.Prelude.{Option, Some, None, ◌≡◌, ◌↔◌, ℕ, List, [], ◌∷◌, length, min, Result}
 use Rattle.binfarce_bytes.specs.Part.{Part, part, SameParts}
 use Rattle.binfarce.specs.declared.Format.{Format}
 use Rattle.binfarce.specs.declared.Format.TheVariants.{Elf32, Elf64, Macho, PE, Unknown}

@@ -24,8 +24,7 @@ fn base(maps: &str, path: &str) -> Option<u64> {
     })
 }
 
-/// The return addresses in a backtrace's text, which has a line `  3:  0x55d0c7b5d4a1 - NAME` for each. Functions that are inlined
-/// repeat the address.
+/// The return addresses in a backtrace's text, a line ` 3: 0x55d0c7b5d4a1 - NAME` each, which inlined functions repeat.
 fn addresses(trace: &str) -> Vec<u64> {
     let address = |line: &str| {
         let (_, rest) = line.split_once(": ")?;

@@ -112,5 +112,7 @@ fn is_hash(element: &[u8]) -> bool
 fn are_hex_digits(bytes: &[u8]) -> bool
     ensures { result ≡ list_all is_hex_digit bytes.now }
 {
-    bytes.iter().all(|byte| matches!(*byte, b'0'..=b'9' | b'a'..=b'f'))
+    bytes
+        .iter()
+        .all(|byte| matches!(*byte, b'0'..=b'9' | b'a'..=b'f'))
 }

@@ -83,5 +83,7 @@ fn is_hash(element: &[u8]) -> bool {
 
 // Whether each byte is a lower-case hexadecimal digit.
 fn are_hex_digits(bytes: &[u8]) -> bool {
-    bytes.iter().all(|byte| matches!(*byte, b'0'..=b'9' | b'a'..=b'f'))
+    bytes
+        .iter()
+        .all(|byte| matches!(*byte, b'0'..=b'9' | b'a'..=b'f'))
 }

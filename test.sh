@@ -15,10 +15,14 @@ trap '[ -z "$beside" ] || kill -- "-$beside" 2>/dev/null || true; rm -rf "$scrat
 fail() { echo "test.sh: failed: $*"; exit 1; }
 
 echo "commit $(git rev-parse HEAD 2>/dev/null)"
-for part in bench/count.py tests/unreached tests/documents tests/wrong_bodies tests/erase_refuses.py tests/compare_erased.py; do
-    "$part" || fail "$part"
+for part in bench/count.py tests/static tests/compare_erased.py "tools/erase --check"; do
+    $part || fail "$part"
 done
-tools/erase --check || fail "tools/erase --check"
+# In a copy `rt fmt` must change nothing, and say nothing of a wrong body that can't be applied.
+tar -c --exclude=out crates crates.txt | tar -x -C "$scratch"
+ls -d "$scratch"/crates/* | xargs -I{} -P 4 sh -c 'cd {} && rt fmt' >"$scratch/layout" 2>&1 || echo "rt fmt failed" >>"$scratch/layout"
+diff -r --exclude=out crates "$scratch/crates" >>"$scratch/layout" || true
+[ ! -s "$scratch/layout" ] || { cat "$scratch/layout"; fail "the layout or a wrong body"; }
 
 # The plain crate, with overflow checks as a build for tests has them, and the programs and libraries as users get them.
 setsid sh -exc 'cargo test --offline --workspace; examples/run.sh; tests/install.sh; tests/unproved.sh' >"$scratch/plain" 2>&1 &
@@ -32,13 +36,10 @@ cat "$scratch/plain"
 ! grep "BAD EDIT" "$scratch/gate" || fail "wrong bodies"
 case $last in *" passed, 0 failed") ;; *) fail "rt ci: $last" ;; esac
 
-mkdir "$scratch/proved"
-for name in command list size; do cp "crates/binfarce_$name/out/binfarce_$name" "$scratch/proved/binfarce-$name"; done
-mv "$scratch/proved/binfarce-command" "$scratch/proved/binfarce"
-built="${CARGO_TARGET_DIR:-target}/release"
-for folder in "$scratch/proved" "$built"; do
-    tests/programs.py "$folder" || fail "tests/programs.py $folder"
-done
-tests/erased.py "$scratch/proved" "$built" || fail "tests/erased.py"
+proved="$scratch/proved" built="${CARGO_TARGET_DIR:-target}/release"
+for name in command list size; do install -D "crates/binfarce_$name/out/binfarce_$name" "$proved/binfarce-$name"; done
+mv "$proved/binfarce-command" "$proved/binfarce"
+tests/programs.py "$built" || fail "the plain programs"
+tests/programs.py "$proved" "$built" || fail "the proved programs, or the plain ones beside them"
 sed -n 's/^test result: ok[.] \([0-9]*\) passed.*/\1/p' "$scratch/plain" |
     awk -v gate="${last%% *}" '{ gate += $1 } END { print gate " passed, 0 failed" }'

@@ -1,6 +1,6 @@
 #!/usr/bin/env python3
-"""Writes hostile files: hostile_files.py FOLDER COUNT. They are those of rust/samples, each with bytes changed or cut, the
-same at every run; and one ELF file with ten hostile names for each file."""
+"""Writes hostile files: hostile_files.py FOLDER COUNT. They are those of rust/samples, each with bytes and numbers changed, put in or
+left out, or cut, the same at every run; and one ELF file with ten hostile names for each file."""
 
 import os
 import random
@@ -10,6 +10,8 @@ import sys
 TOP = os.path.dirname(os.path.dirname(os.path.abspath(__file__)))
 PARTS = [b"_R", b"_ZN", b"Nv", b"C", b"I", b"T", b"E", b"B_", b"B2_", b"s_", b"u30____7hkackfecea1cbdathfdh9hlq6y", b"Kj7b_", b"F", b"DEL_",
          b"3foo", b"1a", b"17h05af221e174051e9", b"$LT$", b"$u3b1$", b"..", b".llvm.", b"9D1C", b"@@", b":", b"\xC3\xA9", b"\n", b"\xFF", b"9" * 20]
+NUMBERS = [struct.pack(form, it) for it in (0, 1, 64, 0x7F) for form in ("B", "<H", ">H", "<I", ">I", "<Q", ">Q")]
+NUMBERS += [b"", b"\x80", b"\0\0\0\x80", b"\x80\0\0\0", *(b"\xff" * width for width in (1, 2, 4, 8))]
 
 
 def samples():
@@ -21,12 +23,21 @@ def samples():
     return found
 
 
+def replaced(data, parts, most, rng):
+    """Bytes of which some, at most so often, are replaced by parts or left out, or have parts put in."""
+    for _ in range(rng.randrange(most + 1)):
+        at, part = rng.randrange(len(data) + 1), rng.choice(parts)
+        data = data[:at] + part + data[at + rng.choice([0, len(part), len(part), len(part) + 1]) :]
+    return data
+
+
 def changed(data, rng):
     data = bytearray(data)
     for _ in range(rng.randrange(5)):
         at = rng.randrange(len(data))
         data[at] = rng.choice([0, 1, 2, 3, 0x7F, 0x80, 0xFF, rng.randrange(256)])
-    return bytes(data[: rng.randrange(len(data) + 1)] if rng.randrange(4) == 0 else data)
+    data = replaced(bytes(data), NUMBERS, 2, rng)
+    return data[: rng.randrange(len(data) + 1)] if rng.randrange(4) == 0 else data
 
 
 def elf_of(names):
@@ -60,4 +71,5 @@ def main():
         file.write(elf_of(names))
 
 
-main()
+if __name__ == "__main__":
+    main()

@@ -8,7 +8,7 @@ _binfarce() {
     case ${COMP_WORDS[1]} in
         list | size | map) options="--dynamic --section --all --help" ;;
         filter) options="--full --help" ;;
-        at) options="--return --dynamic --section --all --base --help" ;;
+        at) options="--return --annotate --base --dynamic --section --all --help" ;;
         section) options="--help" ;;
         help) COMPREPLY=($(compgen -W "list size map filter at section" -- "$word")) && return ;;
     esac

@@ -1,7 +1,6 @@
-// For LD_PRELOAD: reads, and writes to standard output, that are short, are interrupted or fail.
-// READ, PREADS, WRITE: how many bytes are read in order, how many calls read at offsets, and how many bytes are written until each
-// further call gives -1 with the error ERROR, or 0 where that is 0. MOST: at most so many bytes in a call, and each second read is
-// interrupted. What isn't set is not bounded.
+// For LD_PRELOAD: reads, and writes to standard output, that are short, are interrupted or fail. Until each further call gives -1 with
+// the error ERROR, or 0 where that is 0, READ bytes are read in order, PREADS calls read at offsets, and WRITE bytes are written. MOST:
+// at most so many bytes in a call, and each second read is interrupted. What isn't set is not bounded.
 #include <errno.h>
 #include <stdlib.h>
 #include <sys/syscall.h>

@@ -1,12 +1,14 @@
 #!/usr/bin/env python3
-"""Compares the plain Rust in rust/src/erased with the sources in crates/*/src, and shares no code with tools/erase. Only the forms
-below may be missing or changed; comments, and commas before a closing bracket, aren't compared. Of any other difference the words
-of both files are printed, the first of each file, and the status is 1.
+"""Compares rust/src/erased with the sources in crates/*/src, by no code of tools/erase. Only the forms below may be missing or changed;
+comments aren't compared. Each file's first other difference is printed. Then tools/erase must refuse each of FORMS by name. Else status 1.
 """
 import itertools
 import pathlib
 import re
+import shutil
+import subprocess
 import sys
+import tempfile
 
 TOKEN = re.compile(r"""//[^\n]*|[bc]?r(\#*)".*?"\1|[bc]?"(?:\\.|[^"\\])*"|b?'(?:\\(?:u\{\w*\}|x\w\w|.)|[^'\\])'
     |'\w+|\w+|::|->|=>|[^\s\w]""", re.S | re.X)
@@ -30,20 +32,18 @@ SOURCE = [
     (r'extern "C" fn', "fn"), (r"(?:\bpub )?\bfn main \(", "pub fn main ("),
     (r"\bfn fmt < W : fmt :: Write >", "fn fmt"), (r"\bFormatter < W >", "Formatter < '_ >"),
     (rf"vec ! \[ in ({VALUE}) ; ([^;\]]*) ; ([^;\]]*) \]", r"Vec :: filled ( \1 , \2 , \3 )"),
-    (rf"\b(assert|assert_eq|unreachable) ! \( {VALUE} ;", r"\1 ! ("),
     (rf"\b(eprintln|println) ! \( ({VALUE}) ; ({ITEMS})\)", r"\2 . \1 ( format_args ! ( \3 ) )"),
     (rf"\bformat ! \( in ({VALUE}) ; ({ITEMS})\)", r"String :: formatted ( \1 , format_args ! ( \2 ) )"),
 ]
 ERASED = [
     (r"# \[ cfg_attr \( not \( debug_assertions \) , inline \( always \) \) \]", "# [ inline ( always ) ]"),
     (r"\bcollect_in\b", "collect"), (r"\bto_signed\b", "cast_signed"),
-    (r"fn (\w+) \( \) (-> [^{]*)?\{ let (\w+) = HostRuntime :: new \( \) ;", r"fn \1 ( \3 : HostRuntime ) \2{"),
-    (r"\bcrate :: erased ::", ""), (r"\bcrate :: shim ::", "std ::"), (r"\bstd :: test :: Abort", "std :: process :: Abort"),
+    (r"\bcrate :: erased ::", ""), (r"\bcrate :: shim ::", "std ::"),
 ]
 USE = r"(pub )?\buse ((?:\w+ :: )*)(\w+(?: as \w+)?|\{ [^{}]*\}) ;"
-ERROR = r"# \[ error \( (\S+) \) \] (\w+)"
+# What the derive of an error makes; its texts are rows of tests/programs.py.
 SHOWS = (r"impl std :: fmt :: Display for (\w+) \{ fn fmt \( & self , f : & mut std :: fmt :: Formatter < '_ > \) "
-         r"-> std :: fmt :: Result \{ match self \{ ((?:\1 :: \w+ (?:\( e \) )?=> write ! \( f , \S+ \) , )*)\} \} \} "
+         r"-> std :: fmt :: Result \{ match self \{ (?:\1 :: \w+ (?:\( e \) )?=> write ! \( f , \S+ \) , )*\} \} \} "
          r"impl std :: error :: Error for \1 \{ \}")
 
 def without(text, start, ends):
@@ -58,25 +58,20 @@ def without(text, start, ends):
     return text
 
 def plain(path, own, rules):
-    """The words of a file that are compared in order; its imports, and the texts of its errors."""
+    """The words of a file that are compared in order, and its imports."""
     words = [found[0] for found in TOKEN.finditer(path.read_text()) if not found[0].startswith("//")]
     text = " ".join(word.translate(HIDDEN) if word[-1] in "\"'#" and len(word) > 1 else word for word in words)
     for start, ends in LACKS:
         text = without(text, start, ends)
-    # In `{{0}}` the braces are text.
-    value, named, brace = (it.translate(HIDDEN) for it in ("{0}", "{e}", "{{"))
-    others = {(variant, re.sub(f"{brace}|{value}", lambda it: named if it[0] == value else brace, words))
-              for words, variant in re.findall(ERROR, text)}
-    for impl in re.finditer(SHOWS, text):
-        others |= set(re.findall(r":: (\w+) [(e) ]*=> write ! \( f , (\S+)", impl[2]))
     for pattern, new in [(SHOWS, ""), *rules, *EITHER]:
         text = " ".join(re.sub(pattern, new.replace("OWN", own), text).split())
+    imports = set()
     for public, parent, names in re.findall(USE, text):
         for name in names.strip("{ }").split(","):
             path, _, short = (parent + name).partition(" as ")
             path = re.sub(r"::self$", "", path.replace(" ", ""))
-            others.add((path, short.strip() or path.split("::")[-1], public))
-    return re.sub(USE, "", text).split(), others
+            imports.add((path, short.strip() or path.split("::")[-1], public))
+    return re.sub(USE, "", text).split(), imports
 
 def difference(source, erased, own):
     """The first difference of two files, or None."""
@@ -89,8 +84,33 @@ def difference(source, erased, own):
         if item[0] not in (GHOSTS if item in wanted else PRELUDE):
             return f"{source if item in wanted else erased} alone has {' '.join(item).translate(SHOWN)}"
 
+# What means something else in Rust than in Rattle.
+FORMS = {
+    "size_of": "fn f() -> usize { std::mem::size_of::<(u8, u32, u8)>() }", "(250u8..)": "fn f() -> usize { (250u8..).take(9).count() }",
+    "for x in 250u8..{}": "fn f() { for x in 250u8.. {} }", "std::thread": "use std::thread;", "}": "fn f() }",
+    "sort_unstable_by_key": "fn f(a: &mut [(u8, u8)]) { a.sort_unstable_by_key(|x| x.0); }",
+    "is_alphanumeric": "fn f(a: char) -> bool { a.is_alphanumeric() }", "ghost=1;": "fn f() { let ghost = 1; }",
+    "binary_search": "fn f(a: &[u8]) -> bool { a.binary_search(&1).is_ok() }", "#[from]": "pub enum E { A(#[from] F) }",
+    "clone": "fn f(a: &[E]) -> usize { a.iter().map(|x| x.clone()).count() }",
+    "{a:1,..v[i]}": "fn f(v: &[S], i: usize) -> S { S { a: 1, ..v[i] } }", "stringify!": "fn f() -> &'static str { stringify!(a + b) }",
+    '#[error("bad {{0}}")]': '#[derive(Debug, Drop, Error)]\npub enum E {\n    #[error("bad {{0}}")]\n    A(u8),\n}',
+}
+
+def not_refused():
+    """Gives tools/erase each of FORMS in a crate, and yields what it says in place of refusing it."""
+    with tempfile.TemporaryDirectory() as top:
+        source = pathlib.Path(top, "crates/a/src/lib.rt")
+        source.parent.mkdir(parents=True)
+        pathlib.Path(top, "crates.txt").write_text("a:\nb: a\n")
+        erase = shutil.copytree(TOP / "tools", f"{top}/tools") + "/erase"
+        for form, text in FORMS.items():
+            source.write_text(f"//! A crate.\n\n{text}\n")
+            said = subprocess.run([erase], capture_output=True, text=True).stderr
+            if not said.startswith("crates/a/src/lib.rt:") or f"`{form}`" not in said:
+                yield f"{form} isn't refused by name: {said}"
+
 TOP = pathlib.Path(__file__).resolve().parent.parent
-FOLDER, differences, compared = TOP / "rust/src/erased", [], 0
+FOLDER, differences = TOP / "rust/src/erased", []
 left = set(FOLDER.rglob("*.rs")) - {FOLDER / "mod.rs"}
 for source in sorted(TOP.glob("crates/*/src/**/*.rt")):
     own, inner = source.relative_to(TOP).parts[1], pathlib.Path(*source.relative_to(TOP).with_suffix("").parts[3:])
@@ -98,9 +118,8 @@ for source in sorted(TOP.glob("crates/*/src/**/*.rt")):
     if erased in left:
         left.remove(erased)
         differences.append(difference(source, erased, own))
-        compared += 1
     elif (FOLDER / f"{own}.rs").exists() and source.stem != "laws":
         differences.append(f"{source} is missing in {FOLDER}")
-differences = [*filter(None, differences), *(f"{path} is made of no source" for path in sorted(left))]
-print(*differences, f"{compared} files compared, {len(differences)} differences", sep="\n")
-sys.exit(1 if differences or not compared else 0)
+wrong = [*filter(None, differences), *(f"{path} is made of no source" for path in sorted(left)), *not_refused()]
+print(*wrong, f"{len(differences)} files, {len(FORMS)} forms, {len(wrong)} differences", sep="\n")
+sys.exit(1 if wrong or not differences else 0)

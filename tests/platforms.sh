@@ -23,10 +23,10 @@ try() {
     shift 3
     get "$@" || { echo "$target: not tried, since Debian has no $missing here" && return 0; }
     RUSTC="$root/bin/rustc" LD_LIBRARY_PATH="$root/lib/x86_64-linux-gnu:$root/lib" CARGO_TARGET_DIR="$folder/target" \
-        cargo test --offline --package binfarce --lib --target "$target" >"$folder/log" 2>&1 || failed=$target
+        cargo test --offline --package binfarce --lib --target "$target" >"$folder/log" 2>&1 ||
+        grep -q "on 64-bit machines only" "$folder/log" || status=1
     sed -n "s/^test result: /$target: /p; s/^error: .*\(on 64-bit machines only\)$/$target: not built: \1/p" "$folder/log" | grep . ||
         { tail "$folder/log" && status=1; }
-    [ "${failed-}" != "$target" ] || grep -q "on 64-bit machines only" "$folder/log" || status=1
 }
 field() { dpkg-deb -f "$folder/packages/$1"/*.deb "$2"; }
 cross() { echo "libstd-rust-web-dev:$2 gcc-12-$1-linux-gnu binutils-$1-linux-gnu libgcc-12-dev-$2-cross libc6-dev-$2-cross"; }
@@ -37,7 +37,7 @@ get rustc-web qemu-user-static && std=libstd-rust-web-$(field rustc-web Version 
 try x86_64-unknown-linux-gnu - - libstd-rust-web-dev:amd64
 try aarch64-unknown-linux-gnu qemu-aarch64-static aarch64-linux-gnu-gcc-12 $(cross aarch64 arm64)
 try s390x-unknown-linux-gnu qemu-s390x-static s390x-linux-gnu-gcc-12 $(cross s390x s390x)
-try i686-unknown-linux-gnu - - libstd-rust-web-dev:i386
+try i686-unknown-linux-gnu - i686-linux-gnu-gcc-12 $(cross i686 i386)
 try wasm32-wasip1 wasmtime - libstd-rust-web-dev-wasm32
 try x86_64-pc-windows-gnu wine - libstd-rust-web-dev-windows
 exit "$status"

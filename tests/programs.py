@@ -1,17 +1,23 @@
 #!/usr/bin/env python3
-"""tests/programs.py FOLDER: runs the programs of this folder where no stored run can; the status is 1 where one ends otherwise than
-it must. Standard output is a full device or a closed pipe. They read large files (one of 8 GiB in little memory), a path with
-blanks, a pipe, files of /proc and /sys, a folder, a missing file and several files, by calls that are short, are interrupted or
-fail (tests/broken.c), and are called wrongly.
+"""tests/programs.py FOLDER [OTHER]: runs the programs of FOLDER where no stored run can, and ends with status 1 where one ends otherwise
+than it must. Standard output is a full device or a closed pipe; files are large (8 GiB in little memory), pipes, of /proc or /sys,
+folders, missing or several; reads and writes are short, interrupted or fail (tests/broken.c); calls are wrong.
+
+Then the programs of FOLDER and OTHER, proved and built by cargo, must end alike byte for byte: on hostile files and names, and with random
+arguments and streams, the same in every run. A closed standard stream isn't compared: Rust's runtime opens /dev/null in its place.
 """
+import concurrent.futures
 import errno
 import os
 import pathlib
+import random
 import re
-import struct
+import runpy
 import subprocess
 import sys
 import tempfile
+
+FILES, NAMES = 2_000, 20_000
 
 def printed(*command, given=None):
     return subprocess.run(command, input=given, capture_output=True, check=True).stdout.decode()
@@ -22,7 +28,8 @@ def ends(status, output, line, program, *words, given="/dev/null", to=subprocess
         return
     streams = {"input": given} if isinstance(given, bytes) else {"stdin": os.open(given, os.O_RDONLY)}
     run = subprocess.run([*under, folder / program, *words], stdout=to, stderr=subprocess.PIPE, **streams)
-    ended, wanted = (run.returncode, run.stdout or b"", run.stderr), (status, output.encode(), f"{line}\n".lstrip("\n").encode())
+    output = output.encode() if isinstance(output, str) else output
+    ended, wanted = (run.returncode, run.stdout or b"", run.stderr), (status, output, f"{line}\n".lstrip("\n").encode())
     if ended != wanted:
         sys.exit(f"programs.py: {program} {words}, given {given}: ended with\n{ended}, and must with\n{wanted}")
 
@@ -59,7 +66,8 @@ def answers(answer, line, *words):
         run.stdin.write(line)
         assert run.stdout.readline() == answer.encode(), f"{words}: another answer to {line}"
 
-folder, temporary = pathlib.Path(sys.argv[1]).resolve(), tempfile.TemporaryDirectory()
+folders, temporary = [pathlib.Path(it).resolve() for it in sys.argv[1:]], tempfile.TemporaryDirectory()
+folder = folders[0]
 # A static program, as a release has it, loads no library.
 is_static = b"ld-linux" not in (folder / "binfarce").read_bytes()
 os.chdir(pathlib.Path(__file__).resolve().parent.parent)
@@ -67,7 +75,9 @@ sample, scratch = "crates/binfarce_list/data/e-elf64-little.bin", temporary.name
 printed("gcc", "-shared", "-fPIC", "-o", f"{scratch}/broken.so", "tests/broken.c")
 files = [f"{scratch}/{it}" for it in (" a  file ", "large", "sparse", "cut", "begun", "byte", "names", "none")]
 blanks, large, sparse, truncated, begun, byte, names, missing = files
-data, text = pathlib.Path(sample).read_bytes(), pathlib.Path("tests/runs/filter").read_text()
+data = pathlib.Path(sample).read_bytes()
+text = "thread 'main' panicked at a.rs:5:9:\n   1: {0}\n             at ./a.rs:5:9\n   2: {1}\n(gdb) #3  0x0000555555598ff9 in {2} ()\n"
+text += "   1ce05:\tcall   1beb0 <{0}+0x1f>\nin {1}. 1.0-RC0 _RNvC1cu2_1a\n"
 mangled = text.format("_ZN3foo3bar17h05af221e174051e9E", "_RNvC1a1b", "_RNvNtCsjrHSEGnQ3l9_3std7process5abort").encode()
 contents = (data, data + bytes(1 << 22), data, data[:395], data[:8], data[:1], mangled)
 for path, content in zip(files, contents):
@@ -81,27 +91,28 @@ same = (sample, large, blanks, of_proc)
 
 answered = pathlib.Path("crates/test_formats/stdout").read_text()
 outputs = {command: pathlib.Path(f"crates/binfarce_{command}/stdout").read_text() for command in ("list", "size")}
+unknown, ended, unread, exhausted = "unknown file format", "unexpected end of file", "cannot read file", "out of memory"
+lacks, not_there, is_folder = "symbols section is missing", "No such file or directory", "Is a directory"
 for command, output in outputs.items():
     program = f"binfarce-{command}"
     fails(f"{program}: write failed", 1, f"{program}: write failed", program, sample)
     reads(output, program)
-    ends(1, "", f"{program}: symbols section is missing", program, large, ".data")
     for sign in ("macho", "pe"):
         wanted = re.search(f"(?s)\n{command.replace('size', 'report')} .data of {sign} magic\n(.*?text 256\n)", answered)[1]
         writes(wanted, f"rust/samples/{sign}.bin", program)
-    unknown, ended, unread, full = "unknown file format", "unexpected end of file", "cannot read file", "out of memory"
-    for path, line in ((of_sys, unknown), ("/dev/null", unknown), (byte, unknown), (begun, ended), (scratch, unread), (missing, unread)):
-        ends(1, "", f"{program}: {line}", program, path)
-    for given, line in ((b"", unknown), (data[:8], ended), (b"\xcf\xfa\xed\xfe" + bytes(3 << 20), "symbols section is missing")):
+    for line, *words in ((unknown, of_sys), (unknown, "/dev/null"), (unknown, byte), (ended, begun), (unread, scratch), (unread, missing),
+                         (lacks, large, ".data")):
+        ends(1, "", f"{program}: {line}", program, *words)
+    for given, line in ((b"", unknown), (data[:8], ended), (b"\xcf\xfa\xed\xfe" + bytes(3 << 20), lacks)):
         ends(1, "", f"{program}: {line}", program, "/dev/stdin", given=given)
     # Bytes that can't be read: all, from the ninth on, and after one, two and three reads at offsets, after which the file may be shorter.
     for limits in ({"READ": 0, "PREADS": 0}, {"READ": 8, "PREADS": 0}, {"PREADS": 1}, {"PREADS": 2}, {"PREADS": 3}):
-        for error, line in ((errno.EIO, unread), (errno.ENOMEM, full)) + ((0, unread),) * ("READ" not in limits):
+        for error, line in ((errno.EIO, unread), (errno.ENOMEM, exhausted)) + ((0, unread),) * ("READ" not in limits):
             ends(1, "", f"{program}: {line}", program, sample, under=broken(**limits, ERROR=error))
     for words in ([], [sample, ".text", "more"]):
         ends(2, "", f"usage: {program} FILE [SECTION]", program, *words)
 
-full, lost = "binfarce: standard output: No space left on device", f"binfarce: {missing}: No such file or directory"
+full, lost = "binfarce: standard output: No space left on device", f"binfarce: {missing}: {not_there}"
 sections = ((64, 0, ""), (64, 32, ".text"), (96, 120, ".symtab"), (216, 18, ".strtab"), (234, 33, ".shstrtab"))
 outputs["section"] = "".join(f"{0:016x} {offset:10} {size:10} {name}\n" for offset, size, name in sections)
 outputs["map"] = re.search(r"(?s)map \.text of elf\n(.*?\n</svg>\n)", answered)[1]
@@ -110,10 +121,8 @@ for command, output in outputs.items():
     fails(full, 0, "", *call, sample)
     reads(output, *call)
     ends(0, output, "", *call, "--", "-", given=sample)
-    ends(1, "", f"binfarce: {scratch}: Is a directory", *call, scratch)
-    ends(1, "", lost, *call, missing)
-    for path in (of_sys, "/dev/null", "/dev/zero"):
-        ends(1, "", f"binfarce: {path}: unknown file format", *call, path)
+    for path, line in ((scratch, is_folder), (missing, not_there), (of_sys, unknown), ("/dev/null", unknown), ("/dev/zero", unknown)):
+        ends(1, "", f"binfarce: {path}: {line}", *call, path)
     ends(2, "", f"binfarce: no file; {shows} how it is called", *call)
     ends(2, "", f"binfarce: no option --frob of {command}; {shows} them", *call, "--frob", sample)
     usage = printed(folder / "binfarce", command, "--help")
@@ -121,15 +130,15 @@ for command, output in outputs.items():
     assert re.search(f"^usage: binfarce {command} ", usage, re.M), usage
     if command != "section":
         ends(0, output, "", *call, "--section", ".text", sample)
-        ends(1, "", f"binfarce: {sample}: symbols section is missing", *call, sample, "--section=.data")
+        ends(1, "", f"binfarce: {sample}: {lacks}", *call, sample, "--section=.data")
         ends(1, "".join(f"\n{path}:\n{output}" for path in (sample, blanks)), lost, *call, sample, missing, blanks)
-        shown, unknown = f"\n{sample}:\n{output}", "binfarce: /dev/null: unknown file format"
+        shown = f"\n{sample}:\n{output}"
         ends(0, shown * 2, "", *call, sample, sample)
-        ends(1, shown * 2, f"{lost}\nbinfarce: {begun}: unexpected end of file", *call, missing, sample, begun, sample)
-        ends(1, shown, f"binfarce: {scratch}: Is a directory", *call, sample, scratch)
-        for error, line in ((errno.EIO, "Input/output error"), (errno.ENOMEM, "out of memory")):
-            under = broken(READ=4, PREADS=0, ERROR=error)
-            ends(1, "", f"{unknown}\nbinfarce: {sample}: {line}", *call, "/dev/null", sample, under=under)
+        ends(1, shown * 2, f"{lost}\nbinfarce: {begun}: {ended}", *call, missing, sample, begun, sample)
+        ends(1, shown, f"binfarce: {scratch}: {is_folder}", *call, sample, scratch)
+        for error, line in ((errno.EIO, "Input/output error"), (errno.ENOMEM, exhausted)):
+            lines, under = f"binfarce: /dev/null: {unknown}\nbinfarce: {sample}: {line}", broken(READ=4, PREADS=0, ERROR=error)
+            ends(1, "", lines, *call, "/dev/null", sample, under=under)
 # Where so many bytes are taken of the output, and then none, it ends with those; of these lines it has written the first.
 shown, lines = f"\n{sample}:\n{outputs['list']}" * 2, f"{lost}\nbinfarce: {begun}: unexpected end of file\n"
 for left, error in ((left, error) for left in range(len(shown) * (not is_static)) for error in (0, errno.EPIPE)):
@@ -140,11 +149,14 @@ for left, error in ((left, error) for left in range(len(shown) * (not is_static)
 version = re.search(r'^version = "(.*)"$', pathlib.Path("rust/Cargo.toml").read_text(), re.M)[1]
 ends(0, f"binfarce {version}\n", "", "binfarce", "--version")
 ends(0, printed(folder / "binfarce", "--help"), "", "binfarce", "help")
-ends(2, "", "binfarce: no command; binfarce --help shows them", "binfarce")
-ends(2, "", "binfarce: no command lst; the nearest is list", "binfarce", "lst", sample)
-ends(2, "", "binfarce: no option --sect=.text of list; the nearest is --section", "binfarce", "list", "--sect=.text", sample)
-ends(2, "", "binfarce: --section has no value", "binfarce", "list", sample, "--section")
-ends(2, "", "binfarce: an argument is not UTF-8", "binfarce", "list", b"\xff")
+for line, *words in (("no command; binfarce --help shows them",), ("no command lst; the nearest is list", "lst", sample),
+                     ("no option --sect=.text of list; the nearest is --section", "list", "--sect=.text", sample),
+                     ("no option --half of filter; the nearest is --help", "filter", "--half"), ("an argument is not UTF-8", "list", b"\xff"),
+                     ("--section has no value", "list", sample, "--section"), ("one argument too many: more", "section", sample, ".text", "more"),
+                     ("--all and --section exclude each other", "list", "--all", "--section=.text", sample),
+                     ("one argument too many: 1005", "at", "--annotate", sample, "1005"), ("not an address: 10g", "at", sample, "1000", "10g"),
+                     (f"not an address: {sample}", "at", "--base", sample, "1000")):
+    ends(2, "", f"binfarce: {line}", "binfarce", *words)
 
 # The bytes of a section; a file without its end.
 for path in (sample, large, of_proc, "-"):
@@ -152,41 +164,44 @@ for path in (sample, large, of_proc, "-"):
 lines = "".join(f"{0:016x} {offset:10} {size:10} \n" for offset, size in ((64, 0), (64, 32)))
 ends(1, lines, f"binfarce: {truncated}: unexpected end of file", "binfarce", "section", truncated)
 ends(1, "", f"binfarce: {sample}: no section of this name", "binfarce", "section", sample, ".data")
-ends(2, "", "binfarce: one argument too many: more", "binfarce", "section", sample, ".text", "more")
 
 # Names on standard input, and as arguments.
 fails(full, 0, "", "binfarce", "filter", given=names)
 ends(0, text.format("foo::bar", "a::b", "std::process::abort"), "", "binfarce", "filter", given=names)
 ends(1, "", "binfarce: standard input: Is a directory", "binfarce", "filter", given=scratch)
-ends(2, "", "binfarce: no option --half of filter; the nearest is --help", "binfarce", "filter", "--half", given=names)
 words = ("_RNvC1a1b", "--full", "_ZN3foo3bar17h05af221e174051e9E", "--", "-x")
 ends(0, "a[0]::b\nfoo::bar::h05af221e174051e9\n-x\n", "", "binfarce", "filter", *words)
 answers("in a::b\n", b"in _RNvC1a1b\n", "filter")
 
-# Addresses as arguments, and on standard input.
+# Addresses as arguments, and on standard input; and in a text.
+at = ("binfarce", "at", "--section=.text")
+base, returned = (*at, "--base", "400000", sample), (*at, "--return", "--base=400000", sample)
 found = ((0x1000, "foo+0x0"), (0x1005, "foo+0x5"), (0x100f, "foo+0xf"), (0x1010, "??"), (0xfff, "??"))
 output, moved = ("".join(f"{base + address:016x} {answer}\n" for address, answer in found) for base in (0, 0x400000))
-fails(full, 0, "", "binfarce", "at", "--section=.text", sample, "1000")
+back = f"{0x401010:016x} foo+0x10\n{0x401001:016x} foo+0x1\n{0x401000:016x} ??\n{0x400000:016x} ??\n"
+fails(full, 0, "", *at, sample, "1000")
 for path in (*same, "-"):
-    ends(0, output, "", "binfarce", "at", "--section=.text", path, "1000", "0x1005", "100f", "1010", "0fff", given=sample)
+    ends(0, output, "", *at, path, "1000", "0x1005", "100f", "1010", "0fff", given=sample)
 for path in same:
-    ends(0, output, "", "binfarce", "at", "--section=.text", path, given=b"1000\n0X1005\r\n 100f\n1010\n0fff")
-ends(0, moved, "", "binfarce", "at", "--section=.text", "--base", "400000", sample, "401000", "401005", "40100f", "401010", "400fff")
-ends(0, moved, "", "binfarce", "at", "--section=.text", "--base=400000", sample, given=b"401000\n401005\n40100f\n401010\n400fff\n")
-base = ("binfarce", "at", "--section=.text", "--base", "400000", sample)
+    ends(0, output, "", *at, path, given=b"1000\n0X1005\r\n 100f\n1010\n0fff")
+for call, lines, words in ((base, moved, "401000\n401005\n40100f\n401010\n400fff\n"), (returned, back, "401010\n401001\n401000\n400000\n")):
+    ends(0, lines, "", *call, *words.split())
+    ends(0, lines, "", *call, given=words.encode())
 ends(0, "", "", *base, given=b"")
 lines = f"??\n{0x401000:016x} foo+0x0\n??\n{0x400fff:016x} ??\n??\n"
-ends(2, lines, "binfarce: 3 lines without an address", *base, given=b"\n401000\n10g\n0x400fff\nno")
-lines, bad = f"{0x1000:016x} foo+0x0\n??\n{0x1005:016x} foo+0x5\n??\n", b"1000\nno\n1005\n" + bytes(100_000)
-ends(2, lines, "binfarce: 2 lines without an address", "binfarce", "at", "--section=.text", sample, given=bad)
+ends(2, lines, "binfarce: 3 lines without an address", *base, given=b"\n401000\n10g\n0x400fff\n" + bytes(100_000))
+ends(2, f"??\n{0x1005:016x} foo+0x5\n", "binfarce: 1 line without an address", *at, sample, given=b"no\n1005")
+text = b"\tat 0x401005, 0x40100F\n0x1005 0x401 0x00000000000401005\n\xff 0x401010"
+noted = b"\tat 0x401005 <foo+0x5>, 0x40100F <foo+0xf>\n0x1005 0x401 0x00000000000401005\n\xff 0x401010"
+for under in ((), broken(MOST=1)):
+    ends(0, noted, "", *base, "--annotate", given=text, under=under)
+    ends(0, noted + b" <foo+0x10>", "", *returned, "--annotate", given=text, under=under)
+fails(full, 0, "", *base, "--annotate", given=text)
 answers(f"{0x1000:016x} foo+0x0\n", b"1000\n", "at", "--section=.text", sample)
-ends(1, "", "binfarce: standard input: Is a directory", "binfarce", "at", "--section=.text", sample, given=scratch)
-ends(1, "", lost, "binfarce", "at", missing, "1000")
-back = f"{0x401010:016x} foo+0x10\n{0x401001:016x} foo+0x1\n{0x401000:016x} ??\n{0x400000:016x} ??\n"
-ends(0, back, "", "binfarce", "at", "--section=.text", "--return", "--base=400000", sample, "401010", "401001", "401000", "400000")
-ends(0, back, "", "binfarce", "at", "--section=.text", "--return", "--base=400000", sample, given=b"401010\n401001\n401000\n400000\n")
-ends(2, "", "binfarce: not an address: 10g", "binfarce", "at", "--section=.text", sample, "1000", "10g")
-ends(2, "", f"binfarce: not an address: {sample}", "binfarce", "at", "--section=.text", "--base", sample, "1000")
+answers("at 0x401000 <foo+0x0>\n", b"at 0x401000\n", *base[1:], "--annotate")
+for option in ((), ("--annotate",)):
+    ends(1, "", "binfarce: standard input: Is a directory", *at, *option, sample, given=scratch)
+    ends(1, "", lost, "binfarce", "at", *option, missing, given=b"1000\n")
 
 # The dynamic symbols of a library, as readelf has them; stripped, it has no others.
 library, stripped = printed("gcc", "-print-file-name=libc.so.6").strip(), f"{scratch}/stripped"
@@ -199,28 +214,83 @@ for option, starts in (((), [it[0] for it in rows if it[1] == code] + ["text"]),
     assert [it.split()[0] for it in lines] == starts, "other dynamic symbols than those of readelf"
 ends(1, "", f"binfarce: {stripped}: no symbol table (.symtab); --dynamic lists its dynamic symbols", "binfarce", "list", stripped)
 
-# The symbols of all sections, in an object file with a section for each function, as readelf has them.
+# The symbols of all sections, in an object file with a section for each function, as nm has them.
 file, functions = f"{scratch}/functions.o", "int f(int x) { return x; } int g(int x) { return x * x; } int h(int x) { return f(x) - g(x); }"
 printed("gcc", "-ffunction-sections", "-c", "-o", file, "-x", "c", "-", given=functions.encode())
-sections = dict(re.findall(r"\[ *(\d+)\] (\.\S+)", printed("readelf", "-SW", file)))
-rows = re.findall(r": (\w+) +(\d+) FUNC +\w+ +\w+ +(\d+) (.*)", printed("readelf", "-sW", file))
+rows = re.findall(r"(\w+) *\|(\w+)\| +T +\| +FUNC\|(\w+)\| +\|(\S+)", printed("nm", "-p", "-f", "sysv", file))
 assert len(rows) == 3, "gcc made no 3 functions"
-lines = "".join(f"{address} {size:>10} {sections[number]} {name}\n" for address, size, number, name in rows)
-total = sum(int(row[1]) for row in rows)
+lines = "".join(f"{address} {int(size, 16):10} {section} {name}\n" for name, address, size, section in rows)
 ends(0, lines, "", "binfarce", "list", "--all", file)
-ends(0, f"{total:10} [unknown]\nsum {total}\n", "", "binfarce", "size", "--all", file)
+ends(0, "{0:10} [unknown]\nsum {0}\n".format(sum(int(row[2], 16) for row in rows)), "", "binfarce", "size", "--all", file)
 ends(0, f"{2:016x} g+0x2\n", "", "binfarce", "at", "--section=.text.g", file, "2")
 shared = f"binfarce: {file}: its sections share addresses; --section=NAME takes one of them"
 for option in ((), ("--all",)):
     ends(1, "", shared, "binfarce", "at", *option, file, "2")
     ends(1, "", shared, "binfarce", "at", *option, file, given=b"2\n")
-ends(2, "", "binfarce: --all and --section exclude each other", "binfarce", "list", "--all", "--section=.text", file)
 
 # A PE image, of PE32+ at 0x140000000 with `.text` at 0x1000: an external and a static function, at their addresses in memory.
-image = b"MZ".ljust(60, b"\0") + struct.pack("<I4s2H3I2H", 64, b"PE", 0x8664, 1, 0, 160, 2, 32, 0) + struct.pack("<H22xQ", 0x20B, 0x140000000)
-image += struct.pack("<8s4I16x", b".text", 0x18, 0x1000, 0x200, 0)
-image += b"".join(struct.pack("<8sI2H2B", *row) for row in ((b"f", 0, 1, 0x20, 2, 0), (b"g", 0x10, 1, 0x20, 3, 0)))
-pathlib.Path(f"{scratch}/image.exe").write_bytes(image)
-ends(0, f"{0x140001000:016x}         16 .text f\n{0x140001010:016x}          8 .text g\n", "", "binfarce", "list", "--all", f"{scratch}/image.exe")
-ends(0, f"{0x140001017:016x} g+0x7\n", "", "binfarce", "at", "--all", f"{scratch}/image.exe", "140001017")
-print(f"programs.py: {folder}: as they must be")
+image = "rust/samples/pe-image.bin"
+ends(0, f"{0x140001000:016x}         16 .text f\n{0x140001010:016x}          8 .text g\n", "", "binfarce", "list", "--all", image)
+ends(0, f"{0x140001017:016x} g+0x7\n", "", "binfarce", "at", "--all", image, "140001017")
+print(f"programs.py: {folder}: as they must be", flush=True)
+
+if not folders[1:]:
+    sys.exit()
+failed, rng = [], random.Random(1)
+
+def compare(what, rows):
+    """Compares the ends of calls. A row is a call, what it is given, and how a shell changes its streams, as `>/dev/full`."""
+    def ended(folder, call, given=b"", streams=""):
+        words = [f"{folder}/{call[0]}", *call[1:]]
+        words = ["sh", "-c", f'exec "$0" "$@" {streams}', *words] if streams else words
+        run = subprocess.run(words, capture_output=True, timeout=120, input=given)
+        return run.returncode, run.stdout, run.stderr
+    with concurrent.futures.ThreadPoolExecutor(os.cpu_count()) as pool:
+        different = [f"{row[0]} {row[2:]}: {folders[0]}: {str(one)[:200]}, {folders[1]}: {str(other)[:200]}"
+                     for row, (one, other) in zip(rows, pool.map(lambda row: [ended(it, *row) for it in folders], rows)) if one != other]
+    print(*different[:10], f"{what}: {len(rows) - len(different)} passed, {len(different)} failed", sep="\n", flush=True)
+    failed.extend(different)
+
+def on_files(paths):
+    """Calls of each program and command but `filter`: of the first file, and of all where several can be given."""
+    section = rng.choice([".text", ".text", ".symtab", "__text", ".data", "", "é"])
+    option = rng.choice([[], [], ["--dynamic"], ["--all"], [f"--section={section}"]])
+    addresses = rng.choices(["1000", "0x1005", "100f", "1010", "fff", "0", "180", "1040", "ffffffffffffffff"], k=4)
+    yield [rng.choice(["binfarce-list", "binfarce-size"]), paths[0], *rng.choice([[], [section]])],
+    yield ["binfarce", "section", paths[0], *rng.choice([[], [section]])],
+    yield ["binfarce", "at", *rng.choice([option, ["--base", "40"], ["--return", "--base=1"]]), paths[0], *addresses],
+    yield ["binfarce", rng.choice(["list", "size", "map"]), *option, *paths],
+
+printed("examples/hostile_files.py", f"{scratch}/hostile", str(FILES))
+paths = [f"{scratch}/hostile/{at}" for at in range(FILES)]
+compare("hostile files", [row for at in range(FILES) for row in on_files(paths[at : at + 4])])
+compare("the programs' own files", [row for it in folders * 3 for row in on_files([f"{it}/binfarce"])])
+
+# Mangled names of the tests and random ones, most of them changed.
+real = printed("bench/random-names.py", "2000", "7").encode().split()
+real += re.findall(rb"^name (_(?:R|ZN)[^ \\\n]+)$", pathlib.Path("crates/test_names/stdin").read_bytes(), re.M)
+assert len(real) > 2300
+letters = [b"", *(it.encode() for it in "_RNCIMXYBTFGKSEDLQZ0123456789abcdefhijlmnopstuvxyzsu$.,{}<>éñ-\x7f")]
+replaced = runpy.run_path("examples/hostile_files.py")["replaced"]
+hostile = [replaced(rng.choice(real), letters, 4, rng) for _ in range(NAMES)]
+hostile += [b"_RMC1a" + b"R" * levels + b"u" for levels in (200, 497, 498, 499, 500, 501, 3000)]
+lines = b"".join(name + rng.choice([b"\n", b" ", b"()", b". ", b"\n", b"\xff"]) for name in hostile)
+addresses = "\n".join(f"{rng.randrange(320_000):x}" for _ in range(NAMES)).encode()
+file = f"{scratch}/hostile/names"
+rows = [(["binfarce", command, file],) for command in ("list", "size", "map")] + [(["binfarce", "at", file], addresses)]
+rows += [(["binfarce", "filter"], lines), (["binfarce", "filter", "--full"], lines)]
+rows += [(["binfarce", "filter", *rng.choice([[], ["--full"]])], b"\n".join(hostile[at : at + 50])) for at in range(0, NAMES, 50)]
+rows += [(["binfarce", "filter"], b"in _R" + b"a" * size + b" _RNvC1a1b") for size in (2**16, 2**20 - 2, 2**20 - 1, 2**20)]
+compare(f"texts of {NAMES} hostile names", rows)
+
+words = [sample, sample, sample, "1000", "--section", "--section=.text", ".text", "--all", "--dynamic", "--base", "--base=x",
+         "--full", "_RNvC1a1b", "--help", "-h", "--version", "--frob", "--", "-", "", "list", "help", b"\xff", "/dev/stdin",
+         "/dev/null", "/proc/self/stat", "/sys/kernel/mm/transparent_hugepage/enabled", scratch, missing, file]
+inputs = [b"", b"1000\n0x1005\nno\n", b"in _RNvC1a1b", data, bytes(3 << 20)]
+streams = ["", "", ">/dev/full", "2>&-", "2>/dev/full", "</dev/null", f"<{scratch}"]
+commands = ("list", "size", "map", "section", "at", "filter")
+calls = [["binfarce-list"], ["binfarce-size"], *(["binfarce", it] for it in commands), ["binfarce"]]
+rows = [([*call, *rng.choices(words, k=rng.randrange(5))], rng.choice(inputs), rng.choice(streams)) for call in calls * 100]
+rows += [([*call, path], None, "<&-") for call in calls[:6] for path in (sample, missing)]
+compare("random arguments and streams", rows)
+sys.exit(1 if failed else 0)

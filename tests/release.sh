@@ -16,16 +16,11 @@ cp "$sample" "$place/sample"
 
 # step TEXT: what comes now.
 step() { now=$1 && echo "release: $now" && : >"$scratch/log"; }
-# runs PREFIX: the programs in the chroot, and their pages here.
+# runs PREFIX: the programs in the chroot.
 runs() {
     for run in "binfarce list" "binfarce size" binfarce-list binfarce-size; do
         ! readelf -lW "$1/bin/${run% *}" | grep INTERP || exit 1
-        chroot "$chroot" "${1#"$chroot"}/bin/"$run "${place#"$chroot"}/sample" >"$scratch/output"
-        cmp "$scratch/output" "crates/binfarce_${run##*[ -]}/stdout"
-    done
-    for page in "$1"/share/man/man1/binfarce*; do
-        man --warnings -l "$page" >"$scratch/page" 2>"$scratch/log"
-        [ -s "$scratch/page" ] && cmp "$scratch/log" /dev/null || exit 1
+        chroot "$chroot" "${1#"$chroot"}/bin/"$run "${place#"$chroot"}/sample" | cmp - "crates/binfarce_${run##*[ -]}/stdout"
     done
 }
 # builds LIBRARIES [WORD]: a client in C as `pkg-config [WORD]` says, over the shared library here, and static in the chroot.
@@ -53,7 +48,6 @@ builds "$root/lib"
 tests/programs.py "$root/bin"
 step "the package, unpacked"
 dpkg-deb -x "$folder"/*.deb "$place/package"
-runs "$place/package/usr"
 builds "$place/package/usr/lib/x86_64-linux-gnu" --define-variable=prefix="$place/package/usr"
 step "the package, installed and removed"
 files >"$scratch/before"
@@ -63,13 +57,11 @@ chroot "$chroot" dpkg --force-depends -i "${place#"$chroot"}/it.deb" >"$scratch/
 runs "$chroot/usr"
 chroot "$chroot" dpkg --purge binfarce >"$scratch/log" 2>&1
 files | diff "$scratch/before" -
-step "the crate, as a dependency; installed by cargo and removed"
+step "the crate: its tests and an example; installed by cargo and removed"
 tar -xf "$folder"/*.crate -C "$scratch"
 source=$(echo "$scratch"/binfarce-*)
-cargo new --quiet "$scratch/user"
-cargo add --quiet --manifest-path "$scratch/user/Cargo.toml" --path "$source"
-cp rust/examples/list.rs "$scratch/user/src/main.rs"
-cargo run --quiet --manifest-path "$scratch/user/Cargo.toml" "$sample" | cmp - "$listing"
+cargo test --quiet --manifest-path "$source/Cargo.toml" >"$scratch/log" 2>&1
+cargo run --quiet --manifest-path "$source/Cargo.toml" --example list "$sample" | cmp - "$listing"
 cargo install --quiet --path "$source" --root "$scratch/cargo"
 "$scratch/cargo/bin/binfarce-list" "$sample" | cmp - "$listing"
 cargo uninstall --quiet --root "$scratch/cargo" binfarce

@@ -45,6 +45,16 @@ impl<'a> Iterator for Functions<'a> {
 /// # Errors
 ///
 /// [`Error::UnknownFormat`]; [`Error::Parse`] where the file header is truncated.
+///
+/// # Examples
+///
+/// ```
+/// # let path = concat!(env!("CARGO_MANIFEST_DIR"), "/samples/elf64-little.bin");
+/// let file = std::fs::read(path)?;
+/// let names = binfarce::sections(&file)?.map(|section| Ok(section?.name)).collect::<Result<Vec<_>, binfarce::ParseError>>()?;
+/// assert_eq!(names[1..], [Some(".text"), Some(".symtab"), Some(".strtab"), Some(".shstrtab")]);
+/// # Ok::<(), Box<dyn std::error::Error>>(())
+/// ```
 pub fn sections(file: &[u8]) -> Result<Sections<'_>, Error> {
     Ok(Sections(sections_of::sections_of(file)?))
 }

@@ -131,7 +131,14 @@ impl Demangler {
     ///
     /// [`OutOfMemory`] where an allocation failed. `text` is unchanged then.
     pub fn push_trimmed(&mut self, text: &mut String, name: &str) -> Result<(), OutOfMemory> {
-        with_shim(text, |text| self.0.push_trimmed(text, name))
+        with_shim(text, |text| {
+            // A legacy name is printed part by part, and its text is mostly no longer than the name. Of a v0 name all is
+            // appended at once.
+            if name.trim_start_matches('_').starts_with("ZN") {
+                text.reserve(name.len())?;
+            }
+            self.0.push_trimmed(text, name)
+        })
     }
 
     /// Appends the complete text of `name` to `text`.
@@ -141,6 +148,10 @@ impl Demangler {
     /// [`OutOfMemory`] where an allocation failed. `text` is unchanged then.
     pub fn push_complete(&mut self, text: &mut String, name: &str) -> Result<(), OutOfMemory> {
         let complete = self.0.demangle(name)?.complete;
+        if text.is_empty() && text.capacity() < complete.len() {
+            *text = complete.into_std();
+            return Ok(());
+        }
         with_shim(text, |text| text.push_str(&complete))
     }
 
@@ -203,9 +214,9 @@ impl fmt::Debug for Demangler {
 /// # Ok::<(), binfarce::OutOfMemory>(())
 /// ```
 pub fn trimmed(name: &str) -> Result<String, OutOfMemory> {
-    let mut text = shim::String::with_capacity(Global, name.len())?;
-    erased::Demangler::new(Global).push_trimmed(&mut text, name)?;
-    Ok(text.into_std())
+    let mut text = String::new();
+    Demangler::new().push_trimmed(&mut text, name)?;
+    Ok(text)
 }
 
 /// A mangled name that was recognized and not yet printed: the answer of [`demangle`].

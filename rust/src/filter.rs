@@ -23,8 +23,8 @@ pub enum Form {
 /// A name begins with `_ZN` and a digit, or with `_R` and one of `N`, `I`, `M`, `X` and `Y`, also within a word such as
 /// `.text._ZN..`, and ends where its mangling does. One with `_ZN` has a hash as its last element, `17h` and 16 lower-case
 /// hexadecimal digits: so C++ names stay whole. What follows a name is kept, except `.llvm.` and a number where the name is
-/// replaced. A name whose readable form has a control character is unchanged. So is a run of more than 2^20 bytes: a run goes from a `_` to the
-/// next byte other than an ASCII letter or digit, `_`, `$` and `.`.
+/// replaced. A name whose readable form has a control character or more than 2^20 bytes is unchanged. So is a run of more
+/// than 2^20 bytes: a run goes from a `_` to the next byte other than an ASCII letter or digit, `_`, `$` and `.`.
 ///
 /// # Errors
 ///

@@ -138,6 +138,11 @@ fn symbols_of(
     Ok((with_std.into_std(), size))
 }
 
+/// A number of a little-endian header that was read before, so that it is there.
+fn number_in<N: erased::binfarce_bytes::parser::RawNumber + Default>(file: &[u8], offset: usize) -> N {
+    erased::binfarce_bytes::parser::number_at(file, offset, ByteOrder::LittleEndian).unwrap_or_default()
+}
+
 /// A text that is UTF-8, since it is made of UTF-8 texts.
 fn string_of(bytes: shim::Vec<u8>) -> String {
     String::from_utf8(bytes.into_std()).unwrap_or_else(|e| String::from_utf8_lossy(e.as_bytes()).into_owned())

@@ -17,11 +17,26 @@ use crate::demangle::SymbolData;
 use crate::erased::binfarce::macho as erased;
 use crate::error::{Error, ParseError, out_of_memory};
 use crate::shim::alloc::Global;
-use crate::{FunctionSymbol, SectionFunction, symbols_of};
+use crate::{FunctionSymbol, SectionFunction, number_in, symbols_of};
 use std::fmt;
 use std::ops::Range;
 
-pub use erased::MachoHeader;
+/// The file header (`mach_header_64`) without its magic number.
+#[derive(Debug, Clone, Copy, PartialEq, Eq, Hash)]
+pub struct MachoHeader {
+    /// The architecture (`cputype`): 0x1000007 x86-64, 0x100000c ARM64.
+    pub cputype: u32,
+    /// The kind of processor within the architecture (`cpusubtype`).
+    pub cpusubtype: u32,
+    /// The type of the file (`filetype`): 1 object, 2 program, 6 shared library, 8 bundle, 10 debug information.
+    pub filetype: u32,
+    /// The number of load commands (`ncmds`).
+    pub ncmds: u32,
+    /// The size of all load commands in bytes (`sizeofcmds`).
+    pub sizeofcmds: u32,
+    /// Flags (`flags`).
+    pub flags: u32,
+}
 
 /// A section. Its names are parts of the file.
 #[derive(Clone, Copy)]
@@ -93,9 +108,17 @@ pub fn parse(data: &[u8]) -> Result<Macho<'_>, ParseError> {
 }
 
 impl<'a> Macho<'a> {
-    /// Returns the file header, of which nothing but its `Debug` output can be read.
+    /// Returns the file header.
     pub fn header(&self) -> MachoHeader {
-        self.0.header()
+        let file = self.0.data();
+        MachoHeader {
+            cputype: number_in(file, 4),
+            cpusubtype: number_in(file, 8),
+            filetype: number_in(file, 12),
+            ncmds: number_in(file, 16),
+            sizeofcmds: number_in(file, 20),
+            flags: number_in(file, 24),
+        }
     }
 
     /// Returns an iterator over the sections in file order. A section is read when the iterator reaches it. Sections

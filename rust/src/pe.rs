@@ -16,11 +16,28 @@ use crate::demangle::SymbolData;
 use crate::erased::binfarce::pe as erased;
 use crate::error::{Error, ParseError, out_of_memory};
 use crate::shim::alloc::Global;
-use crate::{FunctionSymbol, SectionFunction, symbols_of};
+use crate::{FunctionSymbol, SectionFunction, number_in, symbols_of};
 use std::fmt;
 use std::ops::Range;
 
-pub use erased::PeHeader;
+/// The COFF file header.
+#[derive(Debug, Clone, Copy, PartialEq, Eq, Hash)]
+pub struct PeHeader {
+    /// The architecture (`Machine`): 0x14c i386, 0x8664 x86-64, 0xaa64 ARM64.
+    pub machine: u16,
+    /// The number of sections (`NumberOfSections`).
+    pub number_of_sections: u16,
+    /// When the file was made, in seconds since 1970, or a hash (`TimeDateStamp`).
+    pub time_date_stamp: u32,
+    /// The offset of the symbol table in bytes, or 0 (`PointerToSymbolTable`).
+    pub pointer_to_symbol_table: u32,
+    /// The number of rows of the symbol table, auxiliary ones among them (`NumberOfSymbols`).
+    pub number_of_symbols: u32,
+    /// The size of the optional header in bytes (`SizeOfOptionalHeader`), which is 0 in an object.
+    pub size_of_optional_header: u16,
+    /// Flags (`Characteristics`).
+    pub characteristics: u16,
+}
 
 /// A section. Its name is a part of the file.
 #[derive(Clone, Copy)]
@@ -109,9 +126,20 @@ pub fn parse(data: &[u8]) -> Result<Pe<'_>, ParseError> {
 }
 
 impl<'a> Pe<'a> {
-    /// Returns the file header, of which nothing but its `Debug` output can be read.
+    /// Returns the file header.
     pub fn header(&self) -> PeHeader {
-        self.0.header()
+        let file = self.0.data();
+        // `e_lfanew` of the stub; the signature has 4 bytes.
+        let start = number_in::<u32>(file, 60) as usize + 4;
+        PeHeader {
+            machine: number_in(file, start),
+            number_of_sections: number_in(file, start + 2),
+            time_date_stamp: number_in(file, start + 4),
+            pointer_to_symbol_table: number_in(file, start + 8),
+            number_of_symbols: number_in(file, start + 12),
+            size_of_optional_header: number_in(file, start + 16),
+            characteristics: number_in(file, start + 18),
+        }
     }
 
     /// Returns an iterator over the sections in file order. A section header is read when the iterator reaches it.

@@ -5,6 +5,8 @@ use crate::demangle::{Demangler, Kind, SymbolData, SymbolName, trimmed};
 use crate::shim::test::refusing;
 use crate::*;
 use std::collections::HashSet;
+use std::fmt::Debug;
+use std::hash::Hash;
 use std::io::{self, Cursor, ErrorKind, Read, Seek, SeekFrom, Write};
 use std::iter::FusedIterator;
 
@@ -177,6 +179,22 @@ fn iterators_stay_at_their_end() {
     stays(file.all_functions(SymbolTable::Symtab).unwrap());
 }
 
+/// That these types have the traits of small values, and those of values.
+#[allow(dead_code)]
+fn traits() {
+    fn small<T: Copy + Eq + Hash + Debug + Send + Sync>() {}
+    fn value<T: Clone + Eq + Hash + Debug + Send + Sync>() {}
+    fn shown<T: Debug + Send + Sync>() {}
+    small::<(ByteOrder, Format, SymbolTable, Selection<'_>, Form, Kind, demangle::Demangle<'_>)>();
+    small::<(FunctionSymbol<'_>, SectionFunction<'_>, Section<'_>)>();
+    small::<(elf32::Section, elf64::Section, macho::Section<'_>, pe::Section<'_>)>();
+    small::<(elf32::Elf32Header, elf64::Elf64Header, macho::MachoHeader, pe::PeHeader)>();
+    small::<(ParseError, Error, UnexpectedEof, OutOfMemory)>();
+    value::<(SymbolData, SymbolName, Sums<String>)>();
+    shown::<(elf32::Elf32<'_>, elf64::Elf64<'_>, macho::Macho<'_>, pe::Pe<'_>)>();
+    shown::<(Tables<'_>, Symbolizer<'_>, Demangler, Functions<'_>, Sections<'_>, AllFunctions<'_>)>();
+}
+
 #[test]
 fn values_are_compared_by_their_fields() {
     let function = FunctionSymbol { name: "a", address: 1, size: 2 };
@@ -250,6 +268,26 @@ fn debug_output_is_that_of_the_original() {
         format!("{:?}", file.find_section(|_| true).unwrap().unwrap()),
         "Section { name: \".text\", virtual_size: 0, size_of_raw_data: 256, pointer_to_raw_data: 0, index: 0 }"
     );
+}
+
+/// No two bytes of these headers are the same.
+#[test]
+fn headers_are_read_whole() {
+    let mut file = MACHO.to_vec();
+    (1..=24).zip(&mut file[4..28]).for_each(|(number, byte)| *byte = number);
+    let header = macho::parse(&file).unwrap().header();
+    assert_eq!((header.cputype, header.cpusubtype, header.filetype), (0x0403_0201, 0x0807_0605, 0x0c0b_0a09));
+    assert_eq!((header.ncmds, header.sizeofcmds, header.flags), (0x100f_0e0d, 0x1413_1211, 0x1817_1615));
+    assert_eq!(format!("{header:?}"), format!("{:?}", erased::binfarce::macho::parse(&file).unwrap().header()));
+
+    let mut file = PE.to_vec();
+    let start = file[60] as usize + 4;
+    (1..=20).zip(&mut file[start..start + 20]).for_each(|(number, byte)| *byte = number);
+    let header = pe::parse(&file).unwrap().header();
+    assert_eq!((header.machine, header.number_of_sections, header.time_date_stamp), (0x0201, 0x0403, 0x0807_0605));
+    assert_eq!((header.pointer_to_symbol_table, header.number_of_symbols), (0x0c0b_0a09, 0x100f_0e0d));
+    assert_eq!((header.size_of_optional_header, header.characteristics), (0x1211, 0x1413));
+    assert_eq!(format!("{header:?}"), format!("{:?}", erased::binfarce::pe::parse(&file).unwrap().header()));
 }
 
 /// Code written for the original matches its five errors without a wildcard.

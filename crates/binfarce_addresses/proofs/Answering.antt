@@ -17,27 +17,27 @@ use Rattle.binfarce_addresses.specs.declared.lookup.Lookup.{Lookup}
 use Rattle.binfarce_addresses.specs.declared.stream.LinesError.{LinesError}
 use Rattle.binfarce_addresses.specs.declared.stream.LinesError.TheVariants.{Read, OutOfMemory, Write}
 
-appends_none : (old : Option (List ℕ)) → Appends old old []
+pub appends_none : (old : Option (List ℕ)) → Appends old old []
 appends_none None = tt
 appends_none (Some xs) = sym (append-nil xs)
 
-appends_more : (a b c : Option (List ℕ)) (first second : List ℕ) → Appends a b first → Appends b c second → Appends a c (first ++ second)
+pub appends_more : (a b c : Option (List ℕ)) (first second : List ℕ) → Appends a b first → Appends b c second → Appends a c (first ++ second)
 appends_more None b c first second x y = tt
 appends_more (Some a) None c first second x y = absurd x
 appends_more (Some a) (Some b) None first second x y = absurd y
 appends_more (Some a) (Some b) (Some c) first second x y = y ∙ ap (λ (z : List ℕ). z ++ second) x ∙ append_assoc a first second
 
-consumes_none : (given : Option (List ℕ)) → Consumes given given []
+pub consumes_none : (given : Option (List ℕ)) → Consumes given given []
 consumes_none None = tt
 consumes_none (Some xs) = refl
 
-consumes_more : (a b c : Option (List ℕ)) (first second : List ℕ) → Consumes a b first → Consumes b c second → Consumes a c (first ++ second)
+pub consumes_more : (a b c : Option (List ℕ)) (first second : List ℕ) → Consumes a b first → Consumes b c second → Consumes a c (first ++ second)
 consumes_more None b c first second x y = tt
 consumes_more (Some a) None c first second x y = absurd x
 consumes_more (Some a) (Some b) None first second x y = absurd y
 consumes_more (Some a) (Some b) (Some c) first second x y = x ∙ ap (λ (z : List ℕ). first ++ z) y ∙ sym (append_assoc first second c)
 
-consumes_kept : (a b c : Option (List ℕ)) (first : List ℕ) → Consumes a b first → Keeps b c → Consumes a c first
+pub consumes_kept : (a b c : Option (List ℕ)) (first : List ℕ) → Consumes a b first → Keeps b c → Consumes a c first
 consumes_kept None b c first x y = tt
 consumes_kept (Some a) None c first x y = absurd x
 consumes_kept (Some a) (Some b) None first x y = absurd y
@@ -110,10 +110,10 @@ answered_breaks entries lookup addresses old new a = (a.0, a.1, (a.0, [], sym (a
 breaks_none : (entries : List Entry) (lookup : Lookup) (text : List ℕ) (old : Option (List ℕ)) → Breaks entries lookup text old old
 breaks_none entries lookup text old = ([], text, begins_none text, answered_breaks entries lookup [] old old (answered_none entries lookup old))
 
-not_read : (e : LinesError) → e ≡ OutOfMemory → e ≢ Read
+pub not_read : (e : LinesError) → e ≡ OutOfMemory → e ≢ Read
 not_read e is = λ read. absurd cc
 
-not_read_either : (e : LinesError) → e ≡ Write → e ≢ Read
+pub not_read_either : (e : LinesError) → e ≡ Write → e ≢ Read
 not_read_either e is = λ read. absurd cc
 
 -- where a line goes on up to its line feed

@@ -5,6 +5,7 @@ pub mod AddressLines
 pub mod Trimmed
 pub mod Streams
 pub mod Answering
+pub mod Annotating
 pub mod NameCells
 pub mod Links
 pub mod Rows

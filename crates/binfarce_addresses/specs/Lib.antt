@@ -3,6 +3,7 @@ pub mod Lines
 pub mod PlacesViews
 pub mod Stream
 pub mod Answered
+pub mod Annotated
 pub mod machine
 pub mod Address
 pub mod Range

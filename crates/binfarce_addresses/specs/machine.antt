@@ -2,5 +2,6 @@
 pub mod Places
 pub mod Cells
 pub mod Answering
+pub mod Annotating
 pub mod Index
 pub mod Digits

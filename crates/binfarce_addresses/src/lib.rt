@@ -2,6 +2,7 @@
 #![tactic(auto)]
 
 pub mod address;
+pub mod annotate;
 pub mod at;
 mod cells;
 mod digits;

@@ -172,7 +172,7 @@ pub fn answer_lines<R: Read, S: Sink>(
 }
 
 // Room for the bytes of a read.
-fn new_chunk(alloc: Global) -> Result<Vec<u8>, AllocError>
+pub(crate) fn new_chunk(alloc: Global) -> Result<Vec<u8>, AllocError>
     ensures { IfOk result (λ chunk. 0 < length chunk.items) }
 {
     vec![in alloc; 0; CHUNK]
@@ -286,7 +286,7 @@ fn answer_last<S: Sink>(
 }
 
 // Writes the bytes in as many calls as the sink needs.
-fn write_all<S: Sink>(out: &mut S, bytes: &[u8]) -> Result<(), LinesError>
+pub(crate) fn write_all<S: Sink>(out: &mut S, bytes: &[u8]) -> Result<(), LinesError>
     ensures takes { WritesAll (S.taken out.old) (S.taken out.new) bytes.now result }
     ensures fails { Fails (S.has_failed out.old) (S.has_failed out.new) result }
 {

@@ -8,6 +8,7 @@ pub mod Format
 pub mod Entries
 pub mod SectionEntries
 pub mod SymbolViews
+pub mod Selection
 pub mod Found
 pub mod Sizes
 pub mod RowViews

@@ -27,6 +27,15 @@ pub struct SectionFunction<'a> {
     pub function: FunctionSymbol<'a>,
 }
 
+/// Which function symbols of a file are taken.
+#[derive(Debug, Clone, Copy)]
+pub enum Selection<'a> {
+    /// Those of a section of an ELF file; of a Mach-O or PE file those of the text.
+    Section(&'a str),
+    /// Those of all sections.
+    All,
+}
+
 /// The function symbol that an address symbolizes to: of those in the list whose range holds it the one of greatest
 /// address, and of several the first. `None` where no range holds it.
 ///

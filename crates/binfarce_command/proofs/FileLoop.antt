@@ -6,9 +6,8 @@ use Rattle.std.proofs.lemmas.List.Concat.{flat_map-append}
 use Rattle.std.proofs.lemmas.List.Folds.{list_all-append}
 use Rattle.std.specs.Io.KnownBytes.{Appends}
 use Rattle.std.specs.List.{flat_map, list_all}
-use Rattle.binfarce_command.specs.Files.{AreHeld, Fate, MayComeTo, Refused, Reports, Shows, ShowsAll, ShowsOne, is_shown, reported, written}
+use Rattle.binfarce_command.specs.Files.{AreHeld, Fate, Files, MayComeTo, Refused, Reports, Shows, ShowsAll, ShowsOne, State, asked_files, is_shown, reported, written}
 use Rattle.binfarce_command.specs.declared.fault.Fault.{Fault}
-use Rattle.binfarce_command.specs.declared.show.Asked.{Asked}
 
 -- the paths of texts
 abbrev pub paths_of : List (Bor (List ℕ)) → List (List ℕ)
@@ -37,35 +36,34 @@ nothing_more (Some a) = sym (append-nil a)
 flat_map-push : {X A : Type 0} (f : X → List A) (xs : List X) (x : X) → flat_map f (xs ++ x ∷ []) ≡ flat_map f xs ++ f x
 flat_map-push f xs x = flat_map-append f xs (x ∷ []) ∙ ap (λ z. flat_map f xs ++ z) (append-nil (f x))
 
-module _ (asked : Asked) (may_fail : List ℕ → Bool) (held : List ℕ → List ℕ) (are_several : Bool) where
+module _ (asked : Files) where
   -- no file is shown yet
-  pub none_shown : (old : Option (List ℕ)) (before : Option (List Refused)) → Shows asked may_fail held are_several [] old old before before true
-  none_shown old before = record {
-    files = [];
+  pub none_shown : (old : State) → Shows asked [] old old true
+  none_shown old = record {
+    fates = [];
     paths_are = refl;
-    each = All-nil (λ (f : List ℕ × Fate). MayComeTo asked (may_fail f.0) (held f.0) f.1);
-    written_are = nothing_more old;
-    reported_are = no_report before;
+    each = All-nil (λ (f : List ℕ × Fate). MayComeTo asked.asked (asked.may_fail f.0) (asked.held f.0) f.1);
+    written_are = nothing_more old.bytes;
+    reported_are = no_report old.reports;
     all_is = refl;
   }
 
   -- one file more
-  pub one_shown : (paths : List (List ℕ)) (path : List ℕ) (old mid new : Option (List ℕ)) (before between after : Option (List Refused)) (all this : Bool)
-      → Shows asked may_fail held are_several paths old mid before between all
-      → (fate : Fate) → MayComeTo asked (may_fail path) (held path) fate → this ≡ is_shown fate → Appends mid new (written are_several path fate) → Reports between after (reported path fate)
-      → Shows asked may_fail held are_several (paths ++ path ∷ []) old new before after (all && this)
-  one_shown paths path old mid new before between after all this shows fate may this_is wrote answered_lines =
+  pub one_shown : (paths : List (List ℕ)) (path : List ℕ) (old mid new : State) (all this : Bool) → Shows asked paths old mid all
+      → (fate : Fate) → MayComeTo asked.asked (asked.may_fail path) (asked.held path) fate → this ≡ is_shown fate → Appends mid.bytes new.bytes (written asked.are_several path fate) → Reports mid.reports new.reports (reported path fate)
+      → Shows asked (paths ++ path ∷ []) old new (all && this)
+  one_shown paths path old mid new all this shows fate may this_is wrote answered_lines =
       let f : List ℕ × Fate = (path, fate) in
-      let text : List ℕ × Fate → List ℕ = λ f. written are_several f.0 f.1 in
+      let text : List ℕ × Fate → List ℕ = λ f. written asked.are_several f.0 f.1 in
       let report : List ℕ × Fate → List Refused = λ f. reported f.0 f.1 in
       let test : List ℕ × Fate → Bool = λ f. is_shown f.1 in
       record {
-        files = shows.files ++ f ∷ [];
-        paths_are = map-append (λ (f : List ℕ × Fate). f.0) shows.files (f ∷ []) ∙ ap (λ (xs : List (List ℕ)). xs ++ path ∷ []) shows.paths_are;
-        each = All-push (λ (f : List ℕ × Fate). MayComeTo asked (may_fail f.0) (held f.0) f.1) shows.files f shows.each may;
-        written_are = subst (Appends old new) (sym (flat_map-push text shows.files f)) (appends_more old mid new (flat_map text shows.files) (text f) shows.written_are wrote);
-        reported_are = subst (Reports before after) (sym (flat_map-push report shows.files f)) (reports_more before between after (flat_map report shows.files) (report f) shows.reported_are answered_lines);
-        all_is = ap (λ (b : Bool). b && this) shows.all_is ∙ ap (λ (b : Bool). list_all test shows.files && b) (this_is ∙ last (is_shown fate)) ∙ sym (list_all-append test shows.files (f ∷ []));
+        fates = shows.fates ++ f ∷ [];
+        paths_are = map-append (λ (f : List ℕ × Fate). f.0) shows.fates (f ∷ []) ∙ ap (λ (xs : List (List ℕ)). xs ++ path ∷ []) shows.paths_are;
+        each = All-push (λ (f : List ℕ × Fate). MayComeTo asked.asked (asked.may_fail f.0) (asked.held f.0) f.1) shows.fates f shows.each may;
+        written_are = subst (Appends old.bytes new.bytes) (sym (flat_map-push text shows.fates f)) (appends_more old.bytes mid.bytes new.bytes (flat_map text shows.fates) (text f) shows.written_are wrote);
+        reported_are = subst (Reports old.reports new.reports) (sym (flat_map-push report shows.fates f)) (reports_more old.reports mid.reports new.reports (flat_map report shows.fates) (report f) shows.reported_are answered_lines);
+        all_is = ap (λ (b : Bool). b && this) shows.all_is ∙ ap (λ (b : Bool). list_all test shows.fates && b) (this_is ∙ last (is_shown fate)) ∙ sym (list_all-append test shows.fates (f ∷ []));
       }
     where
       last : (b : Bool) → b ≡ (b && true)
@@ -73,17 +71,16 @@ module _ (asked : Asked) (may_fail : List ℕ → Bool) (held : List ℕ → Lis
       last false = refl
 
   -- the same, where no more was written or reported
-  pub later : (paths : List (List ℕ)) (old mid new : Option (List ℕ)) (before between after : Option (List Refused)) (all : Bool)
-      → Shows asked may_fail held are_several paths old mid before between all → Appends mid new [] → Reports between after [] → Shows asked may_fail held are_several paths old new before after all
-  later paths old mid new before between after all shows wrote answered_lines =
-      let text = flat_map (λ (f : List ℕ × Fate). written are_several f.0 f.1) shows.files in
-      let reports = flat_map (λ (f : List ℕ × Fate). reported f.0 f.1) shows.files in
+  pub later : (paths : List (List ℕ)) (old mid new : State) (all : Bool) → Shows asked paths old mid all → Appends mid.bytes new.bytes [] → Reports mid.reports new.reports [] → Shows asked paths old new all
+  later paths old mid new all shows wrote answered_lines =
+      let text = flat_map (λ (f : List ℕ × Fate). written asked.are_several f.0 f.1) shows.fates in
+      let reports = flat_map (λ (f : List ℕ × Fate). reported f.0 f.1) shows.fates in
       record {
-        files = shows.files;
+        fates = shows.fates;
         paths_are = shows.paths_are;
         each = shows.each;
-        written_are = subst (Appends old new) (append-nil text) (appends_more old mid new text [] shows.written_are wrote);
-        reported_are = subst (Reports before after) (append-nil reports) (reports_more before between after reports [] shows.reported_are answered_lines);
+        written_are = subst (Appends old.bytes new.bytes) (append-nil text) (appends_more old.bytes mid.bytes new.bytes text [] shows.written_are wrote);
+        reported_are = subst (Reports old.reports new.reports) (append-nil reports) (reports_more old.reports mid.reports new.reports reports [] shows.reported_are answered_lines);
         all_is = shows.all_is;
       }
 
@@ -104,19 +101,15 @@ module _ (files : List (Bor (List ℕ))) (i : ℕ) (d : Bor (List ℕ)) (lt : i 
       let here : get_or (paths_of files) i [] ≡ (get_or files i d).now = get_or-map (λ (t : Bor (List ℕ)). t.now) files i d [] lt in
       subst (λ (path : List ℕ). bytes_at path ≡ Some (held path)) here (are i [] (omega (arith, lt, length-map files (λ (t : Bor (List ℕ)). t.now))))
 
-module _ (asked : Asked) (may_fail : List ℕ → Bool) (held : List ℕ → List ℕ) (are_several : Bool) (files : List (Bor (List ℕ))) (i : ℕ) (d : Bor (List ℕ)) (lt : i < length files)
-    (old mid new taken : Option (List ℕ)) (before between after : Option (List Refused)) (all : Bool)
-    (shows : Shows asked may_fail held are_several (paths_of (take i files)) old mid before between all) where
+module _ (asked : Files) (files : List (Bor (List ℕ))) (i : ℕ) (d : Bor (List ℕ)) (lt : i < length files) (old mid new : State) (all : Bool) (shows : Shows asked (paths_of (take i files)) old mid all) where
   -- a file is done
-  pub goes_on : (this : Bool) → ShowsOne asked (may_fail (get_or files i d).now) (held (get_or files i d).now) are_several (get_or files i d).now mid new taken between after (Ok this)
-      → Shows asked may_fail held are_several (paths_of (take (i + 1) files)) old new before after (all && this)
+  pub goes_on : (this : Bool) → ShowsOne asked (get_or files i d).now mid new (Ok this) → Shows asked (paths_of (take (i + 1) files)) old new (all && this)
   goes_on this one =
-      subst (λ (paths : List (List ℕ)). Shows asked may_fail held are_several paths old new before after (all && this)) (sym (paths_more files i d lt))
-      (one_shown asked may_fail held are_several (paths_of (take i files)) (get_or files i d).now old mid new before between after all this shows one.0 one.1 one.2 one.3 one.4)
+      subst (λ (paths : List (List ℕ)). Shows asked paths old new (all && this)) (sym (paths_more files i d lt))
+      (one_shown asked (paths_of (take i files)) (get_or files i d).now old mid new all this shows one.0 one.1 one.2 one.3 one.4)
 
   -- a file ends it
-  pub ends : (e : Fault) → ShowsOne asked (may_fail (get_or files i d).now) (held (get_or files i d).now) are_several (get_or files i d).now mid new taken between after (Err e)
-      → ShowsAll asked may_fail held are_several (paths_of files) old new taken before after (Err e)
+  pub ends : (e : Fault) → ShowsOne asked (get_or files i d).now mid new (Err e) → ShowsAll asked (paths_of files) old new (Err e)
   ends e (inl (is, (text, shown, begins)), answered_lines) = inl (
     is,
     record {
@@ -124,9 +117,9 @@ module _ (asked : Asked) (may_fail : List ℕ → Bool) (held : List ℕ → Lis
       next = (get_or files i d).now;
       others = paths_of (drop (suc i) files);
       paths_are = paths_split files i d lt;
-      between = mid;
+      between = mid.bytes;
       all = all;
-      shows = later asked may_fail held are_several (paths_of (take i files)) old mid mid before between after all shows (nothing_more mid) answered_lines;
+      shows = later asked (paths_of (take i files)) old mid (record new { bytes = mid.bytes }) all shows (nothing_more mid.bytes) answered_lines;
       text = text;
       is = shown;
       begins = begins;
@@ -139,22 +132,21 @@ module _ (asked : Asked) (may_fail : List ℕ → Bool) (held : List ℕ → Lis
       others = (get_or files i d).now ∷ paths_of (drop (suc i) files);
       paths_are = paths_split files i d lt;
       all = all;
-      shows = later asked may_fail held are_several (paths_of (take i files)) old mid new before between after all shows none answered_lines;
+      shows = later asked (paths_of (take i files)) old mid new all shows none answered_lines;
     },
   )
 
 -- how the showing of all ended, as `?` passes the fault on
-pub passed_on : (asked : Asked) (may_fail : List ℕ → Bool) (held : List ℕ → List ℕ) (are_several : Bool) (paths : List (List ℕ)) (old new taken : Option (List ℕ)) (before after : Option (List Refused)) (e : Fault) (result : Result Bool Fault)
-    → IsErrAnd result (λ f. f ≡ e) → ShowsAll asked may_fail held are_several paths old new taken before after (Err e) → ShowsAll asked may_fail held are_several paths old new taken before after result
-passed_on asked may_fail held are_several paths old new taken before after e (Ok all) is ends = absurd is
-passed_on asked may_fail held are_several paths old new taken before after e (Err f) is ends =
-    subst (λ (f : Fault). ShowsAll asked may_fail held are_several paths old new taken before after (Err f)) (sym is) ends
+pub passed_on : (asked : Files) (paths : List (List ℕ)) (old new : State) (e : Fault) (result : Result Bool Fault)
+    → IsErrAnd result (λ f. f ≡ e) → ShowsAll asked paths old new (Err e) → ShowsAll asked paths old new result
+passed_on asked paths old new e (Ok all) is ends = absurd is
+passed_on asked paths old new e (Err f) is ends = subst (λ (f : Fault). ShowsAll asked paths old new (Err f)) (sym is) ends
 
 -- what one file came to, by what is known of its path
-pub one_at : (asked : Asked) (bytes_at bytes_now : List ℕ → Option (List ℕ)) (may_fail may_now : List ℕ → Bool) (held : List ℕ → List ℕ) (are_several : Bool) (path : List ℕ) (mid new taken : Option (List ℕ)) (between after : Option (List Refused)) (result : Result Bool Fault)
-    → bytes_now ≡ bytes_at → may_now ≡ may_fail → bytes_at path ≡ Some (held path)
-    → ((file : List ℕ) → bytes_now path ≡ Some file → ShowsOne asked (may_now path) file are_several path mid new taken between after result)
-    → ShowsOne asked (may_fail path) (held path) are_several path mid new taken between after result
-one_at asked bytes_at bytes_now may_fail may_now held are_several path mid new taken between after result same may_same known shows =
-    subst (λ (m : List ℕ → Bool). ShowsOne asked (m path) (held path) are_several path mid new taken between after result) may_same
-    (shows (held path) (ap (λ (b : List ℕ → Option (List ℕ)). b path) same ∙ known))
+pub one_at : (asked : Files) (bytes_at bytes_now : List ℕ → Option (List ℕ)) (may_now : List ℕ → Bool) (path : List ℕ) (mid new : State) (result : Result Bool Fault)
+    → bytes_now ≡ bytes_at → may_now ≡ asked.may_fail → bytes_at path ≡ Some (asked.held path)
+    → ((held : List ℕ → List ℕ) → bytes_now path ≡ Some (held path) → ShowsOne (asked_files asked.asked asked.are_several may_now held) path mid new result)
+    → ShowsOne asked path mid new result
+one_at asked bytes_at bytes_now may_now path mid new result same may_same known shows =
+    subst (λ (m : List ℕ → Bool). ShowsOne (asked_files asked.asked asked.are_several m asked.held) path mid new result) may_same
+    (shows asked.held (ap (λ (b : List ℕ → Option (List ℕ)). b path) same ∙ known))

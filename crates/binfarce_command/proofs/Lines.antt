@@ -1,33 +1,45 @@
 -- How the lines of standard input are answered: where the file isn't read, and where its entries can be had.
-use Rattle.std.proofs.Common.{◌≡◌, inl, inr, ap, ℕ, Bool, false, List, [], Option, Some, None, Result, Ok, Err, IsErrAnd, refl, sym, subst, append-nil}
+use Rattle.std.proofs.Common.{◌≡◌, inl, inr, ap, ℕ, Bool, false, true, List, [], Option, Some, None, Result, Ok, Err, IsErrAnd, refl, sym, subst, append-nil}
 use Rattle.std.specs.Io.KnownBytes.{Appends, Consumes}
 use Rattle.binfarce.specs.Refusal.{Refusal, refusal_of}
 use Rattle.binfarce.specs.Symbol.{Entry, Listed}
 use Rattle.binfarce_addresses.specs.declared.lookup.Lookup.{Lookup}
 use Rattle.binfarce_addresses.specs.PlacesViews.{IsMadeOf}
+use Rattle.binfarce_addresses.specs.Annotated.{AnnotatesAll}
 use Rattle.binfarce_addresses.specs.Stream.{Streams}
 use Rattle.binfarce_addresses.specs.declared.stream.LinesError.{LinesError}
 use Rattle.binfarce_tables.specs.declared.error.ReadError.{ReadError}
 use Rattle.binfarce_tables.specs.declared.error.ReadError.TheVariants.{Refused, Unreadable, OutOfMemory}
 use Rattle.binfarce_tools.specs.Tables.{ReadsAs}
 use Rattle.binfarce_tools.specs.declared.list.ListError.TheVariants as errors
-use Rattle.binfarce_command.specs.At.{AnswersLines, HasPlaces, IsUntouched, lines_end}
+use Rattle.binfarce_command.specs.At.{AnswersInput, HasPlaces, IsUntouched, WritesOf, lines_end}
 use Rattle.binfarce_command.specs.Faults.{lines_fault, read_fault}
 use Rattle.binfarce_command.specs.declared.fault.Fault.{Fault}
 use Rattle.binfarce_command.specs.declared.fault.Fault.TheVariants.{OutOfMemory as Full}
 
-pub answered_lines : (may : Type 0) (share : Bool) (memory : Result Listed Refusal → Type 0) (answer : Option (Result Listed Refusal)) (entries : List Entry) (lookup : Lookup) (given left old new : Option (List ℕ)) (ended : Result ℕ LinesError) → share ≡ false → IsMadeOf memory answer (Ok entries)
-    → Streams entries lookup given left old new ended → AnswersLines may share memory answer lookup given left old new (lines_end ended)
-answered_lines may share memory None entries lookup given left old new ended alone made streams = absurd made
-answered_lines may share memory (Some (Err refusal)) entries lookup given left old new ended alone made streams = absurd made
-answered_lines may share memory (Some (Ok listed)) entries lookup given left old new ended alone made streams =
-    let P : List Entry → Type 0 = λ es. Streams es lookup given left old new ended in inr (inr (inr (alone, listed, ended, refl, subst P made streams, refl)))
+-- lines were answered
+pub of_lines : (annotates : Bool) (entries : List Entry) (lookup : Lookup) (given left old new : Option (List ℕ)) (ended : Result ℕ LinesError) → annotates ≡ false → Streams entries lookup given left old new ended → WritesOf annotates entries lookup given left old new ended
+of_lines annotates entries lookup given left old new ended is streams = let P : Bool → Type 0 = λ b. WritesOf b entries lookup given left old new ended in subst P (sym is) streams
 
-pub answered_less : (may : Type 0) (share : Bool) (memory : Result Listed Refusal → Type 0) (answer : Option (Result Listed Refusal)) (entries : List Entry) (lookup : Lookup) (given left old new : Option (List ℕ)) (e : LinesError) (result : Result ℕ Fault) → share ≡ false → IsMadeOf memory answer (Ok entries)
-    → Streams entries lookup given left old new (Err e) → IsErrAnd result (λ x. x ≡ lines_fault e) → AnswersLines may share memory answer lookup given left old new result
-answered_less may share memory answer entries lookup given left old new e (Ok x) alone made streams is = absurd is
-answered_less may share memory answer entries lookup given left old new e (Err x) alone made streams is =
-    let P : Fault → Type 0 = λ f. AnswersLines may share memory answer lookup given left old new (Err f) in subst P (sym is) (answered_lines may share memory answer entries lookup given left old new (Err e) alone made streams)
+-- or a text was annotated
+pub of_text : (annotates : Bool) (entries : List Entry) (lookup : Lookup) (given left old new : Option (List ℕ)) → annotates ≡ true → AnnotatesAll entries lookup given left old new (Ok tt) → WritesOf annotates entries lookup given left old new (Ok 0)
+of_text annotates entries lookup given left old new is streams = let P : Bool → Type 0 = λ b. WritesOf b entries lookup given left old new (Ok 0) in subst P (sym is) (refl, streams)
+
+pub of_part : (annotates : Bool) (entries : List Entry) (lookup : Lookup) (given left old new : Option (List ℕ)) (e : LinesError) → annotates ≡ true → AnnotatesAll entries lookup given left old new (Err e) → WritesOf annotates entries lookup given left old new (Err e)
+of_part annotates entries lookup given left old new e is streams = let P : Bool → Type 0 = λ b. WritesOf b entries lookup given left old new (Err e) in subst P (sym is) streams
+
+pub answered_lines : (may : Type 0) (share : Bool) (memory : Result Listed Refusal → Type 0) (answer : Option (Result Listed Refusal)) (entries : List Entry) (annotates : Bool) (lookup : Lookup) (given left old new : Option (List ℕ)) (ended : Result ℕ LinesError) → share ≡ false → IsMadeOf memory answer (Ok entries)
+    → WritesOf annotates entries lookup given left old new ended → AnswersInput may share memory answer annotates lookup given left old new (lines_end ended)
+answered_lines may share memory None entries annotates lookup given left old new ended alone made streams = absurd made
+answered_lines may share memory (Some (Err refusal)) entries annotates lookup given left old new ended alone made streams = absurd made
+answered_lines may share memory (Some (Ok listed)) entries annotates lookup given left old new ended alone made streams =
+    let P : List Entry → Type 0 = λ es. WritesOf annotates es lookup given left old new ended in inr (inr (inr (alone, listed, ended, refl, subst P made streams, refl)))
+
+pub answered_less : (may : Type 0) (share : Bool) (memory : Result Listed Refusal → Type 0) (answer : Option (Result Listed Refusal)) (entries : List Entry) (annotates : Bool) (lookup : Lookup) (given left old new : Option (List ℕ)) (e : LinesError) (result : Result ℕ Fault) → share ≡ false → IsMadeOf memory answer (Ok entries)
+    → WritesOf annotates entries lookup given left old new (Err e) → IsErrAnd result (λ x. x ≡ lines_fault e) → AnswersInput may share memory answer annotates lookup given left old new result
+answered_less may share memory answer entries annotates lookup given left old new e (Ok x) alone made streams is = absurd is
+answered_less may share memory answer entries annotates lookup given left old new e (Err x) alone made streams is =
+    let P : Fault → Type 0 = λ f. AnswersInput may share memory answer annotates lookup given left old new (Err f) in subst P (sym is) (answered_lines may share memory answer entries annotates lookup given left old new (Err e) alone made streams)
 
 untouched : (given old : Option (List ℕ)) → IsUntouched given given old old
 untouched given old = (none_read given, none_written old)
@@ -41,13 +53,13 @@ untouched given old = (none_read given, none_written old)
     none_written (Some taken) = sym (append-nil taken)
 
 -- nothing was answered where the file isn't read
-pub unread : {T : Type 0} (AreTables : T → Type 0) (may : Type 0) (share : Bool) (memory : Result Listed Refusal → Type 0) (answer : Option (Result Listed Refusal)) (lookup : Lookup) (given old : Option (List ℕ)) (e : ReadError) (result : Result ℕ Fault)
-    → ReadsAs AreTables may answer (Err e) → IsErrAnd result (λ x. x ≡ read_fault e) → AnswersLines may share memory answer lookup given given old old result
-unread AreTables may share memory answer lookup given old e (Ok x) reads is = absurd is
-unread AreTables may share memory answer lookup given old e (Err x) reads is =
-    let P : Fault → Type 0 = λ f. AnswersLines may share memory answer lookup given given old old (Err f) in subst P (sym is) (by_error e reads)
+pub unread : {T : Type 0} (AreTables : T → Type 0) (may : Type 0) (share : Bool) (memory : Result Listed Refusal → Type 0) (answer : Option (Result Listed Refusal)) (annotates : Bool) (lookup : Lookup) (given old : Option (List ℕ)) (e : ReadError) (result : Result ℕ Fault)
+    → ReadsAs AreTables may answer (Err e) → IsErrAnd result (λ x. x ≡ read_fault e) → AnswersInput may share memory answer annotates lookup given given old old result
+unread AreTables may share memory answer annotates lookup given old e (Ok x) reads is = absurd is
+unread AreTables may share memory answer annotates lookup given old e (Err x) reads is =
+    let P : Fault → Type 0 = λ f. AnswersInput may share memory answer annotates lookup given given old old (Err f) in subst P (sym is) (by_error e reads)
   where
-    by_error : (e : ReadError) → ReadsAs AreTables may answer (Err e) → AnswersLines may share memory answer lookup given given old old (Err (read_fault e))
+    by_error : (e : ReadError) → ReadsAs AreTables may answer (Err e) → AnswersInput may share memory answer annotates lookup given given old old (Err (read_fault e))
     by_error (Refused p) reads =
         let P : Option (Result Listed Refusal) → Type 0 = λ answer. IsMadeOf memory answer (Err (errors.Parse p)) in
         let refused : P (Some (Err (refusal_of p))) = inl (p, refl, refl) in
@@ -60,19 +72,19 @@ abbrev failed : Fault → Result ℕ Fault
 failed fault = Err fault
 
 -- nothing was answered of a file whose places can't be had
-no_places : (may : Type 0) (share : Bool) (memory : Result Listed Refusal → Type 0) (answer : Option (Result Listed Refusal)) (lookup : Lookup) (given old : Option (List ℕ)) (e : Fault) → HasPlaces share memory answer (Err e)
-    → AnswersLines may share memory answer lookup given given old old (Err e)
-no_places may share memory answer lookup given old e (inl (shared, is)) = inr (inl (shared, ap failed is, untouched given old))
-no_places may share memory answer lookup given old e (inr (error, made, is)) = inr (inr (inl (error, made, ap failed is, untouched given old)))
+no_places : (may : Type 0) (share : Bool) (memory : Result Listed Refusal → Type 0) (answer : Option (Result Listed Refusal)) (annotates : Bool) (lookup : Lookup) (given old : Option (List ℕ)) (e : Fault) → HasPlaces share memory answer (Err e)
+    → AnswersInput may share memory answer annotates lookup given given old old (Err e)
+no_places may share memory answer annotates lookup given old e (inl (shared, is)) = inr (inl (shared, ap failed is, untouched given old))
+no_places may share memory answer annotates lookup given old e (inr (error, made, is)) = inr (inr (inl (error, made, ap failed is, untouched given old)))
 
-pub without_places : (may : Type 0) (share : Bool) (memory : Result Listed Refusal → Type 0) (answer : Option (Result Listed Refusal)) (lookup : Lookup) (given old : Option (List ℕ)) (e : Fault) (result : Result ℕ Fault) → HasPlaces share memory answer (Err e) → IsErrAnd result (λ x. x ≡ e)
-    → AnswersLines may share memory answer lookup given given old old result
-without_places may share memory answer lookup given old e (Ok x) has is = absurd is
-without_places may share memory answer lookup given old e (Err x) has is =
-    let P : Fault → Type 0 = λ f. AnswersLines may share memory answer lookup given given old old (Err f) in subst P (sym is) (no_places may share memory answer lookup given old e has)
+pub without_places : (may : Type 0) (share : Bool) (memory : Result Listed Refusal → Type 0) (answer : Option (Result Listed Refusal)) (annotates : Bool) (lookup : Lookup) (given old : Option (List ℕ)) (e : Fault) (result : Result ℕ Fault) → HasPlaces share memory answer (Err e) → IsErrAnd result (λ x. x ≡ e)
+    → AnswersInput may share memory answer annotates lookup given given old old result
+without_places may share memory answer annotates lookup given old e (Ok x) has is = absurd is
+without_places may share memory answer annotates lookup given old e (Err x) has is =
+    let P : Fault → Type 0 = λ f. AnswersInput may share memory answer annotates lookup given given old old (Err f) in subst P (sym is) (no_places may share memory answer annotates lookup given old e has)
 
 -- nothing was answered where an allocation failed
-pub no_memory : (may : Type 0) (share : Bool) (memory : Result Listed Refusal → Type 0) (answer : Option (Result Listed Refusal)) (lookup : Lookup) (given old : Option (List ℕ)) (result : Result ℕ Fault) → IsErrAnd result (λ x. x ≡ Full)
-    → AnswersLines may share memory answer lookup given given old old result
-no_memory may share memory answer lookup given old (Ok x) is = absurd is
-no_memory may share memory answer lookup given old (Err x) is = inl (inr (ap failed is), untouched given old)
+pub no_memory : (may : Type 0) (share : Bool) (memory : Result Listed Refusal → Type 0) (answer : Option (Result Listed Refusal)) (annotates : Bool) (lookup : Lookup) (given old : Option (List ℕ)) (result : Result ℕ Fault) → IsErrAnd result (λ x. x ≡ Full)
+    → AnswersInput may share memory answer annotates lookup given given old old result
+no_memory may share memory answer annotates lookup given old (Ok x) is = absurd is
+no_memory may share memory answer annotates lookup given old (Err x) is = inl (inr (ap failed is), untouched given old)

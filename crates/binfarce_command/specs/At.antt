@@ -4,12 +4,14 @@ use Rattle.std.specs.Io.KnownBytes.{Appends, Consumes}
 use Rattle.binfarce.specs.Refusal.{Refusal}
 use Rattle.binfarce.specs.Symbol.{Entry, Listed}
 use Rattle.binfarce_addresses.specs.Address.{address_of}
+use Rattle.binfarce_addresses.specs.Annotated.{AnnotatesAll}
 use Rattle.binfarce_addresses.specs.PlacesViews.{IsMadeOf}
 use Rattle.binfarce_addresses.specs.Stream.{Streams}
 use Rattle.binfarce_addresses.specs.declared.lookup.Lookup.{Lookup}
 use Rattle.binfarce_addresses.specs.declared.stream.LinesError.{LinesError}
 use Rattle.binfarce_tools.specs.declared.list.ListError.{ListError}
-use Rattle.binfarce_tools.specs.Selection.{section_of, share_in}
+use Rattle.binfarce_bytes.specs.Selection.{section_of}
+use Rattle.binfarce_tools.specs.Selection.{share_in}
 use Rattle.binfarce_tools.specs.Writing.{Outcome, written}
 use Rattle.binfarce_command.specs.Faults.{lines_fault, list_fault, outcome_of}
 use Rattle.binfarce_command.specs.declared.show.Symbols.{Symbols}
@@ -59,10 +61,16 @@ abbrev pub HasPlaces : (share : Bool) → (Result Listed Refusal → Type 0) →
 HasPlaces share NeedsMemory answer (Ok entries) = (share ≡ false) × IsMadeOf NeedsMemory answer (Ok entries)
 HasPlaces share NeedsMemory answer (Err e) = ((share ≡ true) × (e ≡ SharedAddresses)) ⊎ ((error : ListError) × IsMadeOf NeedsMemory answer (Err error) × (e ≡ list_fault error))
 
--- how the lines of standard input are answered, of a file whose answer is this: the file can't be read, which is reported only where MayFail says so, or an allocation failed; its function symbols share addresses; the file is refused; or its entries answer the lines
-abbrev pub AnswersLines : Type 0 → (share : Bool) → (Result Listed Refusal → Type 0) → Option (Result Listed Refusal) → Lookup → Option (List ℕ) → Option (List ℕ) → Option (List ℕ) → Option (List ℕ) → Result ℕ Fault → Type 0
-AnswersLines MayFail share NeedsMemory answer lookup given left old new result =
+-- what is read and written: a text is annotated, in which no line is missing; or its lines are answered
+abbrev pub WritesOf : (annotates : Bool) → List Entry → Lookup → Option (List ℕ) → Option (List ℕ) → Option (List ℕ) → Option (List ℕ) → Result ℕ LinesError → Type 0
+WritesOf false entries lookup given left old new ended = Streams entries lookup given left old new ended
+WritesOf true entries lookup given left old new (Ok count) = (count ≡ 0) × AnnotatesAll entries lookup given left old new (Ok tt)
+WritesOf true entries lookup given left old new (Err e) = AnnotatesAll entries lookup given left old new (Err e)
+
+-- how standard input is answered, or annotated, of a file whose answer is this: the file can't be read, which is reported only where MayFail says so, or an allocation failed; its function symbols share addresses; the file is refused; or its entries answer the lines, or annotate the text
+abbrev pub AnswersInput : Type 0 → (share : Bool) → (Result Listed Refusal → Type 0) → Option (Result Listed Refusal) → (annotates : Bool) → Lookup → Option (List ℕ) → Option (List ℕ) → Option (List ℕ) → Option (List ℕ) → Result ℕ Fault → Type 0
+AnswersInput MayFail share NeedsMemory answer annotates lookup given left old new result =
     (((MayFail × (result ≡ Err Unreadable)) ⊎ (result ≡ Err OutOfMemory)) × IsUntouched given left old new)
     ⊎ ((share ≡ true) × (result ≡ Err SharedAddresses) × IsUntouched given left old new)
     ⊎ ((e : ListError) × IsMadeOf NeedsMemory answer (Err e) × (result ≡ Err (list_fault e)) × IsUntouched given left old new)
-    ⊎ ((share ≡ false) × (listed : Listed) × (ended : Result ℕ LinesError) × (answer ≡ Some (Ok listed)) × Streams listed.entries lookup given left old new ended × (result ≡ lines_end ended))
+    ⊎ ((share ≡ false) × (listed : Listed) × (ended : Result ℕ LinesError) × (answer ≡ Some (Ok listed)) × WritesOf annotates listed.entries lookup given left old new ended × (result ≡ lines_end ended))

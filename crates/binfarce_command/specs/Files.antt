@@ -7,7 +7,7 @@ use Rattle.binfarce_command.specs.Faults.{outcome_of}
 use Rattle.binfarce_command.specs.Show.{IsShownText, MayEnd}
 use Rattle.binfarce_command.specs.declared.fault.Fault.{Fault}
 use Rattle.binfarce_command.specs.declared.fault.Fault.TheVariants.{Input, Missing, OutOfMemory, Unreadable, Write}
-use Rattle.binfarce_command.specs.declared.show.Asked.{Asked}
+use Rattle.binfarce_command.specs.declared.show.Request.{Request}
 
 -- a path, and why the file there was refused
 abbrev pub Refused : Type 0
@@ -25,7 +25,7 @@ pub data Fate : Type 0 where
   refused : (fault : Fault) → Fate
 
 -- a file that may fail to be read, or not, and that holds these bytes, may come to this: it shows what is asked for, or is refused for a reason that it gives
-abbrev pub MayComeTo : Asked → (may_fail : Bool) → (file : List ℕ) → Fate → Type 0
+abbrev pub MayComeTo : Request → (may_fail : Bool) → (file : List ℕ) → Fate → Type 0
 MayComeTo asked may_fail file (shown text) = IsShownText asked file text
 MayComeTo asked may_fail file (refused fault) = (fault ≢ Write) × MayEnd ((may_fail ≡ true) ⊎ (file ≡ [])) asked file (outcome_of (Err fault))
 
@@ -46,57 +46,75 @@ abbrev pub is_shown : Fate → Bool
 is_shown (shown text) = true
 is_shown (refused fault) = false
 
+-- what is asked for of files: what is shown, and whether under headings; which files may fail to be read, and what they hold
+pub record Files : Type 0 where
+  pub asked : Request
+  pub are_several : Bool
+  pub may_fail : List ℕ → Bool
+  pub held : List ℕ → List ℕ
+
+abbrev pub asked_files : Request → (are_several : Bool) → (may_fail : List ℕ → Bool) → (held : List ℕ → List ℕ) → Files
+asked_files asked are_several may_fail held = record { asked = asked; are_several = are_several; may_fail = may_fail; held = held }
+
+-- what was written, what of it counts as taken by the sink, which takes a heading as a whole, and what was reported, where these are known
+pub record State : Type 0 where
+  pub bytes : Option (List ℕ)
+  pub taken : Option (List ℕ)
+  pub reports : Option (List Refused)
+
 -- the files at these paths, one after the other, came to what they may: each is shown under its heading, or reported; whether all are shown
-pub record Shows (asked : Asked) (may_fail : List ℕ → Bool) (held : List ℕ → List ℕ) (are_several : Bool) (paths : List (List ℕ)) (old new : Option (List ℕ)) (before after : Option (List Refused)) (all : Bool) : Type 0 where
-  pub files : List (List ℕ × Fate)
-  pub paths_are : map (λ f. f.0) files ≡ paths
-  pub each : All (λ f. MayComeTo asked (may_fail f.0) (held f.0) f.1) files
-  pub written_are : Appends old new (flat_map (λ f. written are_several f.0 f.1) files)
-  pub reported_are : Reports before after (flat_map (λ f. reported f.0 f.1) files)
-  pub all_is : all ≡ list_all (λ f. is_shown f.1) files
+pub record Shows (files : Files) (paths : List (List ℕ)) (old new : State) (all : Bool) : Type 0 where
+  pub fates : List (List ℕ × Fate)
+  pub paths_are : map (λ f. f.0) fates ≡ paths
+  pub each : All (λ f. MayComeTo files.asked (files.may_fail f.0) (files.held f.0) f.1) fates
+  pub written_are : Appends old.bytes new.bytes (flat_map (λ f. written files.are_several f.0 f.1) fates)
+  pub reported_are : Reports old.reports new.reports (flat_map (λ f. reported f.0 f.1) fates)
+  pub all_is : all ≡ list_all (λ f. is_shown f.1) fates
 
 -- all was written of the first of these paths, and of the next one, whose writing failed, a beginning; the sink counts what is left of its heading as taken
-pub record BreaksOff (asked : Asked) (may_fail : List ℕ → Bool) (held : List ℕ → List ℕ) (are_several : Bool) (paths : List (List ℕ)) (old taken : Option (List ℕ)) (before after : Option (List Refused)) : Type 0 where
+pub record BreaksOff (files : Files) (paths : List (List ℕ)) (old new : State) : Type 0 where
   pub first : List (List ℕ)
   pub next : List ℕ
   pub others : List (List ℕ)
   pub paths_are : paths ≡ first ++ next ∷ others
   pub between : Option (List ℕ)
   pub all : Bool
-  pub shows : Shows asked may_fail held are_several first old between before after all
+  pub shows : Shows files first old (record new { bytes = between }) all
   pub text : List ℕ
-  pub is : IsShownText asked (held next) text
-  pub begins : AppendsBeginning between taken (heading are_several next ++ text)
+  pub is : IsShownText files.asked (files.held next) text
+  pub begins : AppendsBeginning between new.taken (heading files.are_several next ++ text)
 
 -- all was written of the first of these paths, and then the memory for a heading was refused
-pub record StopsBefore (asked : Asked) (may_fail : List ℕ → Bool) (held : List ℕ → List ℕ) (are_several : Bool) (paths : List (List ℕ)) (old new : Option (List ℕ)) (before after : Option (List Refused)) : Type 0 where
+pub record StopsBefore (files : Files) (paths : List (List ℕ)) (old new : State) : Type 0 where
   pub first : List (List ℕ)
   pub others : List (List ℕ)
   pub paths_are : paths ≡ first ++ others
   pub all : Bool
-  pub shows : Shows asked may_fail held are_several first old new before after all
+  pub shows : Shows files first old new all
 
 -- how the showing of the files at these paths ended: whether all are shown; or a write failed, or an allocation
-abbrev pub ShowsAll : Asked → (may_fail : List ℕ → Bool) → (held : List ℕ → List ℕ) → (are_several : Bool) → (paths : List (List ℕ)) → (old new taken : Option (List ℕ)) → (before after : Option (List Refused)) → Result Bool Fault → Type 0
-ShowsAll asked may_fail held are_several paths old new taken before after (Ok all) = Shows asked may_fail held are_several paths old new before after all
-ShowsAll asked may_fail held are_several paths old new taken before after (Err e) = ((e ≡ Write) × BreaksOff asked may_fail held are_several paths old taken before after) ⊎ ((e ≡ OutOfMemory) × StopsBefore asked may_fail held are_several paths old new before after)
+abbrev pub ShowsAll : Files → (paths : List (List ℕ)) → (old new : State) → Result Bool Fault → Type 0
+ShowsAll files paths old new (Ok all) = Shows files paths old new all
+ShowsAll files paths old new (Err e) = ((e ≡ Write) × BreaksOff files paths old new) ⊎ ((e ≡ OutOfMemory) × StopsBefore files paths old new)
 
 -- the file at a path holds these bytes, where that is known
 abbrev pub AreHeld : (bytes_at : List ℕ → Option (List ℕ)) → (held : List ℕ → List ℕ) → (paths : List (List ℕ)) → Type 0
 AreHeld bytes_at held paths = All (λ path. bytes_at path ≡ Some (held path)) paths
 
 -- how the showing of the file at a path ended: with what it came to; or a write failed; or the memory for its heading was refused, before anything was written
-abbrev pub ShowsOne : Asked → (may_fail : Bool) → (file : List ℕ) → (are_several : Bool) → (path : List ℕ) → (old new taken : Option (List ℕ)) → (before after : Option (List Refused)) → Result Bool Fault → Type 0
-ShowsOne asked may_fail file are_several path old new taken before after (Ok all) =
-    (fate : Fate) × MayComeTo asked may_fail file fate × (all ≡ is_shown fate) × Appends old new (written are_several path fate) × Reports before after (reported path fate)
-ShowsOne asked may_fail file are_several path old new taken before after (Err e) =
-    (((e ≡ Write) × ((text : List ℕ) × IsShownText asked file text × AppendsBeginning old taken (heading are_several path ++ text))) ⊎ ((e ≡ OutOfMemory) × Appends old new [])) × Reports before after []
+abbrev pub ShowsOne : Files → (path : List ℕ) → (old new : State) → Result Bool Fault → Type 0
+ShowsOne files path old new (Ok all) =
+    (fate : Fate) × MayComeTo files.asked (files.may_fail path) (files.held path) fate × (all ≡ is_shown fate)
+    × Appends old.bytes new.bytes (written files.are_several path fate) × Reports old.reports new.reports (reported path fate)
+ShowsOne files path old new (Err e) =
+    (((e ≡ Write) × ((text : List ℕ) × IsShownText files.asked (files.held path) text × AppendsBeginning old.bytes new.taken (heading files.are_several path ++ text))) ⊎ ((e ≡ OutOfMemory) × Appends old.bytes new.bytes []))
+    × Reports old.reports new.reports []
 
 -- how the showing of a file that is read ended: its text is written after what was left of the heading; or a write failed; or it was refused, and nothing written
-abbrev pub ShowsHeld : Asked → (MayFail : Type 0) → (file : List ℕ) → (heading : List ℕ) → (old new taken : Option (List ℕ)) → Result (Unit {0}) Fault → Type 0
-ShowsHeld asked MayFail file heading old new taken (Ok x) = (text : List ℕ) × IsShownText asked file text × Appends old new (heading ++ text)
-ShowsHeld asked MayFail file heading old new taken (Err Write) = (text : List ℕ) × IsShownText asked file text × AppendsBeginning old taken (heading ++ text)
-ShowsHeld asked MayFail file heading old new taken (Err fault) = (fault ≢ Input) × MayEnd MayFail asked file (outcome_of (Err fault)) × (new ≡ old)
+abbrev pub ShowsSource : Request → (MayFail : Type 0) → (file : List ℕ) → (heading : List ℕ) → (old new taken : Option (List ℕ)) → Result (Unit {0}) Fault → Type 0
+ShowsSource asked MayFail file heading old new taken (Ok x) = (text : List ℕ) × IsShownText asked file text × Appends old new (heading ++ text)
+ShowsSource asked MayFail file heading old new taken (Err Write) = (text : List ℕ) × IsShownText asked file text × AppendsBeginning old taken (heading ++ text)
+ShowsSource asked MayFail file heading old new taken (Err fault) = (fault ≢ Input) × MayEnd MayFail asked file (outcome_of (Err fault)) × (new ≡ old)
 
 -- a file that may fail to be read, or not, and that holds these bytes, can't be opened or read for this reason
 abbrev pub IsUnreadable : (may_fail : Bool) → (file : List ℕ) → Fault → Type 0

@@ -7,8 +7,7 @@ use Rattle.binfarce_bytes.specs.Format.{format_of}
 use Rattle.binfarce_bytes.specs.declared.format.Format.TheVariants.{Unknown}
 use Rattle.binfarce_command.specs.declared.fault.Fault.{Fault}
 use Rattle.binfarce_command.specs.declared.fault.Fault.TheVariants.{Unreadable, OutOfMemory}
-use Rattle.binfarce_command.specs.declared.input.Noted.{Noted}
-use Rattle.binfarce_command.specs.declared.held.Held.{Held}
+use Rattle.binfarce_command.specs.declared.input.OpenFile.{OpenFile}
 
 abbrev pub bytes_or : Option (List ℕ) → Option (Vec ℕ) → Option (List ℕ)
 bytes_or known None = known
@@ -18,30 +17,29 @@ abbrev pub may_or : Bool → Option (Vec ℕ) → Bool
 may_or may_fail None = may_fail
 may_or may_fail (Some v) = false
 
--- the input whose errors are kept
-abbrev pub input_of : {T : Type 0} → Noted T → T
-input_of noted = noted.input
+-- the file of an input, and its bytes where they are loaded
+abbrev pub file_of : {F : Type 0} → OpenFile F → F
+file_of input = input.file
 
--- the file that is held
-abbrev pub file_of : {F : Type 0} → Held F → F
-file_of held = held.file
+abbrev pub loaded : {F : Type 0} → OpenFile F → Option (Vec ℕ)
+loaded input = input.bytes
 
--- the bytes of the held file, and whether a read of it may fail
-abbrev pub held_bytes : {F : Type 0} → (F → Option (List ℕ)) → Held F → Option (List ℕ)
-held_bytes bytes held = bytes_or (bytes (file_of held)) held.bytes
+-- the bytes of an input, and whether a read of it may fail
+abbrev pub bytes_of : {F : Type 0} → (F → Option (List ℕ)) → OpenFile F → Option (List ℕ)
+bytes_of bytes input = bytes_or (bytes (file_of input)) (loaded input)
 
-abbrev pub held_may_fail : {F : Type 0} → (F → Bool) → Held F → Bool
-held_may_fail may_fail held = may_or (may_fail (file_of held)) held.bytes
+abbrev pub may_fail_of : {F : Type 0} → (F → Bool) → OpenFile F → Bool
+may_fail_of may_fail input = may_or (may_fail (file_of input)) (loaded input)
 
 -- the bytes that are read of a file: all, or only the first 8 where these name no format
 abbrev pub IsReadOf : List ℕ → List ℕ → Type 0
 IsReadOf file bytes = (bytes ≡ file) ⊎ ((format_of file ≡ Unknown) × (bytes ≡ take 8 file))
 
--- the held bytes of a file are those that are read of it, and a read may fail only where the file may; or the file can't be read, as where it has no
+-- the bytes of a loaded file are those that are read of it, and a read may fail only where the file may; or the file can't be read, as where it has no
 -- byte or may fail, or an allocation failed
-abbrev pub Holds : Bool → List ℕ → Option (List ℕ) → Bool → Result (Unit {0}) Fault → Type 0
-Holds may_fail file held held_may_fail (Ok x) = (bytes : List ℕ) × (held ≡ Some bytes) × IsReadOf file bytes × (held_may_fail ≡ true → may_fail ≡ true)
-Holds may_fail file held held_may_fail (Err e) = (e ≡ OutOfMemory) ⊎ ((e ≡ Unreadable) × ((may_fail ≡ true) ⊎ (file ≡ [])))
+abbrev pub Loads : (may_fail : Bool) → (file : List ℕ) → (new : Option (List ℕ)) → (may_fail_now : Bool) → Result (Unit {0}) Fault → Type 0
+Loads may_fail file new may_fail_now (Ok x) = (bytes : List ℕ) × (new ≡ Some bytes) × IsReadOf file bytes × (may_fail_now ≡ true → may_fail ≡ true)
+Loads may_fail file new may_fail_now (Err e) = (e ≡ OutOfMemory) ⊎ ((e ≡ Unreadable) × ((may_fail ≡ true) ⊎ (file ≡ [])))
 
 -- a file can't be read for one of these reasons
 abbrev pub IsUnread : Fault → Type 0

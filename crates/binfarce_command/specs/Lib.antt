@@ -3,7 +3,7 @@ pub mod Faults
 pub mod FaultWords
 pub mod Show
 pub mod Files
-pub mod Headed
+pub mod Output
 pub mod Section
 pub mod Filter
 pub mod At

@@ -6,10 +6,11 @@ use Rattle.binfarce_tools.specs.AllListing.{IsListingIn}
 use Rattle.binfarce_tools.specs.Map.{IsMapOf}
 use Rattle.binfarce_tools.specs.Listing.{ListingFits}
 use Rattle.binfarce_tools.specs.Report.{IsReportIn, ReportFits}
-use Rattle.binfarce_tools.specs.Selection.{answer_in, MemoryIn, section_of}
+use Rattle.binfarce_bytes.specs.Selection.{section_of}
+use Rattle.binfarce_tools.specs.Selection.{answer_in, MemoryIn}
 use Rattle.binfarce_tools.specs.Writing.{Outcome, IsDue, ProgramEndsAs, Takes}
 use Rattle.binfarce_tools.specs.declared.SymbolTable.{SymbolTable}
-use Rattle.binfarce_command.specs.declared.show.Asked.{Asked}
+use Rattle.binfarce_command.specs.declared.show.Request.{Request}
 use Rattle.binfarce_command.specs.declared.show.Kind.{Kind}
 use Rattle.binfarce_command.specs.declared.show.Kind.TheVariants.{Listing, Sums, Picture}
 use Rattle.binfarce_command.specs.declared.show.Symbols.{Symbols}
@@ -35,17 +36,17 @@ abbrev pub MemoryFor : Symbols → (file : List ℕ) → Result Listed Refusal �
 MemoryFor symbols file = MemoryIn file (section_of symbols.selection)
 
 -- text shows what is asked for of an answer
-abbrev pub IsAskedText : Asked → (file : List ℕ) → Listed → List ℕ → Type 0
+abbrev pub IsAskedText : Request → (file : List ℕ) → Listed → List ℕ → Type 0
 IsAskedText asked file = IsTextOf asked.kind asked.symbols.which file (section_of asked.symbols.selection)
 
 -- what was taken of the text that is asked for of a file
-abbrev pub TakesText : Asked → (file : List ℕ) → (old new : Option (List ℕ)) → Outcome → Type 0
+abbrev pub TakesText : Request → (file : List ℕ) → (old new : Option (List ℕ)) → Outcome → Type 0
 TakesText asked file old new outcome = Takes (IsAskedText asked file) (answer_for asked.symbols file) old new outcome
 
 -- text is what is asked for of a file
-abbrev pub IsShownText : Asked → (file text : List ℕ) → Type 0
+abbrev pub IsShownText : Request → (file text : List ℕ) → Type 0
 IsShownText asked file text = IsDue (IsAskedText asked file) (answer_for asked.symbols file) text
 
 -- the showing of a file may end so; that the file can't be read is reported only where MayFail says so, and that an allocation failed of any file
-abbrev pub MayEnd : (MayFail : Type 0) → Asked → (file : List ℕ) → Outcome → Type 0
+abbrev pub MayEnd : (MayFail : Type 0) → Request → (file : List ℕ) → Outcome → Type 0
 MayEnd MayFail asked file outcome = ProgramEndsAs MayFail (Fits asked.kind) (MemoryFor asked.symbols file) (answer_for asked.symbols file) outcome

@@ -1,4 +1,4 @@
-//! `binfarce at [--base=ADDRESS] FILE [ADDRESS..]`: the function symbol at each address.
+//! `binfarce at [OPTION..] FILE [ADDRESS..]`: the function symbol at each address, in lines or in a text.
 
 ghost use Rattle.std.specs.Prelude.{◌≡◌, ◌≢◌, ℕ, List, Option, true, false, map, Some, Err, IfErr};
 ghost use Rattle.binfarce_addresses.specs.Lines.{AreLinesAt};
@@ -7,7 +7,7 @@ ghost use Rattle.binfarce_tools.specs.Selection.{answer_in, share_in, MemoryIn};
 ghost use Rattle.binfarce_tools.specs.Tables.{AreTablesOf};
 ghost use Rattle.binfarce_tools.specs.declared.SymbolTable.{SymbolTable};
 ghost use Rattle.binfarce_tools.specs.Writing.{ProgramEndsAs, Takes, Fails, Leaves};
-ghost use Rattle.binfarce_command.specs.At.{AnswersLines, HasPlaces, IsShared, lines_outcome, addresses_of, share_addresses};
+ghost use Rattle.binfarce_command.specs.At.{AnswersInput, HasPlaces, IsShared, lines_outcome, addresses_of, share_addresses};
 ghost use Rattle.binfarce_command.specs.Faults.{outcome_of};
 ghost use Rattle.binfarce_command.specs.Show.{MemoryFor, answer_for};
 ghost use Rattle.binfarce_command.specs.declared.fault.Fault.TheVariants.{Input, Write as Unwritten};
@@ -15,6 +15,7 @@ ghost use Rattle.binfarce_words.specs.WordViews.{Gives};
 
 use crate::fault::Fault;
 use crate::show::Symbols;
+use binfarce_addresses::annotate::annotate_stream;
 use binfarce_addresses::at::{Places, write_lines};
 use binfarce_addresses::stream::answer_lines;
 use binfarce_addresses::{Lookup, parse_address};
@@ -93,7 +94,7 @@ fn places_of<'a>(alloc: Global, tables: &'a Tables<'_>) -> Result<Places<'a>, Fa
 }
 
 /// Symbolizes the addresses in the lines of `input`, each as soon as its line feed has come, and returns how many lines
-/// have none.
+/// have none; or annotates those in its text, and returns 0.
 ///
 /// # Errors
 ///
@@ -103,16 +104,21 @@ pub fn answer_input<S: Source, I: Read, K: Sink>(
     source: &S,
     symbols: &Symbols<'_>,
     lookup: Lookup,
+    annotates: bool,
     input: &mut I,
     out: &mut K,
 ) -> Result<u64, Fault>
-    ensures answers { (file : List ℕ) → S.bytes source.now ≡ Some file → AnswersLines (S.may_fail source.now ≡ true)
-        (share_addresses symbols.now file) (MemoryFor symbols.now file) (answer_for symbols.now file) lookup
+    ensures answers { (file : List ℕ) → S.bytes source.now ≡ Some file → AnswersInput (S.may_fail source.now ≡ true)
+        (share_addresses symbols.now file) (MemoryFor symbols.now file) (answer_for symbols.now file) annotates lookup
         (I.remaining input.old) (I.remaining input.new) (K.taken out.old) (K.taken out.new) result }
     ensures fails { Fails (K.has_failed out.old) (K.has_failed out.new) (lines_outcome result) }
 {
     let tables = read(alloc, source, symbols.which, symbols.selection)?;
     let mut places = places_of(alloc, &tables)?;
+    if annotates {
+        annotate_stream(alloc, &places, lookup, input, out)?;
+        return Ok(0);
+    }
     places.keep_names(alloc)?;
     let missing = answer_lines(alloc, &places, lookup, input, out)?;
     Ok(missing)

@@ -1,15 +1,14 @@
 //! Runs a command on files, one after the other.
 
 ghost use Rattle.std.specs.Prelude.{◌≡◌, [], ◌∷◌, ℕ, Bool, List, true, Option, Some, None, map, nat_lt, length, IfErr, IfOk, IfSome, MatchOption};
-ghost use Rattle.binfarce_command.specs.Files.{Refused, Reports, AreHeld, IsUnreadable, ReportsWhy, ShowsAll, ShowsHeld, ShowsOne, heading};
-ghost use Rattle.binfarce_command.specs.Headed.{pending, taken, writer_of};
-ghost use Rattle.binfarce_command.specs.Input.{IsReadOf, held_bytes, held_may_fail, input_of};
+ghost use Rattle.binfarce_command.specs.Files.{Refused, Reports, AreHeld, asked_files, IsUnreadable, ReportsWhy, ShowsAll, ShowsSource, ShowsOne, heading};
+ghost use Rattle.binfarce_command.specs.Output.{pending, state_of, taken, writer_of};
+ghost use Rattle.binfarce_command.specs.Input.{IsReadOf, bytes_of, may_fail_of};
 
 use crate::fault::Fault;
-use crate::headed::Headed;
-use crate::held::Held;
-use crate::input::Noted;
-use crate::show::{Asked, show};
+use crate::input::OpenFile;
+use crate::output::Output;
+use crate::show::{Request, show};
 use binfarce_bytes::source::Source;
 use std::alloc::{AllocError, Global};
 use std::io::{self, Error, Read, Write};
@@ -48,14 +47,13 @@ pub trait System<F: Read + Source> {
 pub fn show_files<F: Read + Source + Drop, Y: System<F>, W: Write>(
     alloc: Global,
     system: &mut Y,
-    asked: &Asked<'_>,
+    asked: &Request<'_>,
     files: &[&str],
-    out: &mut Headed<W>,
+    out: &mut Output<W>,
 ) -> Result<bool, Fault>
-    ensures { (held : List ℕ → List ℕ) → AreHeld (Y.bytes_at system.old) held (map (λ t. t.now) files.now)
-        → ShowsAll asked.now (Y.may_fail_at system.old) held (nat_lt 1 (length files.now)) (map (λ t. t.now) files.now)
-        (W.contents (writer_of out.old)) (W.contents (writer_of out.new)) (taken W.contents out.new)
-        (Y.reports system.old) (Y.reports system.new) result }
+    ensures { (held : List ℕ → List ℕ) → AreHeld (Y.bytes_at system.old) held (map (λ t. t.now) files.now) → ShowsAll
+        (asked_files asked.now (nat_lt 1 (length files.now)) (Y.may_fail_at system.old) held) (map (λ t. t.now) files.now)
+        (state_of W.contents out.old (Y.reports system.old)) (state_of W.contents out.new (Y.reports system.new)) result }
 {
     let are_several = files.len() > 1;
     let mut are_shown = true;
@@ -70,23 +68,22 @@ pub fn show_files<F: Read + Source + Drop, Y: System<F>, W: Write>(
 fn show_file<F: Read + Source + Drop, Y: System<F>, W: Write>(
     alloc: Global,
     system: &mut Y,
-    asked: &Asked<'_>,
+    asked: &Request<'_>,
     path: &str,
     are_several: bool,
-    out: &mut Headed<W>,
+    out: &mut Output<W>,
 ) -> Result<bool, Fault>
-    ensures shows { (file : List ℕ) → Y.bytes_at system.old path.now ≡ Some file
-        → ShowsOne asked.now (Y.may_fail_at system.old path.now) file are_several path.now
-        (W.contents (writer_of out.old)) (W.contents (writer_of out.new)) (taken W.contents out.new)
-        (Y.reports system.old) (Y.reports system.new) result }
+    ensures shows { (held : List ℕ → List ℕ) → Y.bytes_at system.old path.now ≡ Some (held path.now)
+        → ShowsOne (asked_files asked.now are_several (Y.may_fail_at system.old) held) path.now
+        (state_of W.contents out.old (Y.reports system.old)) (state_of W.contents out.new (Y.reports system.new)) result }
     ensures bytes { Y.bytes_at system.new ≡ Y.bytes_at system.old }
     ensures may_fail { Y.may_fail_at system.new ≡ Y.may_fail_at system.old }
 {
     out.begin(heading(alloc, path, are_several)?);
-    match open_held(alloc, system, path) {
-        Some(held) => {
-            let shown = show_held(alloc, asked, &held, out);
-            reported(system, path, &held, shown)
+    match open_input(alloc, system, path) {
+        Some(input) => {
+            let shown = show_source(alloc, asked, &input, out);
+            reported(system, path, &input, shown)
         }
         None => Ok(false),
     }
@@ -105,14 +102,14 @@ fn heading(alloc: Global, path: &str, are_several: bool) -> Result<Vec<u8>, Allo
 }
 
 // Shows the source after what is left of the heading, which is written also where the text is empty.
-fn show_held<S: Source, W: Write>(
+fn show_source<S: Source, W: Write>(
     alloc: Global,
-    asked: &Asked<'_>,
+    asked: &Request<'_>,
     source: &S,
-    out: &mut Headed<W>,
+    out: &mut Output<W>,
 ) -> Result<(), Fault>
     ensures { (file : List ℕ) → S.bytes source.now ≡ Some file
-        → ShowsHeld asked.now (S.may_fail source.now ≡ true) file (pending out.old)
+        → ShowsSource asked.now (S.may_fail source.now ≡ true) file (pending out.old)
         (W.contents (writer_of out.old)) (W.contents (writer_of out.new)) (taken W.contents out.new) result }
 {
     show(alloc, asked, source, out)?;
@@ -120,27 +117,27 @@ fn show_held<S: Source, W: Write>(
 }
 
 /// Opens the file at this path, and loads it. `None` where it can't be opened or read, which is reported.
-pub fn open_held<F: Read + Source + Drop, Y: System<F>>(
+pub fn open_input<F: Read + Source + Drop, Y: System<F>>(
     alloc: Global,
     system: &mut Y,
     path: &str,
-) -> Option<Held<Noted<F>>>
-    ensures held { (file : List ℕ) → Y.bytes_at system.old path.now ≡ Some file → MatchOption result
+) -> Option<OpenFile<F>>
+    ensures input { (file : List ℕ) → Y.bytes_at system.old path.now ≡ Some file → MatchOption result
         ((fault : Fault) × IsUnreadable (Y.may_fail_at system.old path.now) file fault
         × Reports (Y.reports system.old) (Y.reports system.new) ((path.now, fault) ∷ []))
-        (λ held. (bytes : List ℕ) × IsReadOf file bytes × (held_bytes (λ n. F.bytes (input_of n)) held ≡ Some bytes)
-        × (held_may_fail (λ n. F.may_fail (input_of n)) held ≡ true → Y.may_fail_at system.old path.now ≡ true)) }
+        (λ input. (bytes : List ℕ) × IsReadOf file bytes × (bytes_of F.bytes input ≡ Some bytes)
+        × (may_fail_of F.may_fail input ≡ true → Y.may_fail_at system.old path.now ≡ true)) }
     ensures unchanged { IfSome result (λ _. system.new ≡ system.old) }
     ensures bytes { Y.bytes_at system.new ≡ Y.bytes_at system.old }
     ensures may_fail { Y.may_fail_at system.new ≡ Y.may_fail_at system.old }
 {
     match system.open(path) {
         Ok(file) => {
-            let (held, loaded) = Held::load(alloc, Noted::new(file));
-            match loaded {
-                Ok(()) => Some(held),
+            let mut input = OpenFile::new(file);
+            match input.load(alloc) {
+                Ok(()) => Some(input),
                 Err(fault) => {
-                    system.report(path, fault, held.file().take_reason());
+                    system.report(path, fault, input.take_reason());
                     None
                 }
             }
@@ -160,7 +157,7 @@ pub fn open_held<F: Read + Source + Drop, Y: System<F>>(
 pub fn reported<F: Read + Source, Y: System<F>>(
     system: &mut Y,
     path: &str,
-    held: &Held<Noted<F>>,
+    input: &OpenFile<F>,
     done: Result<(), Fault>,
 ) -> Result<bool, Fault>
     ensures reports { ReportsWhy path.now (Y.reports system.old) (Y.reports system.new) done result }
@@ -173,7 +170,7 @@ pub fn reported<F: Read + Source, Y: System<F>>(
         Err(Fault::Missing(count)) => Err(Fault::Missing(count)),
         Err(Fault::Input) => Ok(false),
         Err(fault) => {
-            system.report(path, fault, held.file().take_reason());
+            system.report(path, fault, input.take_reason());
             Ok(false)
         }
     }

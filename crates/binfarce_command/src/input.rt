@@ -1,64 +1,72 @@
 //! The input of a command: files and standard input.
 
-ghost use Rattle.std.specs.Prelude.{◌≡◌};
+ghost use Rattle.std.specs.Prelude.{◌≡◌, ℕ, List, [], Some, None};
 ghost use Rattle.std.specs.IoError.{error_kind};
+ghost use Rattle.binfarce_command.specs.Input.{Loads, ReadsByte, ReadsFirst, ReadsJudged, ReadsRest, bytes_of, file_of, loaded, may_fail_of};
 
+use crate::fault::Fault;
+use binfarce_bytes::format::{Format, detect_format};
 use binfarce_bytes::source::Source;
+use binfarce_tools::program::is_read_at_offsets;
+use std::alloc::Global;
 use std::cell::Cell;
 use std::fs::File;
 use std::io::{self, Error, ErrorKind, Read, Stdin};
 
+// How many of a file's first bytes name its format.
+const MAGIC_LENGTH: usize = 8;
+
 /// A file, or standard input.
 #[derive(Drop)]
-pub enum Opened {
+pub enum FileOrStdin {
     /// A file.
     File(File),
     /// Standard input.
     Standard(Stdin),
 }
 
-impl Read for Opened {
+impl Read for FileOrStdin {
     fn read(&mut self, buf: &mut [u8]) -> io::Result<usize> {
         match self {
-            Opened::File(file) => file.read(buf),
-            Opened::Standard(input) => input.read(buf),
+            FileOrStdin::File(file) => file.read(buf),
+            FileOrStdin::Standard(input) => input.read(buf),
         }
     }
 }
 
-impl Source for Opened {
+impl Source for FileOrStdin {
     /// `Unsupported` for standard input.
     fn length(&self) -> io::Result<u64> {
         match self {
-            Opened::File(file) => file.length(),
-            Opened::Standard(_) => Err(Error::from(ErrorKind::Unsupported)),
+            FileOrStdin::File(file) => file.length(),
+            FileOrStdin::Standard(_) => Err(Error::from(ErrorKind::Unsupported)),
         }
     }
 
     fn fill_at(&self, offset: u64, buf: &mut [u8]) -> io::Result<()> {
         match self {
-            Opened::File(file) => file.fill_at(offset, buf),
-            Opened::Standard(_) => Err(Error::from(ErrorKind::Unsupported)),
+            FileOrStdin::File(file) => file.fill_at(offset, buf),
+            FileOrStdin::Standard(_) => Err(Error::from(ErrorKind::Unsupported)),
         }
     }
 }
 
-/// An input that keeps the system's reason where a read of it fails.
+/// A file, its bytes where it can't be read at offsets, and the system's reason where a read of it fails.
 #[derive(Drop)]
-pub struct Noted<T> {
-    input: T,
+pub struct OpenFile<F> {
+    file: F,
+    bytes: Option<Vec<u8>>,
     reason: Cell<Option<Error>>,
 }
 
-impl<T> Noted<T> {
-    ghost use Rattle.binfarce_command.specs.Input.{input_of};
-
-    /// This input, of which no read has failed.
-    pub fn new(input: T) -> Noted<T>
-        ensures { input_of result ≡ input }
+impl<F> OpenFile<F> {
+    /// This file, of which nothing is loaded and no read has failed.
+    pub fn new(file: F) -> OpenFile<F>
+        ensures { (file_of result ≡ file) × (loaded result ≡ None) }
     {
-        Noted {
-            input,
+        OpenFile {
+            file,
+            bytes: None,
             reason: Cell::new(None),
         }
     }
@@ -78,37 +86,130 @@ impl<T> Noted<T> {
     }
 }
 
-impl<R: Read> Read for Noted<R> {
-    ghost use Rattle.binfarce_command.specs.Input.{input_of};
+impl<F: Read + Source> OpenFile<F> {
+    /// Loads the file unless it can be read at offsets: to its end, or only the first 8 bytes where these name no format.
+    ///
+    /// # Errors
+    ///
+    /// `Unreadable` where a read fails, and `OutOfMemory` where an allocation fails.
+    pub fn load(&mut self, alloc: Global) -> Result<(), Fault>
+        ensures { (bytes : List ℕ) → bytes_of F.bytes self.old ≡ Some bytes → F.remaining (file_of self.old) ≡ Some bytes
+            → Loads (may_fail_of F.may_fail self.old) bytes (bytes_of F.bytes self.new) (may_fail_of F.may_fail self.new) result }
+    {
+        if is_read_at_offsets(self) {
+            return Ok(());
+        }
+        match read_judged(alloc, self) {
+            Ok(bytes) => {
+                self.bytes = Some(bytes);
+                Ok(())
+            }
+            Err(e) => Err(e),
+        }
+    }
+}
 
-    ghost remaining = { λ s. R.remaining (input_of s) };
+impl<F: Read> Read for OpenFile<F> {
+    ghost use Rattle.binfarce_command.specs.Input.{file_of};
+
+    ghost remaining = { λ s. F.remaining (file_of s) };
 
     fn read(&mut self, buf: &mut [u8]) -> io::Result<usize> {
-        match self.input.read(buf) {
+        match self.file.read(buf) {
             Ok(n) => Ok(n),
             Err(e) => Err(self.keep(e)),
         }
     }
 }
 
-impl<S: Source> Source for Noted<S> {
-    ghost use Rattle.binfarce_command.specs.Input.{input_of};
+impl<F: Source> Source for OpenFile<F> {
+    ghost use Rattle.binfarce_command.specs.Input.{bytes_of, may_fail_of};
 
-    ghost bytes = { λ s. S.bytes (input_of s) };
+    ghost bytes = { bytes_of F.bytes };
 
-    ghost may_fail = { λ s. S.may_fail (input_of s) };
+    ghost may_fail = { may_fail_of F.may_fail };
 
     fn length(&self) -> io::Result<u64> {
-        match self.input.length() {
-            Ok(n) => Ok(n),
-            Err(e) => Err(self.keep(e)),
+        match &self.bytes {
+            Some(bytes) => bytes.as_slice().length(),
+            None => match self.file.length() {
+                Ok(n) => Ok(n),
+                Err(e) => Err(self.keep(e)),
+            },
         }
     }
 
     fn fill_at(&self, offset: u64, buf: &mut [u8]) -> io::Result<()> {
-        match self.input.fill_at(offset, buf) {
-            Ok(()) => Ok(()),
-            Err(e) => Err(self.keep(e)),
+        match &self.bytes {
+            Some(bytes) => bytes.as_slice().fill_at(offset, buf),
+            None => match self.file.fill_at(offset, buf) {
+                Ok(()) => Ok(()),
+                Err(e) => Err(self.keep(e)),
+            },
+        }
+    }
+}
+
+/// The bytes up to the reader's end; only the first 8, with no further read, where these name no format.
+///
+/// # Errors
+///
+/// As `load`.
+pub fn read_judged<R: Read>(alloc: Global, reader: &mut R) -> Result<Vec<u8>, Fault>
+    ensures { ReadsJudged (R.remaining reader.old) (R.remaining reader.new) result }
+{
+    let mut bytes = Vec::new(alloc);
+    read_first(reader, &mut bytes)?;
+    match detect_format(&bytes) {
+        Format::Unknown => Ok(bytes),
+        _ => match read_rest(reader, bytes) {
+            Ok(all) => Ok(all),
+            Err(e) => Err(e),
+        },
+    }
+}
+
+// Reads the rest after these bytes.
+fn read_rest<R: Read>(reader: &mut R, mut bytes: Vec<u8>) -> Result<Vec<u8>, Fault>
+    ensures { ReadsRest (R.remaining reader.old) (R.remaining reader.new) bytes.items result }
+{
+    reader.read_to_end(&mut bytes)?;
+    Ok(bytes)
+}
+
+// Reads the first 8 bytes, or all where there are fewer.
+fn read_first<R: Read>(reader: &mut R, bytes: &mut Vec<u8>) -> Result<(), Fault>
+    requires { bytes.old.items ≡ [] }
+    ensures { ReadsFirst (R.remaining reader.old) (R.remaining reader.new) bytes.new.items result }
+{
+    for _ in 0..u64::MAX {
+        if bytes.len() >= MAGIC_LENGTH {
+            return Ok(());
+        }
+        if !read_byte(reader, bytes)? {
+            return Ok(());
+        }
+    }
+    Err(Fault::Unreadable)
+}
+
+// Reads a byte, or none where a signal interrupts. `false` at the end.
+fn read_byte<R: Read>(reader: &mut R, bytes: &mut Vec<u8>) -> Result<bool, Fault>
+    ensures { ReadsByte (R.remaining reader.old) (R.remaining reader.new) bytes.old.items bytes.new.items result }
+{
+    let mut byte = [0; 1];
+    match reader.read(&mut byte) {
+        Ok(0) => Ok(false),
+        Ok(_) => {
+            bytes.extend_from_slice(&byte)?;
+            Ok(true)
+        }
+        Err(e) => {
+            if e.kind() == ErrorKind::Interrupted {
+                Ok(true)
+            } else {
+                Err(Fault::from(e))
+            }
         }
     }
 }

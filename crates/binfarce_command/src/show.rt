@@ -40,7 +40,7 @@ pub struct Symbols<'a> {
 
 /// What is shown of a file.
 #[derive(Debug, Clone, Copy)]
-pub struct Asked<'a> {
+pub struct Request<'a> {
     /// How its function symbols are shown.
     pub kind: Kind,
     /// Which they are.
@@ -56,7 +56,7 @@ pub struct Asked<'a> {
 /// `report`. Only after `Write` a beginning may be written.
 pub fn show<S: Source, K: Sink>(
     alloc: Global,
-    asked: &Asked<'_>,
+    asked: &Request<'_>,
     source: &S,
     out: &mut K,
 ) -> Result<(), Fault>

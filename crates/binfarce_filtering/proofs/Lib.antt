@@ -1,5 +1,4 @@
 pub mod Runs
-pub mod Lanes
 pub mod Scans
 pub mod Names
 pub mod Parts

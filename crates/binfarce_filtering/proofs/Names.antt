@@ -1,13 +1,15 @@
 -- Names in a run, and what is shown of a run up to a position.
-use Rattle.std.proofs.Common.{◌≡◌, ℕ, ◌+◌, ◌<◌, ◌≤◌, Bool, true, false, cond, not, ◌&&◌, ◌==◌, List, [], ◌∷◌, ◌++◌, length, drop, take, get_or, refl, sym, ◌∙◌, ap, subst, arith, append_assoc, append-nil}
-use Rattle.std.proofs.lemmas.Bool.{false≢true}
+use Rattle.std.proofs.Common.{◌≡◌, ℕ, ◌+◌, ◌<◌, ◌≤◌, Bool, true, false, cond, inl, inr, nat_lt, if◌then◌else◌, not, ◌&&◌, ◌||◌, ◌==◌, List, [], ◌∷◌, ◌++◌, length, drop, take, get_or, refl, sym, ◌∙◌, ap, subst, arith, append_assoc, append-nil}
+use Rattle.std.proofs.lemmas.Bool.{cases_lt, false≢true}
 use Rattle.std.proofs.lemmas.Bool.Decides.{nat_tests}
 use Rattle.std.proofs.lemmas.List.{drop-drop, drop_all}
 use Rattle.std.specs.Cmp.Derive.{both_true}
 use Rattle.std.specs.Str.{bytes_eq}
 use Rattle.binfarce_legacy.specs.Legacy.{Element, Reads, ends_in_hash}
 use Rattle.binfarce_legacy.proofs.ElementLemmas.{reads_one_way}
-use Rattle.binfarce_filtering.specs.Filter.{IsLegacyUpTo, IsNameLength, IsRead, IsReadable, IsSymbolLength, begins_name, begins_v0, byte_then, ends_name, dropped, llvm_length, name_then, no_more, rest_stays}
+use Rattle.binfarce_names.specs.Name.{short_or}
+use Rattle.binfarce_names.proofs.Trimmed.{either}
+use Rattle.binfarce_filtering.specs.Filter.{IsLegacyUpTo, IsNameLength, IsRead, IsReadable, IsSymbolLength, begins_name, begins_v0, byte_then, ends_name, has_control, dropped, llvm_length, name_then, no_more, rest_stays}
 
 -- where no v0 name begins, the length of a symbol is that of a legacy name
 pub no_symbol : (run : List ℕ) → begins_v0 run ≡ false → ((n : ℕ) → ¬ (IsLegacyUpTo run n)) → (n : ℕ) → ¬ (IsSymbolLength (begins_v0 run) run n)
@@ -93,3 +95,16 @@ reads_all full run at old new before all =
     let P : List ℕ → Type 0 = λ x. IsRead full (at == 0) x [] in
     let Q : List ℕ → Type 0 = λ x. IsRead full true run x in
     (before.0, subst Q (append-nil before.0) (before.1 [] (subst P (sym (drop_all at run all)) (no_more (at == 0)))), before.2)
+
+-- a text that isn't shown, by what is made of it
+pub readable_is : (n : ℕ) (name text : List ℕ) → (if has_control (short_or (n + 1) name text) then name else short_or (n + 1) name text) ≡ (if nat_lt n (length text) || has_control text then name else text)
+readable_is n name text = elim (cases_lt n (length text)) [
+  | inl long ↦
+      let made : nat_lt (length text) (n + 1) ≡ false = grind (arith, nat_tests, long) in
+      let is : nat_lt n (length text) ≡ true = grind (arith, nat_tests, long) in
+      rw (made, is) (either (has_control name) name)
+  | inr short ↦
+      let made : nat_lt (length text) (n + 1) ≡ true = grind (arith, nat_tests, short) in
+      let is : nat_lt n (length text) ≡ false = grind (arith, nat_tests, short) in
+      rw (made, is) refl
+]

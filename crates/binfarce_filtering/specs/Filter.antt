@@ -5,9 +5,9 @@ use Rattle.std.specs.List.{list_all, list_any, prefix_len, starts_with}
 use Rattle.std.specs.Str.{byte, bytes_eq, chars}
 use Rattle.binfarce_text.specs.Suffixes.{is_llvm_digit}
 use Rattle.binfarce_legacy.specs.Legacy.{Element, Reads, ends_in_hash}
-use Rattle.binfarce_names.specs.Name.{Name}
+use Rattle.binfarce_names.specs.Name.{Name, text_of}
 use Rattle.binfarce_names.specs.Named.{IsNamed}
-use Rattle.binfarce_filtering.specs.declared.filter.TheConstants.{MAX_RUN}
+use Rattle.binfarce_filtering.specs.declared.filter.TheConstants.{MAX_RUN, MAX_TEXT}
 
 -- `.`
 abbrev pub is_dot : (b : ℕ) → Bool
@@ -71,18 +71,17 @@ llvm_length rest =
     let n = 6 + prefix_len is_llvm_digit (drop 6 rest) in
     if starts_with nat_eq rest (codes ".llvm.") && ends_name (drop n rest) then n else 0
 
--- the text of an answer that is shown: the complete one, or the trimmed one
-abbrev pub text_of : (full : Bool) (answer : Name) → List ℕ
-text_of true answer = answer.complete
-text_of false answer = answer.trimmed
-
 -- a character of the text is a control character: U+0000 to U+001F or U+007F to U+009F
 abbrev pub has_control : (text : List ℕ) → Bool
 has_control text = list_any is_control (chars text)
 
--- the readable form of a name: the text of its answer, or the name itself where that text has a control character
+-- a text that isn't shown: it has more than `MAX_TEXT` bytes, or a control character
+abbrev pub is_hidden : (text : List ℕ) → Bool
+is_hidden text = nat_lt MAX_TEXT (length text) || has_control text
+
+-- the readable form of a name: the text of its answer, or the name itself where that isn't shown
 abbrev pub IsReadable : (full : Bool) (name shown : List ℕ) → Type 0
-IsReadable full name shown = (answer : Name) × IsNamed name answer × (shown ≡ (if has_control (text_of full answer) then name else text_of full answer))
+IsReadable full name shown = (answer : Name) × IsNamed name answer × (shown ≡ (if is_hidden (text_of full answer) then name else text_of full answer))
 
 -- how many bytes behind a name are dropped: of `.llvm.` and a number behind a name that changes, and none behind one that stays
 abbrev pub dropped : (name readable rest : List ℕ) → ℕ

@@ -3,29 +3,27 @@
 ghost use Rattle.std.specs.Prelude.{◌≡◌, ◌++◌, ◌∷◌, ◌+◌, ◌-◌, ◌^◌, ◌<◌, ◌≤◌, ◌≢◌, ℕ, List, Bool, true, false, not, [], length, take, drop, slice_index, IfOk, MatchOption, OnOk};
 ghost use Rattle.std.specs.List.{list_all, prefix_len};
 ghost use Rattle.std.specs.Str.{bytes_eq};
-ghost use Rattle.std.specs.String.{string_bytes};
 ghost use Rattle.binfarce_text.specs.Suffixes.{is_llvm_digit};
-ghost use Rattle.binfarce_names.specs.Name.{Name};
-ghost use Rattle.binfarce_names.specs.Named.{IsNamed};
-ghost use Rattle.binfarce_filtering.specs.Filter.{IsFiltered, IsNameLength, IsRead, IsReadable, IsShown, IsSymbolLength, begins_legacy, begins_name, begins_symbol, begins_v0, ends_name, has_control, is_dot, is_run, is_run_byte, is_too_long, llvm_length, text_of};
+ghost use Rattle.binfarce_filtering.specs.Filter.{IsFiltered, IsNameLength, IsRead, IsReadable, IsShown, IsSymbolLength, begins_legacy, begins_name, begins_symbol, begins_v0, ends_name, has_control, is_dot, is_run, is_run_byte, is_too_long, llvm_length};
 ghost use Rattle.binfarce_filtering.specs.Continued.{Continues};
 ghost use Rattle.binfarce_filtering.specs.machine.Reading.{ShowsFirst};
 ghost use Rattle.binfarce_filtering.specs.machine.Scan.{IsOutside, MayGoOn, is_other, is_plain};
 
 use binfarce_legacy::elements::elements_end;
 use binfarce_names::demangle::Demangler;
+use binfarce_text::strides::{STRIDE, len_before};
 use std::alloc::{AllocError, Global};
-use std::simd::prelude::*;
 
 /// The length in bytes of the longest run that may hold names. A longer one stays unchanged.
 pub const MAX_RUN: usize = 1 << 20;
 
-// How many bytes are compared at a time.
-const STRIDE: usize = 16;
+/// The length in bytes of the longest readable text that is shown. A name with a longer one stays unchanged.
+pub const MAX_TEXT: usize = 1 << 20;
 
-// The limit, which the definition cites by name, is 1 MiB.
-fn limit_is()
-    ensures { MAX_RUN ≡ 2 ^ 20 }
+// The limits, which the definition cites by name, are 1 MiB.
+fn limits_are()
+    ensures run { MAX_RUN ≡ 2 ^ 20 }
+    ensures text { MAX_TEXT ≡ 2 ^ 20 }
 {}
 
 /// The text with each mangled name replaced by its trimmed text, or if `full` by its complete text.
@@ -35,7 +33,7 @@ fn limit_is()
 /// digit, or with `_R` and one of `N`, `I`, `M`, `X` and `Y`; at the run's first byte another `_` may come before. It
 /// ends where its mangling does, before a `.` or the run's end. The last element of one with `_ZN` is a hash: `17h` and
 /// 16 lower-case hexadecimal digits. `.llvm.` and a number after a name that is replaced are left out. A name whose
-/// readable text has a control character stays unchanged. So do all other bytes, which need not be UTF-8. After a `_ZN`
+/// readable text has a control character or more than `MAX_TEXT` bytes stays unchanged. So do all other bytes, which need not be UTF-8. After a `_ZN`
 /// and a digit that begin no such name, such as a C++ name, the rest of the run stays unchanged.
 ///
 /// # Errors
@@ -265,14 +263,7 @@ fn others_among(bytes: &[u8]) -> usize
     requires { length bytes.now ≡ 16 }
     ensures { result ≡ prefix_len is_other bytes.now }
 {
-    let underscores = u8x16::from_slice(bytes)
-        .simd_eq(u8x16::splat(b'_'))
-        .to_bitmask();
-    if underscores == 0 {
-        STRIDE
-    } else {
-        underscores.trailing_zeros() as usize
-    }
+    len_before(bytes, b'_', b'_', b'_')
 }
 
 // Where the run begins that ends at a position of the text; that position where none does.
@@ -483,6 +474,7 @@ fn digits_len(text: &[u8]) -> usize
 }
 
 // Writes the output for a name. Returns whether it changes.
+#[tactic(auto, using(crate::proofs::Names::readable_is))]
 fn push_name(
     names: &mut Names,
     full: bool,
@@ -494,7 +486,10 @@ fn push_name(
         (λ changes. (readable : List ℕ) × IsReadable full name.now readable
         × (changes ≡ not (bytes_eq readable name.now)) × (out.new.items ≡ out.old.items ++ readable)) }
 {
-    read_name(names, full, std::str::from_utf8(name).unwrap())?;
+    let name_text = std::str::from_utf8(name).unwrap();
+    names
+        .demangler
+        .short_text(&mut names.text, name_text, full, MAX_TEXT + 1)?;
     let text = names.text.as_str();
     let readable = if has_control(text) {
         name
@@ -503,18 +498,6 @@ fn push_name(
     };
     out.extend_from_slice(readable)?;
     Ok(readable != name)
-}
-
-// Makes the text of a name: complete, or trimmed.
-fn read_name(names: &mut Names, full: bool, name: &str) -> Result<(), AllocError>
-    ensures { OnOk result ((n : Name) × IsNamed name.now n × (string_bytes names.new.text ≡ text_of full n)) }
-{
-    if full {
-        names.text = names.demangler.demangle(name)?.complete;
-        return Ok(());
-    }
-    names.text.clear();
-    names.demangler.push_trimmed(&mut names.text, name)
 }
 
 // Whether a character of the text is a control character.

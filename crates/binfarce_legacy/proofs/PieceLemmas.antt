@@ -1,6 +1,6 @@
 -- The pieces of a name from left to right, and which piece begins it.
 use Rattle.std.proofs.Common.{◌≡◌, ℕ, zero, suc, ◌+◌, ◌-◌, ◌<◌, ◌≤◌, inl, inr, Bool, true, false, eqb, ltb, ◌&&◌, not, List, [], ◌∷◌, ◌++◌, length, get_or, drop, take, min, nat_eq, codes, Option, Some, None, refl, ap, sym, ◌∙◌, arith, length-take, append_assoc}
-use Rattle.std.proofs.lemmas.Bool.{both_ways, false≢true, cases_Bool, cases_eq, cases_lt, cond-true, cond-false, and_from, and_parts, eqb-true, eqb-false, eq-eqb, ne_eqb, lt-ltb, ltb-true, not-true, false_from_ne_true}
+use Rattle.std.proofs.lemmas.Bool.{false≢true, cases_Bool, cases_eq, cases_lt, cond-true, cond-false, and_from, and_parts, eqb-true, eqb-false, eq-eqb, lt-ltb, ltb-true, not-true, false_from_ne_true}
 use Rattle.std.proofs.lemmas.Bool.Decides.{nat_tests}
 use Rattle.std.proofs.lemmas.Str.{encodes-append, encodes-IsAscii, IsAscii-take}
 use Rattle.std.specs.Str.{IsAscii, encode_utf8_all}
@@ -39,12 +39,6 @@ pub plain_is : (b : ℕ) → is_plain b ≡ true → (b ≡ 46 → ⊥) × (b �
 plain_is b h =
     let both = and_parts (not (eqb b 46)) (not (eqb b 36)) h in
     (eqb-false b 46 (not-true _ both.0), eqb-false b 36 (not-true _ both.1))
-
-pub special_is : (b : ℕ) → is_plain b ≡ false → (b ≡ 46 → ⊥) → b ≡ 36
-special_is b h ne = elim (cases_Bool (eqb b 36)) [
-  | inl e ↦ eqb-true b 36 e
-  | inr e ↦ absurd (both_ways (is_plain b) h (and_from (not (eqb b 46)) (not (eqb b 36)) (ap not (ne_eqb b 46 ne)) (ap not e)))
-]
 
 -- the piece that begins a name
 pub first_piece-plain : (name : List ℕ) → (get_or name 0 0 ≡ 46 → ⊥) → (get_or name 0 0 ≡ 36 → ⊥)

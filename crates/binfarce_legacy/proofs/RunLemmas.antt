@@ -4,20 +4,7 @@ use Rattle.std.proofs.lemmas.Bool.{cases_Bool, cases_lt, cond-true, cond-false}
 use Rattle.std.proofs.lemmas.List.{drop-drop, drop-take, get_or-drop, length-drop}
 use Rattle.std.proofs.lemmas.List.Sums.{prefix_len-le-length, prefix_len_stops}
 use Rattle.std.specs.List.{prefix_len}
-
--- the run in the first n bytes
-run_of_front : (p : ℕ → Bool) (n : ℕ) (xs : List ℕ) → prefix_len p (take n xs) ≡ min n (prefix_len p xs)
-run_of_front p zero xs = omega arith
-run_of_front p (suc n) [] = omega arith
-run_of_front p (suc n) (x ∷ xs) = elim (cases_Bool (p x)) [
-  | inl pass ↦ omega (
-    arith,
-    cond-true (p x) (1 + prefix_len p (take n xs)) 0 pass,
-    cond-true (p x) (1 + prefix_len p xs) 0 pass,
-    run_of_front p n xs,
-  )
-  | inr stop ↦ omega (arith, cond-false (p x) (1 + prefix_len p (take n xs)) 0 stop, cond-false (p x) (1 + prefix_len p xs) 0 stop)
-]
+use Rattle.binfarce_text.proofs.Lanes.{run_of_front, run_ends}
 
 -- the run after a part of it
 run_after : (p : ℕ → Bool) (k : ℕ) (xs : List ℕ) → k ≤ prefix_len p xs → prefix_len p xs ≡ k + prefix_len p (drop k xs)
@@ -39,11 +26,7 @@ run_in_name p name wide at is within =
     let same : drop at name ≡ take (n - at) (drop at wide) = ap (drop at) (is ∙ left) ∙ drop-take at (n - at) wide in
     omega (arith, ap (prefix_len p) same, run_of_front p (n - at) (drop at wide), within)
 
--- some bytes at a time: a run that ends in the next n bytes, and one that goes on after them
-pub run_ends : (p : ℕ → Bool) (wide : List ℕ) (at n k : ℕ) → k ≡ n → prefix_len p (take k (drop at wide)) < n
-    → prefix_len p (drop at wide) ≡ prefix_len p (take k (drop at wide))
-run_ends p wide at n k is short = omega (arith, is, short, run_of_front p k (drop at wide))
-
+-- some bytes at a time: a run that goes on after the next n bytes
 pub run_goes_on : (p : ℕ → Bool) (wide : List ℕ) (at n k : ℕ) → k ≡ n → n ≤ prefix_len p (take k (drop at wide))
     → prefix_len p (drop at wide) ≡ n + prefix_len p (drop (at + n) wide)
 run_goes_on p wide at n k is all =

@@ -4,10 +4,7 @@ ghost use Rattle.std.specs.Prelude.{◌≡◌, ◌+◌, ◌<◌, ◌≤◌, fals
 ghost use Rattle.std.specs.List.{list_any, prefix_len};
 ghost use Rattle.binfarce_legacy.specs.machine.Reading.{is_mark, is_plain};
 
-use std::simd::prelude::*;
-
-// How many bytes of a name are compared at a time.
-const STRIDE: usize = 16;
+use binfarce_text::strides::{STRIDE, len_before};
 
 // Whether a byte denotes itself.
 #[inline(always)]
@@ -23,13 +20,7 @@ fn plain_run(bytes: &[u8]) -> usize
     requires { length bytes.now ≡ 16 }
     ensures { result ≡ prefix_len is_plain bytes.now }
 {
-    let v = u8x16::from_slice(bytes);
-    let special = (v.simd_eq(u8x16::splat(b'.')) | v.simd_eq(u8x16::splat(b'$'))).to_bitmask();
-    if special == 0 {
-        STRIDE
-    } else {
-        special.trailing_zeros() as usize
-    }
+    len_before(bytes, b'.', b'$', b'$')
 }
 
 // The end of the run of bytes from `at` on that denote themselves. `wide` begins with the name, and has bytes after it.
@@ -79,11 +70,7 @@ fn has_mark_among(bytes: &[u8]) -> bool
     requires { length bytes.now ≡ 16 }
     ensures { result ≡ list_any is_mark bytes.now }
 {
-    let v = u8x16::from_slice(bytes);
-    let marks = v.simd_eq(u8x16::splat(b'.'))
-        | v.simd_eq(u8x16::splat(b'$'))
-        | v.simd_eq(u8x16::splat(b':'));
-    marks.to_bitmask() != 0
+    len_before(bytes, b'.', b'$', b':') < STRIDE
 }
 
 // Whether a byte of a name is such.

@@ -102,32 +102,22 @@ named_past_limits text m name is k none e = elim is [
   ]
 ]
 
-pub named_unknown : (text : List ℕ) (m : Mangled) (name : Name) → IsMangled text m → m.kind ≡ Unknown → name ≡ unknown text → IsNamed text name
-unfolding IsMangled IsNamed
-named_unknown text m name is k e = elim is [
-  | inl a ↦ absurd (legacy_not_unknown text m a k)
-  | inr a ↦ elim a [
-    | inl v ↦ absurd (v0_not_unknown text m v k)
-    | inr v ↦ inr (inr (record { not_legacy = v.not_legacy; no_tree = λ part tree w u. v.not_v0 part w; name_is = e }))
-  ]
-]
-
 -- the kind of a text determines its answer: a v0 mangling is printed, or exceeds a limit
 pub has_answer : (text : List ℕ) (m : Mangled) → IsMangled text m → HasAnAnswer text
 unfolding IsMangled IsNamed
 has_answer text m is = elim is [
   | inl a ↦ (legacy a.elements, inl (record { part = m.part; elements = a.elements; rest = a.rest; mangling = a.mangling; name_is = refl }))
   | inr a ↦ elim a [
-    | inl v ↦ by v (printed m.part true false).1.limit_exceeded refl
+    | inl v ↦ by v (printed m.part true false None).1.limit_exceeded refl
     | inr v ↦ (unknown text, inr (inr (record { not_legacy = v.not_legacy; no_tree = λ part tree w u. v.not_v0 part w; name_is = refl })))
   ]
 ]
   where
-    by : IsV0Mangled text m → (limit_exceeded : Bool) → (printed m.part true false).1.limit_exceeded ≡ limit_exceeded → HasAnAnswer text
+    by : IsV0Mangled text m → (limit_exceeded : Bool) → (printed m.part true false None).1.limit_exceeded ≡ limit_exceeded → HasAnAnswer text
     by v true o =
-        (unknown text, named_past_limits text m (unknown text) is v.kind_is (λ tree u. printed_over m.part true false o tree u) refl)
+        (unknown text, named_past_limits text m (unknown text) is v.kind_is (λ tree u. printed_over m.part true false None o tree u) refl)
     by v false o =
-        let t = printed_is_outcome m.part true false o in
+        let t = printed_is_outcome m.part true false None o in
         (v0 t.tree, inr (inl (record { part = m.part; mangling = v.mangling; tree = t.tree; unfolds = t.unfolds; name_is = refl })))
 
 -- a text is a legacy mangling of one list of elements

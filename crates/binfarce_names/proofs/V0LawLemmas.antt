@@ -13,7 +13,7 @@ use Rattle.binfarce_v0_grammar.proofs.ReadingTrees.{reads_one_tree}
 -- a printing from a position with some steps
 abbrev from : Option ℕ → ℕ → State
 from at steps_left =
-    record { at = at; steps_left = steps_left; least_levels_left = 0; limit_exceeded = false; text = []; trimmed = []; muted = false; full = true; in_back_reference = false; root = None }
+    record { at = at; steps_left = steps_left; least_levels_left = 0; limit_exceeded = false; text = []; trimmed = []; muted = false; full = true; in_back_reference = false; root = None; most = None }
 
 pub unfolds_one : (name : List ℕ) → UnfoldsOneWay name
 unfolds_one name t u at depth a b p q =

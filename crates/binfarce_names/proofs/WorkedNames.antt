@@ -55,8 +55,8 @@ pub means : (text part : List ℕ) (name : Name)
     → part_after_prefix (without_llvm text) ≡ Some part
     → paths_end part ≡ Some (length part)
     → (is_upper_at part 0 && (list_all (λ c. nat_lt c 128) part && is_allowed_rest (drop (length part) part))) ≡ true
-    → (printed part true false).1.limit_exceeded ≡ false
-    → name ≡ record { complete = (printed part true false).1.text; trimmed = (outcome_of (printed part true false).1).trimmed; crate_name = option_map identifier_text (printed part true false).1.root; kind = V0 }
+    → (printed part true false None).1.limit_exceeded ≡ false
+    → name ≡ record { complete = (printed part true false None).1.text; trimmed = (outcome_of (printed part true false None).1).trimmed; crate_name = option_map identifier_text (printed part true false None).1.root; kind = V0 }
     → IsNamed text name
 unfolding IsNamed
 means text part name b p w o e =
@@ -64,16 +64,16 @@ means text part name b p w o e =
     let second = both (list_all (λ c. nat_lt c 128) part) (is_allowed_rest (drop (length part) part)) first.1 in
     let mangling : IsMangling (without_llvm text) part (length part) = record { prefix = b; begins = first.0; ascii = ascii part second.0; paths = paths_read part (length part) p } in
     let is : IsV0 (without_llvm text) part = record { after = length part; mangling = mangling; rest = second.1 } in
-    let texts = are_texts (without_llvm text) part (outcome_of (printed part true false).1) _ _ (option_map identifier_text (printed part true false).1.root) is (printed_is_outcome part true false o) refl refl refl in
+    let texts = are_texts (without_llvm text) part (outcome_of (printed part true false None).1) _ _ (option_map identifier_text (printed part true false None).1.root) is (printed_is_outcome part true false None o) refl refl refl in
     inr (inl (record { part = texts.has_tree.part; mangling = texts.has_tree.mangling; tree = texts.tree; unfolds = texts.has_tree.unfolds; name_is = e ∙ λ i. record { complete = texts.complete_is i; trimmed = texts.trimmed_is i; crate_name = texts.crate_is i; kind = V0 } }))
 
 -- a text whose part after the prefix passes a limit
 pub means_nothing : (text part : List ℕ) → legacy_names.part_after_prefix (without_llvm text) ≡ None
-    → part_after_prefix (without_llvm text) ≡ Some part → (printed part true false).1.limit_exceeded ≡ true
+    → part_after_prefix (without_llvm text) ≡ Some part → (printed part true false None).1.limit_exceeded ≡ true
     → IsNamed text (unknown text)
 unfolding IsNamed
 means_nothing text part l b o =
-    inr (inr (record { not_legacy = not_legacy text l; no_tree = λ other tree v u. printed_over part true false o tree (subst (λ x. UnfoldsTo x tree) (some_same other part (sym v.mangling.prefix ∙ b)) u); name_is = refl }))
+    inr (inr (record { not_legacy = not_legacy text l; no_tree = λ other tree v u. printed_over part true false None o tree (subst (λ x. UnfoldsTo x tree) (some_same other part (sym v.mangling.prefix ∙ b)) u); name_is = refl }))
 
 -- a text whose part after the prefix doesn't read
 pub means_unread : (text part : List ℕ) → legacy_names.part_after_prefix (without_llvm text) ≡ None
@@ -84,11 +84,11 @@ means_unread text part l b p =
     inr (inr (record { not_legacy = not_legacy text l; no_tree = λ other tree v u. not_mangling (without_llvm text) part b p other v.after v.mangling; name_is = refl }))
 
 -- levels and steps of the part after a prefix
-pub counts : (part : List ℕ) (levels steps : ℕ) → (printed part true false).1.limit_exceeded ≡ false
-    → path_height (printed part true false).0 ≡ levels → path_steps (printed part true false).0 ≡ steps
+pub counts : (part : List ℕ) (levels steps : ℕ) → (printed part true false None).1.limit_exceeded ≡ false
+    → path_height (printed part true false None).0 ≡ levels → path_steps (printed part true false None).0 ≡ steps
     → Counts part levels steps
 counts part levels steps o h n =
     let H = readers_sound part MAX_LEVELS in
-    let f = H.path InValue 0 (first_state true false) o in
-    let within : path_steps (printed part true false).0 ≤ MAX_STEPS = omega arith in
-    record { tree = (printed part true false).0; unfolds = record { after = (printed part true false).1.at; is_path = f.is; levels = f.height; steps = within }; levels_are = h; steps_are = n }
+    let f = H.path InValue 0 (first_state true false None) o in
+    let within : path_steps (printed part true false None).0 ≤ MAX_STEPS = omega arith in
+    record { tree = (printed part true false None).0; unfolds = record { after = (printed part true false None).1.at; is_path = f.is; levels = f.height; steps = within }; levels_are = h; steps_are = n }

@@ -1,14 +1,15 @@
 //! The readable form, the kind and the crate of a symbol's name.
 
-ghost use Rattle.std.specs.Prelude.{◌≡◌, ◌++◌, ℕ, List, IfOk, OnOk, OnErr, option_map, encode_utf8_all};
+ghost use Rattle.std.specs.Prelude.{◌≡◌, ◌++◌, ℕ, List, [], IfOk, OnOk, OnErr, option_map, encode_utf8_all, if◌then◌else◌};
 ghost use Rattle.std.specs.Str.{IsAscii};
 ghost use Rattle.std.specs.String.{string_bytes};
 ghost use Rattle.binfarce_legacy.specs.Legacy.{Element, Reads, legacy_chars};
 ghost use Rattle.binfarce_names.specs.Crates.{GrowsByCrate, crate_of, first_part, path_crate};
-ghost use Rattle.binfarce_names.specs.Name.{Name, mangled_view, name_view};
+ghost use Rattle.binfarce_names.specs.Name.{Name, mangled_view, name_view, short_or, text_of};
 ghost use Rattle.binfarce_names.specs.Named.{IsNamed, IsMangled, IsNotLegacy, legacy, unknown};
 ghost use Rattle.binfarce_text.specs.Suffixes.{without_llvm};
 ghost use Rattle.binfarce_v0.specs.machine.Outcome.{IsCandidate};
+ghost use Rattle.binfarce_v0_state.specs.machine.Counted.{is_whole};
 
 use binfarce_legacy::legacy;
 use binfarce_text::suffixes::without_llvm;
@@ -171,30 +172,63 @@ impl Demangler {
         let Some(part) = v0::candidate(stripped) else {
             return text.push_str(name);
         };
-        self.push_candidate(text, name, part)
+        self.push_candidate(text, name, part, false, None)
     }
 
-    // The same for a name that isn't a legacy mangling and may be a v0 one. A printing is a large value, which is
-    // zeroed at the beginning of a function: so other names don't get here.
+    /// Replaces `text` by the trimmed text of `name`, or if `full` by its complete text, as `demangle` gives them; by
+    /// `name` itself where that has `below` bytes or more. Of such a text little more than `below` bytes are made, or
+    /// of a legacy name at most one and a half times its length.
+    ///
+    /// # Errors
+    ///
+    /// `AllocError` where an allocation failed.
+    pub fn short_text(
+        &mut self,
+        text: &mut String,
+        name: &str,
+        full: bool,
+        below: usize,
+    ) -> Result<(), AllocError>
+        ensures { OnOk result
+            ((n : Name) × IsNamed name.now n × (string_bytes text.new ≡ short_or below name.now (text_of full n))) }
+    {
+        text.clear();
+        let stripped = without_llvm(name);
+        if let Some(part) = legacy::mangling(stripped) {
+            return short_legacy(self.memory.alloc, text, name, part, full, below);
+        }
+        let Some(part) = v0::candidate(stripped) else {
+            return text.push_str(name);
+        };
+        self.push_candidate(text, name, part, full, Some(below))
+    }
+
+    // Appends the text of a name that isn't a legacy mangling and may be a v0 one; the name itself where its text has
+    // `most` bytes or more. A printing is a large value, which is zeroed at the beginning of a function: so other names
+    // don't get here.
     #[inline(never)]
     fn push_candidate(
         &mut self,
         text: &mut String,
         name: &str,
         part: &str,
+        full: bool,
+        most: Option<usize>,
     ) -> Result<(), AllocError>
         requires not_legacy { IsNotLegacy name.now }
         requires candidate { IsCandidate (without_llvm name.now) part.now }
-        ensures trimmed { OnOk result
-            ((n : Name) × IsNamed name.now n × (string_bytes text.new ≡ string_bytes text.old ++ n.trimmed)) }
+        ensures grown { OnOk result
+            ((n : Name) × IsNamed name.now n
+            × (string_bytes text.new
+            ≡ string_bytes text.old ++ (if is_whole most (text_of full n) then text_of full n else name.now))) }
         ensures unchanged { OnErr result (string_bytes text.new ≡ string_bytes text.old) }
     {
-        let mut printer = Printer::new(self.memory.take(), part, false, false);
+        let mut printer = Printer::new(self.memory.take(), part, full, false, most);
         if !v0::print_mangling(&mut printer)? {
             self.memory.put_back(printer.into_buffers());
             return text.push_str(name);
         }
-        let pushed = text.push_str(printer.trimmed_text());
+        let pushed = printer.push_text(self.memory.alloc, text, name);
         self.memory.put_back(printer.into_buffers());
         pushed
     }
@@ -317,6 +351,44 @@ fn legacy_name(alloc: Global, part: &str) -> Result<SymbolName, AllocError>
         crate_name: None,
         kind: Kind::Legacy,
     })
+}
+
+// Replaces an empty text by that of a legacy mangling, or by its name where that has `below` bytes or more.
+#[tactic(auto, using(crate::proofs::Trimmed::short_stays, crate::proofs::Trimmed::long_goes))]
+fn short_legacy(
+    alloc: Global,
+    text: &mut String,
+    name: &str,
+    part: &str,
+    full: bool,
+    below: usize,
+) -> Result<(), AllocError>
+    requires ascii { IsAscii part.now }
+    requires empty { string_bytes text.old ≡ [] }
+    ensures { OnOk result ((elements : List Element) (rest : List ℕ)
+        → Reads part.now elements rest
+        → string_bytes text.new ≡ short_or below name.now (text_of full (legacy elements))) }
+{
+    legacy_text(alloc, text, part, full)?;
+    if text.as_str().len() < below {
+        return Ok(());
+    }
+    text.clear();
+    text.push_str(name)
+}
+
+// Replaces an empty text by that of a legacy mangling.
+fn legacy_text(alloc: Global, text: &mut String, part: &str, full: bool) -> Result<(), AllocError>
+    requires ascii { IsAscii part.now }
+    requires empty { string_bytes text.old ≡ [] }
+    ensures { OnOk result ((elements : List Element) (rest : List ℕ)
+        → Reads part.now elements rest → string_bytes text.new ≡ text_of full (legacy elements)) }
+{
+    if full {
+        *text = legacy::complete(alloc, part)?;
+        return Ok(());
+    }
+    legacy::push_trimmed(text, part)
 }
 
 // A name that is unchanged.

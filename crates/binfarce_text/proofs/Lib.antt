@@ -1,3 +1,4 @@
 pub mod TextLemmas
+pub mod Lanes
 pub mod LlvmLemmas
 pub mod PrefixLemmas

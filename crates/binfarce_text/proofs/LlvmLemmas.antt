@@ -61,9 +61,6 @@ llvm_at-fits t i h = omega (arith, begins-length (drop i t) (codes ".llvm.") h, 
 llvm_at-dot : (t : List ℕ) (i : ℕ) → llvm_at t i ≡ true → get_or t (i + 5) 0 ≡ 46
 llvm_at-dot t i h = sym (get_or-drop i t 5 0) ∙ begins-at (drop i t) (codes ".llvm.") 5 h (omega arith)
 
-pub llvm_at-begins : (t : List ℕ) (i : ℕ) → llvm_at t i ≡ true → get_or t i 0 ≡ 46
-llvm_at-begins t i h = ap (λ k. get_or t k 0) (omega arith) ∙ sym (get_or-drop i t 0 0) ∙ begins-at (drop i t) (codes ".llvm.") 0 h (omega arith)
-
 -- a `.` is no digit of the number
 dot-not : (x : ℕ) → x ≡ 46 → is_llvm_digit x ≡ true → ⊥
 dot-not x e h = false≢true (sym (ap is_llvm_digit e) ∙ h)

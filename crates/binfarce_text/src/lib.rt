@@ -3,4 +3,5 @@
 
 pub mod digits;
 pub mod prefixes;
+pub mod strides;
 pub mod suffixes;

@@ -6,13 +6,6 @@ use Rattle.binfarce.specs.Symbol.{Listed}
 use Rattle.binfarce.specs.declared.SymbolTable.{SymbolTable}
 use Rattle.binfarce_tools.specs.AllAnswer.{all_answer_of, AllNeedsMemory, one_answer}
 use Rattle.binfarce_tools.specs.Answer.{answer_of, FileNeedsMemory}
-use Rattle.binfarce_tools.specs.declared.tables.Selection.{Selection}
-use Rattle.binfarce_tools.specs.declared.tables.Selection.TheVariants.{Section, All}
-
--- the name of the selected section; none where all sections are selected
-abbrev pub section_of : Selection → Option (List ℕ)
-section_of (Section name) = Some name.now
-section_of All = None
 
 -- what a file answers for a selection by this symbol table: for all sections the entries of all as one list, with the sum of their sizes
 unfoldable pub answer_in : SymbolTable → (file : List ℕ) → (section : Option (List ℕ)) → Option (Result Listed Refusal)

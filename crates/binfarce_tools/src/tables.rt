@@ -13,7 +13,8 @@ ghost use Rattle.binfarce_tables.specs.declared.error.ReadError.TheVariants.{Unr
 ghost use Rattle.binfarce_tools.specs.AllAnswer.{all_answer_of};
 ghost use Rattle.binfarce_tools.specs.Entries.{GetsIn};
 ghost use Rattle.binfarce_tools.specs.Parts.{all_format_parts, format_parts, parts_in};
-ghost use Rattle.binfarce_tools.specs.Selection.{answer_in, section_of, share_in};
+ghost use Rattle.binfarce_bytes.specs.Selection.{section_of};
+ghost use Rattle.binfarce_tools.specs.Selection.{answer_in, share_in};
 ghost use Rattle.binfarce_tools.specs.declared.list.ListError.TheVariants.{Write};
 ghost use Rattle.binfarce_tools.specs.Tables.{AreTablesOf, ReadsTables, section_names, shares_addresses_of};
 
@@ -22,19 +23,11 @@ use crate::functions::{
 };
 use crate::list::ListError;
 use binfarce::{Format, ParseError, SymbolTable, detect_format};
+pub use binfarce_bytes::functions::Selection;
 use binfarce_bytes::source::Source;
 use binfarce_tables::begun::Begun;
 use binfarce_tables::{ReadError, elf32, elf64, macho, pe};
 use std::alloc::Global;
-
-/// Which function symbols of a file are taken.
-#[derive(Debug, Clone, Copy)]
-pub enum Selection<'a> {
-    /// Those of a section of an ELF file; of a Mach-O or PE file those of the text.
-    Section(&'a str),
-    /// Those of all sections.
-    All,
-}
 
 /// The tables of a file for the function symbols of a selection: those that were read, or a whole file in memory.
 #[derive(Drop)]

@@ -1,5 +1,5 @@
 -- What is shown of an identifier: a disambiguator that isn't shown need not be known.
-use Rattle.std.proofs.Common.{◌≡◌, ℕ, ◌+◌, ◌==◌, List, [], ◌++◌, Bool, true, false, if◌then◌else◌, Option, Some, None, codes, slice_index, refl, ap, ◌∙◌, append-nil}
+use Rattle.std.proofs.Common.{◌≡◌, ℕ, ◌+◌, ◌==◌, List, [], Bool, true, false, if◌then◌else◌, Option, Some, None, codes, slice_index, refl, ap, ◌∙◌}
 use Rattle.std.specs.Option.{option_map, option_map_or}
 use Rattle.std.specs.Char.{is_ascii_uppercase, is_ascii_alphabetic}
 use Rattle.std.proofs.lemmas.Bool.{cond-false}
@@ -11,6 +11,8 @@ use Rattle.binfarce_v0_state.specs.LeafTexts.{identifier_text}
 use Rattle.binfarce_v0_grammar.specs.Forms.{PathForm, NoPathForm, CrateRoot, InherentImpl, TraitImpl, path_form}
 use Rattle.binfarce_v0_state.specs.TreeTexts.{Position, is_left_open}
 use Rattle.binfarce_v0_state.specs.LeafTexts.{after_mark, nested_text, disambiguator_text}
+use Rattle.binfarce_v0_state.specs.machine.Counted.{grown}
+use Rattle.binfarce_v0_state.proofs.Counting.{grown_none}
 use Rattle.binfarce_v0_state.specs.machine.Printing.{State, Readers, heard, write, seek, after_invalid_syntax, rooted, named_state, named_tree, crate_state, path_rule}
 
 -- an identifier without its disambiguator, and the position after it
@@ -33,12 +35,12 @@ plain_name namespace s (Some l) lower = ap (λ text. write text (seek (Some l.1)
 
 -- a crate's name
 
-says_nothing : (s : State) → record s { text = s.text ++ heard s.muted [] } ≡ s
+says_nothing : (s : State) → record s { text = grown s.most s.text (heard s.muted []) } ≡ s
 says_nothing s = ap (λ t. record s { text = t }) (unheard s.muted)
   where
-    unheard : (muted : Bool) → s.text ++ heard muted [] ≡ s.text
-    unheard true = append-nil s.text
-    unheard false = append-nil s.text
+    unheard : (muted : Bool) → grown s.most s.text (heard muted []) ≡ s.text
+    unheard true = grown_none s.most s.text
+    unheard false = grown_none s.most s.text
 
 abbrev trimmed_state : State → Option (UndisambiguatedIdentifier × ℕ) → State
 trimmed_state s None = after_invalid_syntax s
@@ -48,7 +50,7 @@ pub trimmed_root : (s : State) (l : Option (Identifier × ℕ)) → s.full ≡ f
 trimmed_root s None short = refl
 trimmed_root s (Some l) short =
     let named : State = write (identifier_text l.0.name) (rooted l.0.name (seek (Some l.1) s)) in
-    ap (λ full. record named { text = named.text ++ heard named.muted (disambiguator_text full l.0.disambiguator) }) short ∙ says_nothing named
+    ap (λ full. record named { text = grown named.most named.text (heard named.muted (disambiguator_text full l.0.disambiguator)) }) short ∙ says_nothing named
 
 -- the front of a crate root
 abbrev crate_form : Option (Identifier × ℕ) → PathForm

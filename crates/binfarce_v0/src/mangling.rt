@@ -86,7 +86,8 @@ pub fn read(text: &str) -> Option<(&str, usize)>
 
 /// Prints what the part of a new printing unfolds to. Returns whether that is a tree of at most `MAX_LEVELS` levels and
 /// `MAX_STEPS` steps. The printing then has the text of the tree without the disambiguators of crates; a full printing
-/// has both texts, with and without them. A muted printing reads the same, and its texts are empty.
+/// has both texts, with and without them; of each only the bytes that the printing counts are the tree's. A muted
+/// printing reads the same, and its texts are empty.
 #[inline(always)]
 pub fn print(printer: &mut Printer<'_>) -> Result<bool, AllocError>
     requires { HasBegun printer.now }
@@ -206,7 +207,7 @@ pub fn push_crate_name(alloc: Global, text: &mut String, name: &str) -> Result<b
     let Some(part) = candidate(name) else {
         return Ok(false);
     };
-    let mut printer = Printer::new(Buffers::empty(alloc), part, false, true);
+    let mut printer = Printer::new(Buffers::empty(alloc), part, false, true, None);
     if print_mangling(&mut printer)? {
         push_root(alloc, text, printer.root)
     } else {
@@ -227,7 +228,7 @@ pub fn both_texts(memory: &mut Memory, text: &str) -> Result<Option<Texts>, Allo
         return Ok(None);
     };
     let alloc = memory.alloc;
-    let mut printer = Printer::new(memory.take(), part, true, false);
+    let mut printer = Printer::new(memory.take(), part, true, false, None);
     if !print_mangling(&mut printer)? {
         memory.put_back(printer.into_buffers());
         return Ok(None);

@@ -1,4 +1,3 @@
-pub mod DigitRuns
 pub mod NumberLemmas
 pub mod ReadingComplete
 pub mod ReadingForward

@@ -10,6 +10,7 @@ ghost use Rattle.binfarce_v0_grammar.specs.Identifiers.{length_at, past};
 ghost use Rattle.binfarce_v0_grammar.specs.machine.Numbers.{number_from, length_from, hex_length};
 
 use binfarce_text::digits::hex_value;
+use binfarce_text::strides::STRIDE;
 use std::simd::prelude::*;
 
 /// The byte at a position, and 0 from the end on.
@@ -145,9 +146,6 @@ pub fn optional_base_62_number(part: &[u8], tag: u8, at: usize) -> Option<(u64, 
         Some((0, at))
     }
 }
-
-// How many bytes are compared at a time.
-const STRIDE: usize = 16;
 
 // How many of 16 bytes are base-62 digits before the first that isn't.
 #[inline(always)]

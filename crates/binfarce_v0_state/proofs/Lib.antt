@@ -4,6 +4,7 @@ pub mod Levels
 pub mod Lowered
 pub mod Sound
 pub mod SoundForms
+pub mod Counting
 pub mod States
 pub mod HexDigits
 pub mod Texts

@@ -1,4 +1,5 @@
 -- Definitions that only private contracts cite.
+pub mod Counted
 pub mod Printing
 pub mod Kept
 pub mod Outcome

@@ -3,7 +3,7 @@
 ghost use Rattle.std.specs.Prelude.{◌≡◌, ◌-◌, ◌≤◌, ◌^◌, min, ◌++◌, ◌∷◌, [], IfOk, IfSome, OnOk, OnErr, MatchOption, Some, true, false, is_ok, if◌then◌else◌};
 ghost use Rattle.std.specs.String.{string_bytes};
 ghost use Rattle.binfarce_v0_grammar.specs.declared.limits.TheConstants.{MAX_LEVELS};
-ghost use Rattle.binfarce_v0_state.specs.machine.Printing.{with_state, readers, into, back_to};
+ghost use Rattle.binfarce_v0_state.specs.machine.Printing.{with_state, readers, into, back_to, has_room};
 ghost use Rattle.binfarce_v0_state.specs.machine.MemoryKept.{fragments_bytes};
 ghost use Rattle.binfarce_v0_state.specs.machine.Kept.{production_view, left_open_of, read, IsFragmentFor, IsMark, MayKeep, again, raised, lowered};
 
@@ -225,8 +225,8 @@ impl<'a> Printer<'a> {
     {
         let mark = Mark {
             at,
-            start: self.complete.len() + self.text.len(),
-            trimmed_start: self.trimmed.len() + self.text.len(),
+            start: self.text_len(),
+            trimmed_start: self.trimmed_len(),
             steps_left: self.steps_left,
             least_levels_left: self.least_levels_left,
         };
@@ -247,9 +247,11 @@ impl<'a> Printer<'a> {
             (production_view production) left_open }
         ensures { OnOk result (self.new ≡ with_state (lowered mark.least_levels_left self.old.state) self.old) }
     {
+        let has_room = self.has_room();
+        let (end, trimmed_end) = (self.text_len(), self.trimmed_len());
         let least_levels_left = self.least_levels_left;
         self.least_levels_left = mark.least_levels_left.min(least_levels_left);
-        if self.limit_exceeded {
+        if self.limit_exceeded || !has_room {
             return Ok(());
         }
         let Some(_after) = self.at else {
@@ -262,9 +264,9 @@ impl<'a> Printer<'a> {
                 binder_depth,
             },
             start: mark.start,
-            end: self.complete.len() + self.text.len(),
+            end,
             trimmed_start: mark.trimmed_start,
-            trimmed_end: self.trimmed.len() + self.text.len(),
+            trimmed_end,
             steps: mark.steps_left.saturating_sub(self.steps_left),
             height: levels_left.saturating_sub(least_levels_left),
             left_open,
@@ -276,6 +278,7 @@ impl<'a> Printer<'a> {
     // The fragment of this index, where it has this key.
     #[inline(always)]
     fn fragment_at(&self, number: usize, key: FragmentKey) -> Option<&Fragment>
+        requires { has_room self.now.state ≡ true }
         ensures { IfSome result (λ f. IsFragmentFor self.now.part self.now.state key f.now) }
     {
         let fragment = self.kept.fragments.get(number)?;
@@ -292,6 +295,7 @@ impl<'a> Printer<'a> {
 
     // The fragment with this key, among the first.
     fn first_fragments(&self, key: FragmentKey) -> Option<&Fragment>
+        requires { has_room self.now.state ≡ true }
         ensures { IfSome result (λ f. IsFragmentFor self.now.part self.now.state key f.now) }
     {
         for number in 0..self.kept.fragments.len().min(LINEAR_SEARCH) {
@@ -305,6 +309,7 @@ impl<'a> Printer<'a> {
 
     // The fragment with this key.
     fn fragment(&self, key: FragmentKey) -> Option<&Fragment>
+        requires { has_room self.now.state ≡ true }
         ensures { IfSome result (λ f. IsFragmentFor self.now.part self.now.state key f.now) }
     {
         let found = self.first_fragments(key);
@@ -317,6 +322,7 @@ impl<'a> Printer<'a> {
     // Writes a fragment's ranges of both texts again, where they begin and end at character boundaries.
     #[tactic(auto, using(crate::proofs::KeptLemmas::grown_both))]
     fn write_again(&mut self, fragment: Fragment) -> Result<bool, AllocError>
+        requires { has_room self.old.state ≡ true }
         ensures { IfOk result
             (λ written. self.new
             ≡ with_state (if written then again fragment self.old.state else self.old.state) self.old) }
@@ -341,6 +347,7 @@ impl<'a> Printer<'a> {
 
     // Writes a fragment's ranges of both texts again, each after its own text.
     fn write_both_again(&mut self, fragment: Fragment) -> Result<bool, AllocError>
+        requires room { has_room self.old.state ≡ true }
         requires full { self.old.state.full ≡ true }
         requires muted { self.old.state.muted ≡ false }
         ensures { IfOk result
@@ -371,7 +378,7 @@ impl<'a> Printer<'a> {
     }
 
     /// Writes the fragment of a back reference's target, and continues after the reference. Returns whether it was left
-    /// open. `None`, and nothing is done, where no fragment is kept or a limit would be passed.
+    /// open. `None`, and nothing is done, where no fragment is kept, a limit would be passed, or a text is longer than is counted.
     pub fn print_kept(
         &mut self,
         levels_left: usize,
@@ -388,7 +395,7 @@ impl<'a> Printer<'a> {
             (read (readers self.old.part levels_left) (production_view key.production) key.binder_depth
             (into key.at self.old.state)).0))) }
     {
-        if self.limit_exceeded {
+        if self.limit_exceeded || !self.has_room() {
             return Ok(None);
         }
         let Some(found) = self.fragment(key) else {

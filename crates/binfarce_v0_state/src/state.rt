@@ -1,12 +1,13 @@
 //! The state of a printing: its position, its counts and its texts.
 
-ghost use Rattle.std.specs.Prelude.{◌≡◌, ◌-◌, ◌^◌, min, ◌≤◌, ◌++◌, IfOk, OnOk, IsTrue, MatchOption, option_map, true, false, if◌then◌else◌, ◌&&◌, nat_le};
+ghost use Rattle.std.specs.Prelude.{◌≡◌, ◌-◌, ◌^◌, ℕ, List, length, min, ◌≤◌, ◌++◌, IfOk, OnOk, OnErr, IsTrue, MatchOption, option_map, true, false, if◌then◌else◌, ◌&&◌, nat_le};
 ghost use Rattle.std.specs.Str.{IsAscii};
 ghost use Rattle.std.specs.String.{string_bytes};
 ghost use Rattle.binfarce_v0_grammar.specs.Tree.{lifetime_steps};
 ghost use Rattle.binfarce_v0_grammar.specs.machine.View.{undisambiguated_view, lifetime_view};
 ghost use Rattle.binfarce_v0_state.specs.machine.MemoryKept.{buffers_bytes};
-ghost use Rattle.binfarce_v0_state.specs.machine.Printing.{with_state, first_printing, write, disambiguate, seek, after_invalid_syntax, stopped, take, entered, rooted, into, back_to, set_muted};
+ghost use Rattle.binfarce_v0_state.specs.machine.Counted.{counted, is_whole};
+ghost use Rattle.binfarce_v0_state.specs.machine.Printing.{with_state, first_printing, write, disambiguate, seek, after_invalid_syntax, stopped, take, entered, rooted, into, back_to, set_muted, has_room};
 
 use crate::fragments::{Fragments, or_forget, share};
 use crate::text::{Disambiguator, Leaf};
@@ -89,6 +90,8 @@ pub struct Printer<'a> {
     pub root: Option<UndisambiguatedIdentifier<'a>>,
     /// The fragments, which may be written again.
     pub kept: Fragments,
+    /// How many bytes of each text are counted; all of them where it is `None`.
+    pub most: Option<usize>,
     /// How many paths, types, consts and lifetimes were read, without those of fragments.
     pub visits: usize,
 }
@@ -99,6 +102,7 @@ impl<'a> Model for Printer<'a> {
     ghost use Rattle.std.specs.Option.{option_map};
     ghost use Rattle.std.specs.Str.{IsAscii};
     ghost use Rattle.std.specs.String.{string_bytes};
+    ghost use Rattle.binfarce_v0_state.specs.machine.Counted.{counted};
     ghost use Rattle.binfarce_v0_state.specs.machine.Kept.{IsKept};
     ghost use Rattle.binfarce_v0_state.specs.machine.Printing.{Printing};
     ghost use Rattle.binfarce_v0_grammar.specs.declared.limits.TheConstants.{MAX_LEVELS, MAX_STEPS};
@@ -114,14 +118,15 @@ impl<'a> Model for Printer<'a> {
         steps_left = p.steps_left;
         least_levels_left = p.least_levels_left;
         limit_exceeded = p.limit_exceeded;
-        text = string_bytes p.complete
-            ++ string_bytes p.text;
-        trimmed = string_bytes p.trimmed
-            ++ string_bytes p.text;
+        text = counted p.most (string_bytes p.complete
+            ++ string_bytes p.text);
+        trimmed = counted p.most (string_bytes p.trimmed
+            ++ string_bytes p.text);
         muted = p.muted;
         full = p.full;
         in_back_reference = p.in_back_reference;
         root = option_map undisambiguated_view p.root;
+        most = p.most;
       };
     } };
 
@@ -132,12 +137,19 @@ impl<'a> Model for Printer<'a> {
 }
 
 impl<'a> Printer<'a> {
-    /// A printing of `part` that begins at its first position; a muted one writes nothing. The buffers' earlier
-    /// contents are dropped. Nothing is allocated.
+    /// A printing of `part` that begins at its first position; a muted one writes nothing. Of each text only the first
+    /// `most` bytes are counted: then a little more is written, and no fragment again. The buffers' earlier contents
+    /// are dropped. Nothing is allocated.
     #[inline(always)]
-    pub fn new(buffers: Buffers, part: &'a str, full: bool, muted: bool) -> Printer<'a>
+    pub fn new(
+        buffers: Buffers,
+        part: &'a str,
+        full: bool,
+        muted: bool,
+        most: Option<usize>,
+    ) -> Printer<'a>
         requires { IsAscii part.now }
-        ensures { result ≡ first_printing part.entry.now full muted }
+        ensures { result ≡ first_printing part.entry.now full muted most }
     {
         let Buffers {
             mut complete,
@@ -163,6 +175,7 @@ impl<'a> Printer<'a> {
             in_back_reference: false,
             root: None,
             kept,
+            most,
             visits: 0,
         }
     }
@@ -183,17 +196,86 @@ impl<'a> Printer<'a> {
         self.kept.look_for_targets(self.part.as_bytes())
     }
 
-    /// The text that was written, where disambiguators aren't.
-    #[inline(always)]
-    pub fn trimmed_text(&self) -> &str
-        requires { self.now.state.full ≡ false }
-        ensures { result.now ≡ self.now.state.text }
+    // How many bytes of the text are counted.
+    pub(crate) fn text_len(&self) -> usize
+        ensures { result ≡ length self.now.state.text }
     {
-        self.text.as_str()
+        self.counted_len(self.complete.len() + self.text.len())
+    }
+
+    // How many bytes of the text without disambiguators are counted.
+    pub(crate) fn trimmed_len(&self) -> usize
+        ensures { result ≡ length self.now.state.trimmed }
+    {
+        self.counted_len(self.trimmed.len() + self.text.len())
+    }
+
+    // How many of so many bytes are counted.
+    #[inline(always)]
+    fn counted_len(&self, len: usize) -> usize
+        ensures { (text : List ℕ) → len ≡ length text → result ≡ length (counted self.now.state.most text) }
+    {
+        match self.most {
+            Some(most) => len.min(most),
+            None => len,
+        }
+    }
+
+    // Whether both texts are whole: fewer bytes were written than are counted.
+    #[inline(always)]
+    pub(crate) fn has_room(&self) -> bool
+        ensures { result ≡ has_room self.now.state }
+    {
+        match self.most {
+            Some(most) => self.text_len() < most && self.trimmed_len() < most,
+            None => true,
+        }
+    }
+
+    // Whether nothing more is counted in either text.
+    #[inline(always)]
+    fn is_full(&self) -> bool
+        ensures { IsTrue result → (more : List ℕ) → write more self.now.state ≡ self.now.state }
+    {
+        match self.most {
+            Some(most) => self.text_len() >= most && self.trimmed_len() >= most,
+            None => false,
+        }
+    }
+
+    // Whether the text is whole: fewer bytes were written than are counted.
+    #[inline(always)]
+    fn is_whole(&self) -> bool
+        ensures { result ≡ is_whole self.now.state.most self.now.state.text }
+    {
+        match self.most {
+            Some(most) => self.text_len() < most,
+            None => true,
+        }
+    }
+
+    /// Appends the text that was written, with the disambiguators of crates if they are written; or `other` where more
+    /// was written than is counted. A failed allocation leaves `out` unchanged.
+    pub fn push_text(&self, alloc: Global, out: &mut String, other: &str) -> Result<(), AllocError>
+        ensures grown { OnOk result
+            (string_bytes out.new
+            ≡ string_bytes out.old
+            ++ (if is_whole self.now.state.most self.now.state.text then self.now.state.text else other.now)) }
+        ensures unchanged { OnErr result (string_bytes out.new ≡ string_bytes out.old) }
+    {
+        if !self.is_whole() {
+            return out.push_str(other);
+        }
+        if !self.full {
+            return out.push_str(self.text.as_str());
+        }
+        let text = joined(alloc, self.complete.as_str(), self.text.as_str())?;
+        out.push_str(text.as_str())
     }
 
     /// Copies of the complete text and of the text without the disambiguators of crates, in memory of their lengths.
     pub fn texts(&self, alloc: Global) -> Result<(String, String), AllocError>
+        requires { has_room self.now.state ≡ true }
         ensures { IfOk result
             (λ t. (string_bytes t.0 ≡ self.now.state.text) × (string_bytes t.1 ≡ self.now.state.trimmed)) }
     {
@@ -219,6 +301,7 @@ impl<'a> Printer<'a> {
             in_back_reference: _,
             root: _,
             kept,
+            most: _,
             visits: _,
         } = self;
         Buffers {
@@ -307,7 +390,7 @@ impl<'a> Printer<'a> {
     }
 
     /// Writes a text.
-    #[tactic(auto, using(crate::proofs::KeptLemmas::grown_both))]
+    #[tactic(auto, using(crate::proofs::KeptLemmas::grown_both, crate::proofs::Counting::counted_more, crate::proofs::Counting::grown_none))]
     #[inline(always)]
     pub fn write(&mut self, text: &str) -> Result<(), AllocError>
         ensures { OnOk result (self.new ≡ with_state (write text.now self.old.state) self.old) }
@@ -381,12 +464,12 @@ impl<'a> Printer<'a> {
     }
 
     /// Writes the text of a leaf.
-    #[tactic(auto, using(crate::proofs::KeptLemmas::grown_both))]
+    #[tactic(auto, using(crate::proofs::KeptLemmas::grown_both, crate::proofs::Counting::counted_more, crate::proofs::Counting::grown_none))]
     #[inline(always)]
     pub fn put<L: Leaf + Drop>(&mut self, leaf: L) -> Result<(), AllocError>
         ensures { OnOk result (self.new ≡ with_state (write (L.text leaf) self.old.state) self.old) }
     {
-        if !self.muted {
+        if !self.muted && !self.is_full() {
             or_forget(&mut self.kept.fragments, leaf.push(&mut self.text))?;
         }
         Ok(())

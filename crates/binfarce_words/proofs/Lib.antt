@@ -1,1 +1,2 @@
+pub mod LastGiven
 pub mod WordLoop

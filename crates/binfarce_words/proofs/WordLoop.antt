@@ -1,12 +1,11 @@
 -- What words give, word after word.
-use Rattle.std.proofs.Common.{◌≡◌, ◌⊎◌, inl, inr, ◌∙◌, ℕ, suc, ◌+◌, ◌<◌, ◌≤◌, List, ◌∷◌, map, length, drop, get_or, Result, Ok, Err, refl, sym, ap, subst, add-one, drop-cons, String, Global}
+use Rattle.std.proofs.Common.{◌≡◌, inl, inr, ◌∙◌, ℕ, suc, ◌+◌, ◌<◌, ◌≤◌, List, ◌∷◌, map, length, drop, get_or, Ok, Err, sym, ap, add-one, drop-cons, String, Global}
 use Rattle.std.proofs.Math.ListN.{drop_of_length-le}
 use Rattle.std.specs.String.{string_bytes}
 use Rattle.binfarce_words.specs.declared.words.Command.{Command}
 use Rattle.binfarce_words.specs.declared.words.Wrong as code
-use Rattle.binfarce_words.specs.declared.words.Wrong.TheVariants.{OutOfMemory}
-use Rattle.binfarce_words.specs.WordViews.{IsWrong}
-use Rattle.binfarce_words.specs.Words.{Given, Reading, Wrong, after_word, finished, given_after, given_of, go_on}
+use Rattle.binfarce_words.specs.WordViews.{IsWrong, wrong_view}
+use Rattle.binfarce_words.specs.Words.{Reading, Wrong, after_word, finished, given_after, given_of, go_on}
 
 -- the words so far gave this reading
 abbrev pub HasRead : Command → List (String Global) → ℕ → Reading → Type 0
@@ -37,7 +36,6 @@ module _ (command : Command) (words : List (String Global)) (i : ℕ) (word : St
   stops wrong is = at_word ∙ ap (go_on (λ next. given_after command next (map string_bytes (drop (i + 1) words)))) is
 
   -- the same, of why it is wrong
-  pub ends : (e : code.Wrong) → (e ≡ OutOfMemory) ⊎ ((wrong : Wrong) × (after_word command reading bytes ≡ Err wrong) × IsWrong wrong e)
-      → (e ≡ OutOfMemory) ⊎ ((wrong : Wrong) × (given_of command (map string_bytes words) ≡ Err wrong) × IsWrong wrong e)
+  pub ends : (e : code.Wrong) → IsWrong (after_word command reading bytes) e → IsWrong (given_of command (map string_bytes words)) e
   ends e (inl is) = inl is
-  ends e (inr (wrong, is, why)) = inr (wrong, stops wrong is, why)
+  ends e (inr (is, nearest)) = inr (stops (wrong_view e) is, nearest)

@@ -1,5 +1,6 @@
 -- The call that the words mean: `COMMAND [OPTION..] [OPERAND..]`.
-use Rattle.std.specs.Prelude.{◌==◌, ◌++◌, ◌&&◌, ◌||◌, ℕ, Bool, true, false, not, List, [], ◌∷◌, codes, find, length, Option, Some, None, is_some, Result, Ok, Err, if◌then◌else◌}
+use Rattle.std.specs.Prelude.{◌==◌, ◌++◌, ◌&&◌, ◌||◌, ℕ, Bool, true, false, not, List, [], ◌∷◌, codes, find, reverse, length, Option, Some, None, is_some, is_none, Result, Ok, Err, if◌then◌else◌}
+use Rattle.std.specs.Option.{option_map}
 use Rattle.std.specs.List.{position_or_len, before_first, after_first}
 use Rattle.std.specs.Str.{byte, bytes_eq}
 use Rattle.binfarce_addresses.specs.Address.{address_of}
@@ -7,6 +8,8 @@ use Rattle.binfarce_words.specs.declared.words.Command.{Command}
 use Rattle.binfarce_words.specs.declared.words.Command.TheVariants.{List as Listing, Size, Map, Filter, At, Section}
 use Rattle.binfarce_words.specs.declared.words.Flag.{Flag}
 use Rattle.binfarce_words.specs.declared.words.Flag.TheVariants as flags
+use Rattle.binfarce_words.specs.declared.words.Takes.{Takes}
+use Rattle.binfarce_words.specs.declared.words.Takes.TheVariants.{Nothing, Text, Address}
 
 -- the commands, and the name of each
 abbrev pub commands : List Command
@@ -20,35 +23,30 @@ command_name Filter = codes "filter"
 command_name At = codes "at"
 command_name Section = codes "section"
 
--- the options of a command, and the name of each
+-- the options of a command
 abbrev pub flags_of : Command → List Flag
 flags_of Listing = flags.Help ∷ flags.Section ∷ flags.Dynamic ∷ flags.All ∷ []
 flags_of Size = flags.Help ∷ flags.Section ∷ flags.Dynamic ∷ flags.All ∷ []
 flags_of Map = flags.Help ∷ flags.Section ∷ flags.Dynamic ∷ flags.All ∷ []
 flags_of Filter = flags.Help ∷ flags.Full ∷ []
-flags_of At = flags.Help ∷ flags.Section ∷ flags.Return ∷ flags.Base ∷ flags.Dynamic ∷ flags.All ∷ []
+flags_of At = flags.Help ∷ flags.Section ∷ flags.Return ∷ flags.Annotate ∷ flags.Base ∷ flags.Dynamic ∷ flags.All ∷ []
 flags_of Section = flags.Help ∷ []
 
+-- how an option is written: its name, its short name if it has one, and what it takes
+abbrev pub form_of : Flag → List ℕ × List ℕ × Takes
+form_of flags.Help = (codes "--help", codes "-h", Nothing)
+form_of flags.Section = (codes "--section", [], Text)
+form_of flags.Full = (codes "--full", [], Nothing)
+form_of flags.Base = (codes "--base", [], Address)
+form_of flags.Return = (codes "--return", [], Nothing)
+form_of flags.Annotate = (codes "--annotate", [], Nothing)
+form_of flags.Dynamic = (codes "--dynamic", [], Nothing)
+form_of flags.All = (codes "--all", [], Nothing)
+
 abbrev pub flag_name : Flag → List ℕ
-flag_name flags.Help = codes "--help"
-flag_name flags.Section = codes "--section"
-flag_name flags.Full = codes "--full"
-flag_name flags.Base = codes "--base"
-flag_name flags.Return = codes "--return"
-flag_name flags.Dynamic = codes "--dynamic"
-flag_name flags.All = codes "--all"
+flag_name flag = (form_of flag).0
 
--- whether an option has a value: `--base ADDRESS` or `--base=ADDRESS`
-abbrev pub takes_value : Flag → Bool
-takes_value flags.Help = false
-takes_value flags.Section = true
-takes_value flags.Full = false
-takes_value flags.Base = true
-takes_value flags.Return = false
-takes_value flags.Dynamic = false
-takes_value flags.All = false
-
--- why a call is wrong
+-- why a call is wrong; the last two, where its words can't be taken
 pub data Wrong : Type 0 where
   no_command : Wrong
   unknown_command : (word : List ℕ) → Wrong
@@ -58,43 +56,52 @@ pub data Wrong : Type 0 where
   no_address : (word : List ℕ) → Wrong
   no_file : (command : Command) → Wrong
   too_many : (word : List ℕ) → Wrong
+  not_utf8 : Wrong
+  no_memory : Wrong
 
--- the options' values, and the other words in their order
-pub record Given : Type 0 where
-  pub help : Bool
-  pub section : Option (List ℕ)
-  pub full : Bool
-  pub base : ℕ
-  pub is_return : Bool
-  pub dynamic : Bool
-  pub all : Bool
+-- steps that end at the first fault
+infixl 10 ◌>>=◌
+abbrev pub ◌>>=◌ : {A B : Type 0} → Result A Wrong → (A → Result B Wrong) → Result B Wrong
+(Ok x) >>= f = f x
+(Err wrong) >>= f = Err wrong
+
+-- the value, or else the fault
+abbrev pub required : {A : Type 0} → Wrong → Option A → Result A Wrong
+required wrong None = Err wrong
+required wrong (Some x) = Ok x
+
+-- the options with their values, and the other words, each in their order
+pub record Arguments : Type 0 where
+  pub options : List (Flag × List ℕ)
   pub operands : List (List ℕ)
 
--- no options and no operands
-abbrev pub nothing : Given
-nothing = record { help = false; section = None; full = false; base = 0; is_return = false; dynamic = false; all = false; operands = [] }
+-- the value of an option, as it was given last
+abbrev pub value_given : Flag → Arguments → Option (List ℕ)
+value_given flag given = option_map (λ it. it.1) (find (λ it. bytes_eq (flag_name it.0) (flag_name flag)) (reverse given.options))
 
--- the options with this base, if it is an address
-abbrev pub with_base : Given → (word : List ℕ) → Option ℕ → Result Given Wrong
-with_base given word None = Err (no_address word)
-with_base given word (Some base) = Ok (record given { base = base })
+abbrev pub number_in : Option (List ℕ) → Option ℕ
+number_in None = None
+number_in (Some value) = address_of value
 
--- the options with this option and its value
-abbrev pub with_flag : Given → Flag → (value : List ℕ) → Result Given Wrong
-with_flag given flags.Help value = Ok (record given { help = true })
-with_flag given flags.Section value = Ok (record given { section = Some value })
-with_flag given flags.Full value = Ok (record given { full = true })
-with_flag given flags.Base value = with_base given value (address_of value)
-with_flag given flags.Return value = Ok (record given { is_return = true })
-with_flag given flags.Dynamic value = Ok (record given { dynamic = true })
-with_flag given flags.All value = Ok (record given { all = true })
+-- the address that is its value
+abbrev pub number_given : Flag → Arguments → Option ℕ
+number_given flag given = number_in (value_given flag given)
 
-abbrev pub with_operand : Given → List ℕ → Given
+abbrev pub is_address : Takes → Bool
+is_address Address = true
+is_address takes = false
+
+-- the options with one more, whose value must be what it takes
+abbrev pub with_option : Arguments → Flag → (value : List ℕ) → Result Arguments Wrong
+with_option given flag value = if is_address (form_of flag).2 && is_none (address_of value) then Err (no_address value)
+    else Ok (record given { options = given.options ++ (flag, value) ∷ [] })
+
+abbrev pub with_operand : Arguments → List ℕ → Arguments
 with_operand given word = record given { operands = given.operands ++ word ∷ [] }
 
 -- the state after some words: the options and operands, the option whose value comes next, and whether `--` came, after which all are operands
 pub record Reading : Type 0 where
-  pub given : Given
+  pub given : Arguments
   pub waiting : Option Flag
   pub are_operands : Bool
 
@@ -104,76 +111,73 @@ is_option [] = false
 is_option (first ∷ []) = false
 is_option (first ∷ second ∷ others) = first == byte "-"
 
--- the parts of a word before and after its first `=`, if it has one
-abbrev pub value_parts : List ℕ → Option (List ℕ × List ℕ)
-value_parts word = if position_or_len (λ b. b == byte "=") word == length word then None
-    else Some (before_first (λ b. b == byte "=") word, after_first (λ b. b == byte "=") word)
+-- the parts of a word before and after its first `=`, or the word alone
+abbrev pub parts_of : List ℕ → List ℕ × Option (List ℕ)
+parts_of word = if position_or_len (λ b. b == byte "=") word == length word then (word, None)
+    else (before_first (λ b. b == byte "=") word, Some (after_first (λ b. b == byte "=") word))
 
--- the option of a command that has this name; `-h` is `--help`
-abbrev pub flag_named : Command → List ℕ → Option Flag
-flag_named command word = if bytes_eq word (codes "-h") then Some flags.Help else find (λ flag. bytes_eq (flag_name flag) word) (flags_of command)
+-- an option is written with its name or with its short name
+abbrev pub is_named : (name : List ℕ) → Flag → Bool
+is_named name flag = bytes_eq (form_of flag).0 name || bytes_eq (form_of flag).1 name
 
-abbrev pub read_on : Bool → Result Given Wrong → Result Reading Wrong
+-- the option of a command that is written with this name
+abbrev pub flag_named : Command → (word name : List ℕ) → Result Flag Wrong
+flag_named command word name = required (unknown_option command word)
+    (find (is_named name) (flags_of command))
+
+abbrev pub read_on : Bool → Result Arguments Wrong → Result Reading Wrong
 read_on are_operands (Err wrong) = Err wrong
 read_on are_operands (Ok given) = Ok (record { given = given; waiting = None; are_operands = are_operands })
 
--- the reading after an option's name
-abbrev pub after_name : Command → Given → (word : List ℕ) → Option Flag → Result Reading Wrong
-after_name command given word None = Err (unknown_option command word)
-after_name command given word (Some flag) = if takes_value flag then Ok (record { given = given; waiting = Some flag; are_operands = false })
-    else read_on false (with_flag given flag [])
-
--- the reading after `NAME=VALUE`
-abbrev pub after_value : Command → Given → (word value : List ℕ) → Option Flag → Result Reading Wrong
-after_value command given word value None = Err (unknown_option command word)
-after_value command given word value (Some flag) = if takes_value flag then read_on false (with_flag given flag value)
-    else Err (unknown_option command word)
-
-abbrev pub after_option : Command → Given → (word : List ℕ) → Option (List ℕ × List ℕ) → Result Reading Wrong
-after_option command given word None = after_name command given word (flag_named command word)
-after_option command given word (Some parts) = after_value command given word parts.1 (flag_named command parts.0)
+-- the reading after an option that takes this, with the value in its word, if there is one
+abbrev pub after_option : Command → Arguments → (word : List ℕ) → Flag → Takes → (value : Option (List ℕ)) → Result Reading Wrong
+after_option command given word flag Nothing None = read_on false (with_option given flag [])
+after_option command given word flag Nothing (Some value) = Err (unknown_option command word)
+after_option command given word flag takes (Some value) = read_on false (with_option given flag value)
+after_option command given word flag takes None = Ok (record { given = given; waiting = Some flag; are_operands = false })
 
 -- the reading after one word more: the value of the option before, an operand, `--`, or an option
-abbrev pub after_waiting : Command → Given → Bool → (word : List ℕ) → Option Flag → Result Reading Wrong
-after_waiting command given are_operands word (Some flag) = read_on are_operands (with_flag given flag word)
+abbrev pub after_waiting : Command → Arguments → Bool → (word : List ℕ) → Option Flag → Result Reading Wrong
+after_waiting command given are_operands word (Some flag) = read_on are_operands (with_option given flag word)
 after_waiting command given are_operands word None =
     if are_operands || not (is_option word) then read_on are_operands (Ok (with_operand given word))
     else if bytes_eq word (codes "--") then read_on true (Ok given)
-    else after_option command given word (value_parts word)
+    else flag_named command word (parts_of word).0 >>= λ flag. after_option command given word flag (form_of flag).2 (parts_of word).1
 
 unfoldable pub after_word : Command → Reading → List ℕ → Result Reading Wrong
 after_word command r word = after_waiting command r.given r.are_operands word r.waiting
 
 -- the options and operands after all words
-abbrev pub finished : Given → Option Flag → Result Given Wrong
+abbrev pub finished : Arguments → Option Flag → Result Arguments Wrong
 finished given None = Ok given
 finished given (Some flag) = Err (no_value flag)
 
-abbrev pub go_on : (Reading → Result Given Wrong) → Result Reading Wrong → Result Given Wrong
+abbrev pub go_on : (Reading → Result Arguments Wrong) → Result Reading Wrong → Result Arguments Wrong
 go_on others (Err wrong) = Err wrong
 go_on others (Ok next) = others next
 
 -- the options and operands after these further words
-unfoldable pub given_after : Command → Reading → List (List ℕ) → Result Given Wrong
+unfoldable pub given_after : Command → Reading → List (List ℕ) → Result Arguments Wrong
 given_after command r [] = finished r.given r.waiting
 given_after command r (word ∷ others) = go_on (λ next. given_after command next others) (after_word command r word)
 
 -- nothing was read
 abbrev pub begun : Reading
-begun = record { given = nothing; waiting = None; are_operands = false }
+begun = record { given = record { options = []; operands = [] }; waiting = None; are_operands = false }
 
 -- the options and operands of the words after a command
-abbrev pub given_of : Command → List (List ℕ) → Result Given Wrong
+abbrev pub given_of : Command → List (List ℕ) → Result Arguments Wrong
 given_of command words = given_after command begun words
 
 -- a call
 pub data Call : Type 0 where
   show_help : (topic : Option Command) → Call
   show_version : Call
-  run : (command : Command) (given : Given) → Call
+  run : (command : Command) (given : Arguments) → Call
 
-abbrev pub command_named : List ℕ → Option Command
-command_named word = find (λ command. bytes_eq (command_name command) word) commands
+-- the command of this name
+abbrev pub command_named : List ℕ → Result Command Wrong
+command_named word = required (unknown_command word) (find (λ command. bytes_eq (command_name command) word) commands)
 
 abbrev pub asks_help : List ℕ → Bool
 asks_help word = bytes_eq word (codes "help") || (bytes_eq word (codes "--help") || bytes_eq word (codes "-h"))
@@ -181,45 +185,32 @@ asks_help word = bytes_eq word (codes "help") || (bytes_eq word (codes "--help")
 abbrev pub asks_version : List ℕ → Bool
 asks_version word = bytes_eq word (codes "--version") || bytes_eq word (codes "-V")
 
-abbrev pub help_of : (word : List ℕ) → Option Command → Result Call Wrong
-help_of word None = Err (unknown_command word)
-help_of word (Some command) = Ok (show_help (Some command))
-
 -- `help`, and the command that it is about, if one is named
 abbrev pub help_call : List (List ℕ) → Result Call Wrong
 help_call [] = Ok (show_help None)
-help_call (word ∷ others) = help_of word (command_named word)
+help_call (word ∷ others) = command_named word >>= λ command. Ok (show_help (Some command))
 
--- the fault of a command's operands: it needs a file, or it takes no more than two
-abbrev pub operand_fault : Command → List (List ℕ) → Option Wrong
-operand_fault Filter operands = None
-operand_fault command [] = Some (no_file command)
-operand_fault Section (file ∷ section ∷ more ∷ others) = Some (too_many more)
-operand_fault command operands = None
+-- the operands of a command: it needs a file, or it takes no more than two; and no more than one where it annotates
+abbrev pub operands_checked : Command → (annotates : Bool) → List (List ℕ) → Result (Unit {0}) Wrong
+operands_checked Filter annotates operands = Ok tt
+operands_checked command annotates [] = Err (no_file command)
+operands_checked Section annotates (file ∷ section ∷ more ∷ others) = Err (too_many more)
+operands_checked command true (file ∷ more ∷ others) = Err (too_many more)
+operands_checked command annotates operands = Ok tt
 
--- what is wrong with what is given: all sections and one of them, or the operands
-abbrev pub fault_of : Command → Given → Option Wrong
-fault_of command given = if given.all && is_some given.section then Some (exclusive flags.All flags.Section) else operand_fault command given.operands
-
-abbrev pub unless_fault : Option Wrong → Call → Result Call Wrong
-unless_fault (Some wrong) call = Err wrong
-unless_fault None call = Ok call
+-- what is given is checked: not both all sections and one of them; the operands
+abbrev pub checked : Command → Arguments → Result (Unit {0}) Wrong
+checked command given = if is_some (value_given flags.All given) && is_some (value_given flags.Section given) then Err (exclusive flags.All flags.Section)
+    else operands_checked command (is_some (value_given flags.Annotate given)) given.operands
 
 -- the command, or help on it, where that is requested
-abbrev pub call_with : Command → Given → Result Call Wrong
-call_with command given = if given.help then Ok (show_help (Some command)) else unless_fault (fault_of command given) (run command given)
-
-abbrev pub run_of : Command → Result Given Wrong → Result Call Wrong
-run_of command (Err wrong) = Err wrong
-run_of command (Ok given) = call_with command given
-
-abbrev pub command_call : (word : List ℕ) → (others : List (List ℕ)) → Option Command → Result Call Wrong
-command_call word others None = Err (unknown_command word)
-command_call word others (Some command) = run_of command (given_of command others)
+abbrev pub call_with : Command → Arguments → Result Call Wrong
+call_with command given = if is_some (value_given flags.Help given) then Ok (show_help (Some command))
+    else checked command given >>= λ x. Ok (run command given)
 
 -- the call that the words mean, or why they are wrong
 abbrev pub call_of : List (List ℕ) → Result Call Wrong
 call_of [] = Err no_command
 call_of (word ∷ others) = if asks_help word then help_call others
     else if asks_version word then Ok show_version
-    else command_call word others (command_named word)
+    else command_named word >>= λ command. given_of command others >>= λ given. call_with command given

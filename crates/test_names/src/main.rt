@@ -7,6 +7,7 @@
 //! | `crate NAME` | the crate alone |
 //! | `kept NAME` | how the name is mangled, its limits aside, and the part of it that is kept |
 //! | `text TEXT` | the text with complete and with trimmed names |
+//! | `sizes TEXT` | how many bytes the text has with complete and with trimmed names |
 //! | `stream TEXT` | the text with trimmed names, whichever way it comes, or `unchanged` |
 //! | `fails TEXT` | the text with trimmed names where the reader then fails, and how that ends |
 //! | `pairs NAME` | how deep the complete text is a tuple of two equal texts, and the innermost one |
@@ -28,7 +29,7 @@ use crate::long_texts::{push_end, push_pairs};
 use crate::names::{Names, push_crate, push_kept};
 use crate::parts::{push_limits, push_visits};
 use crate::streams::{push_failed, push_streamed};
-use crate::texts::{push_decoded, push_filtered, unescaped};
+use crate::texts::{push_decoded, push_filtered, push_sizes, unescaped};
 use std::alloc::Global;
 use std::io::{self, Error, ErrorKind, Read, Write};
 use std::process::ExitCode;
@@ -95,6 +96,7 @@ fn push_answer(
             "before" => return Ok(names.ask_after(asked)?),
             "crate" => push_crate(alloc, line, asked)?,
             "kept" => push_kept(line, asked)?,
+            "sizes" => push_sizes(alloc, line, asked.as_bytes())?,
             "stream" => push_streamed(alloc, line, asked.as_bytes())?,
             "fails" => push_failed(alloc, line, asked.as_bytes())?,
             "pairs" => push_pairs(alloc, line, asked)?,

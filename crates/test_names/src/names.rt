@@ -63,11 +63,27 @@ fn is_given_after(
     text.clear();
     demangler.push_trimmed(&mut text, name)?;
     let is_trimmed = text.as_str() == answer.trimmed.as_str();
+    let is_short = is_shortened(demangler, &mut text, name, answer)?;
     demangler.push_trimmed(&mut text, before)?;
     let other = demangler.demangle(name)?;
     let _ = demangler.crate_of(before)?;
     let root = demangler.crate_of(name)?;
-    Ok(is_trimmed && is_root(&root, answer) && is_same(&other, answer))
+    Ok(is_trimmed && is_short && is_root(&root, answer) && is_same(&other, answer))
+}
+
+// Whether the complete text is given below any limit, and the name at the text's own length.
+fn is_shortened(
+    demangler: &mut Demangler,
+    text: &mut String,
+    name: &str,
+    answer: &SymbolName,
+) -> Result<bool, AllocError> {
+    demangler.short_text(text, name, true, usize::MAX)?;
+    let is_complete = text.as_str() == answer.complete.as_str();
+    demangler.short_text(text, name, true, answer.complete.as_str().len())?;
+    let is_name = text.as_str() == name;
+    text.clear();
+    Ok(is_complete && is_name)
 }
 
 fn is_same(other: &SymbolName, answer: &SymbolName) -> bool {

@@ -13,7 +13,7 @@ pub fn push_limits(alloc: Global, line: &mut String, part: &str) -> io::Result<(
     if !part.is_ascii() {
         return Err(Error::from(ErrorKind::InvalidData));
     }
-    let mut printer = Printer::new(Buffers::empty(alloc), part, true, false);
+    let mut printer = Printer::new(Buffers::empty(alloc), part, true, false, None);
     if !print(&mut printer)? {
         return Ok(line.push_str("beyond the limits")?);
     }
@@ -35,7 +35,7 @@ fn visits(alloc: Global, part: &str, full: bool, muted: bool) -> io::Result<usiz
     if !part.is_ascii() {
         return Err(Error::from(ErrorKind::InvalidData));
     }
-    let mut printer = Printer::new(Buffers::empty(alloc), part, full, muted);
+    let mut printer = Printer::new(Buffers::empty(alloc), part, full, muted, None);
     printer.prepare()?;
     print_path(&mut printer, MAX_LEVELS, 0, Position::InValue)?;
     Ok(printer.visits)

@@ -12,6 +12,13 @@ pub fn push_filtered(alloc: Global, line: &mut String, text: &[u8]) -> Result<()
     push_text(alloc, line, false, text)
 }
 
+/// Appends how many bytes a text has with complete and with trimmed names.
+pub fn push_sizes(alloc: Global, line: &mut String, text: &[u8]) -> Result<(), AllocError> {
+    let complete = filter(alloc, true, text)?.len();
+    let trimmed = filter(alloc, false, text)?.len();
+    write!(line, "{complete}|{trimmed}")
+}
+
 // Appends what is shown of a text. In front of it is the length of parts that give another text.
 fn push_text(alloc: Global, line: &mut String, full: bool, text: &[u8]) -> Result<(), AllocError> {
     let shown = filter(alloc, full, text)?;

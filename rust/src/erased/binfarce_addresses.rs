@@ -3,6 +3,7 @@
 //! Symbolizes addresses in an executable: the function symbol that holds each, and the offset into it.
 
 pub mod address;
+pub mod annotate;
 pub mod at;
 mod cells;
 mod digits;

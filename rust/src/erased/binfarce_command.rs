@@ -6,10 +6,9 @@ mod at;
 mod fault;
 mod files;
 mod filter;
-mod headed;
-mod held;
 mod help;
 mod input;
+mod output;
 mod report;
 mod section;
 mod show;
@@ -17,20 +16,20 @@ mod show;
 use crate::shim::{CollectIn, HostRuntime, String, Vec};
 use crate::erased::binfarce_command::at::{answer_all, answer_input, read_addresses};
 use crate::erased::binfarce_command::fault::Fault;
-use crate::erased::binfarce_command::files::{System, open_held, reported, show_files};
+use crate::erased::binfarce_command::files::{System, open_input, reported, show_files};
 use crate::erased::binfarce_command::filter::lines_of;
-use crate::erased::binfarce_command::headed::Headed;
 use crate::erased::binfarce_command::help::{VERSION, help};
-use crate::erased::binfarce_command::input::{Noted, Opened};
+use crate::erased::binfarce_command::input::{FileOrStdin, OpenFile};
+use crate::erased::binfarce_command::output::Output;
 use crate::erased::binfarce_command::report::{ended, refuse, report};
 use crate::erased::binfarce_command::section::write_or_list;
-use crate::erased::binfarce_command::show::{Asked, Kind, Symbols};
+use crate::erased::binfarce_command::show::{Kind, Request, Symbols};
 use crate::erased::binfarce_addresses::Lookup;
 use crate::erased::binfarce_bytes::source::Source;
 use crate::erased::binfarce_filtering::stream::{StreamError, filter_stream};
 use crate::erased::binfarce_tools::SymbolTable;
 use crate::erased::binfarce_tools::tables::Selection;
-use crate::erased::binfarce_words::words::{Call, Command, Given, Wrong, read_call};
+use crate::erased::binfarce_words::words::{Arguments, Call, Command, Flag, Wrong, read_call};
 use crate::shim::alloc::Global;
 use crate::shim::env;
 use crate::shim::fs::File;
@@ -63,7 +62,7 @@ fn run(rt: &HostRuntime, call: &Call<'_>) -> u8 {
 }
 
 fn run_with(rt: &HostRuntime, call: &Call<'_>, addresses: &[u64]) -> u8 {
-    let mut out = Headed::new(rt.alloc(), io::writer(rt));
+    let mut out = Output::new(rt.alloc(), io::writer(rt));
     let done = answer(rt, call, addresses, &mut out);
     ended(rt, done, out.into_parts().1)
 }
@@ -77,7 +76,7 @@ fn addresses_of<'a>(alloc: Global, call: &Call<'a>) -> Result<Vec<u64>, Wrong<'a
 }
 
 // The operands after the first one.
-fn others<'b, 'a>(given: &'b Given<'a>) -> &'b [&'a str] {
+fn others<'b, 'a>(given: &'b Arguments<'a>) -> &'b [&'a str] {
     match given.operands.as_slice() {
         [_, others @ ..] => others,
         [] => &[],
@@ -89,7 +88,7 @@ fn answer<W: Write>(
     rt: &HostRuntime,
     call: &Call<'_>,
     addresses: &[u64],
-    out: &mut Headed<W>,
+    out: &mut Output<W>,
 ) -> Result<bool, Fault> {
     let is_done = match call {
         Call::Help(topic) => print(help(*topic), out)?,
@@ -102,7 +101,7 @@ fn answer<W: Write>(
     }
 }
 
-fn print<W: Write>(text: &str, out: &mut Headed<W>) -> Result<bool, Fault> {
+fn print<W: Write>(text: &str, out: &mut Output<W>) -> Result<bool, Fault> {
     match out.write_all(text.as_bytes()) {
         Ok(()) => Ok(true),
         Err(_) => Err(Fault::Write),
@@ -112,9 +111,9 @@ fn print<W: Write>(text: &str, out: &mut Headed<W>) -> Result<bool, Fault> {
 fn work<W: Write>(
     rt: &HostRuntime,
     command: Command,
-    given: &Given<'_>,
+    given: &Arguments<'_>,
     addresses: &[u64],
-    out: &mut Headed<W>,
+    out: &mut Output<W>,
 ) -> Result<bool, Fault> {
     match command {
         Command::List => show_all(rt, Kind::Listing, given, out),
@@ -130,10 +129,10 @@ fn work<W: Write>(
 fn show_all<W: Write>(
     rt: &HostRuntime,
     kind: Kind,
-    given: &Given<'_>,
-    out: &mut Headed<W>,
+    given: &Arguments<'_>,
+    out: &mut Output<W>,
 ) -> Result<bool, Fault> {
-    let asked = Asked {
+    let asked = Request {
         kind,
         symbols: symbols_of(given, Selection::Section(".text")),
     };
@@ -150,23 +149,23 @@ fn show_all<W: Write>(
 // Demangles the names in standard input, or the given ones.
 fn filter_text<W: Write>(
     rt: &HostRuntime,
-    given: &Given<'_>,
-    out: &mut Headed<W>,
+    given: &Arguments<'_>,
+    out: &mut Output<W>,
 ) -> Result<bool, Fault> {
     if given.operands.is_empty() {
-        return filter_input(rt, given.full, out);
+        return filter_input(rt, given.has(Flag::Full), out);
     }
     let text = lines_of(rt.alloc(), given.operands.as_slice())?;
-    filter_stream(rt.alloc(), given.full, &mut text.as_slice(), out)?;
+    filter_stream(rt.alloc(), given.has(Flag::Full), &mut text.as_slice(), out)?;
     Ok(true)
 }
 
 fn filter_input<W: Write>(
     rt: &HostRuntime,
     full: bool,
-    out: &mut Headed<W>,
+    out: &mut Output<W>,
 ) -> Result<bool, Fault> {
-    let mut input = Noted::new(rt.stdin());
+    let mut input = OpenFile::new(rt.stdin());
     match filter_stream(rt.alloc(), full, &mut input, out) {
         Ok(()) => Ok(true),
         Err(StreamError::Read) => {
@@ -177,28 +176,29 @@ fn filter_input<W: Write>(
     }
 }
 
-// Symbolizes addresses: those that are given, or those of standard input.
+// Symbolizes addresses: those that are given, or those of standard input, in lines or in a text.
 fn symbolize<W: Write>(
     rt: &HostRuntime,
-    given: &Given<'_>,
+    given: &Arguments<'_>,
     addresses: &[u64],
-    out: &mut Headed<W>,
+    out: &mut Output<W>,
 ) -> Result<bool, Fault> {
     let path = first(given);
     let symbols = symbols_of(given, Selection::All);
     let lookup = Lookup {
-        base: given.base,
-        is_return: given.is_return,
+        base: given.address(Flag::Base).unwrap_or(0),
+        is_return: given.has(Flag::Return),
     };
     let mut system = rt;
-    match open_held(rt.alloc(), &mut system, path) {
-        Some(held) => {
+    match open_input(rt.alloc(), &mut system, path) {
+        Some(input) => {
             let done = if addresses.is_empty() {
-                answer_lines(rt, &held, &symbols, lookup, out)
+                let annotates = given.has(Flag::Annotate);
+                answer_lines(rt, &input, &symbols, lookup, annotates, out)
             } else {
-                answer_all(rt.alloc(), &held, &symbols, lookup, addresses, out)
+                answer_all(rt.alloc(), &input, &symbols, lookup, addresses, out)
             };
-            reported(&mut system, path, &held, done)
+            reported(&mut system, path, &input, done)
         }
         None => Ok(false),
     }
@@ -210,10 +210,12 @@ fn answer_lines<S: Source, W: Write>(
     source: &S,
     symbols: &Symbols<'_>,
     lookup: Lookup,
-    out: &mut Headed<W>,
+    annotates: bool,
+    out: &mut Output<W>,
 ) -> Result<(), Fault> {
-    let mut input = Noted::new(rt.reader());
-    match answer_input(rt.alloc(), source, symbols, lookup, &mut input, out) {
+    let mut input = OpenFile::new(rt.reader());
+    let alloc = rt.alloc();
+    match answer_input(alloc, source, symbols, lookup, annotates, &mut input, out) {
         Ok(0) => Ok(()),
         Ok(missing) => Err(Fault::Missing(missing)),
         Err(Fault::Input) => {
@@ -227,30 +229,30 @@ fn answer_lines<S: Source, W: Write>(
 // Writes the bytes of the section that is named, or a line for each section.
 fn write_section<W: Write>(
     rt: &HostRuntime,
-    given: &Given<'_>,
-    out: &mut Headed<W>,
+    given: &Arguments<'_>,
+    out: &mut Output<W>,
 ) -> Result<bool, Fault> {
     let path = first(given);
     let mut system = rt;
-    match open_held(rt.alloc(), &mut system, path) {
-        Some(held) => {
+    match open_input(rt.alloc(), &mut system, path) {
+        Some(input) => {
             let name = others(given).first().copied();
-            let written = write_or_list(rt.alloc(), &held, name, out).map_err(Fault::from);
-            reported(&mut system, path, &held, written)
+            let written = write_or_list(rt.alloc(), &input, name, out).map_err(Fault::from);
+            reported(&mut system, path, &input, written)
         }
         None => Ok(false),
     }
 }
 
 // The function symbols that are asked for: of the section that is named, or of this one, or of all.
-fn symbols_of<'a>(given: &Given<'a>, default: Selection<'a>) -> Symbols<'a> {
-    let which = if given.dynamic {
+fn symbols_of<'a>(given: &Arguments<'a>, default: Selection<'a>) -> Symbols<'a> {
+    let which = if given.has(Flag::Dynamic) {
         SymbolTable::Dynsym
     } else {
         SymbolTable::Symtab
     };
-    let selection = match given.section {
-        _ if given.all => Selection::All,
+    let selection = match given.value(Flag::Section) {
+        _ if given.has(Flag::All) => Selection::All,
         Some(section) => Selection::Section(section),
         None => default,
     };
@@ -258,17 +260,17 @@ fn symbols_of<'a>(given: &Given<'a>, default: Selection<'a>) -> Symbols<'a> {
 }
 
 // The first operand.
-fn first<'a>(given: &Given<'a>) -> &'a str {
+fn first<'a>(given: &Arguments<'a>) -> &'a str {
     given.operands.first().copied().unwrap_or("")
 }
 
-impl System<Opened> for &HostRuntime {
-    fn open(&self, path: &str) -> io::Result<Opened> {
+impl System<FileOrStdin> for &HostRuntime {
+    fn open(&self, path: &str) -> io::Result<FileOrStdin> {
         if path == "-" {
-            return Ok(Opened::Standard(self.stdin()));
+            return Ok(FileOrStdin::Standard(self.stdin()));
         }
         match File::open(*self, path) {
-            Ok(file) => Ok(Opened::File(file)),
+            Ok(file) => Ok(FileOrStdin::File(file)),
             Err(e) => Err(e),
         }
     }

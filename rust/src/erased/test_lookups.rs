@@ -63,6 +63,8 @@ fn answer(alloc: Global, question: &str, text: &mut Vec<u8>) -> io::Result<()> {
         "address" => addresses::push_address(words, text)?,
         "input" => addresses::push_answers(alloc, words, false, text)?,
         "return-input" => addresses::push_answers(alloc, words, true, text)?,
+        "annotate" => addresses::push_annotated_text(alloc, words, false, text)?,
+        "return-annotate" => addresses::push_annotated_text(alloc, words, true, text)?,
         _ => ranges::answer(alloc, verb, words, text)?,
     }
     end_line(text, 0)

@@ -9,6 +9,7 @@
 //! | `crate NAME` | the crate alone |
 //! | `kept NAME` | how the name is mangled, its limits aside, and the part of it that is kept |
 //! | `text TEXT` | the text with complete and with trimmed names |
+//! | `sizes TEXT` | how many bytes the text has with complete and with trimmed names |
 //! | `stream TEXT` | the text with trimmed names, whichever way it comes, or `unchanged` |
 //! | `fails TEXT` | the text with trimmed names where the reader then fails, and how that ends |
 //! | `pairs NAME` | how deep the complete text is a tuple of two equal texts, and the innermost one |
@@ -30,7 +31,7 @@ use crate::erased::test_names::long_texts::{push_end, push_pairs};
 use crate::erased::test_names::names::{Names, push_crate, push_kept};
 use crate::erased::test_names::parts::{push_limits, push_visits};
 use crate::erased::test_names::streams::{push_failed, push_streamed};
-use crate::erased::test_names::texts::{push_decoded, push_filtered, unescaped};
+use crate::erased::test_names::texts::{push_decoded, push_filtered, push_sizes, unescaped};
 use crate::shim::alloc::Global;
 use crate::shim::io::{self, Error, ErrorKind, Read, Write};
 use std::process::ExitCode;
@@ -97,6 +98,7 @@ fn push_answer(
             "before" => return Ok(names.ask_after(asked)?),
             "crate" => push_crate(alloc, line, asked)?,
             "kept" => push_kept(line, asked)?,
+            "sizes" => push_sizes(alloc, line, asked.as_bytes())?,
             "stream" => push_streamed(alloc, line, asked.as_bytes())?,
             "fails" => push_failed(alloc, line, asked.as_bytes())?,
             "pairs" => push_pairs(alloc, line, asked)?,

@@ -18,7 +18,8 @@ pub trait Read {
                 bytes.reserve(1 << 13)?;
                 bytes.resize(bytes.capacity(), 0)?;
             }
-            match self.read(&mut bytes[len..]) {
+            let read = self.read(&mut bytes[len..]);
+            match read {
                 Ok(0) => break,
                 Ok(n) => len += n,
                 Err(e) if e.kind() == ErrorKind::Interrupted => {}

@@ -3,20 +3,11 @@
 use super::HostRuntime;
 use super::alloc::AllocError;
 use std::cell::{Cell, RefCell};
-use std::error::Error;
 use std::io::{Read, Result, Write};
 use std::process::ExitCode;
 
-/// Why a test failed.
-pub type Fail = Box<dyn Error>;
-
 /// A program among the tests.
 pub type Main = fn(HostRuntime) -> ExitCode;
-
-/// Who may end a test.
-pub trait Abort {}
-
-impl Abort for HostRuntime {}
 
 thread_local! {
     // How many allocations are made until one is refused; 0 where none will be.

@@ -1,10 +1,10 @@
 -- What a printing keeps of its own text, to write it again where a back reference asks for it.
-use Rattle.std.specs.Prelude.{◌≡◌, ℕ, ◌-◌, ◌≤◌, List, Option, Some, Bool, false, length, slice_range, max, min}
+use Rattle.std.specs.Prelude.{◌≡◌, ℕ, ◌-◌, ◌≤◌, List, Option, Some, Bool, true, false, length, slice_range, max, min}
 use Rattle.binfarce_v0_grammar.specs.Tree.{PathTree, TypeTree, ConstTree, path_steps, type_steps, const_steps, path_height, type_height, const_height}
 use Rattle.binfarce_v0_state.specs.TreeTexts.{Position, path_text, type_text, const_text, is_left_open}
 use Rattle.binfarce_v0_grammar.specs.Unfolding.{IsPath, IsType, IsConst}
 use Rattle.binfarce_v0_state.specs.machine.View.{position_view}
-use Rattle.binfarce_v0_state.specs.machine.Printing.{State, Readers, write_both}
+use Rattle.binfarce_v0_state.specs.machine.Printing.{State, Readers, write_both, has_room}
 use Rattle.binfarce_v0_state.specs.declared.fragments.FragmentKey as key
 use Rattle.binfarce_v0_state.specs.declared.fragments.Fragment as fragment
 use Rattle.binfarce_v0_state.specs.declared.fragments.Mark as mark
@@ -97,7 +97,7 @@ again f s = write_both (slice_range s.text f.start f.end) (slice_range s.trimmed
 abbrev pub IsMark : State → mark.Mark → Type 0
 IsMark s m = (s.at ≡ Some m.at) × (m.start ≡ length s.text) × (m.trimmed_start ≡ length s.trimmed) × (m.steps_left ≡ s.steps_left) × (m.least_levels_left ≡ s.least_levels_left)
 
--- what was printed since a mark may be kept
+-- what was printed since a mark may be kept, where the texts are whole
 abbrev pub MayKeep : List ℕ → State → mark.Mark → ℕ → ℕ → Production → Bool → Type 0
 MayKeep part s m levels_left binder_depth production left_open =
-    (after : ℕ) → s.at ≡ Some after → s.limit_exceeded ≡ false → Kept part s.full s.text s.trimmed production m.at binder_depth m.start (length s.text) m.trimmed_start (length s.trimmed) (m.steps_left - s.steps_left) (levels_left - s.least_levels_left) left_open s.muted
+    (after : ℕ) → s.at ≡ Some after → s.limit_exceeded ≡ false → has_room s ≡ true → Kept part s.full s.text s.trimmed production m.at binder_depth m.start (length s.text) m.trimmed_start (length s.trimmed) (m.steps_left - s.steps_left) (levels_left - s.least_levels_left) left_open s.muted

@@ -1,6 +1,7 @@
 -- The printer, step by step: a name is read and written in one pass. Each step gives the tree that it read, and the state that it leaves.
-use Rattle.std.specs.Prelude.{ℕ, zero, suc, ◌+◌, ◌-◌, ◌*◌, ◌≤◌, List, [], ◌++◌, Option, Some, None, Bool, true, false, if◌then◌else◌, nat_le, codes, min}
+use Rattle.std.specs.Prelude.{ℕ, zero, suc, ◌+◌, ◌-◌, ◌*◌, ◌≤◌, List, [], ◌++◌, Option, Some, None, Bool, true, false, if◌then◌else◌, ◌&&◌, nat_le, codes, min}
 use Rattle.std.specs.Option.{option_or}
+use Rattle.binfarce_v0_state.specs.machine.Counted.{grown, is_whole}
 use Rattle.binfarce_text.specs.Letters.{'K', 'L', 'p', 'u'}
 use Rattle.binfarce_v0_grammar.specs.Identifiers.{UndisambiguatedIdentifier, Identifier}
 use Rattle.binfarce_v0_state.specs.LeafTexts.{identifier_text}
@@ -32,21 +33,27 @@ pub record State : Type 0 where
   pub in_back_reference : Bool
   -- the first crate root
   pub root : Option UndisambiguatedIdentifier
+  -- how many bytes of each text are counted; all of them where it is None
+  pub most : Option ℕ
 
 abbrev pub heard : Bool → List ℕ → List ℕ
 heard true text = []
 heard false text = text
 
+-- both texts are whole
+abbrev pub has_room : State → Bool
+has_room s = is_whole s.most s.text && is_whole s.most s.trimmed
+
 abbrev pub write : List ℕ → State → State
-write text s = record s { text = s.text ++ heard s.muted text; trimmed = s.trimmed ++ heard s.muted text }
+write text s = record s { text = grown s.most s.text (heard s.muted text); trimmed = grown s.most s.trimmed (heard s.muted text) }
 
 -- what is written again has a text with the disambiguators that are shown, and one without
 abbrev pub write_both : (text trimmed : List ℕ) → State → State
-write_both text trimmed s = record s { text = s.text ++ heard s.muted text; trimmed = s.trimmed ++ heard s.muted trimmed }
+write_both text trimmed s = record s { text = grown s.most s.text (heard s.muted text); trimmed = grown s.most s.trimmed (heard s.muted trimmed) }
 
 -- a crate's disambiguator
 abbrev pub disambiguate : ℕ → State → State
-disambiguate disambiguator s = record s { text = s.text ++ heard s.muted (disambiguator_text s.full disambiguator) }
+disambiguate disambiguator s = record s { text = grown s.most s.text (heard s.muted (disambiguator_text s.full disambiguator)) }
 
 abbrev pub seek : Option ℕ → State → State
 seek at s = record s { at = at }
@@ -360,9 +367,9 @@ abbrev pub WithinLevels : (levels_left binder_depth : ℕ) → Type 0
 WithinLevels levels_left binder_depth = (levels_left ≤ MAX_LEVELS) × (binder_depth ≤ MAX_STEPS * (MAX_LEVELS - levels_left))
 
 -- a printing at its beginning; a muted one reads all and writes nothing
-abbrev pub first_state : (full muted : Bool) → State
-first_state full muted =
-    record { at = Some 0; steps_left = MAX_STEPS; least_levels_left = MAX_LEVELS; limit_exceeded = false; text = []; trimmed = []; muted = muted; full = full; in_back_reference = false; root = None }
+abbrev pub first_state : (full muted : Bool) (most : Option ℕ) → State
+first_state full muted most =
+    record { at = Some 0; steps_left = MAX_STEPS; least_levels_left = MAX_LEVELS; limit_exceeded = false; text = []; trimmed = []; muted = muted; full = full; in_back_reference = false; root = None; most = most }
 
 -- what clauses see of a printer: the part that it prints, which doesn't change, and the state of the printing
 pub record Printing : Type 0 where
@@ -372,5 +379,5 @@ pub record Printing : Type 0 where
 abbrev pub with_state : State → Printing → Printing
 with_state s p = record p { state = s }
 
-abbrev pub first_printing : List ℕ → (full muted : Bool) → Printing
-first_printing part full muted = record { part = part; state = first_state full muted }
+abbrev pub first_printing : List ℕ → (full muted : Bool) (most : Option ℕ) → Printing
+first_printing part full muted most = record { part = part; state = first_state full muted most }

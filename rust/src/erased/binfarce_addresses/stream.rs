@@ -146,7 +146,7 @@ pub fn answer_lines<R: Read, S: Sink>(
 }
 
 // Room for the bytes of a read.
-fn new_chunk(alloc: Global) -> Result<Vec<u8>, AllocError> {
+pub(crate) fn new_chunk(alloc: Global) -> Result<Vec<u8>, AllocError> {
     Vec::filled(alloc, 0, CHUNK)
 }
 
@@ -239,6 +239,6 @@ fn answer_last<S: Sink>(
 }
 
 // Writes the bytes in as many calls as the sink needs.
-fn write_all<S: Sink>(out: &mut S, bytes: &[u8]) -> Result<(), LinesError> {
+pub(crate) fn write_all<S: Sink>(out: &mut S, bytes: &[u8]) -> Result<(), LinesError> {
     write_whole(out, bytes).map_err(|_| LinesError::Write)
 }

@@ -1,10 +1,11 @@
 // From crates/binfarce_command/src/at.rt, by tools/erase.
 
-//! `binfarce at [--base=ADDRESS] FILE [ADDRESS..]`: the function symbol at each address.
+//! `binfarce at [OPTION..] FILE [ADDRESS..]`: the function symbol at each address, in lines or in a text.
 
 use crate::shim::Vec;
 use crate::erased::binfarce_command::fault::Fault;
 use crate::erased::binfarce_command::show::Symbols;
+use crate::erased::binfarce_addresses::annotate::annotate_stream;
 use crate::erased::binfarce_addresses::at::{Places, write_lines};
 use crate::erased::binfarce_addresses::stream::answer_lines;
 use crate::erased::binfarce_addresses::{Lookup, parse_address};
@@ -64,7 +65,7 @@ fn places_of<'a>(alloc: Global, tables: &'a Tables<'_>) -> Result<Places<'a>, Fa
 }
 
 /// Symbolizes the addresses in the lines of `input`, each as soon as its line feed has come, and returns how many lines
-/// have none.
+/// have none; or annotates those in its text, and returns 0.
 ///
 /// # Errors
 ///
@@ -74,11 +75,16 @@ pub fn answer_input<S: Source, I: Read, K: Sink>(
     source: &S,
     symbols: &Symbols<'_>,
     lookup: Lookup,
+    annotates: bool,
     input: &mut I,
     out: &mut K,
 ) -> Result<u64, Fault> {
     let tables = read(alloc, source, symbols.which, symbols.selection)?;
     let mut places = places_of(alloc, &tables)?;
+    if annotates {
+        annotate_stream(alloc, &places, lookup, input, out)?;
+        return Ok(0);
+    }
     places.keep_names(alloc)?;
     let missing = answer_lines(alloc, &places, lookup, input, out)?;
     Ok(missing)

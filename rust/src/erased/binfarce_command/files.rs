@@ -4,10 +4,9 @@
 
 use crate::shim::{String, Vec};
 use crate::erased::binfarce_command::fault::Fault;
-use crate::erased::binfarce_command::headed::Headed;
-use crate::erased::binfarce_command::held::Held;
-use crate::erased::binfarce_command::input::Noted;
-use crate::erased::binfarce_command::show::{Asked, show};
+use crate::erased::binfarce_command::input::OpenFile;
+use crate::erased::binfarce_command::output::Output;
+use crate::erased::binfarce_command::show::{Request, show};
 use crate::erased::binfarce_bytes::source::Source;
 use crate::shim::alloc::{AllocError, Global};
 use crate::shim::io::{self, Error, Read, Write};
@@ -30,9 +29,9 @@ pub trait System<F: Read + Source> {
 pub fn show_files<F: Read + Source, Y: System<F>, W: Write>(
     alloc: Global,
     system: &mut Y,
-    asked: &Asked<'_>,
+    asked: &Request<'_>,
     files: &[&str],
-    out: &mut Headed<W>,
+    out: &mut Output<W>,
 ) -> Result<bool, Fault> {
     let are_several = files.len() > 1;
     let mut are_shown = true;
@@ -47,16 +46,16 @@ pub fn show_files<F: Read + Source, Y: System<F>, W: Write>(
 fn show_file<F: Read + Source, Y: System<F>, W: Write>(
     alloc: Global,
     system: &mut Y,
-    asked: &Asked<'_>,
+    asked: &Request<'_>,
     path: &str,
     are_several: bool,
-    out: &mut Headed<W>,
+    out: &mut Output<W>,
 ) -> Result<bool, Fault> {
     out.begin(heading(alloc, path, are_several)?);
-    match open_held(alloc, system, path) {
-        Some(held) => {
-            let shown = show_held(alloc, asked, &held, out);
-            reported(system, path, &held, shown)
+    match open_input(alloc, system, path) {
+        Some(input) => {
+            let shown = show_source(alloc, asked, &input, out);
+            reported(system, path, &input, shown)
         }
         None => Ok(false),
     }
@@ -73,29 +72,29 @@ fn heading(alloc: Global, path: &str, are_several: bool) -> Result<Vec<u8>, Allo
 }
 
 // Shows the source after what is left of the heading, which is written also where the text is empty.
-fn show_held<S: Source, W: Write>(
+fn show_source<S: Source, W: Write>(
     alloc: Global,
-    asked: &Asked<'_>,
+    asked: &Request<'_>,
     source: &S,
-    out: &mut Headed<W>,
+    out: &mut Output<W>,
 ) -> Result<(), Fault> {
     show(alloc, asked, source, out)?;
     out.end()
 }
 
 /// Opens the file at this path, and loads it. `None` where it can't be opened or read, which is reported.
-pub fn open_held<F: Read + Source, Y: System<F>>(
+pub fn open_input<F: Read + Source, Y: System<F>>(
     alloc: Global,
     system: &mut Y,
     path: &str,
-) -> Option<Held<Noted<F>>> {
+) -> Option<OpenFile<F>> {
     match system.open(path) {
         Ok(file) => {
-            let (held, loaded) = Held::load(alloc, Noted::new(file));
-            match loaded {
-                Ok(()) => Some(held),
+            let mut input = OpenFile::new(file);
+            match input.load(alloc) {
+                Ok(()) => Some(input),
                 Err(fault) => {
-                    system.report(path, fault, held.file().take_reason());
+                    system.report(path, fault, input.take_reason());
                     None
                 }
             }
@@ -115,7 +114,7 @@ pub fn open_held<F: Read + Source, Y: System<F>>(
 pub fn reported<F: Read + Source, Y: System<F>>(
     system: &mut Y,
     path: &str,
-    held: &Held<Noted<F>>,
+    input: &OpenFile<F>,
     done: Result<(), Fault>,
 ) -> Result<bool, Fault> {
     match done {
@@ -124,7 +123,7 @@ pub fn reported<F: Read + Source, Y: System<F>>(
         Err(Fault::Missing(count)) => Err(Fault::Missing(count)),
         Err(Fault::Input) => Ok(false),
         Err(fault) => {
-            system.report(path, fault, held.file().take_reason());
+            system.report(path, fault, input.take_reason());
             Ok(false)
         }
     }

@@ -18,6 +18,7 @@ usage: binfarce COMMAND [OPTION..] ..
   filter [--full] [NAME..]           standard input, or the names, with readable names
   at [OPTION..] FILE [ADDRESS..]
                                      the function symbol at each address, and the offset in it
+  at --return --annotate FILE        standard input, as by RUST_BACKTRACE=full, with symbols
   section FILE [SECTION]             the bytes of a section, or a line for each section
 
   COMMAND --help                     help on a command
@@ -85,12 +86,14 @@ it. Without an ADDRESS the addresses are the lines of standard input.
 
   --return         the addresses are return addresses, as RUST_BACKTRACE=full prints:
                    the call before each is looked up
+  --annotate       copies standard input, with <name+0x1f> after each address in it,
+                   which is 0x and 4 to 16 digits
+  --base=ADDRESS   is subtracted from each address: where the file is loaded
   --dynamic        by the dynamic symbol table of an ELF file (.dynsym)
   --section=NAME   the symbols of a section of an ELF file; of Mach-O and PE files
                    those of the code section
   --all            the symbols of all sections, as without --section; refused of an
                    object file, whose sections share addresses
-  --base=ADDRESS   is subtracted from each address: where the file is loaded
   --help           this text
 ";
 

@@ -33,7 +33,7 @@ pub struct Symbols<'a> {
 
 /// What is shown of a file.
 #[derive(Debug, Clone, Copy)]
-pub struct Asked<'a> {
+pub struct Request<'a> {
     /// How its function symbols are shown.
     pub kind: Kind,
     /// Which they are.
@@ -49,7 +49,7 @@ pub struct Asked<'a> {
 /// `report`. Only after `Write` a beginning may be written.
 pub fn show<S: Source, K: Sink>(
     alloc: Global,
-    asked: &Asked<'_>,
+    asked: &Request<'_>,
     source: &S,
     out: &mut K,
 ) -> Result<(), Fault> {

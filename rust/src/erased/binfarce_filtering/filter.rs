@@ -5,14 +5,14 @@
 use crate::shim::{String, Vec};
 use crate::erased::binfarce_legacy::elements::elements_end;
 use crate::erased::binfarce_names::demangle::Demangler;
+use crate::erased::binfarce_text::strides::{STRIDE, len_before};
 use crate::shim::alloc::{AllocError, Global};
-use crate::shim::simd::prelude::*;
 
 /// The length in bytes of the longest run that may hold names. A longer one stays unchanged.
 pub const MAX_RUN: usize = 1 << 20;
 
-// How many bytes are compared at a time.
-const STRIDE: usize = 16;
+/// The length in bytes of the longest readable text that is shown. A name with a longer one stays unchanged.
+pub const MAX_TEXT: usize = 1 << 20;
 
 /// The text with each mangled name replaced by its trimmed text, or if `full` by its complete text.
 ///
@@ -21,7 +21,7 @@ const STRIDE: usize = 16;
 /// digit, or with `_R` and one of `N`, `I`, `M`, `X` and `Y`; at the run's first byte another `_` may come before. It
 /// ends where its mangling does, before a `.` or the run's end. The last element of one with `_ZN` is a hash: `17h` and
 /// 16 lower-case hexadecimal digits. `.llvm.` and a number after a name that is replaced are left out. A name whose
-/// readable text has a control character stays unchanged. So do all other bytes, which need not be UTF-8. After a `_ZN`
+/// readable text has a control character or more than `MAX_TEXT` bytes stays unchanged. So do all other bytes, which need not be UTF-8. After a `_ZN`
 /// and a digit that begin no such name, such as a C++ name, the rest of the run stays unchanged.
 ///
 /// # Errors
@@ -193,14 +193,7 @@ fn others_at(text: &[u8], at: usize) -> usize {
 // How many of 16 bytes come before a `_`.
 #[cfg_attr(not(debug_assertions), inline(always))]
 fn others_among(bytes: &[u8]) -> usize {
-    let underscores = u8x16::from_slice(bytes)
-        .simd_eq(u8x16::splat(b'_'))
-        .to_bitmask();
-    if underscores == 0 {
-        STRIDE
-    } else {
-        underscores.trailing_zeros() as usize
-    }
+    len_before(bytes, b'_', b'_', b'_')
 }
 
 // Where the run begins that ends at a position of the text; that position where none does.
@@ -363,7 +356,10 @@ fn push_name(
     name: &[u8],
     out: &mut Vec<u8>,
 ) -> Result<bool, AllocError> {
-    read_name(names, full, std::str::from_utf8(name).unwrap())?;
+    let name_text = std::str::from_utf8(name).unwrap();
+    names
+        .demangler
+        .short_text(&mut names.text, name_text, full, MAX_TEXT + 1)?;
     let text = names.text.as_str();
     let readable = if has_control(text) {
         name
@@ -372,16 +368,6 @@ fn push_name(
     };
     out.extend_from_slice(readable)?;
     Ok(readable != name)
-}
-
-// Makes the text of a name: complete, or trimmed.
-fn read_name(names: &mut Names, full: bool, name: &str) -> Result<(), AllocError> {
-    if full {
-        names.text = names.demangler.demangle(name)?.complete;
-        return Ok(());
-    }
-    names.text.clear();
-    names.demangler.push_trimmed(&mut names.text, name)
 }
 
 // Whether a character of the text is a control character.

@@ -2,10 +2,7 @@
 
 //! Runs of a name's bytes that denote themselves, compared 16 at a time.
 
-use crate::shim::simd::prelude::*;
-
-// How many bytes of a name are compared at a time.
-const STRIDE: usize = 16;
+use crate::erased::binfarce_text::strides::{STRIDE, len_before};
 
 // Whether a byte denotes itself.
 #[cfg_attr(not(debug_assertions), inline(always))]
@@ -16,13 +13,7 @@ fn is_plain(b: u8) -> bool {
 // How many of 16 bytes denote themselves before the first that doesn't.
 #[cfg_attr(not(debug_assertions), inline(always))]
 fn plain_run(bytes: &[u8]) -> usize {
-    let v = u8x16::from_slice(bytes);
-    let special = (v.simd_eq(u8x16::splat(b'.')) | v.simd_eq(u8x16::splat(b'$'))).to_bitmask();
-    if special == 0 {
-        STRIDE
-    } else {
-        special.trailing_zeros() as usize
-    }
+    len_before(bytes, b'.', b'$', b'$')
 }
 
 // The end of the run of bytes from `at` on that denote themselves. `wide` begins with the name, and has bytes after it.
@@ -58,11 +49,7 @@ fn is_mark(b: u8) -> bool {
 // Whether one of 16 bytes is such.
 #[cfg_attr(not(debug_assertions), inline(always))]
 fn has_mark_among(bytes: &[u8]) -> bool {
-    let v = u8x16::from_slice(bytes);
-    let marks = v.simd_eq(u8x16::splat(b'.'))
-        | v.simd_eq(u8x16::splat(b'$'))
-        | v.simd_eq(u8x16::splat(b':'));
-    marks.to_bitmask() != 0
+    len_before(bytes, b'.', b'$', b':') < STRIDE
 }
 
 // Whether a byte of a name is such.

@@ -142,24 +142,52 @@ impl Demangler {
         let Some(part) = v0::candidate(stripped) else {
             return text.push_str(name);
         };
-        self.push_candidate(text, name, part)
+        self.push_candidate(text, name, part, false, None)
     }
 
-    // The same for a name that isn't a legacy mangling and may be a v0 one. A printing is a large value, which is
-    // zeroed at the beginning of a function: so other names don't get here.
+    /// Replaces `text` by the trimmed text of `name`, or if `full` by its complete text, as `demangle` gives them; by
+    /// `name` itself where that has `below` bytes or more. Of such a text little more than `below` bytes are made, or
+    /// of a legacy name at most one and a half times its length.
+    ///
+    /// # Errors
+    ///
+    /// `AllocError` where an allocation failed.
+    pub fn short_text(
+        &mut self,
+        text: &mut String,
+        name: &str,
+        full: bool,
+        below: usize,
+    ) -> Result<(), AllocError> {
+        text.clear();
+        let stripped = without_llvm(name);
+        if let Some(part) = legacy::mangling(stripped) {
+            return short_legacy(self.memory.alloc, text, name, part, full, below);
+        }
+        let Some(part) = v0::candidate(stripped) else {
+            return text.push_str(name);
+        };
+        self.push_candidate(text, name, part, full, Some(below))
+    }
+
+    // Appends the text of a name that isn't a legacy mangling and may be a v0 one; the name itself where its text has
+    // `most` bytes or more. A printing is a large value, which is zeroed at the beginning of a function: so other names
+    // don't get here.
     #[inline(never)]
     fn push_candidate(
         &mut self,
         text: &mut String,
         name: &str,
         part: &str,
+        full: bool,
+        most: Option<usize>,
     ) -> Result<(), AllocError> {
-        let mut printer = Printer::new(self.memory.take(), part, false, false);
+        let mut printer = Printer::new(self.memory.take(), part, full, false, most);
         if !v0::print_mangling(&mut printer)? {
             self.memory.put_back(printer.into_buffers());
             return text.push_str(name);
         }
-        let pushed = text.push_str(printer.trimmed_text());
+        let pushed = printer.push_text(self.memory.alloc, text, name);
         self.memory.put_back(printer.into_buffers());
         pushed
     }
@@ -253,6 +281,32 @@ fn legacy_name(alloc: Global, part: &str) -> Result<SymbolName, AllocError> {
         crate_name: None,
         kind: Kind::Legacy,
     })
+}
+
+// Replaces an empty text by that of a legacy mangling, or by its name where that has `below` bytes or more.
+fn short_legacy(
+    alloc: Global,
+    text: &mut String,
+    name: &str,
+    part: &str,
+    full: bool,
+    below: usize,
+) -> Result<(), AllocError> {
+    legacy_text(alloc, text, part, full)?;
+    if text.as_str().len() < below {
+        return Ok(());
+    }
+    text.clear();
+    text.push_str(name)
+}
+
+// Replaces an empty text by that of a legacy mangling.
+fn legacy_text(alloc: Global, text: &mut String, part: &str, full: bool) -> Result<(), AllocError> {
+    if full {
+        *text = legacy::complete(alloc, part)?;
+        return Ok(());
+    }
+    legacy::push_trimmed(text, part)
 }
 
 // A name that is unchanged.

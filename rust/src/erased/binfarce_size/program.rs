@@ -62,8 +62,8 @@ pub fn words(arguments: &[String]) -> Result<(&str, &str), Fault> {
     Ok(file_and_section(arguments)?)
 }
 
-/// Reports how much of a file's section each crate takes: as `run_at` if the file can be read at offsets, and else once it
-/// is read to its end.
+/// Reports how much of a file's section each crate takes. Of a file that can be read at offsets only the headers, the symbol
+/// table and the names are read; any other is first read to its end.
 ///
 /// `File` where it can't be read; `Report` where an allocation fails while it is read, and as `report` refuses.
 pub fn run<F: Read + Source, W: Write>(
@@ -73,34 +73,22 @@ pub fn run<F: Read + Source, W: Write>(
     out: &mut Out<W>,
 ) -> Result<(), Fault> {
     if is_read_at_offsets(file) {
-        return run_at(alloc, file, section, out);
+        let tables = match read(
+            alloc,
+            file,
+            SymbolTable::Symtab,
+            Selection::Section(section),
+        ) {
+            Ok(tables) => tables,
+            Err(e) => return Err(Fault::from(tables_failure(e))),
+        };
+        return match report_tables(alloc, &tables, out) {
+            Ok(()) => Ok(()),
+            Err(e) => Err(Fault::Report(e)),
+        };
     }
     let bytes = read_whole(alloc, file)?;
     report(alloc, bytes.as_slice(), section, out).map_err(Fault::Report)
-}
-
-/// The same of a source that is read at offsets: only its headers, its symbol table and the names are read.
-///
-/// `File` where the source can't be read at offsets, or a read of it fails; `Report` as in `run`.
-pub fn run_at<S: Source, W: Write>(
-    alloc: Global,
-    source: &S,
-    section: &str,
-    out: &mut Out<W>,
-) -> Result<(), Fault> {
-    let tables = match read(
-        alloc,
-        source,
-        SymbolTable::Symtab,
-        Selection::Section(section),
-    ) {
-        Ok(tables) => tables,
-        Err(e) => return Err(Fault::from(tables_failure(e))),
-    };
-    match report_tables(alloc, &tables, out) {
-        Ok(()) => Ok(()),
-        Err(e) => Err(Fault::Report(e)),
-    }
 }
 
 /// The program's exit status: 2 for the usage, and 1 for any other fault.

@@ -7,19 +7,11 @@ use crate::erased::binfarce_tools::functions::{
 };
 use crate::erased::binfarce_tools::list::ListError;
 use crate::erased::binfarce::{Format, ParseError, SymbolTable, detect_format};
+pub use crate::erased::binfarce_bytes::functions::Selection;
 use crate::erased::binfarce_bytes::source::Source;
 use crate::erased::binfarce_tables::begun::Begun;
 use crate::erased::binfarce_tables::{ReadError, elf32, elf64, macho, pe};
 use crate::shim::alloc::Global;
-
-/// Which function symbols of a file are taken.
-#[derive(Debug, Clone, Copy)]
-pub enum Selection<'a> {
-    /// Those of a section of an ELF file; of a Mach-O or PE file those of the text.
-    Section(&'a str),
-    /// Those of all sections.
-    All,
-}
 
 /// The tables of a file for the function symbols of a selection: those that were read, or a whole file in memory.
 pub enum Tables<'a> {

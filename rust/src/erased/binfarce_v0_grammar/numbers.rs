@@ -4,6 +4,7 @@
 //! of 2^64 or more is invalid.
 
 use crate::erased::binfarce_text::digits::hex_value;
+use crate::erased::binfarce_text::strides::STRIDE;
 use crate::shim::simd::prelude::*;
 
 /// The byte at a position, and 0 from the end on.
@@ -114,9 +115,6 @@ pub fn optional_base_62_number(part: &[u8], tag: u8, at: usize) -> Option<(u64, 
         Some((0, at))
     }
 }
-
-// How many bytes are compared at a time.
-const STRIDE: usize = 16;
 
 // How many of 16 bytes are base-62 digits before the first that isn't.
 #[cfg_attr(not(debug_assertions), inline(always))]

@@ -192,8 +192,8 @@ impl<'a> Printer<'a> {
     pub fn mark(&mut self, levels_left: usize, at: usize) -> Mark {
         let mark = Mark {
             at,
-            start: self.complete.len() + self.text.len(),
-            trimmed_start: self.trimmed.len() + self.text.len(),
+            start: self.text_len(),
+            trimmed_start: self.trimmed_len(),
             steps_left: self.steps_left,
             least_levels_left: self.least_levels_left,
         };
@@ -210,9 +210,11 @@ impl<'a> Printer<'a> {
         production: Production,
         left_open: bool,
     ) -> Result<(), AllocError> {
+        let has_room = self.has_room();
+        let (end, trimmed_end) = (self.text_len(), self.trimmed_len());
         let least_levels_left = self.least_levels_left;
         self.least_levels_left = mark.least_levels_left.min(least_levels_left);
-        if self.limit_exceeded {
+        if self.limit_exceeded || !has_room {
             return Ok(());
         }
         let Some(_after) = self.at else {
@@ -225,9 +227,9 @@ impl<'a> Printer<'a> {
                 binder_depth,
             },
             start: mark.start,
-            end: self.complete.len() + self.text.len(),
+            end,
             trimmed_start: mark.trimmed_start,
-            trimmed_end: self.trimmed.len() + self.text.len(),
+            trimmed_end,
             steps: mark.steps_left.saturating_sub(self.steps_left),
             height: levels_left.saturating_sub(least_levels_left),
             left_open,
@@ -317,14 +319,14 @@ impl<'a> Printer<'a> {
     }
 
     /// Writes the fragment of a back reference's target, and continues after the reference. Returns whether it was left
-    /// open. `None`, and nothing is done, where no fragment is kept or a limit would be passed.
+    /// open. `None`, and nothing is done, where no fragment is kept, a limit would be passed, or a text is longer than is counted.
     pub fn print_kept(
         &mut self,
         levels_left: usize,
         key: FragmentKey,
         after: usize,
     ) -> Result<Option<bool>, AllocError> {
-        if self.limit_exceeded {
+        if self.limit_exceeded || !self.has_room() {
             return Ok(None);
         }
         let Some(found) = self.fragment(key) else {

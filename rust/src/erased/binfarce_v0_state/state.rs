@@ -77,15 +77,24 @@ pub struct Printer<'a> {
     pub root: Option<UndisambiguatedIdentifier<'a>>,
     /// The fragments, which may be written again.
     pub kept: Fragments,
+    /// How many bytes of each text are counted; all of them where it is `None`.
+    pub most: Option<usize>,
     /// How many paths, types, consts and lifetimes were read, without those of fragments.
     pub visits: usize,
 }
 
 impl<'a> Printer<'a> {
-    /// A printing of `part` that begins at its first position; a muted one writes nothing. The buffers' earlier
-    /// contents are dropped. Nothing is allocated.
+    /// A printing of `part` that begins at its first position; a muted one writes nothing. Of each text only the first
+    /// `most` bytes are counted: then a little more is written, and no fragment again. The buffers' earlier contents
+    /// are dropped. Nothing is allocated.
     #[cfg_attr(not(debug_assertions), inline(always))]
-    pub fn new(buffers: Buffers, part: &'a str, full: bool, muted: bool) -> Printer<'a> {
+    pub fn new(
+        buffers: Buffers,
+        part: &'a str,
+        full: bool,
+        muted: bool,
+        most: Option<usize>,
+    ) -> Printer<'a> {
         let Buffers {
             mut complete,
             mut trimmed,
@@ -110,6 +119,7 @@ impl<'a> Printer<'a> {
             in_back_reference: false,
             root: None,
             kept,
+            most,
             visits: 0,
         }
     }
@@ -128,10 +138,63 @@ impl<'a> Printer<'a> {
         self.kept.look_for_targets(self.part.as_bytes())
     }
 
-    /// The text that was written, where disambiguators aren't.
+    // How many bytes of the text are counted.
+    pub(crate) fn text_len(&self) -> usize {
+        self.counted_len(self.complete.len() + self.text.len())
+    }
+
+    // How many bytes of the text without disambiguators are counted.
+    pub(crate) fn trimmed_len(&self) -> usize {
+        self.counted_len(self.trimmed.len() + self.text.len())
+    }
+
+    // How many of so many bytes are counted.
     #[cfg_attr(not(debug_assertions), inline(always))]
-    pub fn trimmed_text(&self) -> &str {
-        self.text.as_str()
+    fn counted_len(&self, len: usize) -> usize {
+        match self.most {
+            Some(most) => len.min(most),
+            None => len,
+        }
+    }
+
+    // Whether both texts are whole: fewer bytes were written than are counted.
+    #[cfg_attr(not(debug_assertions), inline(always))]
+    pub(crate) fn has_room(&self) -> bool {
+        match self.most {
+            Some(most) => self.text_len() < most && self.trimmed_len() < most,
+            None => true,
+        }
+    }
+
+    // Whether nothing more is counted in either text.
+    #[cfg_attr(not(debug_assertions), inline(always))]
+    fn is_full(&self) -> bool {
+        match self.most {
+            Some(most) => self.text_len() >= most && self.trimmed_len() >= most,
+            None => false,
+        }
+    }
+
+    // Whether the text is whole: fewer bytes were written than are counted.
+    #[cfg_attr(not(debug_assertions), inline(always))]
+    fn is_whole(&self) -> bool {
+        match self.most {
+            Some(most) => self.text_len() < most,
+            None => true,
+        }
+    }
+
+    /// Appends the text that was written, with the disambiguators of crates if they are written; or `other` where more
+    /// was written than is counted. A failed allocation leaves `out` unchanged.
+    pub fn push_text(&self, alloc: Global, out: &mut String, other: &str) -> Result<(), AllocError> {
+        if !self.is_whole() {
+            return out.push_str(other);
+        }
+        if !self.full {
+            return out.push_str(self.text.as_str());
+        }
+        let text = joined(alloc, self.complete.as_str(), self.text.as_str())?;
+        out.push_str(text.as_str())
     }
 
     /// Copies of the complete text and of the text without the disambiguators of crates, in memory of their lengths.
@@ -158,6 +221,7 @@ impl<'a> Printer<'a> {
             in_back_reference: _,
             root: _,
             kept,
+            most: _,
             visits: _,
         } = self;
         Buffers {
@@ -282,7 +346,7 @@ impl<'a> Printer<'a> {
     /// Writes the text of a leaf.
     #[cfg_attr(not(debug_assertions), inline(always))]
     pub fn put<L: Leaf>(&mut self, leaf: L) -> Result<(), AllocError> {
-        if !self.muted {
+        if !self.muted && !self.is_full() {
             or_forget(&mut self.kept.fragments, leaf.push(&mut self.text))?;
         }
         Ok(())

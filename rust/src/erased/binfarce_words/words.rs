@@ -61,44 +61,55 @@ pub enum Flag {
     Base,
     /// The addresses are return addresses.
     Return,
+    /// Annotates the addresses in standard input.
+    Annotate,
     /// Reads the dynamic symbol table of an ELF file.
     Dynamic,
     /// Takes the function symbols of all sections.
     All,
 }
 
-impl Named for Flag {
-    fn name(self) -> &'static str {
-        match self {
-            Flag::Help => "--help",
-            Flag::Section => "--section",
-            Flag::Full => "--full",
-            Flag::Base => "--base",
-            Flag::Return => "--return",
-            Flag::Dynamic => "--dynamic",
-            Flag::All => "--all",
-        }
-    }
+/// What an option takes.
+#[derive(Debug, Clone, Copy, PartialEq)]
+pub enum Takes {
+    /// No value.
+    Nothing,
+    /// Any text.
+    Text,
+    /// An address.
+    Address,
 }
 
 impl Flag {
-    /// Whether it has a value: `--base ADDRESS` or `--base=ADDRESS`.
-    pub fn takes_value(self) -> bool {
+    // Its name, its short name if it has one, and what it takes.
+    fn form(self) -> (&'static str, &'static str, Takes) {
         match self {
-            Flag::Help => false,
-            Flag::Section => true,
-            Flag::Full => false,
-            Flag::Base => true,
-            Flag::Return => false,
-            Flag::Dynamic => false,
-            Flag::All => false,
+            Flag::Help => ("--help", "-h", Takes::Nothing),
+            Flag::Section => ("--section", "", Takes::Text),
+            Flag::Full => ("--full", "", Takes::Nothing),
+            Flag::Base => ("--base", "", Takes::Address),
+            Flag::Return => ("--return", "", Takes::Nothing),
+            Flag::Annotate => ("--annotate", "", Takes::Nothing),
+            Flag::Dynamic => ("--dynamic", "", Takes::Nothing),
+            Flag::All => ("--all", "", Takes::Nothing),
         }
+    }
+
+    fn is_named(self, name: &str) -> bool {
+        let (long, short, _) = self.form();
+        long == name || short == name
+    }
+}
+
+impl Named for Flag {
+    fn name(self) -> &'static str {
+        self.form().0
     }
 }
 
 impl Command {
-    /// Its options.
-    pub fn flags(self) -> &'static [Flag] {
+    // Its options.
+    fn flags(self) -> &'static [Flag] {
         match self {
             Command::List | Command::Size | Command::Map => {
                 &[Flag::Help, Flag::Section, Flag::Dynamic, Flag::All]
@@ -108,6 +119,7 @@ impl Command {
                 Flag::Help,
                 Flag::Section,
                 Flag::Return,
+                Flag::Annotate,
                 Flag::Base,
                 Flag::Dynamic,
                 Flag::All,
@@ -189,23 +201,58 @@ impl<'a> fmt::Display for Wrong<'a> {
 
 /// The options and operands of a command.
 #[derive(Debug)]
-pub struct Given<'a> {
-    /// Help is requested.
-    pub help: bool,
-    /// The section of an ELF file that is named.
-    pub section: Option<&'a str>,
-    /// Names keep their hashes.
-    pub full: bool,
-    /// The base, which is subtracted from each address.
-    pub base: u64,
-    /// The addresses are return addresses.
-    pub is_return: bool,
-    /// The dynamic symbol table is read.
-    pub dynamic: bool,
-    /// The function symbols of all sections are taken.
-    pub all: bool,
+pub struct Arguments<'a> {
+    /// The options in their order, each with its value.
+    pub options: Vec<(Flag, &'a str)>,
     /// The words that aren't options.
     pub operands: Vec<&'a str>,
+}
+
+impl<'a> Arguments<'a> {
+    /// Whether the option is given.
+    pub fn has(&self, flag: Flag) -> bool {
+        self.value(flag).is_some()
+    }
+
+    /// The option's value, as it was given last.
+    pub fn value(&self, flag: Flag) -> Option<&'a str> {
+        match last_given(self.options.as_slice(), flag.name()) {
+            Some((_, value)) => Some(value),
+            None => None,
+        }
+    }
+
+    /// The address that is the option's value.
+    pub fn address(&self, flag: Flag) -> Option<u64> {
+        match self.value(flag) {
+            Some(value) => parse_address(value.as_bytes()),
+            None => None,
+        }
+    }
+
+    // Takes an option.
+    fn set(&mut self, flag: Flag, value: &'a str) -> Result<(), Wrong<'a>> {
+        if flag.form().2 == Takes::Address && parse_address(value.as_bytes()).is_none() {
+            return Err(Wrong::NoAddress(value));
+        }
+        match self.options.push((flag, value)) {
+            Ok(()) => Ok(()),
+            Err(_) => Err(Wrong::OutOfMemory),
+        }
+    }
+
+    // Takes an operand.
+    fn push(&mut self, word: &'a str) -> Result<(), Wrong<'a>> {
+        match self.operands.push(word) {
+            Ok(()) => Ok(()),
+            Err(_) => Err(Wrong::OutOfMemory),
+        }
+    }
+}
+
+// The last of these options that has this name.
+fn last_given<'a>(options: &[(Flag, &'a str)], name: &str) -> Option<(Flag, &'a str)> {
+    options.iter().rev().copied().find(|it| it.0.name() == name)
 }
 
 /// A call.
@@ -216,7 +263,7 @@ pub enum Call<'a> {
     /// The program's version.
     Version,
     /// A command's work.
-    Run(Command, Given<'a>),
+    Run(Command, Arguments<'a>),
 }
 
 /// The call that the words after the program's own name mean.
@@ -238,7 +285,13 @@ fn read_words<'a>(alloc: Global, word: &'a str, others: &'a [String]) -> Result<
     if asks_version(word) {
         return Ok(Call::Version);
     }
-    read_command(alloc, word, others)
+    let command = command_named(word)?;
+    let given = read_given(alloc, command, others)?;
+    if given.has(Flag::Help) {
+        return Ok(Call::Help(Some(command)));
+    }
+    check(command, &given)?;
+    Ok(Call::Run(command, given))
 }
 
 fn asks_help(word: &str) -> bool {
@@ -253,66 +306,46 @@ fn asks_version(word: &str) -> bool {
 fn read_help<'a>(others: &'a [String]) -> Result<Call<'a>, Wrong<'a>> {
     match others {
         [] => Ok(Call::Help(None)),
-        [word, ..] => help_on(word.as_str()),
+        [word, ..] => Ok(Call::Help(Some(command_named(word.as_str())?))),
     }
 }
 
-fn help_on(word: &str) -> Result<Call<'_>, Wrong<'_>> {
+// The command of this name.
+fn command_named(word: &str) -> Result<Command, Wrong<'_>> {
     match find_named(&COMMANDS, word) {
-        None => Err(unknown_command(word)),
-        Some(command) => Ok(Call::Help(Some(command))),
+        Some(command) => Ok(command),
+        None => Err(Wrong::UnknownCommand(word, nearest(&COMMANDS, word, 0))),
     }
 }
 
-// The command of this name, with its options and operands.
-fn read_command<'a>(
-    alloc: Global,
-    word: &'a str,
-    others: &'a [String],
-) -> Result<Call<'a>, Wrong<'a>> {
-    match find_named(&COMMANDS, word) {
-        None => Err(unknown_command(word)),
-        Some(command) => read_options(alloc, command, others),
+// The option of the command that is written with this name.
+fn flag_named<'a>(command: Command, word: &'a str, name: &str) -> Result<Flag, Wrong<'a>> {
+    match find_flag(command.flags(), name) {
+        Some(flag) => Ok(flag),
+        None => Err(unknown_option(command, word)),
     }
 }
 
-fn read_options<'a>(
-    alloc: Global,
-    command: Command,
-    words: &'a [String],
-) -> Result<Call<'a>, Wrong<'a>> {
-    match read_given(alloc, command, words) {
-        Err(e) => Err(e),
-        Ok(given) => call_with(command, given),
-    }
+// The first of these options that is written with this name.
+fn find_flag(flags: &[Flag], name: &str) -> Option<Flag> {
+    flags.iter().copied().find(|flag| flag.is_named(name))
 }
 
-// The command, or help on it, where that is requested.
-fn call_with<'a>(command: Command, given: Given<'a>) -> Result<Call<'a>, Wrong<'a>> {
-    if given.help {
-        return Ok(Call::Help(Some(command)));
-    }
-    match fault_of(command, &given) {
-        Some(wrong) => Err(wrong),
-        None => Ok(Call::Run(command, given)),
-    }
+fn unknown_option<'a>(command: Command, word: &'a str) -> Wrong<'a> {
+    Wrong::UnknownOption(command, word, nearest(command.flags(), word, 2))
 }
 
 // What is wrong with what is given: all sections and one of them, or the operands.
-fn fault_of<'a>(command: Command, given: &Given<'a>) -> Option<Wrong<'a>> {
-    if given.all && given.section.is_some() {
-        return Some(Wrong::Exclusive(Flag::All, Flag::Section));
+fn check<'a>(command: Command, given: &Arguments<'a>) -> Result<(), Wrong<'a>> {
+    if given.has(Flag::All) && given.has(Flag::Section) {
+        return Err(Wrong::Exclusive(Flag::All, Flag::Section));
     }
-    operand_fault(command, given.operands.as_slice())
-}
-
-// The fault of a command's operands.
-fn operand_fault<'a>(command: Command, operands: &[&'a str]) -> Option<Wrong<'a>> {
-    match operands {
-        _ if command == Command::Filter => None,
-        [] => Some(Wrong::NoFile(command)),
-        [_, _, word, ..] if command == Command::Section => Some(Wrong::TooMany(word)),
-        _ => None,
+    match given.operands.as_slice() {
+        _ if command == Command::Filter => Ok(()),
+        [] => Err(Wrong::NoFile(command)),
+        [_, _, word, ..] if command == Command::Section => Err(Wrong::TooMany(word)),
+        [_, word, ..] if given.has(Flag::Annotate) => Err(Wrong::TooMany(word)),
+        _ => Ok(()),
     }
 }
 
@@ -321,20 +354,30 @@ fn read_given<'a>(
     alloc: Global,
     command: Command,
     words: &'a [String],
-) -> Result<Given<'a>, Wrong<'a>> {
-    let mut reading = Reading::new(alloc);
+) -> Result<Arguments<'a>, Wrong<'a>> {
+    let mut reading = Reading {
+        given: Arguments {
+            options: Vec::new(alloc),
+            operands: Vec::new(alloc),
+        },
+        waiting: None,
+        are_operands: false,
+    };
     for word in words {
         match reading.take(command, word.as_str()) {
             Ok(()) => {}
             Err(e) => return Err(e),
         }
     }
-    reading.finish()
+    match reading.waiting {
+        None => Ok(reading.given),
+        Some(flag) => Err(Wrong::NoValue(flag)),
+    }
 }
 
 // Words that were read up to here.
 struct Reading<'a> {
-    given: Given<'a>,
+    given: Arguments<'a>,
     // The option whose value comes next.
     waiting: Option<Flag>,
     // `--` came: all further words are operands.
@@ -342,24 +385,6 @@ struct Reading<'a> {
 }
 
 impl<'a> Reading<'a> {
-    fn new(alloc: Global) -> Reading<'a> {
-        let given = Given {
-            help: false,
-            section: None,
-            full: false,
-            base: 0,
-            dynamic: false,
-            is_return: false,
-            all: false,
-            operands: Vec::new(alloc),
-        };
-        Reading {
-            given,
-            waiting: None,
-            are_operands: false,
-        }
-    }
-
     // Takes the next word.
     fn take(&mut self, command: Command, word: &'a str) -> Result<(), Wrong<'a>> {
         if let Some(flag) = self.waiting {
@@ -373,83 +398,16 @@ impl<'a> Reading<'a> {
             self.are_operands = true;
             return Ok(());
         }
-        self.take_option(command, word)
-    }
-
-    // Takes a word that is an option.
-    fn take_option(&mut self, command: Command, word: &'a str) -> Result<(), Wrong<'a>> {
-        match parts_of(word) {
-            None => self.take_name(command, word),
-            Some((name, value)) => self.take_value(command, word, name, value),
-        }
-    }
-
-    // Takes an option with its value.
-    fn take_value(
-        &mut self,
-        command: Command,
-        word: &'a str,
-        name: &'a str,
-        value: &'a str,
-    ) -> Result<(), Wrong<'a>> {
-        match flag_of(command, name) {
-            None => Err(unknown_option(command, word)),
-            Some(flag) => {
-                if flag.takes_value() {
-                    self.given.set(flag, value)
-                } else {
-                    Err(unknown_option(command, word))
-                }
+        let (name, value) = parts_of(word);
+        let flag = flag_named(command, word, name)?;
+        match (flag.form().2, value) {
+            (Takes::Nothing, None) => self.given.set(flag, ""),
+            (Takes::Nothing, Some(_)) => Err(unknown_option(command, word)),
+            (_, Some(value)) => self.given.set(flag, value),
+            (_, None) => {
+                self.waiting = Some(flag);
+                Ok(())
             }
-        }
-    }
-
-    // Takes an option without its value.
-    fn take_name(&mut self, command: Command, word: &'a str) -> Result<(), Wrong<'a>> {
-        match flag_of(command, word) {
-            None => Err(unknown_option(command, word)),
-            Some(flag) => {
-                if flag.takes_value() {
-                    self.waiting = Some(flag);
-                    Ok(())
-                } else {
-                    self.given.set(flag, "")
-                }
-            }
-        }
-    }
-
-    // The options and operands, after all words were read.
-    fn finish(self) -> Result<Given<'a>, Wrong<'a>> {
-        match self.waiting {
-            None => Ok(self.given),
-            Some(flag) => Err(Wrong::NoValue(flag)),
-        }
-    }
-}
-
-impl<'a> Given<'a> {
-    // Sets an option. The value of one that takes none is ignored.
-    fn set(&mut self, flag: Flag, value: &'a str) -> Result<(), Wrong<'a>> {
-        match flag {
-            Flag::Help => self.help = true,
-            Flag::Section => self.section = Some(value),
-            Flag::Full => self.full = true,
-            Flag::Base => match parse_address(value.as_bytes()) {
-                Some(base) => self.base = base,
-                None => return Err(Wrong::NoAddress(value)),
-            },
-            Flag::Dynamic => self.dynamic = true,
-            Flag::Return => self.is_return = true,
-            Flag::All => self.all = true,
-        }
-        Ok(())
-    }
-
-    fn push(&mut self, word: &'a str) -> Result<(), Wrong<'a>> {
-        match self.operands.push(word) {
-            Ok(()) => Ok(()),
-            Err(_) => Err(Wrong::OutOfMemory),
         }
     }
 }
@@ -459,23 +417,10 @@ fn is_option(word: &str) -> bool {
     matches!(word.as_bytes(), [b'-', _, ..])
 }
 
-// The parts of the word before and after its first `=`.
-fn parts_of(word: &str) -> Option<(&str, &str)> {
-    word.split_once('=')
-}
-
-// The command's option of this name. `-h` is `--help`.
-fn flag_of(command: Command, name: &str) -> Option<Flag> {
-    if name == "-h" {
-        return Some(Flag::Help);
+// The parts of the word before and after its first `=`, or the word alone.
+fn parts_of(word: &str) -> (&str, Option<&str>) {
+    match word.split_once('=') {
+        Some((name, value)) => (name, Some(value)),
+        None => (word, None),
     }
-    find_named(command.flags(), name)
-}
-
-fn unknown_command(word: &str) -> Wrong<'_> {
-    Wrong::UnknownCommand(word, nearest(&COMMANDS, word, 0))
-}
-
-fn unknown_option<'a>(command: Command, word: &'a str) -> Wrong<'a> {
-    Wrong::UnknownOption(command, word, nearest(command.flags(), word, 2))
 }

@@ -5,6 +5,7 @@
 use crate::shim::Vec;
 use crate::erased::test_lookups::Asking;
 use crate::erased::test_lookups::words::{known, number, push_hex, push_number, push_words};
+use crate::erased::binfarce_addresses::annotate::{annotate_stream, push_annotated};
 use crate::erased::binfarce_addresses::at::{Places, at, at_tables};
 use crate::erased::binfarce_addresses::stream::{
     LinesError, answer_lines, push_lines as push_lines_of,
@@ -82,12 +83,13 @@ fn typed(alloc: Global, words: &str) -> io::Result<Vec<u8>> {
     Ok(text)
 }
 
-// Lines of addresses, how they are looked up, and where.
+// A text, how its addresses are looked up, and where: the lines are addresses, or addresses within it are annotated.
 #[derive(Clone, Copy)]
 struct Input<'a> {
     alloc: Global,
     places: &'a Places<'static>,
     lookup: Lookup,
+    annotates: bool,
     text: &'a [u8],
 }
 
@@ -112,6 +114,7 @@ pub(crate) fn push_answers(
             base: number(base, true)?,
             is_return,
         },
+        annotates: false,
         text: &lines,
     };
     let target = Target::taking(alloc, usize::MAX);
@@ -123,11 +126,46 @@ pub(crate) fn push_answers(
     if !are_short_calls_answered(&input, &answers, missing) {
         push_words(text, ", but not by short calls")?;
     }
-    if !are_failed_calls_reported(&input, &answers) {
+    if !are_failed_calls_reported(&input, &answers)? {
         push_words(text, ", but not where calls fail")?;
     }
     if !are_parts_answered(&input, &answers, missing)? {
         push_words(text, ", but not in parts")?;
+    }
+    Ok(())
+}
+
+/// Adds the text with its addresses annotated by the 64-bit sample, and which way of reading or writing gives another one.
+pub(crate) fn push_annotated_text(
+    alloc: Global,
+    words: &str,
+    is_return: bool,
+    text: &mut Vec<u8>,
+) -> io::Result<()> {
+    let (base, words) = known(words.split_once(' '))?;
+    let lines = typed(alloc, quoted(words)?)?;
+    let Ok(places) = Places::of_file(alloc, &ELF64_LITTLE, ".text") else {
+        return known(None);
+    };
+    let lookup = Lookup {
+        base: number(base, true)?,
+        is_return,
+    };
+    let input = Input {
+        alloc,
+        places: &places,
+        lookup,
+        annotates: true,
+        text: &lines,
+    };
+    let start = text.len();
+    push_annotated(alloc, &places, lookup, &lines, text)?;
+    let answers = Vec::from_slice(alloc, text.get(start..).unwrap_or(&[]))?;
+    if !are_short_calls_answered(&input, &answers, 0) {
+        push_words(text, ", but not by short calls")?;
+    }
+    if !are_failed_calls_reported(&input, &answers)? {
+        push_words(text, ", but not where calls fail")?;
     }
     Ok(())
 }
@@ -140,13 +178,12 @@ fn answered<R: Read>(
 ) -> (Result<u64, LinesError>, Vec<u8>) {
     let mut reader = reader;
     let mut out = Out::new(target);
-    let ended = answer_lines(
-        input.alloc,
-        input.places,
-        input.lookup,
-        &mut reader,
-        &mut out,
-    );
+    let (alloc, places, lookup) = (input.alloc, input.places, input.lookup);
+    let ended = if input.annotates {
+        annotate_stream(alloc, places, lookup, &mut reader, &mut out).map(|()| 0)
+    } else {
+        answer_lines(alloc, places, lookup, &mut reader, &mut out)
+    };
     (ended, out.into_inner().taken)
 }
 
@@ -172,19 +209,28 @@ fn whole_lines(text: &[u8]) -> usize {
     text.iter().filter(|byte| **byte == b'\n').count()
 }
 
-// If the reader fails, the whole lines before are answered, and no part of one. If the writer takes no more bytes or fails, those
-// before were written.
-fn are_failed_calls_reported(input: &Input<'_>, answers: &[u8]) -> bool {
+// Whether this is the output of a reader that gives these bytes and then fails: the whole lines are answered, and no part of one;
+// or all is annotated.
+fn is_first(input: &Input<'_>, came: &[u8], answers: &[u8], taken: &[u8]) -> io::Result<bool> {
+    if input.annotates {
+        let mut all = Vec::new(input.alloc);
+        push_annotated(input.alloc, input.places, input.lookup, came, &mut all)?;
+        return Ok(all.as_slice() == taken);
+    }
+    Ok(answers.starts_with(taken) && whole_lines(taken) == whole_lines(came))
+}
+
+// If the reader fails, what came before is answered. If the writer takes no more bytes or fails, those before were written.
+fn are_failed_calls_reported(input: &Input<'_>, answers: &[u8]) -> io::Result<bool> {
     for came in 0..=input.text.len() {
+        let part = first_bytes(input.text, came);
         let source = Source {
             end: Some(ErrorKind::Other),
-            ..Source::of(first_bytes(input.text, came))
+            ..Source::of(part)
         };
         let (ended, taken) = answered(input, source, Target::taking(input.alloc, usize::MAX));
-        let lines = whole_lines(first_bytes(input.text, came));
-        let is_first = answers.starts_with(&taken) && whole_lines(&taken) == lines;
-        if ended != Err(LinesError::Read) || !is_first {
-            return false;
+        if ended != Err(LinesError::Read) || !is_first(input, part, answers, &taken)? {
+            return Ok(false);
         }
     }
     for left in 0..answers.len() {
@@ -196,11 +242,11 @@ fn are_failed_calls_reported(input: &Input<'_>, answers: &[u8]) -> bool {
             };
             let (ended, taken) = answered(input, Source::of(input.text), target);
             if ended != Err(LinesError::Write) || taken.as_slice() != first_bytes(answers, left) {
-                return false;
+                return Ok(false);
             }
         }
     }
-    true
+    Ok(true)
 }
 
 // A text in two parts is answered as in one, whatever the parts are. A last line without a line feed waits for it.

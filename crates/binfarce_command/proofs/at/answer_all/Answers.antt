@@ -2,7 +2,7 @@ use Rattle.std.proofs.Common.{◌≡◌, true, Err, inr}
 use Rattle.binfarce_addresses.specs.Lines.{AreLinesAt}
 use Rattle.binfarce_tools.specs.Listing.{ListingFits}
 use Rattle.binfarce_tools.specs.ListWords as list
-use Rattle.binfarce_tools.specs.Selection.{section_of}
+use Rattle.binfarce_bytes.specs.Selection.{section_of}
 use Rattle.binfarce_tools.specs.Writing.{Outcome, Takes, EndsAs, written}
 use Rattle.binfarce_addresses.proofs.AddressLines.{ends_of, takes_of}
 use Rattle.binfarce_command.specs.Show.{MemoryFor, answer_for}

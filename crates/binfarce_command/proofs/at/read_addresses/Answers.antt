@@ -1,5 +1,4 @@
-use Rattle.std.proofs.Common.{[], inr, refl, get_or}
-use Rattle.binfarce_words.specs.Words.{no_address}
+use Rattle.std.proofs.Common.{[], inr}
 use Rattle.binfarce_command.proofs.AddressWords.{stops, goes_on, all_words}
 use Rattle.binfarce_command.proofs.at.read_addresses.Goals as goal
 
@@ -7,11 +6,7 @@ pub returns-in-None : goal.returns-in-None
 returns-in-None c =
     let words = c.args.words.now in
     let i = c.loop-word.word-index in
-    inr (
-      no_address (get_or words i (record { ref_ptr = (0, 0); now = [] })).now,
-      stops words i (record { ref_ptr = (0, 0); now = [] }) c.as_bytes.result.now c.loop-word.addresses.items c.loop-word-test.true c.as_bytes.ensures.value c.loop-word.invariant c.in-None.ensures,
-      refl,
-    )
+    inr (stops words i (record { ref_ptr = (0, 0); now = [] }) c.as_bytes.result.now c.loop-word.addresses.items c.loop-word-test.true c.as_bytes.ensures.value c.loop-word.invariant c.in-None.ensures, tt)
 
 pub loop-word-preserved : goal.loop-word-preserved
 loop-word-preserved c =

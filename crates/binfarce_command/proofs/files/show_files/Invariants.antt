@@ -1,6 +1,6 @@
 use Rattle.std.proofs.Common.{◌≡◌, ℕ, List, take, length, ltb}
-use Rattle.binfarce_command.specs.Files.{AreHeld, Shows}
-use Rattle.binfarce_command.specs.Headed.{writer_of}
+use Rattle.binfarce_command.specs.Files.{AreHeld, Shows, asked_files}
+use Rattle.binfarce_command.specs.Output.{state_of}
 use Rattle.binfarce_command.proofs.FileLoop.{paths_of}
 use Rattle.binfarce_command.proofs.files.show_files.Given as goal
 
@@ -8,8 +8,8 @@ use Rattle.binfarce_command.proofs.files.show_files.Given as goal
 abbrev pub invariant-loop-path : goal.invariant-loop-path
 invariant-loop-path g l = record {
   shows : (held : List ℕ → List ℕ) → AreHeld (g.Y.System.bytes_at l.fn.system) held (paths_of l.files)
-      → Shows l.asked (g.Y.System.may_fail_at l.fn.system) held (ltb 1 (length l.files)) (paths_of (take l.path-index l.files))
-      (g.W.Write.contents (writer_of l.fn.out)) (g.W.Write.contents (writer_of l.out)) (g.Y.System.reports l.fn.system) (g.Y.System.reports l.system) l.are_shown;
+      → Shows (asked_files l.asked (ltb 1 (length l.files)) (g.Y.System.may_fail_at l.fn.system) held) (paths_of (take l.path-index l.files))
+      (state_of g.W.Write.contents l.fn.out (g.Y.System.reports l.fn.system)) (state_of g.W.Write.contents l.out (g.Y.System.reports l.system)) l.are_shown;
   bytes : g.Y.System.bytes_at l.system ≡ g.Y.System.bytes_at l.fn.system;
   may_fail : g.Y.System.may_fail_at l.system ≡ g.Y.System.may_fail_at l.fn.system;
 }

@@ -1,5 +1,5 @@
 use Rattle.std.proofs.Common.{◌≡◌, true, inr}
-use Rattle.binfarce_tools.specs.Selection.{section_of}
+use Rattle.binfarce_bytes.specs.Selection.{section_of}
 use Rattle.binfarce_tools.specs.Tables.{AreTablesOf}
 use Rattle.binfarce_command.specs.Show.{Fits, MemoryFor, answer_for}
 use Rattle.binfarce_command.proofs.Shown.{unread}

@@ -1,12 +1,12 @@
-use Rattle.std.proofs.Common.{arith}
-use Rattle.binfarce_legacy.proofs.LaneLemmas.{run_of_all, run_to_first}
-use Rattle.binfarce_filtering.specs.machine.Scan.{is_other}
-use Rattle.binfarce_filtering.proofs.Lanes.{underscore_mask}
+use Rattle.std.proofs.Common.{◌≡◌, Bool, true, false, not, ◌||◌, eqb, refl, ◌∙◌}
+use Rattle.binfarce_text.specs.machine.Strides.{is_other}
+use Rattle.binfarce_text.proofs.Lanes.{same_run}
+use Rattle.binfarce_filtering.specs.machine.Scan as scan
 use Rattle.binfarce_filtering.proofs.filter.others_among.Goals as goal
 
-pub returns-then-underscores-eq0 : goal.returns-then-underscores-eq0
-returns-then-underscores-eq0 c = run_of_all is_other c.args.bytes.now 16 _ c.requires (underscore_mask c.args.bytes.now c.requires c.type_inv.bytes) c.if-underscores-eq0.true
+thrice : (r : Bool) → not (r || (r || r)) ≡ not r
+thrice true = refl
+thrice false = refl
 
-pub returns-else-underscores-eq0 : goal.returns-else-underscores-eq0
-returns-else-underscores-eq0 c =
-    run_to_first is_other c.args.bytes.now 16 _ c.requires (omega arith) (underscore_mask c.args.bytes.now c.requires c.type_inv.bytes) (omega (arith, c.if-underscores-eq0.false))
+pub returns : goal.returns
+returns c = c.len_before.ensures ∙ same_run (is_other 95 95 95) scan.is_other c.args.bytes.now (λ x. thrice (eqb x 95))

@@ -6,9 +6,9 @@ use Rattle.binfarce.specs.Format.{format_of}
 use Rattle.binfarce.specs.declared.SymbolTable.{SymbolTable}
 use Rattle.binfarce_tables.proofs.Readings.{passed_surely}
 use Rattle.binfarce_tools.specs.Parts.{head_part, format_parts, all_format_parts, parts_in}
-use Rattle.binfarce_tools.specs.Selection.{section_of}
+use Rattle.binfarce_bytes.specs.Selection.{section_of}
 use Rattle.binfarce_tools.specs.Tables.{ReadsTables}
-use Rattle.binfarce_tools.specs.declared.tables.Selection.{Selection}
+use Rattle.binfarce_bytes.specs.declared.functions.Selection.{Selection}
 use Rattle.binfarce_tools.proofs.TablesRead.{format_of_head}
 use Rattle.binfarce_tools.proofs.tables.read.Goals as goal
 

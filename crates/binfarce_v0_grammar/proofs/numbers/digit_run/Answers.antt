@@ -1,6 +1,6 @@
 use Rattle.std.proofs.Common.{not, leb, cond, bit_and, bit_or, refl, arith}
 use Rattle.std.specs.Char.{is_ascii_alphanumeric}
-use Rattle.binfarce_v0_grammar.proofs.DigitRuns.{joined, each_is, loaded, masked, run_of_all, run_to_first}
+use Rattle.binfarce_text.proofs.Lanes.{joined, each_is, loaded, masked, run_of_all, run_to_first}
 use Rattle.binfarce_v0_grammar.proofs.numbers.digit_run.Goals as goal
 
 pub returns-then-others-eq0 : goal.returns-then-others-eq0

@@ -1,6 +1,6 @@
-use Rattle.std.proofs.Common.{Result, sym, subst}
-use Rattle.binfarce_words.specs.Words.{Given, Wrong}
-use Rattle.binfarce_words.specs.WordViews.{Gives, given_view, reading_view}
+use Rattle.std.proofs.Common.{◌∙◌, inr, ap}
+use Rattle.binfarce_words.specs.Words.{finished}
+use Rattle.binfarce_words.specs.WordViews.{given_view, reading_view}
 use Rattle.binfarce_words.proofs.WordLoop.{all_read, ends, goes_on}
 use Rattle.binfarce_words.proofs.words.read_given.Goals as goal
 
@@ -10,7 +10,14 @@ returns-in-Err c = ends c.args.command c.args.words.now c.loop-word.word-index c
 pub loop-word-preserved : goal.loop-word-preserved
 loop-word-preserved c = goes_on c.args.command c.args.words.now c.loop-word.word-index c.word-item.result c.as_str.result.now (reading_view c.loop-word.reading) c.loop-word-test.true c.word-item.is c.as_str.ensures.value c.loop-word.invariant (reading_view c.take.new.self) c.in-Ok.ensures
 
+pub returns-in-None : goal.returns-in-None
+returns-in-None c =
+    all_read c.args.command c.args.words.now c.loop-word.word-index (reading_view c.loop-word.reading) c.loop-word-test.false c.loop-word.invariant
+    ∙ ap (finished (given_view c.loop-word.reading.given)) c.in-None.is
+
 pub returns : goal.returns
-returns c =
-    let P : Result Given Wrong → Type 0 = λ answer. Gives given_view answer c.finish.result in
-    subst P (sym (all_read c.args.command c.args.words.now c.loop-word.word-index (reading_view c.loop-word.reading) c.loop-word-test.false c.loop-word.invariant)) c.finish.ensures
+returns c = inr (
+  all_read c.args.command c.args.words.now c.loop-word.word-index (reading_view c.loop-word.reading) c.loop-word-test.false c.loop-word.invariant
+      ∙ ap (finished (given_view c.loop-word.reading.given)) c.in-Some.is,
+  tt,
+)

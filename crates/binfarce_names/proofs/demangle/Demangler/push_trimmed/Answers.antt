@@ -1,4 +1,4 @@
-use Rattle.std.proofs.Common.{ℕ, List, subst}
+use Rattle.std.proofs.Common.{ℕ, List, false, None, subst}
 use Rattle.std.specs.String.{string_bytes}
 use Rattle.binfarce_legacy.specs.Legacy.{Element, IsLegacy}
 use Rattle.binfarce_v0.proofs.Validating.{no_mangling}
@@ -19,7 +19,7 @@ returns-in_default-candidate-clause-trimmed c =
     let new = string_bytes c.push_str.new.self in
     let none = no_mangling c.without_llvm-stripped.result.now c.in_default-candidate.ensures in
     pushed c.push_str.result old new c.args.name.now _
-    (unchanged_grows c.args.name.now c.without_llvm-stripped.result.now old new other none)
+    (unchanged_grows false None c.args.name.now c.without_llvm-stripped.result.now old new other none)
     c.push_str.ensures.bytes
 
 pub push_candidate-requires-clause-not_legacy : goal.push_candidate-requires-clause-not_legacy

@@ -1,0 +1,297 @@
+//! Annotates the addresses within a text.
+
+ghost use Rattle.std.specs.Prelude.{◌≡◌, ◌++◌, ◌+◌, ◌<◌, ◌≤◌, ◌≢◌, [], ℕ, List, Some, true, false, codes, length, slice_index, IfOk, OnOk};
+ghost use Rattle.std.specs.Fmt.{digits};
+ghost use Rattle.std.specs.String.{string_bytes};
+ghost use Rattle.binfarce.specs.Name.{Name};
+ghost use Rattle.binfarce.specs.Named.{IsNamed};
+ghost use Rattle.binfarce.specs.SymbolViews.{function_view};
+ghost use Rattle.binfarce_addresses.specs.Annotated.{address_len, digits_len, AnnotatesAll, IsAddedAfter, IsAnnotated};
+ghost use Rattle.binfarce_addresses.specs.Stream.{Fails};
+ghost use Rattle.binfarce_addresses.specs.machine.Annotating.{IsDecided, Passes, PassesAll, ShowsFirst, ShowsTo};
+
+use crate::address::parse_address;
+use crate::at::Places;
+use crate::lookup::Lookup;
+use crate::names::name_of;
+use crate::stream::{LinesError, new_chunk, write_all};
+use binfarce::FunctionSymbol;
+use binfarce_tools::list::Sink;
+use std::alloc::{AllocError, Global};
+use std::fmt::Write;
+use std::io::{ErrorKind, Read};
+
+// The fewest and the most digits of an address.
+const FEWEST: usize = 4;
+
+const MOST: usize = 16;
+
+// The most bytes of one: `0x` and 16 digits.
+const LONGEST: usize = 18;
+
+/// Appends the text with ` <name+0x1f>` after each address that a function symbol holds: its trimmed name, and the offset
+/// of the address into it, by this lookup. An address is `0x` and 4 to 16 hexadecimal digits, in upper or lower case,
+/// up to the next other byte. All other bytes stay as they are, and need not be UTF-8.
+///
+/// # Errors
+///
+/// `AllocError` where an allocation failed: `out` is then unspecified.
+pub fn push_annotated(
+    alloc: Global,
+    places: &Places<'_>,
+    lookup: Lookup,
+    text: &[u8],
+    out: &mut Vec<u8>,
+) -> Result<(), AllocError>
+    ensures { OnOk result
+        ((annotated : List ℕ) × IsAnnotated places.now lookup text.now annotated
+        × (out.new.items ≡ out.old.items ++ annotated)) }
+{
+    push_decided(alloc, places, lookup, true, text, out)?;
+    Ok(())
+}
+
+/// Annotates a stream: writes what `push_annotated` gives for all that the reader gives. Each line is written as soon
+/// as its line feed has come: of an unfinished line at most 18 bytes at its end are kept, an address that may go on. A
+/// read that was interrupted is tried again.
+///
+/// # Errors
+///
+/// `Read` where the reader failed: what came before is annotated, as if the stream ended there. `Write` where a write failed,
+/// and `OutOfMemory` where an allocation did: a beginning was written.
+pub fn annotate_stream<R: Read, S: Sink>(
+    alloc: Global,
+    places: &Places<'_>,
+    lookup: Lookup,
+    input: &mut R,
+    out: &mut S,
+) -> Result<(), LinesError>
+    ensures annotates { AnnotatesAll places.now lookup (R.remaining input.old) (R.remaining input.new) (S.taken out.old)
+        (S.taken out.new) result }
+    ensures fails { Fails (S.has_failed out.old) (S.has_failed out.new) result }
+{
+    let mut chunk = new_chunk(alloc)?;
+    let mut kept = Vec::new(alloc);
+    let ended = pass_all(
+        alloc,
+        places,
+        lookup,
+        &mut kept,
+        chunk.as_mut_slice(),
+        input,
+        out,
+    )?;
+    pass(alloc, places, lookup, true, &mut kept, &[], out)?;
+    if ended { Ok(()) } else { Err(LinesError::Read) }
+}
+
+// Annotates all that the reader gives, but for what is kept of it. Returns `false` where the reader failed.
+fn pass_all<R: Read, S: Sink>(
+    alloc: Global,
+    places: &Places<'_>,
+    lookup: Lookup,
+    kept: &mut Vec<u8>,
+    chunk: &mut [u8],
+    input: &mut R,
+    out: &mut S,
+) -> Result<bool, LinesError>
+    requires empty { kept.old.items ≡ [] }
+    requires room { 0 < length chunk.now }
+    ensures passes { PassesAll places.now lookup kept.new.items (R.remaining input.old) (R.remaining input.new)
+        (S.taken out.old) (S.taken out.new) result }
+    ensures fails { Fails (S.has_failed out.old) (S.has_failed out.new) result }
+{
+    for _ in 0..u64::MAX {
+        match input.read(chunk) {
+            Ok(0) => return Ok(true),
+            Ok(n) => pass(alloc, places, lookup, false, kept, &chunk[..n], out)?,
+            Err(e) => {
+                if e.kind() != ErrorKind::Interrupted {
+                    return Ok(false);
+                }
+            }
+        }
+    }
+    Ok(false)
+}
+
+// Annotates the kept text and the next part, and keeps an address at its end that may go on.
+fn pass<S: Sink>(
+    alloc: Global,
+    places: &Places<'_>,
+    lookup: Lookup,
+    is_last: bool,
+    kept: &mut Vec<u8>,
+    part: &[u8],
+    out: &mut S,
+) -> Result<(), LinesError>
+    ensures passes { Passes places.now lookup is_last (kept.old.items ++ part.now) kept.new.items (S.taken out.old)
+        (S.taken out.new) result }
+    ensures short { OnOk result (length kept.new.items ≤ 18) }
+    ensures none { is_last ≡ true → OnOk result (kept.new.items ≡ []) }
+    ensures fails { Fails (S.has_failed out.old) (S.has_failed out.new) result }
+{
+    kept.extend_from_slice(part)?;
+    let mut text = Vec::new(alloc);
+    let at = push_decided(alloc, places, lookup, is_last, kept.as_slice(), &mut text)?;
+    write_all(out, text.as_slice())?;
+    let rest = Vec::from_slice(alloc, &kept[at..])?;
+    *kept = rest;
+    Ok(())
+}
+
+// Appends the annotated text before an address at its end that may go on, and returns where that begins. With nothing
+// after the text, this is its end.
+fn push_decided(
+    alloc: Global,
+    places: &Places<'_>,
+    lookup: Lookup,
+    is_last: bool,
+    text: &[u8],
+    out: &mut Vec<u8>,
+) -> Result<usize, AllocError>
+    ensures within { IfOk result (λ at. at ≤ length text.now) }
+    ensures short { IfOk result (λ at. length text.now ≤ at + 18) }
+    ensures last { is_last ≡ true → IfOk result (λ at. at ≡ length text.now) }
+    ensures shows { IfOk result (λ at. ShowsTo places.now lookup is_last text.now at out.old.items out.new.items) }
+{
+    let mut at = 0;
+    while at < text.len() && is_decided(is_last, &text[at..]) {
+        let len = push_first(alloc, places, lookup, &text[at..], out)?;
+        at += len;
+    }
+    Ok(at)
+}
+
+// Whether the address that the text begins with, or that it begins with none, stays whatever comes after the text. Nothing
+// comes after the last text.
+fn is_decided(is_last: bool, text: &[u8]) -> bool
+    requires { 0 < length text.now }
+    ensures decided { result ≡ true → IsDecided is_last text.now }
+    ensures last { is_last ≡ true → result ≡ true }
+    ensures short { result ≡ false → length text.now ≤ 18 }
+{
+    if is_last {
+        return true;
+    }
+    if text.len() > LONGEST {
+        return true;
+    }
+    if text.len() == 1 {
+        return text[0] != b'0';
+    }
+    if !text.starts_with(b"0x") {
+        return true;
+    }
+    digits_len(&text[2..]) < text.len() - 2
+}
+
+// Appends the annotated text of an address that the text begins with, or of bytes before the next one. Returns how many
+// bytes these are.
+fn push_first(
+    alloc: Global,
+    places: &Places<'_>,
+    lookup: Lookup,
+    text: &[u8],
+    out: &mut Vec<u8>,
+) -> Result<usize, AllocError>
+    requires { 0 < length text.now }
+    ensures within { IfOk result (λ n. (0 < n) × (n ≤ length text.now)) }
+    ensures shows { IfOk result
+        (λ n. ShowsFirst places.now lookup text.now n out.old.items out.new.items) }
+{
+    let len = address_len(text);
+    if len == 0 {
+        let others = others_len(text);
+        out.extend_from_slice(&text[..others])?;
+        return Ok(others);
+    }
+    out.extend_from_slice(&text[..len])?;
+    push_added(alloc, places, lookup, parse_address(&text[..len]), out)?;
+    Ok(len)
+}
+
+// Appends what is added after an address.
+fn push_added(
+    alloc: Global,
+    places: &Places<'_>,
+    lookup: Lookup,
+    address: Option<u64>,
+    out: &mut Vec<u8>,
+) -> Result<(), AllocError>
+    ensures { OnOk result
+        ((added : List ℕ) × IsAddedAfter places.now lookup address added × (out.new.items ≡ out.old.items ++ added)) }
+{
+    if let Some(address) = address {
+        if let Some(found) = places.find(lookup, address) {
+            push_place(alloc, found.0, found.1, out)?;
+        }
+    }
+    Ok(())
+}
+
+// Appends a function symbol's trimmed name and an offset in angle brackets.
+fn push_place(
+    alloc: Global,
+    function: FunctionSymbol<'_>,
+    offset: u64,
+    out: &mut Vec<u8>,
+) -> Result<(), AllocError>
+    ensures { OnOk result
+        ((name : Name) × IsNamed (function_view function.entry).name name
+        × (out.new.items ≡ out.old.items ++ (codes " <" ++ (name.trimmed
+        ++ (codes "+0x" ++ (digits 16 false offset ++ codes ">")))))) }
+{
+    let mut place = name_of(alloc, function)?;
+    push_end(&mut place, offset)?;
+    out.extend_from_slice(b" <")?;
+    out.extend_from_slice(place.as_bytes())?;
+    Ok(())
+}
+
+fn push_end(text: &mut String, offset: u64) -> Result<(), AllocError>
+    ensures { OnOk result
+        (string_bytes text.new ≡ string_bytes text.old ++ (codes "+0x" ++ (digits 16 false offset ++ codes ">"))) }
+{
+    write!(text, "+0x{offset:x}>")
+}
+
+// The length of the address that the text begins with, or 0.
+fn address_len(text: &[u8]) -> usize
+    ensures within { result ≤ length text.now }
+    ensures len { result ≡ address_len text.now }
+{
+    if !text.starts_with(b"0x") {
+        return 0;
+    }
+    let digits = digits_len(&text[2..]);
+    if digits < FEWEST || digits > MOST {
+        return 0;
+    }
+    2 + digits
+}
+
+// How many hexadecimal digits the text begins with.
+fn digits_len(text: &[u8]) -> usize
+    ensures within { result ≤ length text.now }
+    ensures len { result ≡ digits_len text.now }
+{
+    let mut len = 0;
+    while len < text.len() && text[len].is_ascii_hexdigit() {
+        len += 1;
+    }
+    len
+}
+
+// How many bytes the first one and those before the next `0` are.
+fn others_len(text: &[u8]) -> usize
+    requires { 0 < length text.now }
+    ensures within { (0 < result) × (result ≤ length text.now) }
+    ensures others { (k : ℕ) → 0 < k → k < result → slice_index text.now k ≢ 48 }
+{
+    let mut len = 1;
+    while len < text.len() && text[len] != b'0' {
+        len += 1;
+    }
+    len
+}

@@ -1,0 +1,233 @@
+// From crates/binfarce_addresses/src/annotate.rt, by tools/erase.
+
+//! Annotates the addresses within a text.
+
+use crate::shim::{String, Vec};
+use crate::erased::binfarce_addresses::address::parse_address;
+use crate::erased::binfarce_addresses::at::Places;
+use crate::erased::binfarce_addresses::lookup::Lookup;
+use crate::erased::binfarce_addresses::names::name_of;
+use crate::erased::binfarce_addresses::stream::{LinesError, new_chunk, write_all};
+use crate::erased::binfarce::FunctionSymbol;
+use crate::erased::binfarce_tools::list::Sink;
+use crate::shim::alloc::{AllocError, Global};
+use crate::shim::io::{ErrorKind, Read};
+
+// The fewest and the most digits of an address.
+const FEWEST: usize = 4;
+
+const MOST: usize = 16;
+
+// The most bytes of one: `0x` and 16 digits.
+const LONGEST: usize = 18;
+
+/// Appends the text with ` <name+0x1f>` after each address that a function symbol holds: its trimmed name, and the offset
+/// of the address into it, by this lookup. An address is `0x` and 4 to 16 hexadecimal digits, in upper or lower case,
+/// up to the next other byte. All other bytes stay as they are, and need not be UTF-8.
+///
+/// # Errors
+///
+/// `AllocError` where an allocation failed: `out` is then unspecified.
+pub fn push_annotated(
+    alloc: Global,
+    places: &Places<'_>,
+    lookup: Lookup,
+    text: &[u8],
+    out: &mut Vec<u8>,
+) -> Result<(), AllocError> {
+    push_decided(alloc, places, lookup, true, text, out)?;
+    Ok(())
+}
+
+/// Annotates a stream: writes what `push_annotated` gives for all that the reader gives. Each line is written as soon
+/// as its line feed has come: of an unfinished line at most 18 bytes at its end are kept, an address that may go on. A
+/// read that was interrupted is tried again.
+///
+/// # Errors
+///
+/// `Read` where the reader failed: what came before is annotated, as if the stream ended there. `Write` where a write failed,
+/// and `OutOfMemory` where an allocation did: a beginning was written.
+pub fn annotate_stream<R: Read, S: Sink>(
+    alloc: Global,
+    places: &Places<'_>,
+    lookup: Lookup,
+    input: &mut R,
+    out: &mut S,
+) -> Result<(), LinesError> {
+    let mut chunk = new_chunk(alloc)?;
+    let mut kept = Vec::new(alloc);
+    let ended = pass_all(
+        alloc,
+        places,
+        lookup,
+        &mut kept,
+        chunk.as_mut_slice(),
+        input,
+        out,
+    )?;
+    pass(alloc, places, lookup, true, &mut kept, &[], out)?;
+    if ended { Ok(()) } else { Err(LinesError::Read) }
+}
+
+// Annotates all that the reader gives, but for what is kept of it. Returns `false` where the reader failed.
+fn pass_all<R: Read, S: Sink>(
+    alloc: Global,
+    places: &Places<'_>,
+    lookup: Lookup,
+    kept: &mut Vec<u8>,
+    chunk: &mut [u8],
+    input: &mut R,
+    out: &mut S,
+) -> Result<bool, LinesError> {
+    for _ in 0..u64::MAX {
+        match input.read(chunk) {
+            Ok(0) => return Ok(true),
+            Ok(n) => pass(alloc, places, lookup, false, kept, &chunk[..n], out)?,
+            Err(e) => {
+                if e.kind() != ErrorKind::Interrupted {
+                    return Ok(false);
+                }
+            }
+        }
+    }
+    Ok(false)
+}
+
+// Annotates the kept text and the next part, and keeps an address at its end that may go on.
+fn pass<S: Sink>(
+    alloc: Global,
+    places: &Places<'_>,
+    lookup: Lookup,
+    is_last: bool,
+    kept: &mut Vec<u8>,
+    part: &[u8],
+    out: &mut S,
+) -> Result<(), LinesError> {
+    kept.extend_from_slice(part)?;
+    let mut text = Vec::new(alloc);
+    let at = push_decided(alloc, places, lookup, is_last, kept.as_slice(), &mut text)?;
+    write_all(out, text.as_slice())?;
+    let rest = Vec::from_slice(alloc, &kept[at..])?;
+    *kept = rest;
+    Ok(())
+}
+
+// Appends the annotated text before an address at its end that may go on, and returns where that begins. With nothing
+// after the text, this is its end.
+fn push_decided(
+    alloc: Global,
+    places: &Places<'_>,
+    lookup: Lookup,
+    is_last: bool,
+    text: &[u8],
+    out: &mut Vec<u8>,
+) -> Result<usize, AllocError> {
+    let mut at = 0;
+    while at < text.len() && is_decided(is_last, &text[at..]) {
+        let len = push_first(alloc, places, lookup, &text[at..], out)?;
+        at += len;
+    }
+    Ok(at)
+}
+
+// Whether the address that the text begins with, or that it begins with none, stays whatever comes after the text. Nothing
+// comes after the last text.
+fn is_decided(is_last: bool, text: &[u8]) -> bool {
+    if is_last {
+        return true;
+    }
+    if text.len() > LONGEST {
+        return true;
+    }
+    if text.len() == 1 {
+        return text[0] != b'0';
+    }
+    if !text.starts_with(b"0x") {
+        return true;
+    }
+    digits_len(&text[2..]) < text.len() - 2
+}
+
+// Appends the annotated text of an address that the text begins with, or of bytes before the next one. Returns how many
+// bytes these are.
+fn push_first(
+    alloc: Global,
+    places: &Places<'_>,
+    lookup: Lookup,
+    text: &[u8],
+    out: &mut Vec<u8>,
+) -> Result<usize, AllocError> {
+    let len = address_len(text);
+    if len == 0 {
+        let others = others_len(text);
+        out.extend_from_slice(&text[..others])?;
+        return Ok(others);
+    }
+    out.extend_from_slice(&text[..len])?;
+    push_added(alloc, places, lookup, parse_address(&text[..len]), out)?;
+    Ok(len)
+}
+
+// Appends what is added after an address.
+fn push_added(
+    alloc: Global,
+    places: &Places<'_>,
+    lookup: Lookup,
+    address: Option<u64>,
+    out: &mut Vec<u8>,
+) -> Result<(), AllocError> {
+    if let Some(address) = address {
+        if let Some(found) = places.find(lookup, address) {
+            push_place(alloc, found.0, found.1, out)?;
+        }
+    }
+    Ok(())
+}
+
+// Appends a function symbol's trimmed name and an offset in angle brackets.
+fn push_place(
+    alloc: Global,
+    function: FunctionSymbol<'_>,
+    offset: u64,
+    out: &mut Vec<u8>,
+) -> Result<(), AllocError> {
+    let mut place = name_of(alloc, function)?;
+    push_end(&mut place, offset)?;
+    out.extend_from_slice(b" <")?;
+    out.extend_from_slice(place.as_bytes())?;
+    Ok(())
+}
+
+fn push_end(text: &mut String, offset: u64) -> Result<(), AllocError> {
+    write!(text, "+0x{offset:x}>")
+}
+
+// The length of the address that the text begins with, or 0.
+fn address_len(text: &[u8]) -> usize {
+    if !text.starts_with(b"0x") {
+        return 0;
+    }
+    let digits = digits_len(&text[2..]);
+    if digits < FEWEST || digits > MOST {
+        return 0;
+    }
+    2 + digits
+}
+
+// How many hexadecimal digits the text begins with.
+fn digits_len(text: &[u8]) -> usize {
+    let mut len = 0;
+    while len < text.len() && text[len].is_ascii_hexdigit() {
+        len += 1;
+    }
+    len
+}
+
+// How many bytes the first one and those before the next `0` are.
+fn others_len(text: &[u8]) -> usize {
+    let mut len = 1;
+    while len < text.len() && text[len] != b'0' {
+        len += 1;
+    }
+    len
+}

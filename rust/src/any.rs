@@ -115,7 +115,7 @@ pub fn section_bytes<'a>(file: &'a [u8], name: &str) -> Result<&'a [u8], Error> 
 pub fn read_section<R: Read + Seek>(file: R, name: &str) -> io::Result<Vec<u8>> {
     let file = RefCell::new(Kept::new(file));
     let mut text = Text::new();
-    match bytes_of::write_section_of(Global, &file, name, &mut text) {
+    match bytes_of::write_section_of(Global, &file, &mut (), name, &mut text) {
         Ok(()) => Ok(text.bytes.into_std()),
         Err(SectionError::Unreadable) => Err(file.into_inner().into_error(ErrorKind::UnexpectedEof)),
         Err(SectionError::Write) => Err(OutOfMemory.into()),

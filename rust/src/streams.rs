@@ -82,13 +82,15 @@ impl<W: Write> Sink for Kept<W> {
 }
 
 impl<S: Read + Seek> Source for RefCell<Kept<S>> {
+    type Log = ();
+
     fn length(&self) -> io::Result<u64> {
         let mut kept = self.borrow_mut();
         let result = kept.stream.seek(SeekFrom::End(0));
         kept.keep(result)
     }
 
-    fn fill_at(&self, offset: u64, buffer: &mut [u8]) -> io::Result<()> {
+    fn fill_at(&self, (): &mut (), offset: u64, buffer: &mut [u8]) -> io::Result<()> {
         let mut kept = self.borrow_mut();
         let result = kept.stream.seek(SeekFrom::Start(offset));
         kept.keep(result)?;

@@ -71,7 +71,7 @@ impl<'a> Tables<'a> {
     pub fn new(file: &'a [u8], selection: Selection<'a>, table: SymbolTable) -> Result<Self, Error> {
         Ok(Tables(match (selection, table) {
             (Selection::Section(section), SymbolTable::Symtab) => tables::Tables::whole(file, section),
-            _ => tables::read(Global, &file, table, selection.into())?,
+            _ => tables::read(Global, &file, &mut (), table, selection.into())?,
         }))
     }
 
@@ -237,7 +237,7 @@ impl<'a> Iterator for AllFunctions<'a> {
 of_iterators!(AllFunctions);
 
 impl Tables<'static> {
-    /// Reads the tables of a file at offsets: its first 64 bytes, its headers, the symbol table and its strings, and nothing
+    /// Reads the tables of a file at offsets: its first 8 bytes, its headers, the symbol table and its strings, and nothing
     /// else. `file` is a [`File`](std::fs::File), or anything else that can be read from the offsets that it is set to.
     ///
     /// # Errors
@@ -245,7 +245,7 @@ impl Tables<'static> {
     /// That of `file`; otherwise that of [`Tables::new`], as an [`io::Error`].
     pub fn read<R: Read + Seek>(file: R, selection: Selection<'_>, table: SymbolTable) -> io::Result<Self> {
         let file = RefCell::new(Kept::new(file));
-        let tables = tables::read(Global, &file, table, selection.into());
+        let tables = tables::read(Global, &file, &mut (), table, selection.into());
         match tables {
             Ok(tables) => Ok(Tables(tables)),
             Err(ReadError::Unreadable) => Err(file.into_inner().into_error(ErrorKind::UnexpectedEof)),

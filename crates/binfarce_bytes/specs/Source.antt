@@ -1,4 +1,5 @@
 -- The bytes of a source.
+use Rattle.binfarce_bytes.specs.Part.{Part, AreSure}
 use Rattle.std.specs.Prelude.{◌≡◌, ◌⊎◌, ◌+◌, ◌<◌, ◌≤◌, ℕ, Bool, true, List, take, drop, length, Option, IfSome}
 
 -- the bytes from an offset on, as many as size; fewer where the source ends
@@ -12,3 +13,8 @@ IsPart known offset part = IfSome known (λ bytes. (offset + length part ≤ len
 -- a read of size bytes from the offset on may fail: the source may fail, or it ends before, where its bytes are known
 abbrev pub MayMiss : Bool → Option (List ℕ) → ℕ → ℕ → Type 0
 MayMiss may_fail known offset size = (may_fail ≡ true) ⊎ IfSome known (λ bytes. length bytes < offset + size)
+
+-- from a log to a later one a source was asked for these parts alone: where they are among some parts, and those of the log before, all that it was asked
+-- for is
+abbrev pub AskedFor : ((Part → Bool) → Bool) → ((Part → Bool) → Bool) → List Part → Type 0
+AskedFor before after parts = (allowed : Part → Bool) → AreSure allowed parts → before allowed ≡ true → after allowed ≡ true

@@ -1,10 +1,10 @@
 //! Sources that are read at offsets: a file, or bytes in memory.
 
-ghost use Rattle.std.specs.Prelude.{◌≡◌, ◌⊎◌, Bool, true, false, List, ℕ, Option, None, IfOk, IfErr, OnOk, IfSome, length};
+ghost use Rattle.std.specs.Prelude.{◌≡◌, ◌⊎◌, ◌∷◌, [], Bool, true, false, List, ℕ, Option, None, IfOk, IfErr, OnOk, IfSome, length};
 ghost use Rattle.std.specs.IoError.{error_kind};
 ghost use Rattle.std.specs.declared.io.ErrorKind.TheVariants.{OutOfMemory};
 ghost use Rattle.binfarce_bytes.specs.Part.{Part, part};
-ghost use Rattle.binfarce_bytes.specs.Source.{IsPart, MayMiss};
+ghost use Rattle.binfarce_bytes.specs.Source.{IsPart, MayMiss, AskedFor};
 
 use std::alloc::Global;
 use std::fs::File;
@@ -13,6 +13,9 @@ use std::os::unix::fs::FileExt;
 
 /// A source that is read at offsets.
 pub trait Source {
+    /// A log of the parts that it is asked for; `()` where none is kept.
+    type Log;
+
     // All its bytes, where they are known.
     ghost bytes: { Self → Option (List ℕ) } = { λ _. None };
 
@@ -22,6 +25,9 @@ pub trait Source {
     // Whether it surely gives these bytes. One that can't give its length gives none surely.
     ghost is_sure: { Self → Part → Bool } = { λ _ _. false };
 
+    // Whether each part in a log is one of these.
+    ghost logs_only: { Self.Log → (Part → Bool) → Bool } = { λ _ _. true };
+
     /// Its length in bytes. An error where it can't be read at offsets.
     fn length(&self) -> io::Result<u64>
         ensures length { IfOk result (λ n. IfSome (bytes self.now) (λ all. n ≡ length all)) }
@@ -29,13 +35,16 @@ pub trait Source {
         ensures unsure { IfErr result (λ _. (p : Part) → is_sure self.now p ≡ false) };
 
     /// Fills the buffer with the bytes from the offset on. An error where they end before the buffer is full.
-    fn fill_at(&self, offset: u64, buf: &mut [u8]) -> io::Result<()>
+    fn fill_at(&self, log: &mut Self::Log, offset: u64, buf: &mut [u8]) -> io::Result<()>
+        ensures asked { AskedFor (logs_only log.old) (logs_only log.new) (part offset (length buf.new) ∷ []) }
         ensures part { OnOk result (IsPart (bytes self.now) offset buf.new) }
         ensures failed { IfErr result (λ _. MayMiss (may_fail self.now) (bytes self.now) offset (length buf.new)) }
         ensures unsure { IfErr result (λ _. is_sure self.now (part offset (length buf.new)) ≡ false) };
 }
 
 impl Source for File {
+    type Log = ();
+
     /// `Unsupported` where it isn't a regular file.
     fn length(&self) -> io::Result<u64> {
         let metadata = self.metadata()?;
@@ -46,12 +55,14 @@ impl Source for File {
         }
     }
 
-    fn fill_at(&self, offset: u64, buf: &mut [u8]) -> io::Result<()> {
+    fn fill_at(&self, _log: &mut (), offset: u64, buf: &mut [u8]) -> io::Result<()> {
         self.read_exact_at(buf, offset)
     }
 }
 
 impl Source for &[u8] {
+    type Log = ();
+
     ghost use Rattle.std.specs.Prelude.{◌+◌, Some, false, length, nat_le};
 
     ghost bytes = { λ s. Some s.now };
@@ -64,7 +75,7 @@ impl Source for &[u8] {
         Ok(self.len() as u64)
     }
 
-    fn fill_at(&self, offset: u64, buf: &mut [u8]) -> io::Result<()> {
+    fn fill_at(&self, _log: &mut (), offset: u64, buf: &mut [u8]) -> io::Result<()> {
         match self.get(offset as usize..) {
             Some(rest) if buf.len() <= rest.len() => {
                 buf.copy_from_slice(&rest[..buf.len()]);
@@ -81,9 +92,11 @@ impl Source for &[u8] {
 pub fn read_part<S: Source>(
     alloc: Global,
     source: &S,
+    log: &mut S::Log,
     offset: u64,
     size: usize,
 ) -> io::Result<Vec<u8>>
+    ensures asked { AskedFor (S.logs_only log.old) (S.logs_only log.new) (part offset size ∷ []) }
     ensures size { IfOk result (λ v. length v.items ≡ size) }
     ensures part { IfOk result (λ v. IsPart (S.bytes source.now) offset v.items) }
     ensures failed { IfErr result
@@ -93,6 +106,6 @@ pub fn read_part<S: Source>(
 {
     let mut bytes = Vec::with_capacity(alloc, size)?;
     bytes.resize(size, 0)?;
-    source.fill_at(offset, &mut bytes)?;
+    source.fill_at(log, offset, &mut bytes)?;
     Ok(bytes)
 }

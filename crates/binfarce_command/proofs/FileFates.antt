@@ -9,7 +9,7 @@ use Rattle.binfarce.specs.Symbol.{Listed}
 use Rattle.binfarce_bytes.specs.declared.format.Format.{Format}
 use Rattle.binfarce_bytes.specs.declared.format.Format.TheVariants as formats
 use Rattle.binfarce_tools.specs.declared.SymbolTable.{SymbolTable}
-use Rattle.binfarce_tools.proofs.TablesRead.{format_of_first}
+use Rattle.binfarce_tables.proofs.FirstBytes.{format_of_first}
 use Rattle.binfarce_tools.specs.AllAnswer.{all_symbols_answer, one_answer}
 use Rattle.binfarce_tools.specs.Answer.{symbols_answer}
 use Rattle.binfarce_bytes.specs.Selection.{section_of}

@@ -7,7 +7,7 @@ use Rattle.std.proofs.lemmas.List.{take-append-drop, take_all}
 use Rattle.std.proofs.Math.Seq.{drop-drop, take-append_seam}
 use Rattle.binfarce_bytes.specs.Format.{format_of}
 use Rattle.binfarce_bytes.specs.declared.format.Format.TheVariants.{Unknown}
-use Rattle.binfarce_tools.proofs.TablesRead.{format_of_first}
+use Rattle.binfarce_tables.proofs.FirstBytes.{format_of_first}
 use Rattle.binfarce_command.specs.Input.{IsReadOf}
 
 pub keeps_none : (old : Option (List ℕ)) → Keeps old old

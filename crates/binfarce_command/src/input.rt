@@ -35,6 +35,8 @@ impl Read for FileOrStdin {
 }
 
 impl Source for FileOrStdin {
+    type Log = ();
+
     /// `Unsupported` for standard input.
     fn length(&self) -> io::Result<u64> {
         match self {
@@ -43,9 +45,9 @@ impl Source for FileOrStdin {
         }
     }
 
-    fn fill_at(&self, offset: u64, buf: &mut [u8]) -> io::Result<()> {
+    fn fill_at(&self, log: &mut (), offset: u64, buf: &mut [u8]) -> io::Result<()> {
         match self {
-            FileOrStdin::File(file) => file.fill_at(offset, buf),
+            FileOrStdin::File(file) => file.fill_at(log, offset, buf),
             FileOrStdin::Standard(_) => Err(Error::from(ErrorKind::Unsupported)),
         }
     }
@@ -86,7 +88,7 @@ impl<F> OpenFile<F> {
     }
 }
 
-impl<F: Read + Source> OpenFile<F> {
+impl<F: Read + Source<Log = ()>> OpenFile<F> {
     /// Loads the file unless it can be read at offsets: to its end, or only the first 8 bytes where these name no format.
     ///
     /// # Errors
@@ -122,7 +124,9 @@ impl<F: Read> Read for OpenFile<F> {
     }
 }
 
-impl<F: Source> Source for OpenFile<F> {
+impl<F: Source<Log = ()>> Source for OpenFile<F> {
+    type Log = ();
+
     ghost use Rattle.binfarce_command.specs.Input.{bytes_of, may_fail_of};
 
     ghost bytes = { bytes_of F.bytes };
@@ -139,10 +143,10 @@ impl<F: Source> Source for OpenFile<F> {
         }
     }
 
-    fn fill_at(&self, offset: u64, buf: &mut [u8]) -> io::Result<()> {
+    fn fill_at(&self, log: &mut (), offset: u64, buf: &mut [u8]) -> io::Result<()> {
         match &self.bytes {
-            Some(bytes) => bytes.as_slice().fill_at(offset, buf),
-            None => match self.file.fill_at(offset, buf) {
+            Some(bytes) => bytes.as_slice().fill_at(log, offset, buf),
+            None => match self.file.fill_at(log, offset, buf) {
                 Ok(()) => Ok(()),
                 Err(e) => Err(self.keep(e)),
             },

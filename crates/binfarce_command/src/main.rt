@@ -203,7 +203,7 @@ fn symbolize<W: Write>(
 }
 
 // Symbolizes the addresses of standard input.
-fn answer_lines<S: Source, W: Write>(
+fn answer_lines<S: Source<Log = ()>, W: Write>(
     rt: &HostRuntime,
     source: &S,
     symbols: &Symbols<'_>,

@@ -18,7 +18,7 @@ use std::alloc::Global;
 /// # Errors
 ///
 /// Those of `write_section_of` and `list_source`.
-pub fn write_or_list<S: Source, K: Sink>(
+pub fn write_or_list<S: Source<Log = ()>, K: Sink>(
     alloc: Global,
     source: &S,
     name: Option<&str>,
@@ -30,7 +30,7 @@ pub fn write_or_list<S: Source, K: Sink>(
     ensures fails { Fails (K.has_failed out.old) (K.has_failed out.new) result }
 {
     match name {
-        Some(name) => write_section_of(alloc, source, name, out),
-        None => list_source(alloc, source, out),
+        Some(name) => write_section_of(alloc, source, &mut (), name, out),
+        None => list_source(alloc, source, &mut (), out),
     }
 }

@@ -54,7 +54,7 @@ pub struct Request<'a> {
 ///
 /// `Unreadable` where a read fails; `Unknown`, `Parse`, `OutOfMemory`, `TooLarge` and `Write` as in `list` and
 /// `report`. Only after `Write` a beginning may be written.
-pub fn show<S: Source, K: Sink>(
+pub fn show<S: Source<Log = ()>, K: Sink>(
     alloc: Global,
     asked: &Request<'_>,
     source: &S,
@@ -68,7 +68,7 @@ pub fn show<S: Source, K: Sink>(
     ensures fails { Fails (K.has_failed out.old) (K.has_failed out.new) (outcome_of result) }
     ensures leaves { Leaves out.old out.new (outcome_of result) }
 {
-    let tables = read(alloc, source, asked.symbols.which, asked.symbols.selection)?;
+    let tables = read(alloc, source, &mut (), asked.symbols.which, asked.symbols.selection)?;
     show_tables(alloc, asked.kind, &tables, out)
 }
 

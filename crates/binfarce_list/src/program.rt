@@ -77,7 +77,7 @@ pub fn words(arguments: &[String]) -> Result<(&str, &str), Fault>
 ///
 /// `File` where it can't be read; `List` where an allocation fails while it is read, and as `list` refuses.
 #[tactic(auto, unfolding(binfarce_tools::specs::Selection::answer_in, binfarce_tools::specs::Selection::MemoryIn))]
-pub fn run<F: Read + Source, W: Write>(
+pub fn run<F: Read + Source<Log = ()>, W: Write>(
     alloc: Global,
     file: &mut F,
     section: &str,
@@ -96,6 +96,7 @@ pub fn run<F: Read + Source, W: Write>(
         let tables = match read(
             alloc,
             file,
+            &mut (),
             SymbolTable::Symtab,
             Selection::Section(section),
         ) {

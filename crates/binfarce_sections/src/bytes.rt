@@ -7,6 +7,7 @@ ghost use Rattle.binfarce.specs.Format.{format_of};
 ghost use Rattle.binfarce.specs.Refusal.{Gives, refusal_of};
 ghost use Rattle.binfarce.specs.Walk.{first};
 ghost use Rattle.binfarce_bytes.specs.Part.{AreSure};
+ghost use Rattle.binfarce_bytes.specs.Source.{AskedFor};
 ghost use Rattle.binfarce_sections.specs.Named.{full_name, is_named, bytes_of, bytes_named};
 ghost use Rattle.binfarce_sections.specs.Parts.{named_parts_of};
 ghost use Rattle.binfarce_sections.specs.Section.{sections_of};
@@ -69,7 +70,7 @@ fn write_all<S: Sink>(bytes: &[u8], out: &mut S) -> Result<(), SectionError>
     write_whole(out, bytes).map_err(|_| SectionError::Write)
 }
 
-/// The same for a source, of which only these bytes are read: the first 64 bytes, those that `read_sections` of
+/// The same for a source, of which only these bytes are read: the first 8 bytes, those that `read_sections` of
 /// `binfarce_tables` reads of a file of that format, and the section's bytes, into memory of its size.
 ///
 /// # Errors
@@ -79,6 +80,7 @@ fn write_all<S: Sink>(bytes: &[u8], out: &mut S) -> Result<(), SectionError>
 pub fn write_section_of<F: Source, S: Sink>(
     alloc: Global,
     source: &F,
+    log: &mut F::Log,
     name: &str,
     out: &mut S,
 ) -> Result<(), SectionError>
@@ -88,8 +90,10 @@ pub fn write_section_of<F: Source, S: Sink>(
     ensures fails { Fails (S.has_failed out.old) (S.has_failed out.new) result }
     ensures nothing_else { (file : List ℕ) → F.bytes source.now ≡ Some file
         → AreSure (F.is_sure source.now) (named_parts_of file name.now) → IfErr result (λ e. e ≢ Unreadable) }
+    ensures asked { (file : List ℕ) → F.bytes source.now ≡ Some file
+        → AskedFor (F.logs_only log.old) (F.logs_only log.new) (named_parts_of file name.now) }
 {
-    let bytes = read_named(alloc, source, name)?;
+    let bytes = read_named(alloc, source, log, name)?;
     write_all(bytes.as_slice(), out)
 }
 

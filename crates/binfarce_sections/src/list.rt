@@ -5,6 +5,7 @@ ghost use Rattle.std.specs.Option.{option_map};
 ghost use Rattle.std.specs.String.{string_bytes};
 ghost use Rattle.binfarce.specs.Format.{format_of};
 ghost use Rattle.binfarce_bytes.specs.Part.{AreSure};
+ghost use Rattle.binfarce_bytes.specs.Source.{AskedFor};
 ghost use Rattle.binfarce_sections.specs.Lines.{section_line, line_head, name_text};
 ghost use Rattle.binfarce_sections.specs.Parts.{section_parts_of};
 ghost use Rattle.binfarce_sections.specs.Section.{sections_of};
@@ -45,7 +46,7 @@ pub fn list_sections<S: Sink>(alloc: Global, file: &[u8], out: &mut S) -> Result
     write_lines(alloc, sections, out)
 }
 
-/// The same for a source, of which only these bytes are read: the first 64 bytes, and those that `read_sections` of
+/// The same for a source, of which only these bytes are read: the first 8 bytes, and those that `read_sections` of
 /// `binfarce_tables` reads of a file of that format.
 ///
 /// # Errors
@@ -55,6 +56,7 @@ pub fn list_sections<S: Sink>(alloc: Global, file: &[u8], out: &mut S) -> Result
 pub fn list_source<F: Source, S: Sink>(
     alloc: Global,
     source: &F,
+    log: &mut F::Log,
     out: &mut S,
 ) -> Result<(), SectionError>
     ensures takes { (file : List ℕ) → F.bytes source.now ≡ Some file
@@ -63,8 +65,10 @@ pub fn list_source<F: Source, S: Sink>(
     ensures fails { Fails (S.has_failed out.old) (S.has_failed out.new) result }
     ensures nothing_else { (file : List ℕ) → F.bytes source.now ≡ Some file
         → AreSure (F.is_sure source.now) (section_parts_of file) → IfErr result (λ e. e ≢ Unreadable) }
+    ensures asked { (file : List ℕ) → F.bytes source.now ≡ Some file
+        → AskedFor (F.logs_only log.old) (F.logs_only log.new) (section_parts_of file) }
 {
-    let tables = read(alloc, source)?;
+    let tables = read(alloc, source, log)?;
     let sections = tables.sections()?;
     write_lines(alloc, sections, out)
 }

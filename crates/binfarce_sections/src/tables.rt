@@ -3,6 +3,7 @@
 ghost use Rattle.std.specs.Prelude.{◌≡◌, ◌≢◌, ℕ, List, Some, IfErr, length};
 ghost use Rattle.binfarce.specs.Format.{format_of};
 ghost use Rattle.binfarce_bytes.specs.Part.{AreSure};
+ghost use Rattle.binfarce_bytes.specs.Source.{AskedFor};
 ghost use Rattle.binfarce_tables.specs.declared.error.ReadError.TheVariants as read_errors;
 ghost use Rattle.binfarce_sections.specs.Named.{bytes_of, bytes_named};
 ghost use Rattle.binfarce_sections.specs.Parts.{section_parts_of, named_parts_of, format_parts, bytes_parts};
@@ -15,9 +16,9 @@ ghost use Rattle.binfarce_sections.specs.machine.Tables.{AreTablesOf, ReadsTable
 use crate::bytes::first_in;
 use crate::error::SectionError;
 use crate::sections::{Section, Sections, elf32_sections, elf64_sections, open_macho, open_pe};
-use binfarce::{Format, detect_format};
+use binfarce::Format;
 use binfarce_bytes::source::Source;
-use binfarce_tables::begun::Begun;
+use binfarce_tables::format::read_format;
 use binfarce_tables::{Beginning, ReadError, elf32, elf64, macho, part, pe};
 use std::alloc::Global;
 
@@ -61,42 +62,54 @@ impl Tables {
     }
 }
 
-// Asks a source for its length and for the first bytes of a file, which name its format, and reads the tables of the
-// sections of a file of that format (`binfarce_tables`). Refused where the file is too short for its header.
-pub(crate) fn read<S: Source>(alloc: Global, source: &S) -> Result<Tables, ReadError>
+// Reads the first bytes of a file, which name its format, and the tables of the sections of a file of that format
+// (`binfarce_tables`). Refused where the file is too short for its header.
+pub(crate) fn read<S: Source>(
+    alloc: Global,
+    source: &S,
+    log: &mut S::Log,
+) -> Result<Tables, ReadError>
     ensures reads { (file : List ℕ) → S.bytes source.now ≡ Some file
         → ReadsTables (S.may_fail source.now) file result }
     ensures nothing_else { (file : List ℕ) → S.bytes source.now ≡ Some file
         → AreSure (S.is_sure source.now) (section_parts_of file) → IfErr result (λ e. e ≢ read_errors.Unreadable) }
+    ensures asked { (file : List ℕ) → S.bytes source.now ≡ Some file
+        → AskedFor (S.logs_only log.old) (S.logs_only log.new) (section_parts_of file) }
 {
-    let begun = Begun::new(alloc, source)?;
-    let format = detect_format(begun.head());
-    read_as(alloc, &begun, format)
+    let format = read_format(alloc, source, log)?;
+    read_as(alloc, source, log, format)
 }
 
 // The tables of the sections of a file of this format.
 #[tactic(auto, unfolding(crate::specs::Parts::format_parts))]
-fn read_as<S: Source>(alloc: Global, source: &S, format: Format) -> Result<Tables, ReadError>
+fn read_as<S: Source>(
+    alloc: Global,
+    source: &S,
+    log: &mut S::Log,
+    format: Format,
+) -> Result<Tables, ReadError>
     ensures reads { (file : List ℕ) → S.bytes source.now ≡ Some file → format ≡ format_of file
         → ReadsTables (S.may_fail source.now) file result }
     ensures nothing_else { (file : List ℕ) → S.bytes source.now ≡ Some file
         → AreSure (S.is_sure source.now) (format_parts format file) → IfErr result (λ e. e ≢ read_errors.Unreadable) }
+    ensures asked { (file : List ℕ) → S.bytes source.now ≡ Some file
+        → AskedFor (S.logs_only log.old) (S.logs_only log.new) (format_parts format file) }
 {
     match format {
         Format::Elf32 { byte_order } => {
-            let parts = elf32::read_sections(alloc, source, byte_order)?;
+            let parts = elf32::read_sections(alloc, source, log, byte_order)?;
             Ok(Tables::Elf32(parts))
         }
         Format::Elf64 { byte_order } => {
-            let parts = elf64::read_sections(alloc, source, byte_order)?;
+            let parts = elf64::read_sections(alloc, source, log, byte_order)?;
             Ok(Tables::Elf64(parts))
         }
         Format::Macho => {
-            let beginning = macho::read_sections(alloc, source)?;
+            let beginning = macho::read_sections(alloc, source, log)?;
             Ok(Tables::Macho(beginning))
         }
         Format::PE => {
-            let beginning = pe::read_sections(alloc, source)?;
+            let beginning = pe::read_sections(alloc, source, log)?;
             Ok(Tables::Pe(beginning))
         }
         Format::Unknown => Ok(Tables::Unknown),
@@ -107,6 +120,7 @@ fn read_as<S: Source>(alloc: Global, source: &S, format: Format) -> Result<Table
 pub(crate) fn read_named<F: Source>(
     alloc: Global,
     source: &F,
+    log: &mut F::Log,
     name: &str,
 ) -> Result<Vec<u8>, SectionError>
     ensures unwritten { IfErr result (λ e. e ≢ Write) }
@@ -114,12 +128,14 @@ pub(crate) fn read_named<F: Source>(
         → ReadsBytes (F.may_fail source.now) (bytes_named (sections_of (format_of file) file) file name.now) result }
     ensures nothing_else { (file : List ℕ) → F.bytes source.now ≡ Some file
         → AreSure (F.is_sure source.now) (named_parts_of file name.now) → IfErr result (λ e. e ≢ Unreadable) }
+    ensures asked { (file : List ℕ) → F.bytes source.now ≡ Some file
+        → AskedFor (F.logs_only log.old) (F.logs_only log.new) (named_parts_of file name.now) }
 {
-    let tables = read(alloc, source)?;
+    let tables = read(alloc, source, log)?;
     let sections = tables.sections()?;
     let found = first_in(sections, name)?;
     match found {
-        Some(section) => read_bytes(alloc, source, tables.file_length(), section),
+        Some(section) => read_bytes(alloc, source, log, tables.file_length(), section),
         None => Err(SectionError::NoSection),
     }
 }
@@ -129,6 +145,7 @@ pub(crate) fn read_named<F: Source>(
 fn read_bytes<F: Source>(
     alloc: Global,
     source: &F,
+    log: &mut F::Log,
     len: u64,
     section: Section<'_>,
 ) -> Result<Vec<u8>, SectionError>
@@ -138,6 +155,8 @@ fn read_bytes<F: Source>(
     ensures nothing_else { (file : List ℕ) → F.bytes source.now ≡ Some file → len ≡ length file
         → AreSure (F.is_sure source.now) (bytes_parts file (section_view section.entry))
         → IfErr result (λ e. e ≢ Unreadable) }
+    ensures asked { (file : List ℕ) → F.bytes source.now ≡ Some file → len ≡ length file
+        → AskedFor (F.logs_only log.old) (F.logs_only log.new) (bytes_parts file (section_view section.entry)) }
 {
     if !section.has_bytes {
         return Err(SectionError::NoBytes);
@@ -152,6 +171,7 @@ fn read_bytes<F: Source>(
     Ok(part(
         alloc,
         source,
+        log,
         section.offset as usize,
         section.size as usize,
     )?)

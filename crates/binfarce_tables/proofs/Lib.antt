@@ -1,4 +1,4 @@
-mod FirstBytes
+pub mod FirstBytes
 mod HeadersAlone
 pub mod Readings
 pub mod Sure

@@ -22,6 +22,9 @@ back P (x ∷ xs) ys all = back P xs ys (All-tail P x (xs ++ ys) all)
 pub only : {X : Type 0} (P : X → Type 0) (x : X) → All P (x ∷ []) → P x
 only P x all = All-head P x [] all
 
+pub alone : {X : Type 0} (P : X → Type 0) (x : X) → P x → All P (x ∷ [])
+alone P x is = All-cons P x [] is (All-nil P)
+
 -- of a part that lies in the file
 pub in_file : (P : Part → Type 0) (file : List ℕ) (offset size : ℕ) → offset + size ≤ length file → All P (whole_part file offset size) → P (part offset size)
 in_file P file offset size inside all = only P (part offset size) (rw (le-leb (offset + size) (length file) inside) at all)

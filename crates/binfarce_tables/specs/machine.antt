@@ -2,4 +2,3 @@
 pub mod Places
 pub mod PePlaces
 pub mod MachoPlaces
-pub mod FirstBytes

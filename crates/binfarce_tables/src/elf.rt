@@ -1,10 +1,11 @@
 //! The parts of an ELF file of either class that have the function symbols of a section.
 
-ghost use Rattle.std.specs.Prelude.{◌≡◌, ◌≢◌, ◌⊎◌, ◌+◌, ◌<◌, ◌≤◌, List, ℕ, true, Ok, Some, length, MatchResult, IfOk, IfErr};
+ghost use Rattle.std.specs.Prelude.{◌∷◌, [], ◌≡◌, ◌≢◌, ◌⊎◌, ◌+◌, ◌<◌, ◌≤◌, List, ℕ, true, Ok, Some, length, MatchResult, IfOk, IfErr};
 ghost use Rattle.std.specs.Result.{IsErr};
 ghost use Rattle.std.specs.Option.{option_map};
 ghost use Rattle.binfarce_bytes.specs.Number.{bytes_at};
 ghost use Rattle.binfarce_bytes.specs.Part.{part, AreSure};
+ghost use Rattle.binfarce_bytes.specs.Source.{AskedFor};
 ghost use Rattle.binfarce_bytes.specs.Refusal.{Gives, refusal_of, unexpected_eof};
 ghost use Rattle.binfarce_elf.specs.Elf.{contents, header_of, names_bytes, walk};
 ghost use Rattle.binfarce_elf.specs.ElfParts.{headers_alone, needed_view, table_sections_view};
@@ -67,6 +68,7 @@ pub(crate) struct Place {
 pub(crate) fn read_parts<C: Class, S: Source>(
     alloc: Global,
     source: &S,
+    log: &mut S::Log,
     byte_order: ByteOrder,
     which: SymbolTable,
     section_name: &str,
@@ -77,11 +79,13 @@ pub(crate) fn read_parts<C: Class, S: Source>(
     ensures nothing_else { (file : List ℕ) → S.bytes source.now ≡ Some file
         → AreSure (S.is_sure source.now) (elf_parts which C.table byte_order file)
         → IfErr result (λ e. e ≢ Unreadable) }
+    ensures asked { (file : List ℕ) → S.bytes source.now ≡ Some file
+        → AskedFor (S.logs_only log.old) (S.logs_only log.new) (elf_parts which C.table byte_order file) }
 {
     let len = source.length()? as usize;
-    let place = read_place::<C, S>(alloc, source, len, byte_order)?;
-    let needed = read_needed::<C, S>(alloc, source, len, place, which, section_name)?;
-    let table = read_rows::<C, S>(alloc, source, len, needed.table)?;
+    let place = read_place::<C, S>(alloc, source, log, len, byte_order)?;
+    let needed = read_needed::<C, S>(alloc, source, log, len, place, which, section_name)?;
+    let table = read_rows::<C, S>(alloc, source, log, len, needed.table)?;
     Ok(Parts {
         rows: table.rows,
         strings: table.strings,
@@ -94,6 +98,7 @@ pub(crate) fn read_parts<C: Class, S: Source>(
 pub(crate) fn read_place<C: Class, S: Source>(
     alloc: Global,
     source: &S,
+    log: &mut S::Log,
     len: usize,
     byte_order: ByteOrder,
 ) -> Result<Place, ReadError>
@@ -103,12 +108,13 @@ pub(crate) fn read_place<C: Class, S: Source>(
         → IfOk result (λ p. p.elf_type ≡ (header_of C.table byte_order file).elf_type) }
     ensures nothing_else { S.is_sure source.now (part 0 C.table.header_length) ≡ true
         → IfErr result (λ e. e ≢ Unreadable) }
+    ensures asked { AskedFor (S.logs_only log.old) (S.logs_only log.new) (part 0 C.table.header_length ∷ []) }
 {
     let size = 40 + 3 * C::SIZE;
     if len < size {
         return Err(ReadError::Refused(ParseError::UnexpectedEof));
     }
-    let bytes = part(alloc, source, 0, size)?;
+    let bytes = part(alloc, source, log, 0, size)?;
     let header = header_in::<C>(&bytes, byte_order)?;
     Ok(Place {
         byte_order,
@@ -132,6 +138,7 @@ fn header_in<C: Class>(bytes: &[u8], byte_order: ByteOrder) -> Result<Header<C>,
 fn read_needed<C: Class, S: Source>(
     alloc: Global,
     source: &S,
+    log: &mut S::Log,
     len: usize,
     place: Place,
     which: SymbolTable,
@@ -143,6 +150,8 @@ fn read_needed<C: Class, S: Source>(
     ensures nothing_else { (file : List ℕ) → Known (S.bytes source.now) len file
         → AreSure (S.is_sure source.now) (table_parts C.table (table_at file place))
         → IfErr result (λ e. e ≢ Unreadable) }
+    ensures asked { (file : List ℕ) → Known (S.bytes source.now) len file
+        → AskedFor (S.logs_only log.old) (S.logs_only log.new) (table_parts C.table (table_at file place)) }
 {
     if place.shoff >= len {
         return Err(ReadError::Refused(ParseError::UnexpectedEof));
@@ -150,8 +159,8 @@ fn read_needed<C: Class, S: Source>(
     if place.shnum == 0 {
         return Err(ReadError::Refused(ParseError::SymbolsSectionIsMissing));
     }
-    let names = read_names::<C, S>(alloc, source, len, place)?;
-    let headers = read_headers::<C, S>(alloc, source, len, place)?;
+    let names = read_names::<C, S>(alloc, source, log, len, place)?;
+    let headers = read_headers::<C, S>(alloc, source, log, len, place)?;
     Ok(needed_in::<C>(&headers, &names, place, which, section_name)?)
 }
 
@@ -191,6 +200,7 @@ pub(crate) fn slice_of(bytes: &Option<Vec<u8>>) -> Option<&[u8]>
 pub(crate) fn read_headers<C: Class, S: Source>(
     alloc: Global,
     source: &S,
+    log: &mut S::Log,
     len: usize,
     place: Place,
 ) -> Result<Vec<u8>, ReadError>
@@ -199,16 +209,20 @@ pub(crate) fn read_headers<C: Class, S: Source>(
     ensures nothing_else { (file : List ℕ) → Known (S.bytes source.now) len file
         → S.is_sure source.now (part place.shoff (headers_size C.table (table_at file place))) ≡ true
         → IfErr result (λ e. e ≢ Unreadable) }
+    ensures asked { (file : List ℕ) → Known (S.bytes source.now) len file
+        → AskedFor (S.logs_only log.old) (S.logs_only log.new)
+        (part place.shoff (headers_size C.table (table_at file place)) ∷ []) }
 {
     let whole = len.saturating_sub(place.shoff) / C::SECTION_LENGTH;
     let count = whole.min(place.shnum as usize);
-    part(alloc, source, place.shoff, count * C::SECTION_LENGTH)
+    part(alloc, source, log, place.shoff, count * C::SECTION_LENGTH)
 }
 
 // The section names, where the file has them.
 pub(crate) fn read_names<C: Class, S: Source>(
     alloc: Global,
     source: &S,
+    log: &mut S::Log,
     len: usize,
     place: Place,
 ) -> Result<Option<Vec<u8>>, ReadError>
@@ -218,6 +232,8 @@ pub(crate) fn read_names<C: Class, S: Source>(
     ensures nothing_else { (file : List ℕ) → Known (S.bytes source.now) len file
         → AreSure (S.is_sure source.now) (names_parts C.table (table_at file place))
         → IfErr result (λ e. e ≢ Unreadable) }
+    ensures asked { (file : List ℕ) → Known (S.bytes source.now) len file
+        → AskedFor (S.logs_only log.old) (S.logs_only log.new) (names_parts C.table (table_at file place)) }
 {
     let size = C::SECTION_LENGTH;
     let whole = len.saturating_sub(place.shoff) / size;
@@ -225,9 +241,9 @@ pub(crate) fn read_names<C: Class, S: Source>(
         return Ok(None);
     }
     let start = place.shoff + place.shstrndx as usize * size;
-    let header = part(alloc, source, start, size)?;
+    let header = part(alloc, source, log, start, size)?;
     match section_at::<C>(&header, 0, place.byte_order, place.shstrndx) {
-        Ok(section) => read_contents::<C, S>(alloc, source, len, section),
+        Ok(section) => read_contents::<C, S>(alloc, source, log, len, section),
         Err(_) => Ok(None),
     }
 }
@@ -243,6 +259,7 @@ pub(crate) struct TableParts {
 pub(crate) fn read_rows<C: Class, S: Source>(
     alloc: Global,
     source: &S,
+    log: &mut S::Log,
     len: usize,
     sections: TableSections<C>,
 ) -> Result<TableParts, ReadError>
@@ -252,9 +269,12 @@ pub(crate) fn read_rows<C: Class, S: Source>(
     ensures nothing_else { (file : List ℕ) → Known (S.bytes source.now) len file
         → AreSure (S.is_sure source.now) (rows_parts file (table_sections_view C.number_of sections))
         → IfErr result (λ e. e ≢ Unreadable) }
+    ensures asked { (file : List ℕ) → Known (S.bytes source.now) len file
+        → AskedFor (S.logs_only log.old) (S.logs_only log.new)
+        (rows_parts file (table_sections_view C.number_of sections)) }
 {
-    let strings = read_section::<C, S>(alloc, source, len, sections.strings)?;
-    let rows = read_section::<C, S>(alloc, source, len, sections.symbols)?;
+    let strings = read_section::<C, S>(alloc, source, log, len, sections.strings)?;
+    let rows = read_section::<C, S>(alloc, source, log, len, sections.symbols)?;
     let _ = whole_rows::<C>(&rows)?;
     Ok(TableParts { strings, rows })
 }
@@ -263,6 +283,7 @@ pub(crate) fn read_rows<C: Class, S: Source>(
 fn read_contents<C: Class, S: Source>(
     alloc: Global,
     source: &S,
+    log: &mut S::Log,
     len: usize,
     section: Section<C>,
 ) -> Result<Option<Vec<u8>>, ReadError>
@@ -272,8 +293,10 @@ fn read_contents<C: Class, S: Source>(
     ensures nothing_else { (file : List ℕ) → Known (S.bytes source.now) len file
         → AreSure (S.is_sure source.now) (section_parts file (section_view C.number_of section))
         → IfErr result (λ e. e ≢ Unreadable) }
+    ensures asked { (file : List ℕ) → Known (S.bytes source.now) len file
+        → AskedFor (S.logs_only log.old) (S.logs_only log.new) (section_parts file (section_view C.number_of section)) }
 {
-    match read_section::<C, S>(alloc, source, len, section) {
+    match read_section::<C, S>(alloc, source, log, len, section) {
         Ok(bytes) => Ok(Some(bytes)),
         Err(ReadError::Refused(_)) => Ok(None),
         Err(e) => Err(e),
@@ -284,6 +307,7 @@ fn read_contents<C: Class, S: Source>(
 pub(crate) fn read_section<C: Class, S: Source>(
     alloc: Global,
     source: &S,
+    log: &mut S::Log,
     len: usize,
     section: Section<C>,
 ) -> Result<Vec<u8>, ReadError>
@@ -292,12 +316,14 @@ pub(crate) fn read_section<C: Class, S: Source>(
     ensures nothing_else { (file : List ℕ) → Known (S.bytes source.now) len file
         → AreSure (S.is_sure source.now) (section_parts file (section_view C.number_of section))
         → IfErr result (λ e. e ≢ Unreadable) }
+    ensures asked { (file : List ℕ) → Known (S.bytes source.now) len file
+        → AskedFor (S.logs_only log.old) (S.logs_only log.new) (section_parts file (section_view C.number_of section)) }
 {
     let range = section.range()?;
     if range.end > len {
         return Err(ReadError::Refused(ParseError::UnexpectedEof));
     }
-    part(alloc, source, range.start, range.end - range.start)
+    part(alloc, source, log, range.start, range.end - range.start)
 }
 
 /// The `size` bytes of a file from the offset on, in memory of that size.
@@ -309,6 +335,7 @@ pub(crate) fn read_section<C: Class, S: Source>(
 pub fn part<S: Source>(
     alloc: Global,
     source: &S,
+    log: &mut S::Log,
     offset: usize,
     size: usize,
 ) -> Result<Vec<u8>, ReadError>
@@ -318,6 +345,7 @@ pub fn part<S: Source>(
     ensures size { IfOk result (λ v. length v.items ≡ size) }
     ensures failed { IfErr result (λ e. (e ≡ Unreadable) ⊎ (e ≡ OutOfMemory)) }
     ensures nothing_else { S.is_sure source.now (part offset size) ≡ true → IfErr result (λ e. e ≢ Unreadable) }
+    ensures asked { AskedFor (S.logs_only log.old) (S.logs_only log.new) (part offset size ∷ []) }
 {
-    Ok(read_part(alloc, source, offset as u64, size)?)
+    Ok(read_part(alloc, source, log, offset as u64, size)?)
 }

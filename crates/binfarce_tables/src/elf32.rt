@@ -2,6 +2,7 @@
 
 ghost use Rattle.std.specs.Prelude.{◌≡◌, ◌≢◌, List, ℕ, Some, IfErr};
 ghost use Rattle.binfarce_bytes.specs.Part.{AreSure};
+ghost use Rattle.binfarce_bytes.specs.Source.{AskedFor};
 ghost use Rattle.binfarce_elf.specs.Elf.{elf32};
 ghost use Rattle.binfarce_elf.specs.ElfAll.{all_file_answer};
 ghost use Rattle.binfarce_elf.specs.ElfSymbols.{elf_file_answer};
@@ -41,6 +42,7 @@ pub type SectionParts = sections::SectionParts<u32>;
 pub fn read<S: Source>(
     alloc: Global,
     source: &S,
+    log: &mut S::Log,
     byte_order: ByteOrder,
     section_name: &str,
 ) -> Result<Parts, ReadError>
@@ -49,8 +51,17 @@ pub fn read<S: Source>(
         (elf_file_answer Symtab elf32 byte_order file section_name.now) result }
     ensures nothing_else { (file : List ℕ) → S.bytes source.now ≡ Some file
         → AreSure (S.is_sure source.now) (elf_parts Symtab elf32 byte_order file) → IfErr result (λ e. e ≢ Unreadable) }
+    ensures asked { (file : List ℕ) → S.bytes source.now ≡ Some file
+        → AskedFor (S.logs_only log.old) (S.logs_only log.new) (elf_parts Symtab elf32 byte_order file) }
 {
-    read_by(alloc, source, byte_order, SymbolTable::Symtab, section_name)
+    read_by(
+        alloc,
+        source,
+        log,
+        byte_order,
+        SymbolTable::Symtab,
+        section_name,
+    )
 }
 
 /// Reads the parts that `read` reads, but with this symbol table and its strings.
@@ -61,6 +72,7 @@ pub fn read<S: Source>(
 pub fn read_by<S: Source>(
     alloc: Global,
     source: &S,
+    log: &mut S::Log,
     byte_order: ByteOrder,
     which: SymbolTable,
     section_name: &str,
@@ -70,8 +82,10 @@ pub fn read_by<S: Source>(
         (elf_file_answer which elf32 byte_order file section_name.now) result }
     ensures nothing_else { (file : List ℕ) → S.bytes source.now ≡ Some file
         → AreSure (S.is_sure source.now) (elf_parts which elf32 byte_order file) → IfErr result (λ e. e ≢ Unreadable) }
+    ensures asked { (file : List ℕ) → S.bytes source.now ≡ Some file
+        → AskedFor (S.logs_only log.old) (S.logs_only log.new) (elf_parts which elf32 byte_order file) }
 {
-    elf::read_parts::<u32, S>(alloc, source, byte_order, which, section_name)
+    elf::read_parts::<u32, S>(alloc, source, log, byte_order, which, section_name)
 }
 
 /// Reads the section headers and the section names of a file, numbers in the given order: the file header of 52 bytes,
@@ -87,6 +101,7 @@ pub fn read_by<S: Source>(
 pub fn read_sections<S: Source>(
     alloc: Global,
     source: &S,
+    log: &mut S::Log,
     byte_order: ByteOrder,
 ) -> Result<SectionParts, ReadError>
     ensures answer { (file : List ℕ) → S.bytes source.now ≡ Some file
@@ -94,8 +109,10 @@ pub fn read_sections<S: Source>(
     ensures nothing_else { (file : List ℕ) → S.bytes source.now ≡ Some file
         → AreSure (S.is_sure source.now) (elf_section_parts elf32 byte_order file)
         → IfErr result (λ e. e ≢ Unreadable) }
+    ensures asked { (file : List ℕ) → S.bytes source.now ≡ Some file
+        → AskedFor (S.logs_only log.old) (S.logs_only log.new) (elf_section_parts elf32 byte_order file) }
 {
-    sections::read_sections::<u32, S>(alloc, source, byte_order)
+    sections::read_sections::<u32, S>(alloc, source, log, byte_order)
 }
 
 /// Reads the parts of a file that have the function symbols of all sections, by this symbol table, and the section
@@ -112,6 +129,7 @@ pub fn read_sections<S: Source>(
 pub fn read_all<S: Source>(
     alloc: Global,
     source: &S,
+    log: &mut S::Log,
     byte_order: ByteOrder,
     which: SymbolTable,
 ) -> Result<AllParts, ReadError>
@@ -119,6 +137,8 @@ pub fn read_all<S: Source>(
         → Reads (S.may_fail source.now) (all_view elf32) (all_file_answer which elf32 byte_order file) result }
     ensures nothing_else { (file : List ℕ) → S.bytes source.now ≡ Some file
         → AreSure (S.is_sure source.now) (elf_parts which elf32 byte_order file) → IfErr result (λ e. e ≢ Unreadable) }
+    ensures asked { (file : List ℕ) → S.bytes source.now ≡ Some file
+        → AskedFor (S.logs_only log.old) (S.logs_only log.new) (elf_parts which elf32 byte_order file) }
 {
-    elf_all::read_all::<u32, S>(alloc, source, byte_order, which)
+    elf_all::read_all::<u32, S>(alloc, source, log, byte_order, which)
 }

@@ -3,6 +3,7 @@
 ghost use Rattle.std.specs.Prelude.{◌≡◌, ◌≢◌, List, ℕ, Some, IfErr};
 ghost use Rattle.std.specs.Option.{option_map};
 ghost use Rattle.binfarce_bytes.specs.Part.{AreSure};
+ghost use Rattle.binfarce_bytes.specs.Source.{AskedFor};
 ghost use Rattle.binfarce_elf.specs.ElfAll.{all_file_answer, all_left};
 ghost use Rattle.binfarce_tables.specs.Reading.{Reads};
 ghost use Rattle.binfarce_tables.specs.ElfAllReading.{all_view};
@@ -72,6 +73,7 @@ impl<C: Class> AllParts<C> {
 pub(crate) fn read_all<C: Class, S: Source>(
     alloc: Global,
     source: &S,
+    log: &mut S::Log,
     byte_order: ByteOrder,
     which: SymbolTable,
 ) -> Result<AllParts<C>, ReadError>
@@ -80,13 +82,15 @@ pub(crate) fn read_all<C: Class, S: Source>(
     ensures nothing_else { (file : List ℕ) → S.bytes source.now ≡ Some file
         → AreSure (S.is_sure source.now) (elf_parts which C.table byte_order file)
         → IfErr result (λ e. e ≢ Unreadable) }
+    ensures asked { (file : List ℕ) → S.bytes source.now ≡ Some file
+        → AskedFor (S.logs_only log.old) (S.logs_only log.new) (elf_parts which C.table byte_order file) }
 {
     let len = source.length()? as usize;
-    let place = read_place::<C, S>(alloc, source, len, byte_order)?;
-    let names = read_names::<C, S>(alloc, source, len, place)?;
-    let headers = read_table::<C, S>(alloc, source, len, place)?;
+    let place = read_place::<C, S>(alloc, source, log, len, byte_order)?;
+    let names = read_names::<C, S>(alloc, source, log, len, place)?;
+    let headers = read_table::<C, S>(alloc, source, log, len, place)?;
     let sections = needed_table::<C>(&headers, place.byte_order, place.shnum, which)?;
-    let table = read_rows::<C, S>(alloc, source, len, sections)?;
+    let table = read_rows::<C, S>(alloc, source, log, len, sections)?;
     Ok(AllParts {
         headers,
         names,

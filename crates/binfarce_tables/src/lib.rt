@@ -2,12 +2,12 @@
 #![tactic(auto)]
 
 mod beginning;
-pub mod begun;
 pub mod elf;
 pub mod elf32;
 pub mod elf64;
 mod elf_all;
 mod error;
+pub mod format;
 pub mod macho;
 mod macho_all;
 pub mod pe;

@@ -1,8 +1,9 @@
 //! 64-bit Mach-O files, of which only the tables are read (Apple's `<mach-o/loader.h>` and `<mach-o/nlist.h>`).
 
-ghost use Rattle.std.specs.Prelude.{◌≡◌, ◌≢◌, ◌<◌, ◌≤◌, List, ℕ, true, Ok, Some, length, MatchResult, IfErr};
+ghost use Rattle.std.specs.Prelude.{◌∷◌, [], ◌≡◌, ◌≢◌, ◌<◌, ◌≤◌, List, ℕ, true, Ok, Some, length, MatchResult, IfErr};
 ghost use Rattle.std.specs.Option.{option_map};
 ghost use Rattle.binfarce_bytes.specs.Part.{part, whole_part, parts_if, AreSure};
+ghost use Rattle.binfarce_bytes.specs.Source.{AskedFor};
 ghost use Rattle.binfarce_bytes.specs.Refusal.{Gives, refusal_of};
 ghost use Rattle.binfarce_macho.specs.Macho.{least_length, header_of};
 ghost use Rattle.binfarce_macho.specs.MachoParts.{SomeAddress, needed_view, table_view, holds_commands};
@@ -89,19 +90,21 @@ fn listed(alloc: Global, tables: &Tables) -> Result<(Vec<FunctionSymbol<'_>>, u6
 /// `Refused` with the error of `parse` or `functions` of a reader of the whole file, if it comes before they read the
 /// symbol table's rows; `Unreadable` where the source can't be read at offsets, or a read of it fails, and never for a
 /// source that can't fail, such as bytes in memory; `OutOfMemory` where an allocation fails.
-pub fn read<S: Source>(alloc: Global, source: &S) -> Result<Parts, ReadError>
+pub fn read<S: Source>(alloc: Global, source: &S, log: &mut S::Log) -> Result<Parts, ReadError>
     ensures answer { (file : List ℕ) → S.bytes source.now ≡ Some file
         → Reads (S.may_fail source.now) parts_view (located_answer file) result }
     ensures nothing_else { (file : List ℕ) → S.bytes source.now ≡ Some file
         → AreSure (S.is_sure source.now) (macho_parts file) → IfErr result (λ e. e ≢ Unreadable) }
+    ensures asked { (file : List ℕ) → S.bytes source.now ≡ Some file
+        → AskedFor (S.logs_only log.old) (S.logs_only log.new) (macho_parts file) }
 {
     let len = source.length()? as usize;
     if len < HEADER {
         return Err(ReadError::Refused(ParseError::UnexpectedEof));
     }
-    let commands = read_commands(alloc, source, len)?;
+    let commands = read_commands(alloc, source, log, len)?;
     let needed = needed_in(&commands)?;
-    read_tables(alloc, source, len, needed)
+    read_tables(alloc, source, log, len, needed)
 }
 
 /// Reads the prefix of a file that has its sections: the header of 28 bytes, and the bytes up to the end of the load
@@ -114,18 +117,24 @@ pub fn read<S: Source>(alloc: Global, source: &S) -> Result<Parts, ReadError>
 /// `Refused` with `UnexpectedEof` for fewer than 28 bytes; `Unreadable` where the source can't be read at offsets, or a
 /// read of it fails, and never for a source that can't fail, such as bytes in memory; `OutOfMemory` where an allocation
 /// fails.
-pub fn read_sections<S: Source>(alloc: Global, source: &S) -> Result<Beginning, ReadError>
+pub fn read_sections<S: Source>(
+    alloc: Global,
+    source: &S,
+    log: &mut S::Log,
+) -> Result<Beginning, ReadError>
     ensures answer { (file : List ℕ) → S.bytes source.now ≡ Some file
         → ReadsBeginning (S.may_fail source.now) macho_sections file result }
     ensures nothing_else { (file : List ℕ) → S.bytes source.now ≡ Some file
         → AreSure (S.is_sure source.now) (macho_section_parts file) → IfErr result (λ e. e ≢ Unreadable) }
+    ensures asked { (file : List ℕ) → S.bytes source.now ≡ Some file
+        → AskedFor (S.logs_only log.old) (S.logs_only log.new) (macho_section_parts file) }
 {
     let file_length = source.length()?;
     let len = file_length as usize;
     if HEADER > len {
         return Err(ReadError::Refused(ParseError::UnexpectedEof));
     }
-    let bytes = read_commands(alloc, source, len)?;
+    let bytes = read_commands(alloc, source, log, len)?;
     Ok(Beginning { bytes, file_length })
 }
 
@@ -133,6 +142,7 @@ pub fn read_sections<S: Source>(alloc: Global, source: &S) -> Result<Beginning, 
 pub(crate) fn read_commands<S: Source>(
     alloc: Global,
     source: &S,
+    log: &mut S::Log,
     len: usize,
 ) -> Result<Vec<u8>, ReadError>
     requires { least_length ≤ len }
@@ -140,24 +150,32 @@ pub(crate) fn read_commands<S: Source>(
         → Reads (S.may_fail source.now) (λ v. v.items) (Ok (command_bytes file)) result }
     ensures nothing_else { (file : List ℕ) → Known (S.bytes source.now) len file
         → AreSure (S.is_sure source.now) (macho_section_parts file) → IfErr result (λ e. e ≢ Unreadable) }
+    ensures asked { (file : List ℕ) → Known (S.bytes source.now) len file
+        → AskedFor (S.logs_only log.old) (S.logs_only log.new) (macho_section_parts file) }
 {
-    let end = read_end(alloc, source, len)?;
-    let commands = part(alloc, source, 0, end)?;
+    let end = read_end(alloc, source, log, len)?;
+    let commands = part(alloc, source, log, 0, end)?;
     if end == len || are_held(&commands) {
         Ok(commands)
     } else {
-        part(alloc, source, 0, len)
+        part(alloc, source, log, 0, len)
     }
 }
 
 // Where the load commands end, as the header states, but within the file.
-fn read_end<S: Source>(alloc: Global, source: &S, len: usize) -> Result<usize, ReadError>
+fn read_end<S: Source>(
+    alloc: Global,
+    source: &S,
+    log: &mut S::Log,
+    len: usize,
+) -> Result<usize, ReadError>
     requires { least_length ≤ len }
     ensures answer { (file : List ℕ) → Known (S.bytes source.now) len file
         → Reads (S.may_fail source.now) (λ n. n) (Ok (said_end file)) result }
     ensures nothing_else { S.is_sure source.now (part 0 least_length) ≡ true → IfErr result (λ e. e ≢ Unreadable) }
+    ensures asked { AskedFor (S.logs_only log.old) (S.logs_only log.new) (part 0 least_length ∷ []) }
 {
-    let bytes = part(alloc, source, 0, HEADER)?;
+    let bytes = part(alloc, source, log, 0, HEADER)?;
     let header = header_in(&bytes)?;
     Ok(parts::commands_end(header).min(len))
 }
@@ -190,6 +208,7 @@ fn needed_in(commands: &[u8]) -> Result<Needed<'_>, ParseError>
 fn read_tables<S: Source>(
     alloc: Global,
     source: &S,
+    log: &mut S::Log,
     len: usize,
     needed: Needed<'_>,
 ) -> Result<Parts, ReadError>
@@ -198,11 +217,14 @@ fn read_tables<S: Source>(
     ensures nothing_else { (file : List ℕ) → Known (S.bytes source.now) len file
         → AreSure (S.is_sure source.now) (parts_if (option_map table_view needed.entry.table) (table_parts file))
         → IfErr result (λ e. e ≢ Unreadable) }
+    ensures asked { (file : List ℕ) → Known (S.bytes source.now) len file
+        → AskedFor (S.logs_only log.old) (S.logs_only log.new)
+        (parts_if (option_map table_view needed.entry.table) (table_parts file)) }
 {
     match needed.table {
         None => Ok(Parts { tables: None }),
         Some(table) => {
-            let tables = read_located(alloc, source, len, needed.text, table)?;
+            let tables = read_located(alloc, source, log, len, needed.text, table)?;
             Ok(Parts {
                 tables: Some(tables),
             })
@@ -213,6 +235,7 @@ fn read_tables<S: Source>(
 fn read_located<S: Source>(
     alloc: Global,
     source: &S,
+    log: &mut S::Log,
     len: usize,
     text: Section<'_>,
     table: SymbolTable,
@@ -222,11 +245,27 @@ fn read_located<S: Source>(
         (located_in file (section_view text.entry) (table_view table)) result }
     ensures nothing_else { (file : List ℕ) → Known (S.bytes source.now) len file
         → AreSure (S.is_sure source.now) (table_parts file (table_view table)) → IfErr result (λ e. e ≢ Unreadable) }
+    ensures asked { (file : List ℕ) → Known (S.bytes source.now) len file
+        → AskedFor (S.logs_only log.old) (S.logs_only log.new) (table_parts file (table_view table)) }
 {
     let strings_at = table.strings_offset as usize;
-    let strings = read_table(alloc, source, len, strings_at, table.strings_size as usize)?;
+    let strings = read_table(
+        alloc,
+        source,
+        log,
+        len,
+        strings_at,
+        table.strings_size as usize,
+    )?;
     let rows_size = SYMBOL_LENGTH * table.row_count as usize;
-    let rows = read_table(alloc, source, len, table.symbol_offset as usize, rows_size)?;
+    let rows = read_table(
+        alloc,
+        source,
+        log,
+        len,
+        table.symbol_offset as usize,
+        rows_size,
+    )?;
     let text_end = parts::text_end(text)?;
     Ok(Tables {
         text_end,
@@ -240,6 +279,7 @@ fn read_located<S: Source>(
 pub(crate) fn read_table<S: Source>(
     alloc: Global,
     source: &S,
+    log: &mut S::Log,
     len: usize,
     offset: usize,
     size: usize,
@@ -248,9 +288,11 @@ pub(crate) fn read_table<S: Source>(
         → Reads (S.may_fail source.now) (λ v. v.items) (slice_at file offset size) result }
     ensures nothing_else { (file : List ℕ) → Known (S.bytes source.now) len file
         → AreSure (S.is_sure source.now) (whole_part file offset size) → IfErr result (λ e. e ≢ Unreadable) }
+    ensures asked { (file : List ℕ) → Known (S.bytes source.now) len file
+        → AskedFor (S.logs_only log.old) (S.logs_only log.new) (whole_part file offset size) }
 {
     if offset > len || size > len - offset {
         return Err(ReadError::Refused(ParseError::UnexpectedEof));
     }
-    part(alloc, source, offset, size)
+    part(alloc, source, log, offset, size)
 }

@@ -3,6 +3,7 @@
 ghost use Rattle.std.specs.Prelude.{◌≡◌, ◌≢◌, ◌⊎◌, ◌≤◌, List, ℕ, [], Some, Ok, false, length, IfErr};
 ghost use Rattle.std.specs.Option.{option_map};
 ghost use Rattle.binfarce_bytes.specs.Part.{parts_if, AreSure};
+ghost use Rattle.binfarce_bytes.specs.Source.{AskedFor};
 ghost use Rattle.binfarce_bytes.specs.Refusal.{refusal_of, out_of_memory};
 ghost use Rattle.binfarce_bytes.specs.SectionEntries.{AnswersAll};
 ghost use Rattle.binfarce_bytes.specs.SymbolViews.{HoldsSectionFunctions};
@@ -97,19 +98,25 @@ fn bytes_of(symbols: &SymbolParts) -> SymbolBytes<'_>
 /// `Refused` with the error of `parse` or `all_functions` of a reader of the whole file, if it comes before they read
 /// the symbol table's rows; `Unreadable` where the source can't be read at offsets, or a read of it fails, and never
 /// for a source that can't fail, such as bytes in memory; `OutOfMemory` where an allocation fails.
-pub fn read_all<S: Source>(alloc: Global, source: &S) -> Result<AllParts, ReadError>
+pub fn read_all<S: Source>(
+    alloc: Global,
+    source: &S,
+    log: &mut S::Log,
+) -> Result<AllParts, ReadError>
     ensures answer { (file : List ℕ) → S.bytes source.now ≡ Some file
         → Reads (S.may_fail source.now) all_view (all_located_answer file) result }
     ensures nothing_else { (file : List ℕ) → S.bytes source.now ≡ Some file
         → AreSure (S.is_sure source.now) (macho_parts file) → IfErr result (λ e. e ≢ Unreadable) }
+    ensures asked { (file : List ℕ) → S.bytes source.now ≡ Some file
+        → AskedFor (S.logs_only log.old) (S.logs_only log.new) (macho_parts file) }
 {
     let len = source.length()? as usize;
     if len < HEADER {
         return Err(ReadError::Refused(ParseError::UnexpectedEof));
     }
-    let commands = read_commands(alloc, source, len)?;
+    let commands = read_commands(alloc, source, log, len)?;
     let found = found_in(alloc, &commands)?;
-    let symbols = read_symbols(alloc, source, len, found.table)?;
+    let symbols = read_symbols(alloc, source, log, len, found.table)?;
     Ok(AllParts {
         sections: found.sections,
         names: found.names,
@@ -163,6 +170,7 @@ fn error_of(e: ParseError) -> ReadError
 fn read_symbols<S: Source>(
     alloc: Global,
     source: &S,
+    log: &mut S::Log,
     len: usize,
     table: Option<SymbolTable>,
 ) -> Result<Option<SymbolParts>, ReadError>
@@ -172,14 +180,31 @@ fn read_symbols<S: Source>(
     ensures nothing_else { (file : List ℕ) → Known (S.bytes source.now) len file
         → AreSure (S.is_sure source.now) (parts_if (option_map table_view table) (table_parts file))
         → IfErr result (λ e. e ≢ Unreadable) }
+    ensures asked { (file : List ℕ) → Known (S.bytes source.now) len file
+        → AskedFor (S.logs_only log.old) (S.logs_only log.new)
+        (parts_if (option_map table_view table) (table_parts file)) }
 {
     let table = match table {
         None => return Ok(None),
         Some(table) => table,
     };
     let strings_at = table.strings_offset as usize;
-    let strings = read_table(alloc, source, len, strings_at, table.strings_size as usize)?;
+    let strings = read_table(
+        alloc,
+        source,
+        log,
+        len,
+        strings_at,
+        table.strings_size as usize,
+    )?;
     let rows_size = SYMBOL_LENGTH * table.row_count as usize;
-    let rows = read_table(alloc, source, len, table.symbol_offset as usize, rows_size)?;
+    let rows = read_table(
+        alloc,
+        source,
+        log,
+        len,
+        table.symbol_offset as usize,
+        rows_size,
+    )?;
     Ok(Some(SymbolParts { strings, rows }))
 }

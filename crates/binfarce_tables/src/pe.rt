@@ -1,8 +1,9 @@
 //! PE files, of which only the tables are read (Microsoft PE Format).
 
-ghost use Rattle.std.specs.Prelude.{◌≡◌, ◌≢◌, List, ℕ, true, Ok, Some, IfErr};
+ghost use Rattle.std.specs.Prelude.{◌∷◌, [], ◌≡◌, ◌≢◌, List, ℕ, true, Ok, Some, IfErr};
 ghost use Rattle.binfarce_bytes.specs.Entries.{Answers, ListsSome};
 ghost use Rattle.binfarce_bytes.specs.Part.{AreSure};
+ghost use Rattle.binfarce_bytes.specs.Source.{AskedFor};
 ghost use Rattle.binfarce_bytes.specs.SymbolViews.{HoldsFunctions};
 ghost use Rattle.binfarce_pe.specs.PeParts.{places_view, text_view};
 ghost use Rattle.binfarce_pe.specs.PeSymbols.{pe_file_answer};
@@ -63,16 +64,18 @@ impl Parts {
 /// `Refused` with the error of `parse` or `functions` of a reader of the whole file; `Unreadable` where the source
 /// can't be read at offsets, or a read of it fails, and never for a source that can't fail, such as bytes in memory;
 /// `OutOfMemory` where an allocation fails.
-pub fn read<S: Source>(alloc: Global, source: &S) -> Result<Parts, ReadError>
+pub fn read<S: Source>(alloc: Global, source: &S, log: &mut S::Log) -> Result<Parts, ReadError>
     ensures answer { (file : List ℕ) → S.bytes source.now ≡ Some file
         → Reads (S.may_fail source.now) parts_view (pe_file_answer file) result }
     ensures nothing_else { (file : List ℕ) → S.bytes source.now ≡ Some file
         → AreSure (S.is_sure source.now) (pe_parts file) → IfErr result (λ e. e ≢ Unreadable) }
+    ensures asked { (file : List ℕ) → S.bytes source.now ≡ Some file
+        → AskedFor (S.logs_only log.old) (S.logs_only log.new) (pe_parts file) }
 {
     let len = source.length()? as usize;
-    let places = read_places(alloc, source, len)?;
-    let text = read_text(alloc, source, len, places)?;
-    let records = read_records(alloc, source, len, places)?;
+    let places = read_places(alloc, source, log, len)?;
+    let text = read_text(alloc, source, log, len, places)?;
+    let records = read_records(alloc, source, log, len, places)?;
     Ok(Parts {
         rows: records.rows,
         strings: records.strings,
@@ -89,52 +92,67 @@ pub fn read<S: Source>(alloc: Global, source: &S) -> Result<Parts, ReadError>
 /// `Refused` with `UnexpectedEof` where the file is too short for its file header; `Unreadable` where the source can't
 /// be read at offsets, or a read of it fails, and never for a source that can't fail, such as bytes in memory;
 /// `OutOfMemory` where an allocation fails.
-pub fn read_sections<S: Source>(alloc: Global, source: &S) -> Result<Beginning, ReadError>
+pub fn read_sections<S: Source>(
+    alloc: Global,
+    source: &S,
+    log: &mut S::Log,
+) -> Result<Beginning, ReadError>
     ensures answer { (file : List ℕ) → S.bytes source.now ≡ Some file
         → ReadsBeginning (S.may_fail source.now) pe_sections file result }
     ensures nothing_else { (file : List ℕ) → S.bytes source.now ≡ Some file
         → AreSure (S.is_sure source.now) (pe_section_parts file) → IfErr result (λ e. e ≢ Unreadable) }
+    ensures asked { (file : List ℕ) → S.bytes source.now ≡ Some file
+        → AskedFor (S.logs_only log.old) (S.logs_only log.new) (pe_section_parts file) }
 {
     let file_length = source.length()?;
     let len = file_length as usize;
-    let places = read_places(alloc, source, len)?;
+    let places = read_places(alloc, source, log, len)?;
     let headers = places.section_count as usize * SECTION_LENGTH;
     let end = places
         .sections
         .saturating_add(headers.max(1))
         .max(STUB_LENGTH);
-    let bytes = part(alloc, source, 0, end.min(len))?;
+    let bytes = part(alloc, source, log, 0, end.min(len))?;
     Ok(Beginning { bytes, file_length })
 }
 
 pub(crate) fn read_places<S: Source>(
     alloc: Global,
     source: &S,
+    log: &mut S::Log,
     len: usize,
 ) -> Result<Places, ReadError>
     ensures answer { (file : List ℕ) → Known (S.bytes source.now) len file
         → Reads (S.may_fail source.now) places_view (places_step file) result }
     ensures nothing_else { (file : List ℕ) → Known (S.bytes source.now) len file
         → AreSure (S.is_sure source.now) (places_parts file) → IfErr result (λ e. e ≢ Unreadable) }
+    ensures asked { (file : List ℕ) → Known (S.bytes source.now) len file
+        → AskedFor (S.logs_only log.old) (S.logs_only log.new) (places_parts file) }
 {
-    let signature = read_signature(alloc, source, len)?;
+    let signature = read_signature(alloc, source, log, len)?;
     let offset = signature as usize;
     if len < offset + HEADERS_LENGTH {
         return Err(ReadError::Refused(ParseError::UnexpectedEof));
     }
-    let headers = part(alloc, source, offset, HEADERS_LENGTH)?;
+    let headers = part(alloc, source, log, offset, HEADERS_LENGTH)?;
     Ok(places_in(&headers, signature)?)
 }
 
-fn read_signature<S: Source>(alloc: Global, source: &S, len: usize) -> Result<u32, ReadError>
+fn read_signature<S: Source>(
+    alloc: Global,
+    source: &S,
+    log: &mut S::Log,
+    len: usize,
+) -> Result<u32, ReadError>
     ensures answer { (file : List ℕ) → Known (S.bytes source.now) len file
         → Reads (S.may_fail source.now) (λ n. n) (signature_step file) result }
     ensures nothing_else { S.is_sure source.now pointer_part ≡ true → IfErr result (λ e. e ≢ Unreadable) }
+    ensures asked { AskedFor (S.logs_only log.old) (S.logs_only log.new) (pointer_part ∷ []) }
 {
     if len < SIGNATURE_POINTER + 4 {
         return Err(ReadError::Refused(ParseError::UnexpectedEof));
     }
-    let pointer = part(alloc, source, SIGNATURE_POINTER, 4)?;
+    let pointer = part(alloc, source, log, SIGNATURE_POINTER, 4)?;
     Ok(signature_in(&pointer)?)
 }
 
@@ -142,6 +160,7 @@ fn read_signature<S: Source>(alloc: Global, source: &S, len: usize) -> Result<u3
 fn read_text<S: Source>(
     alloc: Global,
     source: &S,
+    log: &mut S::Log,
     len: usize,
     places: Places,
 ) -> Result<Text, ReadError>
@@ -149,6 +168,8 @@ fn read_text<S: Source>(
         → Reads (S.may_fail source.now) text_view (text_at file (places_view places)) result }
     ensures nothing_else { (file : List ℕ) → Known (S.bytes source.now) len file
         → S.is_sure source.now (headers_part file (places_view places)) ≡ true → IfErr result (λ e. e ≢ Unreadable) }
+    ensures asked { (file : List ℕ) → Known (S.bytes source.now) len file
+        → AskedFor (S.logs_only log.old) (S.logs_only log.new) ((headers_part file (places_view places)) ∷ []) }
 {
     let offset = places.sections;
     if offset >= len {
@@ -158,7 +179,7 @@ fn read_text<S: Source>(
         return Err(ReadError::Refused(ParseError::SymbolsSectionIsMissing));
     }
     let size = places.section_count as usize * SECTION_LENGTH;
-    let headers = part(alloc, source, offset, size.min(len - offset))?;
+    let headers = part(alloc, source, log, offset, size.min(len - offset))?;
     Ok(text_in(&headers, places.section_count)?)
 }
 
@@ -173,6 +194,7 @@ pub(crate) struct Records {
 pub(crate) fn read_records<S: Source>(
     alloc: Global,
     source: &S,
+    log: &mut S::Log,
     len: usize,
     places: Places,
 ) -> Result<Records, ReadError>
@@ -180,13 +202,15 @@ pub(crate) fn read_records<S: Source>(
         → Reads (S.may_fail source.now) records_view (table_at file (places_view places)) result }
     ensures nothing_else { (file : List ℕ) → Known (S.bytes source.now) len file
         → AreSure (S.is_sure source.now) (table_parts file (places_view places)) → IfErr result (λ e. e ≢ Unreadable) }
+    ensures asked { (file : List ℕ) → Known (S.bytes source.now) len file
+        → AskedFor (S.logs_only log.old) (S.logs_only log.new) (table_parts file (places_view places)) }
 {
     let offset = places.symbols;
     if offset >= len || places.symbols_size > len - offset {
         return Err(ReadError::Refused(ParseError::UnexpectedEof));
     }
     let end = offset + places.symbols_size;
-    let rows = part(alloc, source, offset, places.symbols_size)?;
-    let strings = part(alloc, source, end, len - end)?;
+    let rows = part(alloc, source, log, offset, places.symbols_size)?;
+    let strings = part(alloc, source, log, end, len - end)?;
     Ok(Records { rows, strings })
 }

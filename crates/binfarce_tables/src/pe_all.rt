@@ -1,8 +1,9 @@
 //! The parts of a PE file that have the function symbols of all sections.
 
-ghost use Rattle.std.specs.Prelude.{◌≡◌, ◌≢◌, ◌<◌, ◌≤◌, List, ℕ, true, Ok, Some, IfOk, IfErr};
+ghost use Rattle.std.specs.Prelude.{◌∷◌, [], ◌≡◌, ◌≢◌, ◌<◌, ◌≤◌, List, ℕ, true, Ok, Some, IfOk, IfErr};
 ghost use Rattle.std.specs.Option.{option_map};
 ghost use Rattle.binfarce_bytes.specs.Part.{AreSure};
+ghost use Rattle.binfarce_bytes.specs.Source.{AskedFor};
 ghost use Rattle.binfarce_bytes.specs.SectionEntries.{AnswersAll};
 ghost use Rattle.binfarce_bytes.specs.SymbolViews.{HoldsSectionFunctions};
 ghost use Rattle.binfarce_pe.specs.Pe.{header_of};
@@ -104,24 +105,31 @@ impl AllParts {
 /// `Refused` with the error of `parse` or `all_functions` of a reader of the whole file; `Unreadable` where the source
 /// can't be read at offsets, or a read of it fails, and never for a source that can't fail, such as bytes in memory;
 /// `OutOfMemory` where an allocation fails.
-pub fn read_all<S: Source>(alloc: Global, source: &S) -> Result<AllParts, ReadError>
+pub fn read_all<S: Source>(
+    alloc: Global,
+    source: &S,
+    log: &mut S::Log,
+) -> Result<AllParts, ReadError>
     ensures answer { (file : List ℕ) → S.bytes source.now ≡ Some file
         → Reads (S.may_fail source.now) all_view (all_file_answer file) result }
     ensures count { (file : List ℕ) → S.bytes source.now ≡ Some file
         → IfOk result (λ p. p.sections.count ≡ (header_of file).number_of_sections) }
     ensures nothing_else { (file : List ℕ) → S.bytes source.now ≡ Some file
         → AreSure (S.is_sure source.now) (pe_all_parts file) → IfErr result (λ e. e ≢ Unreadable) }
+    ensures asked { (file : List ℕ) → S.bytes source.now ≡ Some file
+        → AskedFor (S.logs_only log.old) (S.logs_only log.new) (pe_all_parts file) }
 {
     let len = source.length()? as usize;
-    let places = read_places(alloc, source, len)?;
-    let headers = read_headers(alloc, source, len, places)?;
+    let places = read_places(alloc, source, log, len)?;
+    let headers = read_headers(alloc, source, log, len, places)?;
     let header = part(
         alloc,
         source,
+        log,
         places.optional_header,
         places.optional_header_size,
     )?;
-    let records = read_records(alloc, source, len, places)?;
+    let records = read_records(alloc, source, log, len, places)?;
     Ok(AllParts {
         image_base: image_base(&header),
         headers,
@@ -134,6 +142,7 @@ pub fn read_all<S: Source>(alloc: Global, source: &S) -> Result<AllParts, ReadEr
 fn read_headers<S: Source>(
     alloc: Global,
     source: &S,
+    log: &mut S::Log,
     len: usize,
     places: Places,
 ) -> Result<Vec<u8>, ReadError>
@@ -145,6 +154,8 @@ fn read_headers<S: Source>(
         (λ v. places.section_count ≤ whole_in (headers_alone v.items places.section_count)) }
     ensures nothing_else { (file : List ℕ) → Known (S.bytes source.now) len file
         → S.is_sure source.now (headers_part file (places_view places)) ≡ true → IfErr result (λ e. e ≢ Unreadable) }
+    ensures asked { (file : List ℕ) → Known (S.bytes source.now) len file
+        → AskedFor (S.logs_only log.old) (S.logs_only log.new) ((headers_part file (places_view places)) ∷ []) }
 {
     let offset = places.sections;
     if offset >= len {
@@ -155,5 +166,5 @@ fn read_headers<S: Source>(
     if size.saturating_sub(SECTION_UNREAD) > rest {
         return Err(ReadError::Refused(ParseError::UnexpectedEof));
     }
-    part(alloc, source, offset, size.min(rest))
+    part(alloc, source, log, offset, size.min(rest))
 }

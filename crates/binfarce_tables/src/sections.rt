@@ -3,6 +3,7 @@
 ghost use Rattle.std.specs.Prelude.{◌≡◌, ◌≢◌, List, ℕ, Ok, Some, IfErr};
 ghost use Rattle.std.specs.Option.{option_map};
 ghost use Rattle.binfarce_bytes.specs.Part.{AreSure};
+ghost use Rattle.binfarce_bytes.specs.Source.{AskedFor};
 ghost use Rattle.binfarce_elf.specs.Elf.{walk};
 ghost use Rattle.binfarce_elf.specs.ElfParts.{headers_alone};
 ghost use Rattle.binfarce_elf.specs.ElfSymbols.{is_named};
@@ -71,6 +72,7 @@ impl<C: Class> SectionParts<C> {
 pub(crate) fn read_sections<C: Class, S: Source>(
     alloc: Global,
     source: &S,
+    log: &mut S::Log,
     byte_order: ByteOrder,
 ) -> Result<SectionParts<C>, ReadError>
     ensures answer { (file : List ℕ) → S.bytes source.now ≡ Some file
@@ -78,11 +80,13 @@ pub(crate) fn read_sections<C: Class, S: Source>(
     ensures nothing_else { (file : List ℕ) → S.bytes source.now ≡ Some file
         → AreSure (S.is_sure source.now) (elf_section_parts C.table byte_order file)
         → IfErr result (λ e. e ≢ Unreadable) }
+    ensures asked { (file : List ℕ) → S.bytes source.now ≡ Some file
+        → AskedFor (S.logs_only log.old) (S.logs_only log.new) (elf_section_parts C.table byte_order file) }
 {
     let len = source.length()? as usize;
-    let place = read_place::<C, S>(alloc, source, len, byte_order)?;
-    let names = read_names::<C, S>(alloc, source, len, place)?;
-    let headers = read_table::<C, S>(alloc, source, len, place)?;
+    let place = read_place::<C, S>(alloc, source, log, len, byte_order)?;
+    let names = read_names::<C, S>(alloc, source, log, len, place)?;
+    let headers = read_table::<C, S>(alloc, source, log, len, place)?;
     Ok(SectionParts {
         headers,
         names,
@@ -98,6 +102,7 @@ pub(crate) fn read_sections<C: Class, S: Source>(
 pub(crate) fn read_table<C: Class, S: Source>(
     alloc: Global,
     source: &S,
+    log: &mut S::Log,
     len: usize,
     place: Place,
 ) -> Result<Vec<u8>, ReadError>
@@ -108,12 +113,14 @@ pub(crate) fn read_table<C: Class, S: Source>(
     ensures nothing_else { (file : List ℕ) → Known (S.bytes source.now) len file
         → AreSure (S.is_sure source.now) (headers_parts C.table (table_at file place))
         → IfErr result (λ e. e ≢ Unreadable) }
+    ensures asked { (file : List ℕ) → Known (S.bytes source.now) len file
+        → AskedFor (S.logs_only log.old) (S.logs_only log.new) (headers_parts C.table (table_at file place)) }
 {
     if place.shoff >= len {
         return Ok(Vec::new(alloc));
     }
     if place.shnum == 0 {
-        return part(alloc, source, place.shoff, 1);
+        return part(alloc, source, log, place.shoff, 1);
     }
-    read_headers::<C, S>(alloc, source, len, place)
+    read_headers::<C, S>(alloc, source, log, len, place)
 }

@@ -18,14 +18,14 @@ use Rattle.binfarce_tables.proofs.PeLaw as pe
 use Rattle.binfarce_tools.specs.Answer.{by_symbol_table, symbols_answer, NeedsMemory}
 use Rattle.binfarce_tools.specs.AllAnswer.{all_symbols_answer}
 use Rattle.binfarce_tools.specs.Parts.{head_part, format_parts, all_format_parts, PartsDecide}
-use Rattle.binfarce_tools.proofs.TablesRead.{format_of_head}
+use Rattle.binfarce_tables.proofs.FirstBytes.{format_of_first}
 
--- files of one length that hold the same in their first 64 bytes have one format
+-- files of one length that hold the same in their first 8 bytes have one format
 format_same : (file other : List ℕ) → length file ≡ length other → SameIn file other (head_part file) → format_of other ≡ format_of file
 format_same file other long same =
-    sym (format_of_head other)
-    ∙ ap format_of (sym (take_min 64 other) ∙ ap (λ (n : ℕ). take (min 64 n) other) (sym long) ∙ sym same ∙ take_min 64 file)
-    ∙ format_of_head file
+    sym (format_of_first other)
+    ∙ ap format_of (sym (take_min 8 other) ∙ ap (λ (n : ℕ). take (min 8 n) other) (sym long) ∙ sym same ∙ take_min 8 file)
+    ∙ format_of_first file
 
 module _ (which : SymbolTable) where
   answers_same : (format : Format) (file other : List ℕ) → SameParts (format_parts which format file) file other → (section : List ℕ) → symbols_answer which format other section ≡ symbols_answer which format file section

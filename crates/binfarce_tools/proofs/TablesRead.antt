@@ -1,9 +1,7 @@
 -- What was read of a file is what the file answers.
-use Rattle.std.proofs.Common.{◌≡◌, ℕ, Bool, true, false, ltb, List, [], ◌∷◌, length, take, Option, Some, Result, Ok, Err, refl, sym, ap, subst, ◌∙◌, arith}
+use Rattle.std.proofs.Common.{◌≡◌, ℕ, Bool, true, false, ltb, List, [], ◌∷◌, length, Option, Some, Result, Ok, Err, refl, sym, ap, subst, ◌∙◌, arith}
 use Rattle.std.specs.Prelude.{codes, if◌then◌else◌}
 use Rattle.std.specs.Result.{IsErr, IsErrAnd}
-use Rattle.std.proofs.lemmas.Bool.{le-ltb}
-use Rattle.std.proofs.lemmas.List.{take-take}
 use Rattle.binfarce.specs.declared.ByteOrder.{ByteOrder}
 use Rattle.binfarce.specs.declared.Format.{Format}
 use Rattle.binfarce.specs.declared.Format.TheVariants as formats
@@ -27,24 +25,6 @@ use Rattle.binfarce_tools.specs.declared.tables.Tables.{Tables}
 use Rattle.binfarce_tools.specs.Answer.{symbols_answer, answer_of as answer, NeedsMemory}
 use Rattle.binfarce_tools.specs.Entries.{Gets}
 use Rattle.binfarce_tools.specs.Tables.{AreTablesOfSection, ReadsAs}
-
--- the first eight bytes name the format
-pub format_of_first : (file : List ℕ) → format_of (take 8 file) ≡ format_of file
-unfolding format_of
-format_of_first (a ∷ b ∷ c ∷ d ∷ e ∷ f ∷ g ∷ h ∷ rest) = rw (le-ltb (length (a ∷ b ∷ c ∷ d ∷ e ∷ f ∷ g ∷ h ∷ rest)) 8 (omega arith)) refl
-format_of_first [] = refl
-format_of_first (a ∷ []) = refl
-format_of_first (a ∷ b ∷ []) = refl
-format_of_first (a ∷ b ∷ c ∷ []) = refl
-format_of_first (a ∷ b ∷ c ∷ d ∷ []) = refl
-format_of_first (a ∷ b ∷ c ∷ d ∷ e ∷ []) = refl
-format_of_first (a ∷ b ∷ c ∷ d ∷ e ∷ f ∷ []) = refl
-format_of_first (a ∷ b ∷ c ∷ d ∷ e ∷ f ∷ g ∷ []) = refl
-
--- so do the first 64
-pub format_of_head : (file : List ℕ) → format_of (take 64 file) ≡ format_of file
-format_of_head file =
-    sym (format_of_first (take 64 file)) ∙ ap format_of (take-take 8 64 file (omega arith)) ∙ format_of_first file
 
 -- the answer of an ELF file is that of its class
 pub answer_32 : (which : SymbolTable) (order : ByteOrder) (file section : List ℕ) (given : Result Listed Refusal) → format_of file ≡ formats.Elf32 order → elf_file_answer which elf32 order file section ≡ given → answer which file section ≡ Some given

@@ -14,9 +14,9 @@ use Rattle.binfarce_tables.specs.PeReads.{pe_parts, pe_all_parts}
 use Rattle.binfarce_tools.specs.Answer.{answer_of, NeedsMemory}
 use Rattle.binfarce_tools.specs.AllAnswer.{all_answer_of}
 
--- the first 64 bytes, or all of a shorter file, whose first 8 name the format
+-- the first 8 bytes, or all of a shorter file, which name the format
 abbrev pub head_part : List ℕ → Part
-head_part file = part 0 (min 64 (length file))
+head_part file = part 0 (min 8 (length file))
 
 -- what a reading by this symbol table reads of a file of this format; nothing of an unknown one
 unfoldable pub format_parts : SymbolTable → Format → List ℕ → List Part

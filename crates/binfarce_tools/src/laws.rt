@@ -29,7 +29,7 @@ use binfarce::demangle::SymbolData;
 /// for all sections: by the symbol table, or by the dynamic one.
 ///
 /// No other byte matters to a listing or a report, and `tables::read` needs no other byte. The
-/// first 64 bytes are a part of every file. Of an ELF file the others are the file header, the section headers, the
+/// first 8 bytes are a part of every file. Of an ELF file the others are the file header, the section headers, the
 /// section names, the symbol table and its string table; of a Mach-O file the load commands, the symbol table and its
 /// string table; of a PE file the file header, the section headers, the symbol table and the rest of the file after it;
 /// any other file has none.

@@ -75,12 +75,12 @@ pub fn open(rt: &HostRuntime, path: &str) -> Result<File, Failure>
 ///
 /// A pipe has no length, a file of `/proc` has one of 0, and a file of `/sys` may have fewer bytes than its length: these are
 /// read to their end.
-pub fn is_read_at_offsets<S: Source>(file: &S) -> bool
+pub fn is_read_at_offsets<S: Source<Log = ()>>(file: &S) -> bool
     ensures yes { result ≡ true → IfSome (S.bytes file.now) (λ bytes. bytes ≢ []) }
     ensures no { result ≡ false → IfSome (S.bytes file.now) (λ bytes. (bytes ≡ []) ⊎ (S.may_fail file.now ≡ true)) }
 {
     match file.length() {
-        Ok(length) if length > 0 => file.fill_at(length - 1, &mut [0]).is_ok(),
+        Ok(length) if length > 0 => file.fill_at(&mut (), length - 1, &mut [0]).is_ok(),
         _ => false,
     }
 }

@@ -9,6 +9,7 @@ ghost use Rattle.binfarce.specs.declared.SymbolTable.{SymbolTable};
 ghost use Rattle.binfarce.specs.declared.SymbolTable.TheVariants.{Symtab, Dynsym};
 ghost use Rattle.binfarce.specs.Format.{format_of};
 ghost use Rattle.binfarce_bytes.specs.Part.{AreSure};
+ghost use Rattle.binfarce_bytes.specs.Source.{AskedFor};
 ghost use Rattle.binfarce_tables.specs.declared.error.ReadError.TheVariants.{Unreadable};
 ghost use Rattle.binfarce_tools.specs.AllAnswer.{all_answer_of};
 ghost use Rattle.binfarce_tools.specs.Entries.{GetsIn};
@@ -22,10 +23,10 @@ use crate::functions::{
     AllFunctions, Functions, Selected, all_in_sections, all_of, functions_of_file,
 };
 use crate::list::ListError;
-use binfarce::{Format, ParseError, SymbolTable, detect_format};
+use binfarce::{Format, ParseError, SymbolTable};
 pub use binfarce_bytes::functions::Selection;
 use binfarce_bytes::source::Source;
-use binfarce_tables::begun::Begun;
+use binfarce_tables::format::read_format;
 use binfarce_tables::{ReadError, elf32, elf64, macho, pe};
 use std::alloc::Global;
 
@@ -157,7 +158,7 @@ impl<'a> Tables<'a> {
     }
 }
 
-/// Reads the tables of a file for the function symbols of a selection, by this symbol table: its first 64 bytes, which
+/// Reads the tables of a file for the function symbols of a selection, by this symbol table: its first 8 bytes, which
 /// name its format, and the parts that `binfarce_tables` reads of a file of that format. Of a file of an unknown format
 /// no other byte is read. Each part that is kept takes no more memory than the file has bytes of it.
 ///
@@ -169,6 +170,7 @@ impl<'a> Tables<'a> {
 pub fn read<S: Source>(
     alloc: Global,
     source: &S,
+    log: &mut S::Log,
     which: SymbolTable,
     selection: Selection<'_>,
 ) -> Result<Tables<'static>, ReadError>
@@ -177,12 +179,13 @@ pub fn read<S: Source>(
     ensures nothing_else { (file : List ℕ) → S.bytes source.now ≡ Some file
         → AreSure (S.is_sure source.now) (parts_in which (section_of selection.entry) file)
         → IfErr result (λ e. e ≢ Unreadable) }
+    ensures asked { (file : List ℕ) → S.bytes source.now ≡ Some file
+        → AskedFor (S.logs_only log.old) (S.logs_only log.new) (parts_in which (section_of selection.entry) file) }
 {
-    let begun = Begun::new(alloc, source)?;
-    let format = detect_format(begun.head());
+    let format = read_format(alloc, source, log)?;
     match selection {
-        Selection::Section(section) => read_section(alloc, &begun, format, which, section),
-        Selection::All => read_sections(alloc, &begun, format, which),
+        Selection::Section(section) => read_section(alloc, source, log, format, which, section),
+        Selection::All => read_sections(alloc, source, log, format, which),
     }
 }
 
@@ -191,6 +194,7 @@ pub fn read<S: Source>(
 fn read_section<S: Source>(
     alloc: Global,
     source: &S,
+    log: &mut S::Log,
     format: Format,
     which: SymbolTable,
     section: &str,
@@ -199,24 +203,26 @@ fn read_section<S: Source>(
         → ReadsTables (S.may_fail source.now ≡ true) which file (Some section.now) result }
     ensures nothing_else { (file : List ℕ) → S.bytes source.now ≡ Some file
         → AreSure (S.is_sure source.now) (format_parts which format file) → IfErr result (λ e. e ≢ Unreadable) }
+    ensures asked { (file : List ℕ) → S.bytes source.now ≡ Some file
+        → AskedFor (S.logs_only log.old) (S.logs_only log.new) (format_parts which format file) }
 {
     match format {
         Format::Elf32 { byte_order } => {
-            let parts = elf32::read_by(alloc, source, byte_order, which, section)?;
+            let parts = elf32::read_by(alloc, source, log, byte_order, which, section)?;
             Ok(Tables::Elf32(parts))
         }
         Format::Elf64 { byte_order } => {
-            let parts = elf64::read_by(alloc, source, byte_order, which, section)?;
+            let parts = elf64::read_by(alloc, source, log, byte_order, which, section)?;
             Ok(Tables::Elf64(parts))
         }
         Format::Macho => {
             has_table(which)?;
-            let parts = macho::read(alloc, source)?;
+            let parts = macho::read(alloc, source, log)?;
             Ok(Tables::Macho(parts))
         }
         Format::PE => {
             has_table(which)?;
-            let parts = pe::read(alloc, source)?;
+            let parts = pe::read(alloc, source, log)?;
             Ok(Tables::Pe(parts))
         }
         Format::Unknown => Ok(Tables::Unknown),
@@ -228,6 +234,7 @@ fn read_section<S: Source>(
 fn read_sections<S: Source>(
     alloc: Global,
     source: &S,
+    log: &mut S::Log,
     format: Format,
     which: SymbolTable,
 ) -> Result<Tables<'static>, ReadError>
@@ -235,24 +242,26 @@ fn read_sections<S: Source>(
         → ReadsTables (S.may_fail source.now ≡ true) which file None result }
     ensures nothing_else { (file : List ℕ) → S.bytes source.now ≡ Some file
         → AreSure (S.is_sure source.now) (all_format_parts which format file) → IfErr result (λ e. e ≢ Unreadable) }
+    ensures asked { (file : List ℕ) → S.bytes source.now ≡ Some file
+        → AskedFor (S.logs_only log.old) (S.logs_only log.new) (all_format_parts which format file) }
 {
     match format {
         Format::Elf32 { byte_order } => {
-            let parts = elf32::read_all(alloc, source, byte_order, which)?;
+            let parts = elf32::read_all(alloc, source, log, byte_order, which)?;
             Ok(Tables::AllElf32(parts))
         }
         Format::Elf64 { byte_order } => {
-            let parts = elf64::read_all(alloc, source, byte_order, which)?;
+            let parts = elf64::read_all(alloc, source, log, byte_order, which)?;
             Ok(Tables::AllElf64(parts))
         }
         Format::Macho => {
             has_table(which)?;
-            let parts = macho::read_all(alloc, source)?;
+            let parts = macho::read_all(alloc, source, log)?;
             Ok(Tables::AllMacho(parts))
         }
         Format::PE => {
             has_table(which)?;
-            let parts = pe::read_all(alloc, source)?;
+            let parts = pe::read_all(alloc, source, log)?;
             Ok(Tables::AllPe(parts))
         }
         Format::Unknown => Ok(Tables::Unknown),

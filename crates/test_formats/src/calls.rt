@@ -3,7 +3,7 @@
 use binfarce_bytes::ByteOrder;
 use binfarce_bytes::functions::{FunctionSymbol, found_with};
 use binfarce_bytes::parser::{Stream, number_at, slice_at};
-use binfarce_tables::begun::Begun;
+use binfarce_tables::format::read_format;
 use binfarce_tables::part;
 use binfarce_tools::SymbolTable;
 use binfarce_tools::functions::functions_of_file;
@@ -52,14 +52,13 @@ pub fn answer(alloc: Global, call: &str) -> Result<String, AllocError> {
     }
 }
 
-/// How many of a file's first bytes are read once and are its own, and the text in the part of it.
+/// The format of a file that is read at offsets, and the text in the part of it.
 pub fn parts(alloc: Global, file: &[u8]) -> Result<String, AllocError> {
     let mut text = String::new(alloc);
-    if let Ok(begun) = Begun::new(alloc, &file) {
-        let head = begun.head();
-        write!(text, "{} {} ", head.len(), file.starts_with(head))?;
+    if let Ok(format) = read_format(alloc, &file, &mut ()) {
+        write!(text, "{format:?} ")?;
     }
-    if let Ok(names) = part(alloc, &file, 216, 18) {
+    if let Ok(names) = part(alloc, &file, &mut (), 216, 18) {
         write!(text, "{:?}", std::str::from_utf8(&names))?;
     }
     Ok(text)
@@ -73,7 +72,7 @@ pub fn sums(alloc: Global, section: &str, file: &[u8]) -> Result<String, AllocEr
         push_sums(&mut text, &sums)?;
     }
     for selection in [Selection::Section(section), Selection::All] {
-        if let Ok(tables) = read(alloc, &file, SymbolTable::Symtab, selection) {
+        if let Ok(tables) = read(alloc, &file, &mut (), SymbolTable::Symtab, selection) {
             if let Ok(sums) = sums_of_tables(alloc, &tables) {
                 push_sums(&mut text, &sums)?;
             }

@@ -70,7 +70,7 @@ pub fn text_of_all(alloc: Global, words: &str, file: &[u8]) -> Result<String, Al
         "dynsym" => SymbolTable::Dynsym,
         _ => SymbolTable::Symtab,
     };
-    let tables = match read(alloc, &file, which, Selection::All) {
+    let tables = match read(alloc, &file, &mut (), which, Selection::All) {
         Ok(tables) => tables,
         Err(ReadError::Refused(error)) => return format!(in alloc; "{error}"),
         Err(error) => return format!(in alloc; "{error:?}"),
@@ -94,7 +94,7 @@ pub fn text_of_all(alloc: Global, words: &str, file: &[u8]) -> Result<String, Al
 
 /// Whether the sections share their addresses, and which of some numbers no section has.
 pub fn shares_addresses(alloc: Global, file: &[u8]) -> Result<String, AllocError> {
-    let tables = match read(alloc, &file, SymbolTable::Symtab, Selection::All) {
+    let tables = match read(alloc, &file, &mut (), SymbolTable::Symtab, Selection::All) {
         Ok(tables) => tables,
         Err(error) => return format!(in alloc; "{error:?}"),
     };

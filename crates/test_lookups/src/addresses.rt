@@ -53,6 +53,7 @@ pub(crate) fn push_lines(of: &Asking<'_>, is_return: bool, text: &mut Vec<u8>) -
     if let Ok(tables) = read(
         of.alloc,
         &of.file,
+        &mut (),
         SymbolTable::Symtab,
         Selection::Section(".text"),
     ) {

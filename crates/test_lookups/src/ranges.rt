@@ -127,7 +127,7 @@ const BYTES: &[u8] = &[1, 2, 3, 4];
 // The bytes of a part.
 fn push_part(alloc: Global, words: &str, text: &mut Vec<u8>) -> io::Result<()> {
     for (offset, size) in numbers(alloc, words, false)?.iter() {
-        match read_part(alloc, &BYTES, *offset, *size as usize) {
+        match read_part(alloc, &BYTES, &mut (), *offset, *size as usize) {
             Ok(part) => {
                 for byte in &part {
                     push_number(text, u64::from(*byte))?;

@@ -62,33 +62,33 @@ pub(crate) fn answer(of: &Asking<'_>, verb: &str, text: &mut Vec<u8>) -> io::Res
     }
 }
 
-fn read<S: Source>(of: &Asking<'_>, source: &S, reading: Reading<'_>) -> Result<(), SectionError> {
+fn read<S: Source<Log = ()>>(of: &Asking<'_>, source: &S, reading: Reading<'_>) -> Result<(), SectionError> {
     match reading {
         Reading::Sections => read_sections(of, source)?,
         Reading::Asked(asked) => return parts(of.alloc, of.kind, source, asked).ended,
         Reading::Functions(which, name) => {
-            let _ = read_tables(of.alloc, source, which, Selection::Section(name))?;
+            let _ = read_tables(of.alloc, source, &mut (), which, Selection::Section(name))?;
         }
         Reading::AllFunctions(which) => {
-            let _ = read_tables(of.alloc, source, which, Selection::All)?;
+            let _ = read_tables(of.alloc, source, &mut (), which, Selection::All)?;
         }
     }
     Ok(())
 }
 
-fn read_sections<S: Source>(of: &Asking<'_>, source: &S) -> Result<(), SectionError> {
+fn read_sections<S: Source<Log = ()>>(of: &Asking<'_>, source: &S) -> Result<(), SectionError> {
     match of.kind {
         File::Elf(layout) if layout.is_64() => {
-            let _ = elf64::read_sections(of.alloc, source, layout.order())?;
+            let _ = elf64::read_sections(of.alloc, source, &mut (), layout.order())?;
         }
         File::Elf(layout) => {
-            let _ = elf32::read_sections(of.alloc, source, layout.order())?;
+            let _ = elf32::read_sections(of.alloc, source, &mut (), layout.order())?;
         }
         File::Macho => {
-            let _ = macho::read_sections(of.alloc, source)?;
+            let _ = macho::read_sections(of.alloc, source, &mut ())?;
         }
         File::Pe => {
-            let _ = pe::read_sections(of.alloc, source)?;
+            let _ = pe::read_sections(of.alloc, source, &mut ())?;
         }
     }
     Ok(())
@@ -166,7 +166,7 @@ fn push_shorter(of: &Asking<'_>, reading: Reading<'_>, text: &mut Vec<u8>) -> io
 }
 
 // Whether a source gives the answer that the bytes of a file give.
-fn compared<S: Source>(
+fn compared<S: Source<Log = ()>>(
     of: &Asking<'_>,
     file: &[u8],
     source: &S,

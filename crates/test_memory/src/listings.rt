@@ -161,7 +161,7 @@ const ALL_PICTURE: &str =
 
 fn is_written(alloc: Global, call: All, text: &str) -> Row {
     let file = elf::ELF64_LITTLE.as_slice();
-    let tables = match read(alloc, &file, SymbolTable::Symtab, Selection::All) {
+    let tables = match read(alloc, &file, &mut (), SymbolTable::Symtab, Selection::All) {
         Ok(tables) => tables,
         Err(ReadError::OutOfMemory) => return Err(AllocError),
         Err(_) => return Ok(false),

@@ -57,12 +57,12 @@ pub fn whole(alloc: Global, kind: File, file: &[u8], asked: Asked<'_>) -> Answer
 }
 
 /// The answer to a source.
-pub fn parts<S: Source>(alloc: Global, kind: File, source: &S, asked: Asked<'_>) -> Answer {
+pub fn parts<S: Source<Log = ()>>(alloc: Global, kind: File, source: &S, asked: Asked<'_>) -> Answer {
     let mut out = Out::new(Vec::new(alloc));
     let ended = match asked {
         Asked::Functions(name) => return answer_of(alloc, functions_of(alloc, kind, source, name)),
-        Asked::Lines => list_source(alloc, source, &mut out),
-        Asked::Bytes(name) => write_section_of(alloc, source, name, &mut out),
+        Asked::Lines => list_source(alloc, source, &mut (), &mut out),
+        Asked::Bytes(name) => write_section_of(alloc, source, &mut (), name, &mut out),
     };
     Answer {
         text: out.into_inner(),
@@ -119,43 +119,43 @@ fn functions(alloc: Global, kind: File, file: &[u8], name: Option<&str>) -> Text
     }
 }
 
-fn functions_of<S: Source>(alloc: Global, kind: File, source: &S, name: Option<&str>) -> Text {
+fn functions_of<S: Source<Log = ()>>(alloc: Global, kind: File, source: &S, name: Option<&str>) -> Text {
     match kind {
         File::Elf(layout) if layout.is_64() => {
             let order = layout.order();
             let Some(name) = name else {
-                let parts = binfarce_tables::elf64::read_all(alloc, source, order, SYMTAB)?;
+                let parts = binfarce_tables::elf64::read_all(alloc, source, &mut (), order, SYMTAB)?;
                 return Ok(text_of_all(alloc, parts.functions())?);
             };
-            let parts = binfarce_tables::elf64::read_by(alloc, source, order, SYMTAB, name)?;
+            let parts = binfarce_tables::elf64::read_by(alloc, source, &mut (), order, SYMTAB, name)?;
             let (functions, size) = parts.functions();
             Ok(text_of(alloc, functions, size)?)
         }
         File::Elf(layout) => {
             let order = layout.order();
             let Some(name) = name else {
-                let parts = binfarce_tables::elf32::read_all(alloc, source, order, SYMTAB)?;
+                let parts = binfarce_tables::elf32::read_all(alloc, source, &mut (), order, SYMTAB)?;
                 return Ok(text_of_all(alloc, parts.functions())?);
             };
-            let parts = binfarce_tables::elf32::read(alloc, source, order, name)?;
+            let parts = binfarce_tables::elf32::read(alloc, source, &mut (), order, name)?;
             let (functions, size) = parts.functions();
             Ok(text_of(alloc, functions, size)?)
         }
         File::Macho => {
             if name.is_none() {
-                let parts = binfarce_tables::macho::read_all(alloc, source)?;
+                let parts = binfarce_tables::macho::read_all(alloc, source, &mut ())?;
                 return Ok(text_of_all(alloc, parts.functions(alloc)?.into_iter())?);
             }
-            let parts = binfarce_tables::macho::read(alloc, source)?;
+            let parts = binfarce_tables::macho::read(alloc, source, &mut ())?;
             let (functions, size) = parts.functions(alloc)?;
             Ok(text_of(alloc, functions.into_iter(), size)?)
         }
         File::Pe => {
             if name.is_none() {
-                let parts = binfarce_tables::pe::read_all(alloc, source)?;
+                let parts = binfarce_tables::pe::read_all(alloc, source, &mut ())?;
                 return Ok(text_of_all(alloc, parts.functions(alloc)?.into_iter())?);
             }
-            let parts = binfarce_tables::pe::read(alloc, source)?;
+            let parts = binfarce_tables::pe::read(alloc, source, &mut ())?;
             let (functions, size) = parts.functions(alloc)?;
             Ok(text_of(alloc, functions.into_iter(), size)?)
         }

@@ -3,12 +3,12 @@
 //! Files of which only the tables are read: each part once, into memory of its size. Names stay as they are stored.
 
 mod beginning;
-pub mod begun;
 pub mod elf;
 pub mod elf32;
 pub mod elf64;
 mod elf_all;
 mod error;
+pub mod format;
 pub mod macho;
 mod macho_all;
 pub mod pe;

@@ -16,7 +16,7 @@ use binfarce_tables::{ReadError, elf64};
 use std::alloc::Global;
 
 /// The function symbols of `.text`, with readable names, and its size in bytes.
-pub fn elf_symbols<S: Source>(
+pub fn elf_symbols<S: Source<Log = ()>>(
     alloc: Global,
     source: &S,
 ) -> Result<(Vec<SymbolData>, u64), ReadError>
@@ -26,7 +26,7 @@ pub fn elf_symbols<S: Source>(
     ensures refused { (file : List ℕ) (e : ParseError) → S.bytes source.now ≡ Some file → result ≡ Err (Refused e)
         → elf_file_answer Symtab elf64 LittleEndian file (codes ".text") ≡ Err (refusal_of e) }
 {
-    let parts = elf64::read(alloc, source, ByteOrder::LittleEndian, ".text")?;
+    let parts = elf64::read(alloc, source, &mut (), ByteOrder::LittleEndian, ".text")?;
     let (functions, size) = parts.functions();
     Ok((symbols_of_elf(alloc, functions)?, size))
 }

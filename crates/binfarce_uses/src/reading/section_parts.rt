@@ -11,9 +11,12 @@ use binfarce_tables::elf64::{SectionParts, read_sections};
 use std::alloc::Global;
 
 /// The parts of a file that have its sections and their names.
-pub fn section_parts<S: Source>(alloc: Global, source: &S) -> Result<SectionParts, ReadError>
+pub fn section_parts<S: Source<Log = ()>>(
+    alloc: Global,
+    source: &S,
+) -> Result<SectionParts, ReadError>
     ensures { (file : List ℕ) → S.bytes source.now ≡ Some file
         → Reads (S.may_fail source.now) (sections_view elf64) (file_sections elf64 LittleEndian file) result }
 {
-    read_sections(alloc, source, ByteOrder::LittleEndian)
+    read_sections(alloc, source, &mut (), ByteOrder::LittleEndian)
 }

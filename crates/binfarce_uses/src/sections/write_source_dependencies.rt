@@ -11,7 +11,7 @@ use binfarce_tools::list::Sink;
 use std::alloc::Global;
 
 /// The same, of an opened file.
-pub fn write_source_dependencies<F: Source, S: Sink>(
+pub fn write_source_dependencies<F: Source<Log = ()>, S: Sink>(
     alloc: Global,
     file: &F,
     out: &mut S,
@@ -20,5 +20,5 @@ pub fn write_source_dependencies<F: Source, S: Sink>(
         → TakesRead (F.may_fail file.now) (bytes_named (sections_of (format_of bytes) bytes) bytes (codes ".dep-v0"))
         (S.taken out.old) (S.taken out.new) result }
 {
-    write_section_of(alloc, file, ".dep-v0", out)
+    write_section_of(alloc, file, &mut (), ".dep-v0", out)
 }

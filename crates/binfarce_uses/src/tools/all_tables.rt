@@ -9,9 +9,12 @@ use binfarce_tools::tables::{Selection, Tables, read};
 use std::alloc::Global;
 
 /// The tables of the function symbols of all sections; their listing names each section.
-pub fn all_tables<S: Source>(alloc: Global, source: &S) -> Result<Tables<'static>, ReadError>
+pub fn all_tables<S: Source<Log = ()>>(
+    alloc: Global,
+    source: &S,
+) -> Result<Tables<'static>, ReadError>
     ensures { (file : List ℕ) → S.bytes source.now ≡ Some file
         → ReadsTables (S.may_fail source.now ≡ true) Symtab file None result }
 {
-    read(alloc, source, SymbolTable::Symtab, Selection::All)
+    read(alloc, source, &mut (), SymbolTable::Symtab, Selection::All)
 }

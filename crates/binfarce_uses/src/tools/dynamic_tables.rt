@@ -9,13 +9,17 @@ use binfarce_tools::tables::{Selection, Tables, read};
 use std::alloc::Global;
 
 /// The tables of the function symbols of `.text` in the dynamic symbol table.
-pub fn dynamic_tables<S: Source>(alloc: Global, source: &S) -> Result<Tables<'static>, ReadError>
+pub fn dynamic_tables<S: Source<Log = ()>>(
+    alloc: Global,
+    source: &S,
+) -> Result<Tables<'static>, ReadError>
     ensures { (file : List ℕ) → S.bytes source.now ≡ Some file
         → ReadsTables (S.may_fail source.now ≡ true) Dynsym file (Some (codes ".text")) result }
 {
     read(
         alloc,
         source,
+        &mut (),
         SymbolTable::Dynsym,
         Selection::Section(".text"),
     )

@@ -9,14 +9,19 @@ use crate::shim::io::{self, Error, ErrorKind};
 
 /// A source that is read at offsets.
 pub trait Source {
+    /// A log of the parts that it is asked for; `()` where none is kept.
+    type Log;
+
     /// Its length in bytes. An error where it can't be read at offsets.
     fn length(&self) -> io::Result<u64>;
 
     /// Fills the buffer with the bytes from the offset on. An error where they end before the buffer is full.
-    fn fill_at(&self, offset: u64, buf: &mut [u8]) -> io::Result<()>;
+    fn fill_at(&self, log: &mut Self::Log, offset: u64, buf: &mut [u8]) -> io::Result<()>;
 }
 
 impl Source for File {
+    type Log = ();
+
     /// `Unsupported` where it isn't a regular file.
     fn length(&self) -> io::Result<u64> {
         let metadata = self.metadata()?;
@@ -27,17 +32,19 @@ impl Source for File {
         }
     }
 
-    fn fill_at(&self, offset: u64, buf: &mut [u8]) -> io::Result<()> {
+    fn fill_at(&self, _log: &mut (), offset: u64, buf: &mut [u8]) -> io::Result<()> {
         self.read_exact_at(buf, offset)
     }
 }
 
 impl Source for &[u8] {
+    type Log = ();
+
     fn length(&self) -> io::Result<u64> {
         Ok(self.len() as u64)
     }
 
-    fn fill_at(&self, offset: u64, buf: &mut [u8]) -> io::Result<()> {
+    fn fill_at(&self, _log: &mut (), offset: u64, buf: &mut [u8]) -> io::Result<()> {
         match self.get(offset as usize..) {
             Some(rest) if buf.len() <= rest.len() => {
                 buf.copy_from_slice(&rest[..buf.len()]);
@@ -54,11 +61,12 @@ impl Source for &[u8] {
 pub fn read_part<S: Source>(
     alloc: Global,
     source: &S,
+    log: &mut S::Log,
     offset: u64,
     size: usize,
 ) -> io::Result<Vec<u8>> {
     let mut bytes = Vec::with_capacity(alloc, size)?;
     bytes.resize(size, 0)?;
-    source.fill_at(offset, &mut bytes)?;
+    source.fill_at(log, offset, &mut bytes)?;
     Ok(bytes)
 }

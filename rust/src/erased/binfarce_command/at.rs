@@ -42,7 +42,7 @@ pub fn read_addresses<'a>(alloc: Global, words: &[&'a str]) -> Result<Vec<u64>, 
 ///
 /// `Unreadable` where a read fails; `Unknown`, `Parse`, `OutOfMemory` and `Write` as `at` refuses; `SharedAddresses` for all
 /// sections of an object file.
-pub fn answer_all<S: Source, K: Sink>(
+pub fn answer_all<S: Source<Log = ()>, K: Sink>(
     alloc: Global,
     source: &S,
     symbols: &Symbols<'_>,
@@ -50,7 +50,7 @@ pub fn answer_all<S: Source, K: Sink>(
     addresses: &[u64],
     out: &mut K,
 ) -> Result<(), Fault> {
-    let tables = read(alloc, source, symbols.which, symbols.selection)?;
+    let tables = read(alloc, source, &mut (), symbols.which, symbols.selection)?;
     let places = places_of(alloc, &tables)?;
     Ok(write_lines(alloc, &places, lookup, addresses, out)?)
 }
@@ -70,7 +70,7 @@ fn places_of<'a>(alloc: Global, tables: &'a Tables<'_>) -> Result<Places<'a>, Fa
 /// # Errors
 ///
 /// Those of `answer_all`, before anything of `input` is read; `Input` where it can't be read.
-pub fn answer_input<S: Source, I: Read, K: Sink>(
+pub fn answer_input<S: Source<Log = ()>, I: Read, K: Sink>(
     alloc: Global,
     source: &S,
     symbols: &Symbols<'_>,
@@ -79,7 +79,7 @@ pub fn answer_input<S: Source, I: Read, K: Sink>(
     input: &mut I,
     out: &mut K,
 ) -> Result<u64, Fault> {
-    let tables = read(alloc, source, symbols.which, symbols.selection)?;
+    let tables = read(alloc, source, &mut (), symbols.which, symbols.selection)?;
     let mut places = places_of(alloc, &tables)?;
     if annotates {
         annotate_stream(alloc, &places, lookup, input, out)?;

@@ -12,7 +12,7 @@ use crate::shim::alloc::{AllocError, Global};
 use crate::shim::io::{self, Error, Read, Write};
 
 /// The system around a command: opened files, and messages.
-pub trait System<F: Read + Source> {
+pub trait System<F: Read + Source<Log = ()>> {
     /// The file at this path, to be read.
     fn open(&self, path: &str) -> io::Result<F>;
 
@@ -26,7 +26,7 @@ pub trait System<F: Read + Source> {
 /// # Errors
 ///
 /// `Write` where a write fails, and `OutOfMemory` where an allocation for a heading fails.
-pub fn show_files<F: Read + Source, Y: System<F>, W: Write>(
+pub fn show_files<F: Read + Source<Log = ()>, Y: System<F>, W: Write>(
     alloc: Global,
     system: &mut Y,
     asked: &Request<'_>,
@@ -43,7 +43,7 @@ pub fn show_files<F: Read + Source, Y: System<F>, W: Write>(
 }
 
 // Shows a file, under its heading. `false` where it is refused.
-fn show_file<F: Read + Source, Y: System<F>, W: Write>(
+fn show_file<F: Read + Source<Log = ()>, Y: System<F>, W: Write>(
     alloc: Global,
     system: &mut Y,
     asked: &Request<'_>,
@@ -72,7 +72,7 @@ fn heading(alloc: Global, path: &str, are_several: bool) -> Result<Vec<u8>, Allo
 }
 
 // Shows the source after what is left of the heading, which is written also where the text is empty.
-fn show_source<S: Source, W: Write>(
+fn show_source<S: Source<Log = ()>, W: Write>(
     alloc: Global,
     asked: &Request<'_>,
     source: &S,
@@ -83,7 +83,7 @@ fn show_source<S: Source, W: Write>(
 }
 
 /// Opens the file at this path, and loads it. `None` where it can't be opened or read, which is reported.
-pub fn open_input<F: Read + Source, Y: System<F>>(
+pub fn open_input<F: Read + Source<Log = ()>, Y: System<F>>(
     alloc: Global,
     system: &mut Y,
     path: &str,
@@ -111,7 +111,7 @@ pub fn open_input<F: Read + Source, Y: System<F>>(
 /// # Errors
 ///
 /// Faults that aren't the file's: `Write` and `Missing`.
-pub fn reported<F: Read + Source, Y: System<F>>(
+pub fn reported<F: Read + Source<Log = ()>, Y: System<F>>(
     system: &mut Y,
     path: &str,
     input: &OpenFile<F>,

@@ -33,6 +33,8 @@ impl Read for FileOrStdin {
 }
 
 impl Source for FileOrStdin {
+    type Log = ();
+
     /// `Unsupported` for standard input.
     fn length(&self) -> io::Result<u64> {
         match self {
@@ -41,9 +43,9 @@ impl Source for FileOrStdin {
         }
     }
 
-    fn fill_at(&self, offset: u64, buf: &mut [u8]) -> io::Result<()> {
+    fn fill_at(&self, log: &mut (), offset: u64, buf: &mut [u8]) -> io::Result<()> {
         match self {
-            FileOrStdin::File(file) => file.fill_at(offset, buf),
+            FileOrStdin::File(file) => file.fill_at(log, offset, buf),
             FileOrStdin::Standard(_) => Err(Error::from(ErrorKind::Unsupported)),
         }
     }
@@ -79,7 +81,7 @@ impl<F> OpenFile<F> {
     }
 }
 
-impl<F: Read + Source> OpenFile<F> {
+impl<F: Read + Source<Log = ()>> OpenFile<F> {
     /// Loads the file unless it can be read at offsets: to its end, or only the first 8 bytes where these name no format.
     ///
     /// # Errors
@@ -108,7 +110,9 @@ impl<F: Read> Read for OpenFile<F> {
     }
 }
 
-impl<F: Source> Source for OpenFile<F> {
+impl<F: Source<Log = ()>> Source for OpenFile<F> {
+    type Log = ();
+
     fn length(&self) -> io::Result<u64> {
         match &self.bytes {
             Some(bytes) => bytes.as_slice().length(),
@@ -119,10 +123,10 @@ impl<F: Source> Source for OpenFile<F> {
         }
     }
 
-    fn fill_at(&self, offset: u64, buf: &mut [u8]) -> io::Result<()> {
+    fn fill_at(&self, log: &mut (), offset: u64, buf: &mut [u8]) -> io::Result<()> {
         match &self.bytes {
-            Some(bytes) => bytes.as_slice().fill_at(offset, buf),
-            None => match self.file.fill_at(offset, buf) {
+            Some(bytes) => bytes.as_slice().fill_at(log, offset, buf),
+            None => match self.file.fill_at(log, offset, buf) {
                 Ok(()) => Ok(()),
                 Err(e) => Err(self.keep(e)),
             },

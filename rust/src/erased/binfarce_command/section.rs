@@ -15,14 +15,14 @@ use crate::shim::alloc::Global;
 /// # Errors
 ///
 /// Those of `write_section_of` and `list_source`.
-pub fn write_or_list<S: Source, K: Sink>(
+pub fn write_or_list<S: Source<Log = ()>, K: Sink>(
     alloc: Global,
     source: &S,
     name: Option<&str>,
     out: &mut K,
 ) -> Result<(), SectionError> {
     match name {
-        Some(name) => write_section_of(alloc, source, name, out),
-        None => list_source(alloc, source, out),
+        Some(name) => write_section_of(alloc, source, &mut (), name, out),
+        None => list_source(alloc, source, &mut (), out),
     }
 }

@@ -47,13 +47,13 @@ pub struct Request<'a> {
 ///
 /// `Unreadable` where a read fails; `Unknown`, `Parse`, `OutOfMemory`, `TooLarge` and `Write` as in `list` and
 /// `report`. Only after `Write` a beginning may be written.
-pub fn show<S: Source, K: Sink>(
+pub fn show<S: Source<Log = ()>, K: Sink>(
     alloc: Global,
     asked: &Request<'_>,
     source: &S,
     out: &mut K,
 ) -> Result<(), Fault> {
-    let tables = read(alloc, source, asked.symbols.which, asked.symbols.selection)?;
+    let tables = read(alloc, source, &mut (), asked.symbols.which, asked.symbols.selection)?;
     show_tables(alloc, asked.kind, &tables, out)
 }
 

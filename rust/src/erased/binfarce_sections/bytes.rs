@@ -45,7 +45,7 @@ fn write_all<S: Sink>(bytes: &[u8], out: &mut S) -> Result<(), SectionError> {
     write_whole(out, bytes).map_err(|_| SectionError::Write)
 }
 
-/// The same for a source, of which only these bytes are read: the first 64 bytes, those that `read_sections` of
+/// The same for a source, of which only these bytes are read: the first 8 bytes, those that `read_sections` of
 /// `binfarce_tables` reads of a file of that format, and the section's bytes, into memory of its size.
 ///
 /// # Errors
@@ -55,10 +55,11 @@ fn write_all<S: Sink>(bytes: &[u8], out: &mut S) -> Result<(), SectionError> {
 pub fn write_section_of<F: Source, S: Sink>(
     alloc: Global,
     source: &F,
+    log: &mut F::Log,
     name: &str,
     out: &mut S,
 ) -> Result<(), SectionError> {
-    let bytes = read_named(alloc, source, name)?;
+    let bytes = read_named(alloc, source, log, name)?;
     write_all(bytes.as_slice(), out)
 }
 

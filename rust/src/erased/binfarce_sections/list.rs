@@ -31,7 +31,7 @@ pub fn list_sections<S: Sink>(alloc: Global, file: &[u8], out: &mut S) -> Result
     write_lines(alloc, sections, out)
 }
 
-/// The same for a source, of which only these bytes are read: the first 64 bytes, and those that `read_sections` of
+/// The same for a source, of which only these bytes are read: the first 8 bytes, and those that `read_sections` of
 /// `binfarce_tables` reads of a file of that format.
 ///
 /// # Errors
@@ -41,9 +41,10 @@ pub fn list_sections<S: Sink>(alloc: Global, file: &[u8], out: &mut S) -> Result
 pub fn list_source<F: Source, S: Sink>(
     alloc: Global,
     source: &F,
+    log: &mut F::Log,
     out: &mut S,
 ) -> Result<(), SectionError> {
-    let tables = read(alloc, source)?;
+    let tables = read(alloc, source, log)?;
     let sections = tables.sections()?;
     write_lines(alloc, sections, out)
 }

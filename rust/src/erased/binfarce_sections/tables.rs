@@ -8,9 +8,9 @@ use crate::erased::binfarce_sections::error::SectionError;
 use crate::erased::binfarce_sections::sections::{
     Section, Sections, elf32_sections, elf64_sections, open_macho, open_pe,
 };
-use crate::erased::binfarce::{Format, detect_format};
+use crate::erased::binfarce::Format;
 use crate::erased::binfarce_bytes::source::Source;
-use crate::erased::binfarce_tables::begun::Begun;
+use crate::erased::binfarce_tables::format::read_format;
 use crate::erased::binfarce_tables::{Beginning, ReadError, elf32, elf64, macho, part, pe};
 use crate::shim::alloc::Global;
 
@@ -47,31 +47,39 @@ impl Tables {
     }
 }
 
-// Asks a source for its length and for the first bytes of a file, which name its format, and reads the tables of the
-// sections of a file of that format (`binfarce_tables`). Refused where the file is too short for its header.
-pub(crate) fn read<S: Source>(alloc: Global, source: &S) -> Result<Tables, ReadError> {
-    let begun = Begun::new(alloc, source)?;
-    let format = detect_format(begun.head());
-    read_as(alloc, &begun, format)
+// Reads the first bytes of a file, which name its format, and the tables of the sections of a file of that format
+// (`binfarce_tables`). Refused where the file is too short for its header.
+pub(crate) fn read<S: Source>(
+    alloc: Global,
+    source: &S,
+    log: &mut S::Log,
+) -> Result<Tables, ReadError> {
+    let format = read_format(alloc, source, log)?;
+    read_as(alloc, source, log, format)
 }
 
 // The tables of the sections of a file of this format.
-fn read_as<S: Source>(alloc: Global, source: &S, format: Format) -> Result<Tables, ReadError> {
+fn read_as<S: Source>(
+    alloc: Global,
+    source: &S,
+    log: &mut S::Log,
+    format: Format,
+) -> Result<Tables, ReadError> {
     match format {
         Format::Elf32 { byte_order } => {
-            let parts = elf32::read_sections(alloc, source, byte_order)?;
+            let parts = elf32::read_sections(alloc, source, log, byte_order)?;
             Ok(Tables::Elf32(parts))
         }
         Format::Elf64 { byte_order } => {
-            let parts = elf64::read_sections(alloc, source, byte_order)?;
+            let parts = elf64::read_sections(alloc, source, log, byte_order)?;
             Ok(Tables::Elf64(parts))
         }
         Format::Macho => {
-            let beginning = macho::read_sections(alloc, source)?;
+            let beginning = macho::read_sections(alloc, source, log)?;
             Ok(Tables::Macho(beginning))
         }
         Format::PE => {
-            let beginning = pe::read_sections(alloc, source)?;
+            let beginning = pe::read_sections(alloc, source, log)?;
             Ok(Tables::Pe(beginning))
         }
         Format::Unknown => Ok(Tables::Unknown),
@@ -82,13 +90,14 @@ fn read_as<S: Source>(alloc: Global, source: &S, format: Format) -> Result<Table
 pub(crate) fn read_named<F: Source>(
     alloc: Global,
     source: &F,
+    log: &mut F::Log,
     name: &str,
 ) -> Result<Vec<u8>, SectionError> {
-    let tables = read(alloc, source)?;
+    let tables = read(alloc, source, log)?;
     let sections = tables.sections()?;
     let found = first_in(sections, name)?;
     match found {
-        Some(section) => read_bytes(alloc, source, tables.file_length(), section),
+        Some(section) => read_bytes(alloc, source, log, tables.file_length(), section),
         None => Err(SectionError::NoSection),
     }
 }
@@ -97,6 +106,7 @@ pub(crate) fn read_named<F: Source>(
 fn read_bytes<F: Source>(
     alloc: Global,
     source: &F,
+    log: &mut F::Log,
     len: u64,
     section: Section<'_>,
 ) -> Result<Vec<u8>, SectionError> {
@@ -113,6 +123,7 @@ fn read_bytes<F: Source>(
     Ok(part(
         alloc,
         source,
+        log,
         section.offset as usize,
         section.size as usize,
     )?)

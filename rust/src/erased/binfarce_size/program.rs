@@ -66,7 +66,7 @@ pub fn words(arguments: &[String]) -> Result<(&str, &str), Fault> {
 /// table and the names are read; any other is first read to its end.
 ///
 /// `File` where it can't be read; `Report` where an allocation fails while it is read, and as `report` refuses.
-pub fn run<F: Read + Source, W: Write>(
+pub fn run<F: Read + Source<Log = ()>, W: Write>(
     alloc: Global,
     file: &mut F,
     section: &str,
@@ -76,6 +76,7 @@ pub fn run<F: Read + Source, W: Write>(
         let tables = match read(
             alloc,
             file,
+            &mut (),
             SymbolTable::Symtab,
             Selection::Section(section),
         ) {

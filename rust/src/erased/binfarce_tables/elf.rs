@@ -54,14 +54,15 @@ pub(crate) struct Place {
 pub(crate) fn read_parts<C: Class, S: Source>(
     alloc: Global,
     source: &S,
+    log: &mut S::Log,
     byte_order: ByteOrder,
     which: SymbolTable,
     section_name: &str,
 ) -> Result<Parts<C>, ReadError> {
     let len = source.length()? as usize;
-    let place = read_place::<C, S>(alloc, source, len, byte_order)?;
-    let needed = read_needed::<C, S>(alloc, source, len, place, which, section_name)?;
-    let table = read_rows::<C, S>(alloc, source, len, needed.table)?;
+    let place = read_place::<C, S>(alloc, source, log, len, byte_order)?;
+    let needed = read_needed::<C, S>(alloc, source, log, len, place, which, section_name)?;
+    let table = read_rows::<C, S>(alloc, source, log, len, needed.table)?;
     Ok(Parts {
         rows: table.rows,
         strings: table.strings,
@@ -74,6 +75,7 @@ pub(crate) fn read_parts<C: Class, S: Source>(
 pub(crate) fn read_place<C: Class, S: Source>(
     alloc: Global,
     source: &S,
+    log: &mut S::Log,
     len: usize,
     byte_order: ByteOrder,
 ) -> Result<Place, ReadError> {
@@ -81,7 +83,7 @@ pub(crate) fn read_place<C: Class, S: Source>(
     if len < size {
         return Err(ReadError::Refused(ParseError::UnexpectedEof));
     }
-    let bytes = part(alloc, source, 0, size)?;
+    let bytes = part(alloc, source, log, 0, size)?;
     let header = header_in::<C>(&bytes, byte_order)?;
     Ok(Place {
         byte_order,
@@ -100,6 +102,7 @@ fn header_in<C: Class>(bytes: &[u8], byte_order: ByteOrder) -> Result<Header<C>,
 fn read_needed<C: Class, S: Source>(
     alloc: Global,
     source: &S,
+    log: &mut S::Log,
     len: usize,
     place: Place,
     which: SymbolTable,
@@ -111,8 +114,8 @@ fn read_needed<C: Class, S: Source>(
     if place.shnum == 0 {
         return Err(ReadError::Refused(ParseError::SymbolsSectionIsMissing));
     }
-    let names = read_names::<C, S>(alloc, source, len, place)?;
-    let headers = read_headers::<C, S>(alloc, source, len, place)?;
+    let names = read_names::<C, S>(alloc, source, log, len, place)?;
+    let headers = read_headers::<C, S>(alloc, source, log, len, place)?;
     Ok(needed_in::<C>(&headers, &names, place, which, section_name)?)
 }
 
@@ -146,18 +149,20 @@ pub(crate) fn slice_of(bytes: &Option<Vec<u8>>) -> Option<&[u8]> {
 pub(crate) fn read_headers<C: Class, S: Source>(
     alloc: Global,
     source: &S,
+    log: &mut S::Log,
     len: usize,
     place: Place,
 ) -> Result<Vec<u8>, ReadError> {
     let whole = len.saturating_sub(place.shoff) / C::SECTION_LENGTH;
     let count = whole.min(place.shnum as usize);
-    part(alloc, source, place.shoff, count * C::SECTION_LENGTH)
+    part(alloc, source, log, place.shoff, count * C::SECTION_LENGTH)
 }
 
 // The section names, where the file has them.
 pub(crate) fn read_names<C: Class, S: Source>(
     alloc: Global,
     source: &S,
+    log: &mut S::Log,
     len: usize,
     place: Place,
 ) -> Result<Option<Vec<u8>>, ReadError> {
@@ -167,9 +172,9 @@ pub(crate) fn read_names<C: Class, S: Source>(
         return Ok(None);
     }
     let start = place.shoff + place.shstrndx as usize * size;
-    let header = part(alloc, source, start, size)?;
+    let header = part(alloc, source, log, start, size)?;
     match section_at::<C>(&header, 0, place.byte_order, place.shstrndx) {
-        Ok(section) => read_contents::<C, S>(alloc, source, len, section),
+        Ok(section) => read_contents::<C, S>(alloc, source, log, len, section),
         Err(_) => Ok(None),
     }
 }
@@ -184,11 +189,12 @@ pub(crate) struct TableParts {
 pub(crate) fn read_rows<C: Class, S: Source>(
     alloc: Global,
     source: &S,
+    log: &mut S::Log,
     len: usize,
     sections: TableSections<C>,
 ) -> Result<TableParts, ReadError> {
-    let strings = read_section::<C, S>(alloc, source, len, sections.strings)?;
-    let rows = read_section::<C, S>(alloc, source, len, sections.symbols)?;
+    let strings = read_section::<C, S>(alloc, source, log, len, sections.strings)?;
+    let rows = read_section::<C, S>(alloc, source, log, len, sections.symbols)?;
     let _ = whole_rows::<C>(&rows)?;
     Ok(TableParts { strings, rows })
 }
@@ -197,10 +203,11 @@ pub(crate) fn read_rows<C: Class, S: Source>(
 fn read_contents<C: Class, S: Source>(
     alloc: Global,
     source: &S,
+    log: &mut S::Log,
     len: usize,
     section: Section<C>,
 ) -> Result<Option<Vec<u8>>, ReadError> {
-    match read_section::<C, S>(alloc, source, len, section) {
+    match read_section::<C, S>(alloc, source, log, len, section) {
         Ok(bytes) => Ok(Some(bytes)),
         Err(ReadError::Refused(_)) => Ok(None),
         Err(e) => Err(e),
@@ -211,6 +218,7 @@ fn read_contents<C: Class, S: Source>(
 pub(crate) fn read_section<C: Class, S: Source>(
     alloc: Global,
     source: &S,
+    log: &mut S::Log,
     len: usize,
     section: Section<C>,
 ) -> Result<Vec<u8>, ReadError> {
@@ -218,7 +226,7 @@ pub(crate) fn read_section<C: Class, S: Source>(
     if range.end > len {
         return Err(ReadError::Refused(ParseError::UnexpectedEof));
     }
-    part(alloc, source, range.start, range.end - range.start)
+    part(alloc, source, log, range.start, range.end - range.start)
 }
 
 /// The `size` bytes of a file from the offset on, in memory of that size.
@@ -230,8 +238,9 @@ pub(crate) fn read_section<C: Class, S: Source>(
 pub fn part<S: Source>(
     alloc: Global,
     source: &S,
+    log: &mut S::Log,
     offset: usize,
     size: usize,
 ) -> Result<Vec<u8>, ReadError> {
-    Ok(read_part(alloc, source, offset as u64, size)?)
+    Ok(read_part(alloc, source, log, offset as u64, size)?)
 }

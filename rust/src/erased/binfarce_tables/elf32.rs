@@ -31,10 +31,18 @@ pub type SectionParts = sections::SectionParts<u32>;
 pub fn read<S: Source>(
     alloc: Global,
     source: &S,
+    log: &mut S::Log,
     byte_order: ByteOrder,
     section_name: &str,
 ) -> Result<Parts, ReadError> {
-    read_by(alloc, source, byte_order, SymbolTable::Symtab, section_name)
+    read_by(
+        alloc,
+        source,
+        log,
+        byte_order,
+        SymbolTable::Symtab,
+        section_name,
+    )
 }
 
 /// Reads the parts that `read` reads, but with this symbol table and its strings.
@@ -45,11 +53,12 @@ pub fn read<S: Source>(
 pub fn read_by<S: Source>(
     alloc: Global,
     source: &S,
+    log: &mut S::Log,
     byte_order: ByteOrder,
     which: SymbolTable,
     section_name: &str,
 ) -> Result<Parts, ReadError> {
-    elf::read_parts::<u32, S>(alloc, source, byte_order, which, section_name)
+    elf::read_parts::<u32, S>(alloc, source, log, byte_order, which, section_name)
 }
 
 /// Reads the section headers and the section names of a file, numbers in the given order: the file header of 52 bytes,
@@ -65,9 +74,10 @@ pub fn read_by<S: Source>(
 pub fn read_sections<S: Source>(
     alloc: Global,
     source: &S,
+    log: &mut S::Log,
     byte_order: ByteOrder,
 ) -> Result<SectionParts, ReadError> {
-    sections::read_sections::<u32, S>(alloc, source, byte_order)
+    sections::read_sections::<u32, S>(alloc, source, log, byte_order)
 }
 
 /// Reads the parts of a file that have the function symbols of all sections, by this symbol table, and the section
@@ -84,8 +94,9 @@ pub fn read_sections<S: Source>(
 pub fn read_all<S: Source>(
     alloc: Global,
     source: &S,
+    log: &mut S::Log,
     byte_order: ByteOrder,
     which: SymbolTable,
 ) -> Result<AllParts, ReadError> {
-    elf_all::read_all::<u32, S>(alloc, source, byte_order, which)
+    elf_all::read_all::<u32, S>(alloc, source, log, byte_order, which)
 }

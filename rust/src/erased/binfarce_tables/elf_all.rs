@@ -59,15 +59,16 @@ impl<C: Class> AllParts<C> {
 pub(crate) fn read_all<C: Class, S: Source>(
     alloc: Global,
     source: &S,
+    log: &mut S::Log,
     byte_order: ByteOrder,
     which: SymbolTable,
 ) -> Result<AllParts<C>, ReadError> {
     let len = source.length()? as usize;
-    let place = read_place::<C, S>(alloc, source, len, byte_order)?;
-    let names = read_names::<C, S>(alloc, source, len, place)?;
-    let headers = read_table::<C, S>(alloc, source, len, place)?;
+    let place = read_place::<C, S>(alloc, source, log, len, byte_order)?;
+    let names = read_names::<C, S>(alloc, source, log, len, place)?;
+    let headers = read_table::<C, S>(alloc, source, log, len, place)?;
     let sections = needed_table::<C>(&headers, place.byte_order, place.shnum, which)?;
-    let table = read_rows::<C, S>(alloc, source, len, sections)?;
+    let table = read_rows::<C, S>(alloc, source, log, len, sections)?;
     Ok(AllParts {
         headers,
         names,

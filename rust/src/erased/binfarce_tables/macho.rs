@@ -68,14 +68,14 @@ fn listed(alloc: Global, tables: &Tables) -> Result<(Vec<FunctionSymbol<'_>>, u6
 /// `Refused` with the error of `parse` or `functions` of a reader of the whole file, if it comes before they read the
 /// symbol table's rows; `Unreadable` where the source can't be read at offsets, or a read of it fails, and never for a
 /// source that can't fail, such as bytes in memory; `OutOfMemory` where an allocation fails.
-pub fn read<S: Source>(alloc: Global, source: &S) -> Result<Parts, ReadError> {
+pub fn read<S: Source>(alloc: Global, source: &S, log: &mut S::Log) -> Result<Parts, ReadError> {
     let len = source.length()? as usize;
     if len < HEADER {
         return Err(ReadError::Refused(ParseError::UnexpectedEof));
     }
-    let commands = read_commands(alloc, source, len)?;
+    let commands = read_commands(alloc, source, log, len)?;
     let needed = needed_in(&commands)?;
-    read_tables(alloc, source, len, needed)
+    read_tables(alloc, source, log, len, needed)
 }
 
 /// Reads the prefix of a file that has its sections: the header of 28 bytes, and the bytes up to the end of the load
@@ -88,13 +88,17 @@ pub fn read<S: Source>(alloc: Global, source: &S) -> Result<Parts, ReadError> {
 /// `Refused` with `UnexpectedEof` for fewer than 28 bytes; `Unreadable` where the source can't be read at offsets, or a
 /// read of it fails, and never for a source that can't fail, such as bytes in memory; `OutOfMemory` where an allocation
 /// fails.
-pub fn read_sections<S: Source>(alloc: Global, source: &S) -> Result<Beginning, ReadError> {
+pub fn read_sections<S: Source>(
+    alloc: Global,
+    source: &S,
+    log: &mut S::Log,
+) -> Result<Beginning, ReadError> {
     let file_length = source.length()?;
     let len = file_length as usize;
     if HEADER > len {
         return Err(ReadError::Refused(ParseError::UnexpectedEof));
     }
-    let bytes = read_commands(alloc, source, len)?;
+    let bytes = read_commands(alloc, source, log, len)?;
     Ok(Beginning { bytes, file_length })
 }
 
@@ -102,20 +106,26 @@ pub fn read_sections<S: Source>(alloc: Global, source: &S) -> Result<Beginning, 
 pub(crate) fn read_commands<S: Source>(
     alloc: Global,
     source: &S,
+    log: &mut S::Log,
     len: usize,
 ) -> Result<Vec<u8>, ReadError> {
-    let end = read_end(alloc, source, len)?;
-    let commands = part(alloc, source, 0, end)?;
+    let end = read_end(alloc, source, log, len)?;
+    let commands = part(alloc, source, log, 0, end)?;
     if end == len || are_held(&commands) {
         Ok(commands)
     } else {
-        part(alloc, source, 0, len)
+        part(alloc, source, log, 0, len)
     }
 }
 
 // Where the load commands end, as the header states, but within the file.
-fn read_end<S: Source>(alloc: Global, source: &S, len: usize) -> Result<usize, ReadError> {
-    let bytes = part(alloc, source, 0, HEADER)?;
+fn read_end<S: Source>(
+    alloc: Global,
+    source: &S,
+    log: &mut S::Log,
+    len: usize,
+) -> Result<usize, ReadError> {
+    let bytes = part(alloc, source, log, 0, HEADER)?;
     let header = header_in(&bytes)?;
     Ok(parts::commands_end(header).min(len))
 }
@@ -140,13 +150,14 @@ fn needed_in(commands: &[u8]) -> Result<Needed<'_>, ParseError> {
 fn read_tables<S: Source>(
     alloc: Global,
     source: &S,
+    log: &mut S::Log,
     len: usize,
     needed: Needed<'_>,
 ) -> Result<Parts, ReadError> {
     match needed.table {
         None => Ok(Parts { tables: None }),
         Some(table) => {
-            let tables = read_located(alloc, source, len, needed.text, table)?;
+            let tables = read_located(alloc, source, log, len, needed.text, table)?;
             Ok(Parts {
                 tables: Some(tables),
             })
@@ -157,14 +168,29 @@ fn read_tables<S: Source>(
 fn read_located<S: Source>(
     alloc: Global,
     source: &S,
+    log: &mut S::Log,
     len: usize,
     text: Section<'_>,
     table: SymbolTable,
 ) -> Result<Tables, ReadError> {
     let strings_at = table.strings_offset as usize;
-    let strings = read_table(alloc, source, len, strings_at, table.strings_size as usize)?;
+    let strings = read_table(
+        alloc,
+        source,
+        log,
+        len,
+        strings_at,
+        table.strings_size as usize,
+    )?;
     let rows_size = SYMBOL_LENGTH * table.row_count as usize;
-    let rows = read_table(alloc, source, len, table.symbol_offset as usize, rows_size)?;
+    let rows = read_table(
+        alloc,
+        source,
+        log,
+        len,
+        table.symbol_offset as usize,
+        rows_size,
+    )?;
     let text_end = parts::text_end(text)?;
     Ok(Tables {
         text_end,
@@ -178,6 +204,7 @@ fn read_located<S: Source>(
 pub(crate) fn read_table<S: Source>(
     alloc: Global,
     source: &S,
+    log: &mut S::Log,
     len: usize,
     offset: usize,
     size: usize,
@@ -185,5 +212,5 @@ pub(crate) fn read_table<S: Source>(
     if offset > len || size > len - offset {
         return Err(ReadError::Refused(ParseError::UnexpectedEof));
     }
-    part(alloc, source, offset, size)
+    part(alloc, source, log, offset, size)
 }

@@ -73,14 +73,18 @@ fn bytes_of(symbols: &SymbolParts) -> SymbolBytes<'_> {
 /// `Refused` with the error of `parse` or `all_functions` of a reader of the whole file, if it comes before they read
 /// the symbol table's rows; `Unreadable` where the source can't be read at offsets, or a read of it fails, and never
 /// for a source that can't fail, such as bytes in memory; `OutOfMemory` where an allocation fails.
-pub fn read_all<S: Source>(alloc: Global, source: &S) -> Result<AllParts, ReadError> {
+pub fn read_all<S: Source>(
+    alloc: Global,
+    source: &S,
+    log: &mut S::Log,
+) -> Result<AllParts, ReadError> {
     let len = source.length()? as usize;
     if len < HEADER {
         return Err(ReadError::Refused(ParseError::UnexpectedEof));
     }
-    let commands = read_commands(alloc, source, len)?;
+    let commands = read_commands(alloc, source, log, len)?;
     let found = found_in(alloc, &commands)?;
-    let symbols = read_symbols(alloc, source, len, found.table)?;
+    let symbols = read_symbols(alloc, source, log, len, found.table)?;
     Ok(AllParts {
         sections: found.sections,
         names: found.names,
@@ -127,6 +131,7 @@ fn error_of(e: ParseError) -> ReadError {
 fn read_symbols<S: Source>(
     alloc: Global,
     source: &S,
+    log: &mut S::Log,
     len: usize,
     table: Option<SymbolTable>,
 ) -> Result<Option<SymbolParts>, ReadError> {
@@ -135,8 +140,22 @@ fn read_symbols<S: Source>(
         Some(table) => table,
     };
     let strings_at = table.strings_offset as usize;
-    let strings = read_table(alloc, source, len, strings_at, table.strings_size as usize)?;
+    let strings = read_table(
+        alloc,
+        source,
+        log,
+        len,
+        strings_at,
+        table.strings_size as usize,
+    )?;
     let rows_size = SYMBOL_LENGTH * table.row_count as usize;
-    let rows = read_table(alloc, source, len, table.symbol_offset as usize, rows_size)?;
+    let rows = read_table(
+        alloc,
+        source,
+        log,
+        len,
+        table.symbol_offset as usize,
+        rows_size,
+    )?;
     Ok(Some(SymbolParts { strings, rows }))
 }

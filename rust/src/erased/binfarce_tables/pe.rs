@@ -50,11 +50,11 @@ impl Parts {
 /// `Refused` with the error of `parse` or `functions` of a reader of the whole file; `Unreadable` where the source
 /// can't be read at offsets, or a read of it fails, and never for a source that can't fail, such as bytes in memory;
 /// `OutOfMemory` where an allocation fails.
-pub fn read<S: Source>(alloc: Global, source: &S) -> Result<Parts, ReadError> {
+pub fn read<S: Source>(alloc: Global, source: &S, log: &mut S::Log) -> Result<Parts, ReadError> {
     let len = source.length()? as usize;
-    let places = read_places(alloc, source, len)?;
-    let text = read_text(alloc, source, len, places)?;
-    let records = read_records(alloc, source, len, places)?;
+    let places = read_places(alloc, source, log, len)?;
+    let text = read_text(alloc, source, log, len, places)?;
+    let records = read_records(alloc, source, log, len, places)?;
     Ok(Parts {
         rows: records.rows,
         strings: records.strings,
@@ -71,38 +71,48 @@ pub fn read<S: Source>(alloc: Global, source: &S) -> Result<Parts, ReadError> {
 /// `Refused` with `UnexpectedEof` where the file is too short for its file header; `Unreadable` where the source can't
 /// be read at offsets, or a read of it fails, and never for a source that can't fail, such as bytes in memory;
 /// `OutOfMemory` where an allocation fails.
-pub fn read_sections<S: Source>(alloc: Global, source: &S) -> Result<Beginning, ReadError> {
+pub fn read_sections<S: Source>(
+    alloc: Global,
+    source: &S,
+    log: &mut S::Log,
+) -> Result<Beginning, ReadError> {
     let file_length = source.length()?;
     let len = file_length as usize;
-    let places = read_places(alloc, source, len)?;
+    let places = read_places(alloc, source, log, len)?;
     let headers = places.section_count as usize * SECTION_LENGTH;
     let end = places
         .sections
         .saturating_add(headers.max(1))
         .max(STUB_LENGTH);
-    let bytes = part(alloc, source, 0, end.min(len))?;
+    let bytes = part(alloc, source, log, 0, end.min(len))?;
     Ok(Beginning { bytes, file_length })
 }
 
 pub(crate) fn read_places<S: Source>(
     alloc: Global,
     source: &S,
+    log: &mut S::Log,
     len: usize,
 ) -> Result<Places, ReadError> {
-    let signature = read_signature(alloc, source, len)?;
+    let signature = read_signature(alloc, source, log, len)?;
     let offset = signature as usize;
     if len < offset + HEADERS_LENGTH {
         return Err(ReadError::Refused(ParseError::UnexpectedEof));
     }
-    let headers = part(alloc, source, offset, HEADERS_LENGTH)?;
+    let headers = part(alloc, source, log, offset, HEADERS_LENGTH)?;
     Ok(places_in(&headers, signature)?)
 }
 
-fn read_signature<S: Source>(alloc: Global, source: &S, len: usize) -> Result<u32, ReadError> {
+fn read_signature<S: Source>(
+    alloc: Global,
+    source: &S,
+    log: &mut S::Log,
+    len: usize,
+) -> Result<u32, ReadError> {
     if len < SIGNATURE_POINTER + 4 {
         return Err(ReadError::Refused(ParseError::UnexpectedEof));
     }
-    let pointer = part(alloc, source, SIGNATURE_POINTER, 4)?;
+    let pointer = part(alloc, source, log, SIGNATURE_POINTER, 4)?;
     Ok(signature_in(&pointer)?)
 }
 
@@ -110,6 +120,7 @@ fn read_signature<S: Source>(alloc: Global, source: &S, len: usize) -> Result<u3
 fn read_text<S: Source>(
     alloc: Global,
     source: &S,
+    log: &mut S::Log,
     len: usize,
     places: Places,
 ) -> Result<Text, ReadError> {
@@ -121,7 +132,7 @@ fn read_text<S: Source>(
         return Err(ReadError::Refused(ParseError::SymbolsSectionIsMissing));
     }
     let size = places.section_count as usize * SECTION_LENGTH;
-    let headers = part(alloc, source, offset, size.min(len - offset))?;
+    let headers = part(alloc, source, log, offset, size.min(len - offset))?;
     Ok(text_in(&headers, places.section_count)?)
 }
 
@@ -135,6 +146,7 @@ pub(crate) struct Records {
 pub(crate) fn read_records<S: Source>(
     alloc: Global,
     source: &S,
+    log: &mut S::Log,
     len: usize,
     places: Places,
 ) -> Result<Records, ReadError> {
@@ -143,7 +155,7 @@ pub(crate) fn read_records<S: Source>(
         return Err(ReadError::Refused(ParseError::UnexpectedEof));
     }
     let end = offset + places.symbols_size;
-    let rows = part(alloc, source, offset, places.symbols_size)?;
-    let strings = part(alloc, source, end, len - end)?;
+    let rows = part(alloc, source, log, offset, places.symbols_size)?;
+    let strings = part(alloc, source, log, end, len - end)?;
     Ok(Records { rows, strings })
 }

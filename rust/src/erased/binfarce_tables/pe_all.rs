@@ -67,17 +67,22 @@ impl AllParts {
 /// `Refused` with the error of `parse` or `all_functions` of a reader of the whole file; `Unreadable` where the source
 /// can't be read at offsets, or a read of it fails, and never for a source that can't fail, such as bytes in memory;
 /// `OutOfMemory` where an allocation fails.
-pub fn read_all<S: Source>(alloc: Global, source: &S) -> Result<AllParts, ReadError> {
+pub fn read_all<S: Source>(
+    alloc: Global,
+    source: &S,
+    log: &mut S::Log,
+) -> Result<AllParts, ReadError> {
     let len = source.length()? as usize;
-    let places = read_places(alloc, source, len)?;
-    let headers = read_headers(alloc, source, len, places)?;
+    let places = read_places(alloc, source, log, len)?;
+    let headers = read_headers(alloc, source, log, len, places)?;
     let header = part(
         alloc,
         source,
+        log,
         places.optional_header,
         places.optional_header_size,
     )?;
-    let records = read_records(alloc, source, len, places)?;
+    let records = read_records(alloc, source, log, len, places)?;
     Ok(AllParts {
         image_base: image_base(&header),
         headers,
@@ -90,6 +95,7 @@ pub fn read_all<S: Source>(alloc: Global, source: &S) -> Result<AllParts, ReadEr
 fn read_headers<S: Source>(
     alloc: Global,
     source: &S,
+    log: &mut S::Log,
     len: usize,
     places: Places,
 ) -> Result<Vec<u8>, ReadError> {
@@ -102,5 +108,5 @@ fn read_headers<S: Source>(
     if size.saturating_sub(SECTION_UNREAD) > rest {
         return Err(ReadError::Refused(ParseError::UnexpectedEof));
     }
-    part(alloc, source, offset, size.min(rest))
+    part(alloc, source, log, offset, size.min(rest))
 }

@@ -52,12 +52,13 @@ impl<C: Class> SectionParts<C> {
 pub(crate) fn read_sections<C: Class, S: Source>(
     alloc: Global,
     source: &S,
+    log: &mut S::Log,
     byte_order: ByteOrder,
 ) -> Result<SectionParts<C>, ReadError> {
     let len = source.length()? as usize;
-    let place = read_place::<C, S>(alloc, source, len, byte_order)?;
-    let names = read_names::<C, S>(alloc, source, len, place)?;
-    let headers = read_table::<C, S>(alloc, source, len, place)?;
+    let place = read_place::<C, S>(alloc, source, log, len, byte_order)?;
+    let names = read_names::<C, S>(alloc, source, log, len, place)?;
+    let headers = read_table::<C, S>(alloc, source, log, len, place)?;
     Ok(SectionParts {
         headers,
         names,
@@ -73,6 +74,7 @@ pub(crate) fn read_sections<C: Class, S: Source>(
 pub(crate) fn read_table<C: Class, S: Source>(
     alloc: Global,
     source: &S,
+    log: &mut S::Log,
     len: usize,
     place: Place,
 ) -> Result<Vec<u8>, ReadError> {
@@ -80,7 +82,7 @@ pub(crate) fn read_table<C: Class, S: Source>(
         return Ok(Vec::new(alloc));
     }
     if place.shnum == 0 {
-        return part(alloc, source, place.shoff, 1);
+        return part(alloc, source, log, place.shoff, 1);
     }
-    read_headers::<C, S>(alloc, source, len, place)
+    read_headers::<C, S>(alloc, source, log, len, place)
 }

@@ -60,9 +60,9 @@ pub fn open(rt: &HostRuntime, path: &str) -> Result<File, Failure> {
 ///
 /// A pipe has no length, a file of `/proc` has one of 0, and a file of `/sys` may have fewer bytes than its length: these are
 /// read to their end.
-pub fn is_read_at_offsets<S: Source>(file: &S) -> bool {
+pub fn is_read_at_offsets<S: Source<Log = ()>>(file: &S) -> bool {
     match file.length() {
-        Ok(length) if length > 0 => file.fill_at(length - 1, &mut [0]).is_ok(),
+        Ok(length) if length > 0 => file.fill_at(&mut (), length - 1, &mut [0]).is_ok(),
         _ => false,
     }
 }

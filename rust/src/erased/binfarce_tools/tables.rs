@@ -6,10 +6,10 @@ use crate::erased::binfarce_tools::functions::{
     AllFunctions, Functions, Selected, all_in_sections, all_of, functions_of_file,
 };
 use crate::erased::binfarce_tools::list::ListError;
-use crate::erased::binfarce::{Format, ParseError, SymbolTable, detect_format};
+use crate::erased::binfarce::{Format, ParseError, SymbolTable};
 pub use crate::erased::binfarce_bytes::functions::Selection;
 use crate::erased::binfarce_bytes::source::Source;
-use crate::erased::binfarce_tables::begun::Begun;
+use crate::erased::binfarce_tables::format::read_format;
 use crate::erased::binfarce_tables::{ReadError, elf32, elf64, macho, pe};
 use crate::shim::alloc::Global;
 
@@ -119,7 +119,7 @@ impl<'a> Tables<'a> {
     }
 }
 
-/// Reads the tables of a file for the function symbols of a selection, by this symbol table: its first 64 bytes, which
+/// Reads the tables of a file for the function symbols of a selection, by this symbol table: its first 8 bytes, which
 /// name its format, and the parts that `binfarce_tables` reads of a file of that format. Of a file of an unknown format
 /// no other byte is read. Each part that is kept takes no more memory than the file has bytes of it.
 ///
@@ -131,14 +131,14 @@ impl<'a> Tables<'a> {
 pub fn read<S: Source>(
     alloc: Global,
     source: &S,
+    log: &mut S::Log,
     which: SymbolTable,
     selection: Selection<'_>,
 ) -> Result<Tables<'static>, ReadError> {
-    let begun = Begun::new(alloc, source)?;
-    let format = detect_format(begun.head());
+    let format = read_format(alloc, source, log)?;
     match selection {
-        Selection::Section(section) => read_section(alloc, &begun, format, which, section),
-        Selection::All => read_sections(alloc, &begun, format, which),
+        Selection::Section(section) => read_section(alloc, source, log, format, which, section),
+        Selection::All => read_sections(alloc, source, log, format, which),
     }
 }
 
@@ -146,27 +146,28 @@ pub fn read<S: Source>(
 fn read_section<S: Source>(
     alloc: Global,
     source: &S,
+    log: &mut S::Log,
     format: Format,
     which: SymbolTable,
     section: &str,
 ) -> Result<Tables<'static>, ReadError> {
     match format {
         Format::Elf32 { byte_order } => {
-            let parts = elf32::read_by(alloc, source, byte_order, which, section)?;
+            let parts = elf32::read_by(alloc, source, log, byte_order, which, section)?;
             Ok(Tables::Elf32(parts))
         }
         Format::Elf64 { byte_order } => {
-            let parts = elf64::read_by(alloc, source, byte_order, which, section)?;
+            let parts = elf64::read_by(alloc, source, log, byte_order, which, section)?;
             Ok(Tables::Elf64(parts))
         }
         Format::Macho => {
             has_table(which)?;
-            let parts = macho::read(alloc, source)?;
+            let parts = macho::read(alloc, source, log)?;
             Ok(Tables::Macho(parts))
         }
         Format::PE => {
             has_table(which)?;
-            let parts = pe::read(alloc, source)?;
+            let parts = pe::read(alloc, source, log)?;
             Ok(Tables::Pe(parts))
         }
         Format::Unknown => Ok(Tables::Unknown),
@@ -177,26 +178,27 @@ fn read_section<S: Source>(
 fn read_sections<S: Source>(
     alloc: Global,
     source: &S,
+    log: &mut S::Log,
     format: Format,
     which: SymbolTable,
 ) -> Result<Tables<'static>, ReadError> {
     match format {
         Format::Elf32 { byte_order } => {
-            let parts = elf32::read_all(alloc, source, byte_order, which)?;
+            let parts = elf32::read_all(alloc, source, log, byte_order, which)?;
             Ok(Tables::AllElf32(parts))
         }
         Format::Elf64 { byte_order } => {
-            let parts = elf64::read_all(alloc, source, byte_order, which)?;
+            let parts = elf64::read_all(alloc, source, log, byte_order, which)?;
             Ok(Tables::AllElf64(parts))
         }
         Format::Macho => {
             has_table(which)?;
-            let parts = macho::read_all(alloc, source)?;
+            let parts = macho::read_all(alloc, source, log)?;
             Ok(Tables::AllMacho(parts))
         }
         Format::PE => {
             has_table(which)?;
-            let parts = pe::read_all(alloc, source)?;
+            let parts = pe::read_all(alloc, source, log)?;
             Ok(Tables::AllPe(parts))
         }
         Format::Unknown => Ok(Tables::Unknown),

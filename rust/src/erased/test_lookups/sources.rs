@@ -71,12 +71,14 @@ fn has(parts: &[Part], withheld: Option<usize>, at: u64) -> bool {
 }
 
 impl<'a> Source for Noted<'a> {
+    type Log = ();
+
     fn length(&self) -> io::Result<u64> {
         self.note(None)?;
         Ok(self.length)
     }
 
-    fn fill_at(&self, offset: u64, buf: &mut [u8]) -> io::Result<()> {
+    fn fill_at(&self, log: &mut (), offset: u64, buf: &mut [u8]) -> io::Result<()> {
         let size = buf.len() as u64;
         self.note(Some((offset, size)))?;
         for at in offset..offset.saturating_add(size) {
@@ -84,6 +86,6 @@ impl<'a> Source for Noted<'a> {
                 return Err(Error::from(self.error));
             }
         }
-        self.bytes.fill_at(offset, buf)
+        self.bytes.fill_at(log, offset, buf)
     }
 }

@@ -63,13 +63,13 @@ fn is_right(alloc: Global, row: &Sample) -> Row {
     let written = write_section(source, name, &mut out);
     let is_written = is_whole(written, out)?;
     let mut out = Out::new(Expected::new(bytes));
-    let written = write_section_of(alloc, &source, name, &mut out);
+    let written = write_section_of(alloc, &source, &mut (), name, &mut out);
     let is_read = is_whole(written, out)?;
     let mut out = Out::new(Expected::new(lines.as_bytes()));
     let listed = list_sections(alloc, source, &mut out);
     let is_listed = is_whole(listed, out)?;
     let mut out = Out::new(Expected::new(lines.as_bytes()));
-    let listed = list_source(alloc, &source, &mut out);
+    let listed = list_source(alloc, &source, &mut (), &mut out);
     Ok(is_written && is_read && is_listed && is_whole(listed, out)?)
 }
 

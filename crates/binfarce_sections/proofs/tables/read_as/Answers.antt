@@ -83,3 +83,43 @@ unfolding format_parts
 returns-in_err-beginning-in-PE-clause-nothing_else g c = λ file known sure.
     let parts = subst (λ (f : Format). AreSure (g.S.Source.is_sure c.args.source.now) (format_parts f file)) c.in-PE.is sure in
     passed_surely c.in_err-beginning-in-PE.field-0.0 c.from_residual-in_err-beginning-in-PE.result (c.in_err-beginning-in-PE.ensures.nothing_else file known parts) c.from_residual-in_err-beginning-in-PE.ensures
+
+pub returns-in_err-parts-in-Elf32-clause-asked : goal.returns-in_err-parts-in-Elf32-clause-asked
+unfolding format_parts
+returns-in_err-parts-in-Elf32-clause-asked g c = λ file known allowed are before.
+    c.in_err-parts-in-Elf32.ensures.asked file known allowed (subst (λ (f : Format). AreSure allowed (format_parts f file)) c.in-Elf32.is are) before
+
+pub returns-in_ok-parts-in-Elf32-clause-asked : goal.returns-in_ok-parts-in-Elf32-clause-asked
+unfolding format_parts
+returns-in_ok-parts-in-Elf32-clause-asked g c = λ file known allowed are before.
+    c.in_ok-parts-in-Elf32.ensures.asked file known allowed (subst (λ (f : Format). AreSure allowed (format_parts f file)) c.in-Elf32.is are) before
+
+pub returns-in_err-parts-in-Elf64-clause-asked : goal.returns-in_err-parts-in-Elf64-clause-asked
+unfolding format_parts
+returns-in_err-parts-in-Elf64-clause-asked g c = λ file known allowed are before.
+    c.in_err-parts-in-Elf64.ensures.asked file known allowed (subst (λ (f : Format). AreSure allowed (format_parts f file)) c.in-Elf64.is are) before
+
+pub returns-in_ok-parts-in-Elf64-clause-asked : goal.returns-in_ok-parts-in-Elf64-clause-asked
+unfolding format_parts
+returns-in_ok-parts-in-Elf64-clause-asked g c = λ file known allowed are before.
+    c.in_ok-parts-in-Elf64.ensures.asked file known allowed (subst (λ (f : Format). AreSure allowed (format_parts f file)) c.in-Elf64.is are) before
+
+pub returns-in_err-beginning-in-Macho-clause-asked : goal.returns-in_err-beginning-in-Macho-clause-asked
+unfolding format_parts
+returns-in_err-beginning-in-Macho-clause-asked g c = λ file known allowed are before.
+    c.in_err-beginning-in-Macho.ensures.asked file known allowed (subst (λ (f : Format). AreSure allowed (format_parts f file)) c.in-Macho.is are) before
+
+pub returns-in_ok-beginning-in-Macho-clause-asked : goal.returns-in_ok-beginning-in-Macho-clause-asked
+unfolding format_parts
+returns-in_ok-beginning-in-Macho-clause-asked g c = λ file known allowed are before.
+    c.in_ok-beginning-in-Macho.ensures.asked file known allowed (subst (λ (f : Format). AreSure allowed (format_parts f file)) c.in-Macho.is are) before
+
+pub returns-in_err-beginning-in-PE-clause-asked : goal.returns-in_err-beginning-in-PE-clause-asked
+unfolding format_parts
+returns-in_err-beginning-in-PE-clause-asked g c = λ file known allowed are before.
+    c.in_err-beginning-in-PE.ensures.asked file known allowed (subst (λ (f : Format). AreSure allowed (format_parts f file)) c.in-PE.is are) before
+
+pub returns-in_ok-beginning-in-PE-clause-asked : goal.returns-in_ok-beginning-in-PE-clause-asked
+unfolding format_parts
+returns-in_ok-beginning-in-PE-clause-asked g c = λ file known allowed are before.
+    c.in_ok-beginning-in-PE.ensures.asked file known allowed (subst (λ (f : Format). AreSure allowed (format_parts f file)) c.in-PE.is are) before

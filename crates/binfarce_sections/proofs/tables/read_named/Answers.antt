@@ -81,3 +81,33 @@ returns-in-Some-clause-nothing_else g c = λ file known sure.
     let found = c.in_ok-found.ensures ∙ ap (λ (f : Option code.Section). Ok (option_map section_view f)) c.in-Some.is in
     c.read_bytes.ensures.nothing_else file known long
     (of_bytes (λ (p : Part). g.F.Source.is_sure c.args.source.now p ≡ true) c.in_ok-sections.sections file c.args.name.now (section_view c.in-Some.section) opened found sure)
+
+pub returns-in_err-tables-clause-asked : goal.returns-in_err-tables-clause-asked
+returns-in_err-tables-clause-asked g c = λ file known allowed are before.
+    let P : Part → Type 0 = λ p. allowed p ≡ true in
+    c.read.ensures.asked file known allowed (of_sections P file c.args.name.now are) before
+
+pub returns-in_err-sections-clause-asked : goal.returns-in_err-sections-clause-asked
+returns-in_err-sections-clause-asked g c = λ file known allowed are before.
+    let P : Part → Type 0 = λ p. allowed p ≡ true in
+    c.read.ensures.asked file known allowed (of_sections P file c.args.name.now are) before
+
+pub returns-in_err-found-clause-asked : goal.returns-in_err-found-clause-asked
+returns-in_err-found-clause-asked g c = λ file known allowed are before.
+    let P : Part → Type 0 = λ p. allowed p ≡ true in
+    c.read.ensures.asked file known allowed (of_sections P file c.args.name.now are) before
+
+pub returns-clause-asked : goal.returns-clause-asked
+returns-clause-asked g c = λ file known allowed are before.
+    let P : Part → Type 0 = λ p. allowed p ≡ true in
+    c.read.ensures.asked file known allowed (of_sections P file c.args.name.now are) before
+
+pub returns-in-Some-clause-asked : goal.returns-in-Some-clause-asked
+returns-in-Some-clause-asked g c = λ file known allowed are before.
+    let P : Part → Type 0 = λ p. allowed p ≡ true in
+    let tables = c.read.ensures.asked file known allowed (of_sections P file c.args.name.now are) before in
+    let are_read = c.in_ok-tables.ensures.reads file known in
+    let opened = c.in_ok-sections.ensures.opens file are_read in
+    let long : c.file_length.result ≡ length file = length_is file c.in_ok-tables.tables c.file_length.result c.in_ok-sections.sections are_read c.file_length.ensures opened in
+    let found = c.in_ok-found.ensures ∙ ap (λ (f : Option code.Section). Ok (option_map section_view f)) c.in-Some.is in
+    c.read_bytes.ensures.asked file known long allowed (of_bytes P c.in_ok-sections.sections file c.args.name.now (section_view c.in-Some.section) opened found are) tables

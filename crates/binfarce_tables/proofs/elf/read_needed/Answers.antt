@@ -1,14 +1,14 @@
 use Rattle.std.proofs.Common.{◌≡◌, ◌<◌, true, ◌∙◌, arith}
 use Rattle.std.specs.Option.{option_map}
 use Rattle.binfarce_elf.specs.ElfParts.{needed_view}
-use Rattle.binfarce_bytes.specs.Part.{Part}
-use Rattle.binfarce_tables.specs.ElfReads.{names_parts, headers_parts}
+use Rattle.binfarce_bytes.specs.Part.{Part, part}
+use Rattle.binfarce_tables.specs.ElfReads.{names_parts, headers_parts, headers_size}
 use Rattle.binfarce_tables.specs.machine.Places.{table_at, headers_of}
 use Rattle.binfarce_tables.proofs.HeadersAlone.{HasWithin, within_class}
 use Rattle.binfarce_tables.proofs.Located.{needed_read, needed_outside, needed_of_none}
 use Rattle.binfarce_tables.proofs.ElfSure.{of_headers}
 use Rattle.binfarce_tables.proofs.Readings.{taken, converted, passed_surely}
-use Rattle.binfarce_tables.proofs.Sure.{front, back, converted_surely}
+use Rattle.binfarce_tables.proofs.Sure.{front, back, converted_surely, alone}
 use Rattle.binfarce_tables.proofs.elf.read_needed.Goals as goal
 
 pub returns-then-place-len-clause-answer : goal.returns-then-place-len-clause-answer
@@ -57,3 +57,37 @@ returns-in_err-headers-clause-nothing_else g c = λ file known sure.
 
 pub returns-in_err-needed_in-clause-nothing_else : goal.returns-in_err-needed_in-clause-nothing_else
 returns-in_err-needed_in-clause-nothing_else g c = λ file known sure. converted_surely c.in_err-needed_in.field-0.0 c.from_residual-in_err-needed_in.result c.from_residual-in_err-needed_in.ensures
+
+pub returns-in_err-names-clause-asked : goal.returns-in_err-names-clause-asked
+returns-in_err-names-clause-asked g c = λ file known allowed are before.
+    let class = g.C.Class.table in
+    let table = table_at file c.args.place in
+    let P : Part → Type 0 = λ p. allowed p ≡ true in
+    c.read_names.ensures.asked file known allowed (front P (names_parts class table) (headers_parts class table) are) before
+
+pub returns-in_err-headers-clause-asked : goal.returns-in_err-headers-clause-asked
+returns-in_err-headers-clause-asked g c = λ file known allowed are before.
+    let class = g.C.Class.table in
+    let table = table_at file c.args.place in
+    let P : Part → Type 0 = λ p. allowed p ≡ true in
+    let names = c.read_names.ensures.asked file known allowed (front P (names_parts class table) (headers_parts class table) are) before in
+    let headers = of_headers P class table (omega (arith, known.1, c.if-place-len.false)) (omega (arith, c.if-place-eq0.false)) (back P (names_parts class table) (headers_parts class table) are) in
+    c.read_headers.ensures.asked file known allowed (alone P (part c.args.place.shoff (headers_size class table)) headers) names
+
+pub returns-in_err-needed_in-clause-asked : goal.returns-in_err-needed_in-clause-asked
+returns-in_err-needed_in-clause-asked g c = λ file known allowed are before.
+    let class = g.C.Class.table in
+    let table = table_at file c.args.place in
+    let P : Part → Type 0 = λ p. allowed p ≡ true in
+    let names = c.read_names.ensures.asked file known allowed (front P (names_parts class table) (headers_parts class table) are) before in
+    let headers = of_headers P class table (omega (arith, known.1, c.if-place-len.false)) (omega (arith, c.if-place-eq0.false)) (back P (names_parts class table) (headers_parts class table) are) in
+    c.read_headers.ensures.asked file known allowed (alone P (part c.args.place.shoff (headers_size class table)) headers) names
+
+pub returns-clause-asked : goal.returns-clause-asked
+returns-clause-asked g c = λ file known allowed are before.
+    let class = g.C.Class.table in
+    let table = table_at file c.args.place in
+    let P : Part → Type 0 = λ p. allowed p ≡ true in
+    let names = c.read_names.ensures.asked file known allowed (front P (names_parts class table) (headers_parts class table) are) before in
+    let headers = of_headers P class table (omega (arith, known.1, c.if-place-len.false)) (omega (arith, c.if-place-eq0.false)) (back P (names_parts class table) (headers_parts class table) are) in
+    c.read_headers.ensures.asked file known allowed (alone P (part c.args.place.shoff (headers_size class table)) headers) names

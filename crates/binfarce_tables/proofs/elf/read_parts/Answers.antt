@@ -8,7 +8,7 @@ use Rattle.binfarce_tables.specs.Reading.{Known, parts_view}
 use Rattle.binfarce_tables.specs.machine.Places.{table_at, rows_view}
 use Rattle.binfarce_tables.proofs.ElfSure.{of_file_header, of_sections, of_table, of_rows, needed_table}
 use Rattle.binfarce_tables.proofs.Readings.{after_err, instead, passed, passed_surely, length_known}
-use Rattle.binfarce_tables.proofs.Sure.{long}
+use Rattle.binfarce_tables.proofs.Sure.{long, alone}
 use Rattle.binfarce_tables.proofs.Located.{after_needed, from_table, from_needed}
 use Rattle.binfarce_tables.proofs.elf.read_parts.Goals as goal
 
@@ -85,3 +85,49 @@ returns-in_err-table-clause-nothing_else g c = λ file known sure.
     passed_surely c.in_err-table.field-0.0 c.from_residual-in_err-table.result
     (c.in_err-table.ensures.nothing_else file is_known (of_rows IsSure class c.args.byte_order file table (c.in_ok-place.ensures.table file is_known) c.args.which n.table found sure))
     c.from_residual-in_err-table.ensures
+
+pub returns-in_err-place-clause-asked : goal.returns-in_err-place-clause-asked
+returns-in_err-place-clause-asked g c = λ file known allowed are before.
+    let class = g.C.Class.table in
+    let P : Part → Type 0 = λ p. allowed p ≡ true in
+    let sections = of_sections P class c.args.byte_order file c.args.which are in
+    c.read_place.ensures.asked allowed (alone P (part 0 class.header_length) (of_file_header P class c.args.byte_order file sections)) before
+
+pub returns-in_err-needed-clause-asked : goal.returns-in_err-needed-clause-asked
+returns-in_err-needed-clause-asked g c = λ file known allowed are before.
+    let class = g.C.Class.table in
+    let P : Part → Type 0 = λ p. allowed p ≡ true in
+    let sections = of_sections P class c.args.byte_order file c.args.which are in
+    let is_known : Known (g.S.Source.bytes c.args.source.now) c.in_ok-len.len file = (known, length_known _ file c.in_ok-len.len known c.in_ok-len.ensures.length) in
+    let place = c.read_place.ensures.asked allowed (alone P (part 0 class.header_length) (of_file_header P class c.args.byte_order file sections)) before in
+    let table = table_at file c.in_ok-place.place in
+    let placed = c.in_ok-place.ensures.table file is_known in
+    c.read_needed.ensures.asked file is_known allowed (of_table P class c.args.byte_order file table placed sections) place
+
+pub returns-in_err-table-clause-asked : goal.returns-in_err-table-clause-asked
+returns-in_err-table-clause-asked g c = λ file known allowed are before.
+    let class = g.C.Class.table in
+    let P : Part → Type 0 = λ p. allowed p ≡ true in
+    let sections = of_sections P class c.args.byte_order file c.args.which are in
+    let is_known : Known (g.S.Source.bytes c.args.source.now) c.in_ok-len.len file = (known, length_known _ file c.in_ok-len.len known c.in_ok-len.ensures.length) in
+    let place = c.read_place.ensures.asked allowed (alone P (part 0 class.header_length) (of_file_header P class c.args.byte_order file sections)) before in
+    let table = table_at file c.in_ok-place.place in
+    let placed = c.in_ok-place.ensures.table file is_known in
+    let needed = c.read_needed.ensures.asked file is_known allowed (of_table P class c.args.byte_order file table placed sections) place in
+    let n = needed_view g.C.Class.number_of c.in_ok-needed.needed in
+    let found = needed_table c.args.which (walk class table) (names_bytes class table) c.args.section_name.now n (c.in_ok-needed.ensures.answer file is_known) in
+    c.read_rows.ensures.asked file is_known allowed (of_rows P class c.args.byte_order file table placed c.args.which n.table found are) needed
+
+pub returns-clause-asked : goal.returns-clause-asked
+returns-clause-asked g c = λ file known allowed are before.
+    let class = g.C.Class.table in
+    let P : Part → Type 0 = λ p. allowed p ≡ true in
+    let sections = of_sections P class c.args.byte_order file c.args.which are in
+    let is_known : Known (g.S.Source.bytes c.args.source.now) c.in_ok-len.len file = (known, length_known _ file c.in_ok-len.len known c.in_ok-len.ensures.length) in
+    let place = c.read_place.ensures.asked allowed (alone P (part 0 class.header_length) (of_file_header P class c.args.byte_order file sections)) before in
+    let table = table_at file c.in_ok-place.place in
+    let placed = c.in_ok-place.ensures.table file is_known in
+    let needed = c.read_needed.ensures.asked file is_known allowed (of_table P class c.args.byte_order file table placed sections) place in
+    let n = needed_view g.C.Class.number_of c.in_ok-needed.needed in
+    let found = needed_table c.args.which (walk class table) (names_bytes class table) c.args.section_name.now n (c.in_ok-needed.ensures.answer file is_known) in
+    c.read_rows.ensures.asked file is_known allowed (of_rows P class c.args.byte_order file table placed c.args.which n.table found are) needed

@@ -7,6 +7,7 @@ use Rattle.binfarce_tables.specs.machine.Places.{rows_view}
 use Rattle.binfarce_tables.proofs.Located.{after_strings, after_rows, from_sections, from_strings, from_rows, rows_read}
 use Rattle.binfarce_tables.proofs.Readings.{instead, after_err, passed, converted, passed_surely}
 use Rattle.binfarce_tables.proofs.Sure.{front, back, converted_surely}
+use Rattle.binfarce_bytes.specs.Part.{Part}
 use Rattle.binfarce_tables.proofs.elf.read_rows.Goals as goal
 
 pub returns-in_err-strings-clause-answer : goal.returns-in_err-strings-clause-answer
@@ -62,3 +63,24 @@ returns-in_err-rows-clause-nothing_else g c = λ file known sure.
 
 pub returns-in_err-whole_rows-clause-nothing_else : goal.returns-in_err-whole_rows-clause-nothing_else
 returns-in_err-whole_rows-clause-nothing_else g c = λ file known sure. converted_surely c.in_err-whole_rows.field-0.0 c.from_residual-in_err-whole_rows.result c.from_residual-in_err-whole_rows.ensures
+
+pub returns-in_err-rows-clause-asked : goal.returns-in_err-rows-clause-asked
+returns-in_err-rows-clause-asked g c = λ file known allowed are before.
+    let n = table_sections_view g.C.Class.number_of c.args.sections in
+    let P : Part → Type 0 = λ p. allowed p ≡ true in
+    let strings = c.read_section.ensures.asked file known allowed (front P (section_parts file n.strings) (section_parts file n.symbols) are) before in
+    c.read_section-2.ensures.asked file known allowed (back P (section_parts file n.strings) (section_parts file n.symbols) are) strings
+
+pub returns-in_err-whole_rows-clause-asked : goal.returns-in_err-whole_rows-clause-asked
+returns-in_err-whole_rows-clause-asked g c = λ file known allowed are before.
+    let n = table_sections_view g.C.Class.number_of c.args.sections in
+    let P : Part → Type 0 = λ p. allowed p ≡ true in
+    let strings = c.read_section.ensures.asked file known allowed (front P (section_parts file n.strings) (section_parts file n.symbols) are) before in
+    c.read_section-2.ensures.asked file known allowed (back P (section_parts file n.strings) (section_parts file n.symbols) are) strings
+
+pub returns-clause-asked : goal.returns-clause-asked
+returns-clause-asked g c = λ file known allowed are before.
+    let n = table_sections_view g.C.Class.number_of c.args.sections in
+    let P : Part → Type 0 = λ p. allowed p ≡ true in
+    let strings = c.read_section.ensures.asked file known allowed (front P (section_parts file n.strings) (section_parts file n.symbols) are) before in
+    c.read_section-2.ensures.asked file known allowed (back P (section_parts file n.strings) (section_parts file n.symbols) are) strings

@@ -13,7 +13,7 @@ use Rattle.binfarce_tables.specs.machine.Places.{table_at, rows_view}
 use Rattle.binfarce_tables.proofs.AllRead.{symbols_of, after_needed, by_needed, found_table, all_read}
 use Rattle.binfarce_tables.proofs.ElfSure.{of_file_header, of_sections, of_table, of_rows}
 use Rattle.binfarce_tables.proofs.Readings.{instead, after_err, passed, passed_surely, converted, taken, length_known}
-use Rattle.binfarce_tables.proofs.Sure.{front, back, long, converted_surely}
+use Rattle.binfarce_tables.proofs.Sure.{front, back, long, converted_surely, alone}
 use Rattle.binfarce_tables.proofs.elf_all.read_all.Goals as goal
 
 pub returns-in_err-sections-clause-answer : goal.returns-in_err-sections-clause-answer
@@ -96,3 +96,80 @@ returns-in_err-table-clause-nothing_else g c = λ file known sure.
     let found = found_table c.args.which class c.args.byte_order file table placed c.in_ok-headers.headers.items c.deref.result.now (c.in_ok-headers.ensures.answer file is_known) c.deref.ensures.value n c.in_ok-sections.ensures in
     passed_surely c.in_err-table.field-0.0 c.from_residual-in_err-table.result
     (c.in_err-table.ensures.nothing_else file is_known (of_rows IsSure class c.args.byte_order file table placed c.args.which n found sure)) c.from_residual-in_err-table.ensures
+
+pub returns-in_err-place-clause-asked : goal.returns-in_err-place-clause-asked
+returns-in_err-place-clause-asked g c = λ file known allowed are before.
+    let class = g.C.Class.table in
+    let P : Part → Type 0 = λ p. allowed p ≡ true in
+    let sections = of_sections P class c.args.byte_order file c.args.which are in
+    c.read_place.ensures.asked allowed (alone P (part 0 class.header_length) (of_file_header P class c.args.byte_order file sections)) before
+
+pub returns-in_err-names-clause-asked : goal.returns-in_err-names-clause-asked
+returns-in_err-names-clause-asked g c = λ file known allowed are before.
+    let class = g.C.Class.table in
+    let P : Part → Type 0 = λ p. allowed p ≡ true in
+    let sections = of_sections P class c.args.byte_order file c.args.which are in
+    let is_known : Known (g.S.Source.bytes c.args.source.now) c.in_ok-len.len file = (known, length_known _ file c.in_ok-len.len known c.in_ok-len.ensures.length) in
+    let place = c.read_place.ensures.asked allowed (alone P (part 0 class.header_length) (of_file_header P class c.args.byte_order file sections)) before in
+    let table = table_at file c.in_ok-place.place in
+    let placed = c.in_ok-place.ensures.table file is_known in
+    let parts = of_table P class c.args.byte_order file table placed sections in
+    c.read_names.ensures.asked file is_known allowed (front P (names_parts class table) (headers_parts class table) parts) place
+
+pub returns-in_err-headers-clause-asked : goal.returns-in_err-headers-clause-asked
+returns-in_err-headers-clause-asked g c = λ file known allowed are before.
+    let class = g.C.Class.table in
+    let P : Part → Type 0 = λ p. allowed p ≡ true in
+    let sections = of_sections P class c.args.byte_order file c.args.which are in
+    let is_known : Known (g.S.Source.bytes c.args.source.now) c.in_ok-len.len file = (known, length_known _ file c.in_ok-len.len known c.in_ok-len.ensures.length) in
+    let place = c.read_place.ensures.asked allowed (alone P (part 0 class.header_length) (of_file_header P class c.args.byte_order file sections)) before in
+    let table = table_at file c.in_ok-place.place in
+    let placed = c.in_ok-place.ensures.table file is_known in
+    let parts = of_table P class c.args.byte_order file table placed sections in
+    let names = c.read_names.ensures.asked file is_known allowed (front P (names_parts class table) (headers_parts class table) parts) place in
+    c.read_table.ensures.asked file is_known allowed (back P (names_parts class table) (headers_parts class table) parts) names
+
+pub returns-in_err-sections-clause-asked : goal.returns-in_err-sections-clause-asked
+returns-in_err-sections-clause-asked g c = λ file known allowed are before.
+    let class = g.C.Class.table in
+    let P : Part → Type 0 = λ p. allowed p ≡ true in
+    let sections = of_sections P class c.args.byte_order file c.args.which are in
+    let is_known : Known (g.S.Source.bytes c.args.source.now) c.in_ok-len.len file = (known, length_known _ file c.in_ok-len.len known c.in_ok-len.ensures.length) in
+    let place = c.read_place.ensures.asked allowed (alone P (part 0 class.header_length) (of_file_header P class c.args.byte_order file sections)) before in
+    let table = table_at file c.in_ok-place.place in
+    let placed = c.in_ok-place.ensures.table file is_known in
+    let parts = of_table P class c.args.byte_order file table placed sections in
+    let names = c.read_names.ensures.asked file is_known allowed (front P (names_parts class table) (headers_parts class table) parts) place in
+    c.read_table.ensures.asked file is_known allowed (back P (names_parts class table) (headers_parts class table) parts) names
+
+pub returns-in_err-table-clause-asked : goal.returns-in_err-table-clause-asked
+returns-in_err-table-clause-asked g c = λ file known allowed are before.
+    let class = g.C.Class.table in
+    let P : Part → Type 0 = λ p. allowed p ≡ true in
+    let sections = of_sections P class c.args.byte_order file c.args.which are in
+    let is_known : Known (g.S.Source.bytes c.args.source.now) c.in_ok-len.len file = (known, length_known _ file c.in_ok-len.len known c.in_ok-len.ensures.length) in
+    let place = c.read_place.ensures.asked allowed (alone P (part 0 class.header_length) (of_file_header P class c.args.byte_order file sections)) before in
+    let table = table_at file c.in_ok-place.place in
+    let placed = c.in_ok-place.ensures.table file is_known in
+    let parts = of_table P class c.args.byte_order file table placed sections in
+    let names = c.read_names.ensures.asked file is_known allowed (front P (names_parts class table) (headers_parts class table) parts) place in
+    let headers = c.read_table.ensures.asked file is_known allowed (back P (names_parts class table) (headers_parts class table) parts) names in
+    let n = table_sections_view g.C.Class.number_of c.in_ok-sections.sections in
+    let found = found_table c.args.which class c.args.byte_order file table placed c.in_ok-headers.headers.items c.deref.result.now (c.in_ok-headers.ensures.answer file is_known) c.deref.ensures.value n c.in_ok-sections.ensures in
+    c.read_rows.ensures.asked file is_known allowed (of_rows P class c.args.byte_order file table placed c.args.which n found are) headers
+
+pub returns-clause-asked : goal.returns-clause-asked
+returns-clause-asked g c = λ file known allowed are before.
+    let class = g.C.Class.table in
+    let P : Part → Type 0 = λ p. allowed p ≡ true in
+    let sections = of_sections P class c.args.byte_order file c.args.which are in
+    let is_known : Known (g.S.Source.bytes c.args.source.now) c.in_ok-len.len file = (known, length_known _ file c.in_ok-len.len known c.in_ok-len.ensures.length) in
+    let place = c.read_place.ensures.asked allowed (alone P (part 0 class.header_length) (of_file_header P class c.args.byte_order file sections)) before in
+    let table = table_at file c.in_ok-place.place in
+    let placed = c.in_ok-place.ensures.table file is_known in
+    let parts = of_table P class c.args.byte_order file table placed sections in
+    let names = c.read_names.ensures.asked file is_known allowed (front P (names_parts class table) (headers_parts class table) parts) place in
+    let headers = c.read_table.ensures.asked file is_known allowed (back P (names_parts class table) (headers_parts class table) parts) names in
+    let n = table_sections_view g.C.Class.number_of c.in_ok-sections.sections in
+    let found = found_table c.args.which class c.args.byte_order file table placed c.in_ok-headers.headers.items c.deref.result.now (c.in_ok-headers.ensures.answer file is_known) c.deref.ensures.value n c.in_ok-sections.ensures in
+    c.read_rows.ensures.asked file is_known allowed (of_rows P class c.args.byte_order file table placed c.args.which n found are) headers

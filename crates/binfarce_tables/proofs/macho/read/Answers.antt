@@ -50,3 +50,23 @@ returns-clause-nothing_else g c = λ file known sure.
     let n = needed_view c.in_ok-needed.needed in
     let is = needed_is file c.deref.result.now inside are ∙ c.in_ok-needed.ensures (commands_long file c.deref.result.now inside are) in
     c.read_tables.ensures.nothing_else file is_known (symbol_parts (Given (g.S.Source.is_sure c.args.source.now)) file n.table (needed_table file n is) sure)
+
+pub returns-in_err-commands-clause-asked : goal.returns-in_err-commands-clause-asked
+returns-in_err-commands-clause-asked g c = λ file known allowed are before.
+    let is_known : Known (g.S.Source.bytes c.args.source.now) c.in_ok-len.len file = (known, length_known _ file c.in_ok-len.len known c.in_ok-len.ensures.length) in
+    c.read_commands.ensures.asked file is_known allowed (section_parts (Given allowed) file are) before
+
+pub returns-in_err-needed-clause-asked : goal.returns-in_err-needed-clause-asked
+returns-in_err-needed-clause-asked g c = λ file known allowed are before.
+    let is_known : Known (g.S.Source.bytes c.args.source.now) c.in_ok-len.len file = (known, length_known _ file c.in_ok-len.len known c.in_ok-len.ensures.length) in
+    c.read_commands.ensures.asked file is_known allowed (section_parts (Given allowed) file are) before
+
+pub returns-clause-asked : goal.returns-clause-asked
+returns-clause-asked g c = λ file known allowed are before.
+    let is_known : Known (g.S.Source.bytes c.args.source.now) c.in_ok-len.len file = (known, length_known _ file c.in_ok-len.len known c.in_ok-len.ensures.length) in
+    let commands = c.read_commands.ensures.asked file is_known allowed (section_parts (Given allowed) file are) before in
+    let inside : 28 ≤ length file = omega (arith, is_known.1, c.if-len-lt-HEADER.false) in
+    let same : c.deref.result.now ≡ command_bytes file = c.deref.ensures.value ∙ taken (c.in_ok-commands.ensures.answer file is_known) in
+    let n = needed_view c.in_ok-needed.needed in
+    let is = needed_is file c.deref.result.now inside same ∙ c.in_ok-needed.ensures (commands_long file c.deref.result.now inside same) in
+    c.read_tables.ensures.asked file is_known allowed (symbol_parts (Given allowed) file n.table (needed_table file n is) are) commands

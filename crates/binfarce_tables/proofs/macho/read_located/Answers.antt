@@ -58,3 +58,27 @@ returns-in_err-rows-clause-nothing_else g c = λ file known sure.
     let strings = whole_part file table.strings_offset table.strings_size in
     let rows = whole_part file table.symbol_offset (16 * table.row_count) in
     passed_surely c.in_err-rows.field-0.0 c.from_residual-in_err-rows.result (c.in_err-rows.ensures.nothing_else file known (back (Given (g.S.Source.is_sure c.args.source.now)) strings rows sure)) c.from_residual-in_err-rows.ensures
+
+pub returns-in_err-rows-clause-asked : goal.returns-in_err-rows-clause-asked
+returns-in_err-rows-clause-asked g c = λ file known allowed are before.
+    let table = table_view c.args.table in
+    let strings = whole_part file table.strings_offset table.strings_size in
+    let rows = whole_part file table.symbol_offset (16 * table.row_count) in
+    let first = c.read_table.ensures.asked file known allowed (front (Given allowed) strings rows are) before in
+    c.read_table-2.ensures.asked file known allowed (back (Given allowed) strings rows are) first
+
+pub returns-in_err-text_end-clause-asked : goal.returns-in_err-text_end-clause-asked
+returns-in_err-text_end-clause-asked g c = λ file known allowed are before.
+    let table = table_view c.args.table in
+    let strings = whole_part file table.strings_offset table.strings_size in
+    let rows = whole_part file table.symbol_offset (16 * table.row_count) in
+    let first = c.read_table.ensures.asked file known allowed (front (Given allowed) strings rows are) before in
+    c.read_table-2.ensures.asked file known allowed (back (Given allowed) strings rows are) first
+
+pub returns-clause-asked : goal.returns-clause-asked
+returns-clause-asked g c = λ file known allowed are before.
+    let table = table_view c.args.table in
+    let strings = whole_part file table.strings_offset table.strings_size in
+    let rows = whole_part file table.symbol_offset (16 * table.row_count) in
+    let first = c.read_table.ensures.asked file known allowed (front (Given allowed) strings rows are) before in
+    c.read_table-2.ensures.asked file known allowed (back (Given allowed) strings rows are) first

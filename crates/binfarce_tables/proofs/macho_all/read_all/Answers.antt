@@ -64,3 +64,31 @@ returns-in_err-symbols-clause-nothing_else g c = λ file known sure.
     (c.in_err-symbols.ensures.nothing_else file is_known
     (symbol_parts (Given (g.S.Source.is_sure c.args.source.now)) file found.table (commands_table file found (c.in_ok-found.ensures file inside are)) sure))
     c.from_residual-in_err-symbols.ensures
+
+pub returns-in_err-commands-clause-asked : goal.returns-in_err-commands-clause-asked
+returns-in_err-commands-clause-asked g c = λ file known allowed are before.
+    let is_known : Known (g.S.Source.bytes c.args.source.now) c.in_ok-len.len file = (known, length_known _ file c.in_ok-len.len known c.in_ok-len.ensures.length) in
+    c.read_commands.ensures.asked file is_known allowed (section_parts (Given allowed) file are) before
+
+pub returns-in_err-found-clause-asked : goal.returns-in_err-found-clause-asked
+returns-in_err-found-clause-asked g c = λ file known allowed are before.
+    let is_known : Known (g.S.Source.bytes c.args.source.now) c.in_ok-len.len file = (known, length_known _ file c.in_ok-len.len known c.in_ok-len.ensures.length) in
+    c.read_commands.ensures.asked file is_known allowed (section_parts (Given allowed) file are) before
+
+pub returns-in_err-symbols-clause-asked : goal.returns-in_err-symbols-clause-asked
+returns-in_err-symbols-clause-asked g c = λ file known allowed are before.
+    let is_known : Known (g.S.Source.bytes c.args.source.now) c.in_ok-len.len file = (known, length_known _ file c.in_ok-len.len known c.in_ok-len.ensures.length) in
+    let commands = c.read_commands.ensures.asked file is_known allowed (section_parts (Given allowed) file are) before in
+    let inside : 28 ≤ length file = omega (arith, is_known.1, c.if-len-lt-HEADER.false) in
+    let same : c.deref.result.now ≡ command_bytes file = c.deref.ensures.value ∙ taken (c.in_ok-commands.ensures.answer file is_known) in
+    let found = found_view c.in_ok-found.found in
+    c.read_symbols.ensures.asked file is_known allowed (symbol_parts (Given allowed) file found.table (commands_table file found (c.in_ok-found.ensures file inside same)) are) commands
+
+pub returns-clause-asked : goal.returns-clause-asked
+returns-clause-asked g c = λ file known allowed are before.
+    let is_known : Known (g.S.Source.bytes c.args.source.now) c.in_ok-len.len file = (known, length_known _ file c.in_ok-len.len known c.in_ok-len.ensures.length) in
+    let commands = c.read_commands.ensures.asked file is_known allowed (section_parts (Given allowed) file are) before in
+    let inside : 28 ≤ length file = omega (arith, is_known.1, c.if-len-lt-HEADER.false) in
+    let same : c.deref.result.now ≡ command_bytes file = c.deref.ensures.value ∙ taken (c.in_ok-commands.ensures.answer file is_known) in
+    let found = found_view c.in_ok-found.found in
+    c.read_symbols.ensures.asked file is_known allowed (symbol_parts (Given allowed) file found.table (commands_table file found (c.in_ok-found.ensures file inside same)) are) commands

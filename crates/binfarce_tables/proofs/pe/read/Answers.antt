@@ -1,16 +1,17 @@
-use Rattle.std.proofs.Common.{Result, Ok, Err, ap}
+use Rattle.std.proofs.Common.{Result, Ok, Err, ap, ◌≡◌, true}
 use Rattle.binfarce_bytes.specs.Refusal.{◌>>=◌, Refusal}
 use Rattle.binfarce_pe.specs.PeParts.{places_view, text_view}
 use Rattle.binfarce_pe.specs.PeSymbols.{SymbolTable}
 use Rattle.binfarce_tables.specs.PeReading.{parts_view}
-use Rattle.binfarce_tables.specs.PeReads.{pointer_part}
+use Rattle.binfarce_tables.specs.PeReads.{pointer_part, headers_part}
 use Rattle.binfarce_tables.specs.Reading.{Known}
 use Rattle.binfarce_tables.specs.declared.pe.Parts.{Parts}
 use Rattle.binfarce_tables.specs.machine.PePlaces.{text_at, table_at, records_view}
 use Rattle.binfarce_tables.proofs.PeSteps.{listed, answer_at, from_places, from_text}
 use Rattle.binfarce_tables.proofs.PeSure.{pointer_sure, places_sure, headers_sure, table_sure}
 use Rattle.binfarce_tables.proofs.Readings.{after_err, passed, length_known, passed_surely}
-use Rattle.binfarce_tables.proofs.Sure.{long}
+use Rattle.binfarce_tables.proofs.Sure.{long, alone}
+use Rattle.binfarce_bytes.specs.Part.{Part}
 use Rattle.binfarce_tables.proofs.pe.read.Goals as goal
 
 pub returns-in_err-text-clause-answer : goal.returns-in_err-text-clause-answer
@@ -64,3 +65,34 @@ returns-in_err-records-clause-nothing_else g c = λ file known sure.
     let is_known : Known (g.S.Source.bytes c.args.source.now) c.in_ok-len.len file = (known, length_known _ file c.in_ok-len.len known c.in_ok-len.ensures.length) in
     let table = table_sure (g.S.Source.is_sure c.args.source.now) file sure (places_view c.in_ok-places.places) (c.in_ok-places.ensures.answer file is_known) in
     passed_surely c.in_err-records.field-0.0 c.from_residual-in_err-records.result (c.in_err-records.ensures.nothing_else file is_known table) c.from_residual-in_err-records.ensures
+
+pub returns-in_err-places-clause-asked : goal.returns-in_err-places-clause-asked
+returns-in_err-places-clause-asked g c = λ file known allowed are before.
+    let is_known : Known (g.S.Source.bytes c.args.source.now) c.in_ok-len.len file = (known, length_known _ file c.in_ok-len.len known c.in_ok-len.ensures.length) in
+    c.read_places.ensures.asked file is_known allowed (places_sure allowed file are) before
+
+pub returns-in_err-text-clause-asked : goal.returns-in_err-text-clause-asked
+returns-in_err-text-clause-asked g c = λ file known allowed are before.
+    let is_known : Known (g.S.Source.bytes c.args.source.now) c.in_ok-len.len file = (known, length_known _ file c.in_ok-len.len known c.in_ok-len.ensures.length) in
+    let first = c.read_places.ensures.asked file is_known allowed (places_sure allowed file are) before in
+    let places = places_view c.in_ok-places.places in
+    let step = c.in_ok-places.ensures.answer file is_known in
+    c.read_text.ensures.asked file is_known allowed (alone (λ (p : Part). allowed p ≡ true) (headers_part file places) (headers_sure allowed file are places step)) first
+
+pub returns-in_err-records-clause-asked : goal.returns-in_err-records-clause-asked
+returns-in_err-records-clause-asked g c = λ file known allowed are before.
+    let is_known : Known (g.S.Source.bytes c.args.source.now) c.in_ok-len.len file = (known, length_known _ file c.in_ok-len.len known c.in_ok-len.ensures.length) in
+    let first = c.read_places.ensures.asked file is_known allowed (places_sure allowed file are) before in
+    let places = places_view c.in_ok-places.places in
+    let step = c.in_ok-places.ensures.answer file is_known in
+    let text = c.read_text.ensures.asked file is_known allowed (alone (λ (p : Part). allowed p ≡ true) (headers_part file places) (headers_sure allowed file are places step)) first in
+    c.read_records.ensures.asked file is_known allowed (table_sure allowed file are places step) text
+
+pub returns-clause-asked : goal.returns-clause-asked
+returns-clause-asked g c = λ file known allowed are before.
+    let is_known : Known (g.S.Source.bytes c.args.source.now) c.in_ok-len.len file = (known, length_known _ file c.in_ok-len.len known c.in_ok-len.ensures.length) in
+    let first = c.read_places.ensures.asked file is_known allowed (places_sure allowed file are) before in
+    let places = places_view c.in_ok-places.places in
+    let step = c.in_ok-places.ensures.answer file is_known in
+    let text = c.read_text.ensures.asked file is_known allowed (alone (λ (p : Part). allowed p ≡ true) (headers_part file places) (headers_sure allowed file are places step)) first in
+    c.read_records.ensures.asked file is_known allowed (table_sure allowed file are places step) text

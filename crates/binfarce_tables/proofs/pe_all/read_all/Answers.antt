@@ -1,16 +1,17 @@
-use Rattle.std.proofs.Common.{◌≡◌, ℕ, Vec, Global, Option, Ok, Err, ap, sym, ◌∙◌, arith}
+use Rattle.std.proofs.Common.{◌≡◌, ℕ, Vec, Global, Option, Ok, Err, ap, sym, ◌∙◌, arith, true}
 use Rattle.binfarce_bytes.specs.Number.{bytes_at}
 use Rattle.binfarce_pe.specs.Pe.{image_base}
 use Rattle.binfarce_pe.specs.PeAll.{all_file_answer}
 use Rattle.binfarce_pe.specs.PeParts.{places_view, headers_alone}
 use Rattle.binfarce_tables.specs.PeAllReading.{all_view}
-use Rattle.binfarce_tables.specs.PeReads.{pointer_part}
+use Rattle.binfarce_tables.specs.PeReads.{pointer_part, headers_part, optional_header_part}
 use Rattle.binfarce_tables.specs.Reading.{Known}
 use Rattle.binfarce_tables.specs.machine.PePlaces.{whole_at, table_at, records_view}
 use Rattle.binfarce_tables.proofs.PeAllLocated.{optional_header_inside, after_places, after_sections, from_places, from_sections, all_read, count_is}
 use Rattle.binfarce_tables.proofs.PeSure.{symbols_sure, optional_header_sure, pointer_sure, places_sure, headers_sure, table_sure}
 use Rattle.binfarce_tables.proofs.Readings.{after_err, instead, passed, taken, length_known, passed_surely}
-use Rattle.binfarce_tables.proofs.Sure.{long}
+use Rattle.binfarce_tables.proofs.Sure.{long, alone}
+use Rattle.binfarce_bytes.specs.Part.{Part}
 use Rattle.binfarce_tables.proofs.pe_all.read_all.Goals as goal
 
 pub returns-in_err-headers-clause-answer : goal.returns-in_err-headers-clause-answer
@@ -88,3 +89,54 @@ returns-in_err-records-clause-nothing_else g c = λ file known sure.
     let is_known : Known (g.S.Source.bytes c.args.source.now) c.in_ok-len.len file = (known, length_known _ file c.in_ok-len.len known c.in_ok-len.ensures.length) in
     let table = table_sure (g.S.Source.is_sure c.args.source.now) file (symbols_sure (g.S.Source.is_sure c.args.source.now) file sure) (places_view c.in_ok-places.places) (c.in_ok-places.ensures.answer file is_known) in
     passed_surely c.in_err-records.field-0.0 c.from_residual-in_err-records.result (c.in_err-records.ensures.nothing_else file is_known table) c.from_residual-in_err-records.ensures
+
+pub returns-in_err-places-clause-asked : goal.returns-in_err-places-clause-asked
+returns-in_err-places-clause-asked g c = λ file known allowed are before.
+    let is_known : Known (g.S.Source.bytes c.args.source.now) c.in_ok-len.len file = (known, length_known _ file c.in_ok-len.len known c.in_ok-len.ensures.length) in
+    let symbols = symbols_sure allowed file are in
+    c.read_places.ensures.asked file is_known allowed (places_sure allowed file symbols) before
+
+pub returns-in_err-headers-clause-asked : goal.returns-in_err-headers-clause-asked
+returns-in_err-headers-clause-asked g c = λ file known allowed are before.
+    let is_known : Known (g.S.Source.bytes c.args.source.now) c.in_ok-len.len file = (known, length_known _ file c.in_ok-len.len known c.in_ok-len.ensures.length) in
+    let symbols = symbols_sure allowed file are in
+    let P : Part → Type 0 = λ p. allowed p ≡ true in
+    let first = c.read_places.ensures.asked file is_known allowed (places_sure allowed file symbols) before in
+    let places = places_view c.in_ok-places.places in
+    let step = c.in_ok-places.ensures.answer file is_known in
+    c.read_headers.ensures.asked file is_known allowed (alone P (headers_part file places) (headers_sure allowed file symbols places step)) first
+
+pub returns-in_err-header-clause-asked : goal.returns-in_err-header-clause-asked
+returns-in_err-header-clause-asked g c = λ file known allowed are before.
+    let is_known : Known (g.S.Source.bytes c.args.source.now) c.in_ok-len.len file = (known, length_known _ file c.in_ok-len.len known c.in_ok-len.ensures.length) in
+    let symbols = symbols_sure allowed file are in
+    let P : Part → Type 0 = λ p. allowed p ≡ true in
+    let first = c.read_places.ensures.asked file is_known allowed (places_sure allowed file symbols) before in
+    let places = places_view c.in_ok-places.places in
+    let step = c.in_ok-places.ensures.answer file is_known in
+    let headers = c.read_headers.ensures.asked file is_known allowed (alone P (headers_part file places) (headers_sure allowed file symbols places step)) first in
+    c.part.ensures.asked allowed (alone P (optional_header_part places) (optional_header_sure allowed file are places step)) headers
+
+pub returns-in_err-records-clause-asked : goal.returns-in_err-records-clause-asked
+returns-in_err-records-clause-asked g c = λ file known allowed are before.
+    let is_known : Known (g.S.Source.bytes c.args.source.now) c.in_ok-len.len file = (known, length_known _ file c.in_ok-len.len known c.in_ok-len.ensures.length) in
+    let symbols = symbols_sure allowed file are in
+    let P : Part → Type 0 = λ p. allowed p ≡ true in
+    let first = c.read_places.ensures.asked file is_known allowed (places_sure allowed file symbols) before in
+    let places = places_view c.in_ok-places.places in
+    let step = c.in_ok-places.ensures.answer file is_known in
+    let headers = c.read_headers.ensures.asked file is_known allowed (alone P (headers_part file places) (headers_sure allowed file symbols places step)) first in
+    let header = c.part.ensures.asked allowed (alone P (optional_header_part places) (optional_header_sure allowed file are places step)) headers in
+    c.read_records.ensures.asked file is_known allowed (table_sure allowed file symbols places step) header
+
+pub returns-clause-asked : goal.returns-clause-asked
+returns-clause-asked g c = λ file known allowed are before.
+    let is_known : Known (g.S.Source.bytes c.args.source.now) c.in_ok-len.len file = (known, length_known _ file c.in_ok-len.len known c.in_ok-len.ensures.length) in
+    let symbols = symbols_sure allowed file are in
+    let P : Part → Type 0 = λ p. allowed p ≡ true in
+    let first = c.read_places.ensures.asked file is_known allowed (places_sure allowed file symbols) before in
+    let places = places_view c.in_ok-places.places in
+    let step = c.in_ok-places.ensures.answer file is_known in
+    let headers = c.read_headers.ensures.asked file is_known allowed (alone P (headers_part file places) (headers_sure allowed file symbols places step)) first in
+    let header = c.part.ensures.asked allowed (alone P (optional_header_part places) (optional_header_sure allowed file are places step)) headers in
+    c.read_records.ensures.asked file is_known allowed (table_sure allowed file symbols places step) header

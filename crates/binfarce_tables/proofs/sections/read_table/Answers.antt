@@ -7,6 +7,9 @@ use Rattle.binfarce_tables.proofs.Contents.{part_long}
 use Rattle.binfarce_tables.proofs.ElfSure.{of_headers, of_no_header}
 use Rattle.binfarce_tables.proofs.HeadersAlone.{HasWithin, within_class, headers_walk}
 use Rattle.binfarce_tables.proofs.SectionsRead.{seen_as, walk_outside, walk_of_none}
+use Rattle.binfarce_tables.proofs.Sure.{alone}
+use Rattle.binfarce_bytes.specs.Part.{Part, part}
+use Rattle.binfarce_tables.specs.ElfReads.{headers_size}
 use Rattle.binfarce_tables.proofs.sections.read_table.Goals as goal
 
 pub returns-then-place-len-clause-answer : goal.returns-then-place-len-clause-answer
@@ -47,3 +50,16 @@ pub returns-clause-nothing_else : goal.returns-clause-nothing_else
 returns-clause-nothing_else g c = λ file known sure.
     c.read_headers.ensures.nothing_else file known
     (of_headers (λ p. g.S.Source.is_sure c.args.source.now p ≡ true) g.C.Class.table (table_at file c.args.place) (omega (arith, known.1, c.if-place-len.false)) (omega (arith, c.if-place-eq0.false)) sure)
+
+pub returns-then-place-eq0-clause-asked : goal.returns-then-place-eq0-clause-asked
+returns-then-place-eq0-clause-asked g c = λ file known allowed are before.
+    let P : Part → Type 0 = λ p. allowed p ≡ true in
+    let first = of_no_header P g.C.Class.table (table_at file c.args.place) (omega (arith, known.1, c.if-place-len.false)) c.if-place-eq0.true are in
+    c.part.ensures.asked allowed (alone P (part c.args.place.shoff 1) first) before
+
+pub returns-clause-asked : goal.returns-clause-asked
+returns-clause-asked g c = λ file known allowed are before.
+    let P : Part → Type 0 = λ p. allowed p ≡ true in
+    let table = table_at file c.args.place in
+    let headers = of_headers P g.C.Class.table table (omega (arith, known.1, c.if-place-len.false)) (omega (arith, c.if-place-eq0.false)) are in
+    c.read_headers.ensures.asked file known allowed (alone P (part table.shoff (headers_size g.C.Class.table table)) headers) before

@@ -1,61 +1,76 @@
-use Rattle.std.proofs.Common.{◌≡◌, ℕ, true, List, All, Option, Some, None, sym, ap, subst, ◌∙◌}
+use Rattle.std.proofs.Common.{◌≡◌, ℕ, true, List, All, Option, Some, None, sym, ap, subst}
 use Rattle.std.proofs.lemmas.List.Elements.{All-head, All-tail}
-use Rattle.binfarce_bytes.specs.Part.{Part, AreSure}
+use Rattle.binfarce_bytes.specs.Part.{Part}
 use Rattle.binfarce.specs.declared.Format.{Format}
 use Rattle.binfarce.specs.Format.{format_of}
 use Rattle.binfarce.specs.declared.SymbolTable.{SymbolTable}
-use Rattle.binfarce_tables.proofs.Readings.{passed_surely}
+use Rattle.binfarce_tables.proofs.Readings.{passed_surely, taken}
+use Rattle.binfarce_tables.proofs.Sure.{alone}
 use Rattle.binfarce_tools.specs.Parts.{head_part, format_parts, all_format_parts, parts_in}
 use Rattle.binfarce_bytes.specs.Selection.{section_of}
 use Rattle.binfarce_tools.specs.Tables.{ReadsTables}
 use Rattle.binfarce_bytes.specs.declared.functions.Selection.{Selection}
-use Rattle.binfarce_tools.proofs.TablesRead.{format_of_head}
 use Rattle.binfarce_tools.proofs.tables.read.Goals as goal
 
-pub returns-in-Section-clause-answer : goal.returns-in-Section-clause-answer
-returns-in-Section-clause-answer g c = λ file known.
-    let same = c.in_ok-begun.ensures.begun in
-    let begun : g.S.Source.bytes c.in_ok-begun.begun ≡ Some file = ap g.S.Source.bytes same ∙ known in
-    let format = c.detect_format-format.ensures ∙ ap format_of (c.head.ensures file begun) ∙ format_of_head file in
-    subst (λ (s : Selection). ReadsTables (g.S.Source.may_fail c.args.source.now ≡ true) c.args.which file (section_of s) c.read_section.result) (sym c.in-Section.is)
-    (subst (λ source. ReadsTables (g.S.Source.may_fail source ≡ true) c.args.which file (Some c.in-Section.section.now) c.read_section.result) same (c.read_section.ensures.answer file begun format))
-
-pub returns-in-Section-clause-nothing_else : goal.returns-in-Section-clause-nothing_else
-returns-in-Section-clause-nothing_else g c = λ file known sure_of.
-    let sure = subst (λ (s : Selection). AreSure (g.S.Source.is_sure c.args.source.now) (parts_in c.args.which (section_of s) file)) c.in-Section.is sure_of in
-    let same = c.in_ok-begun.ensures.begun in
-    let begun : g.S.Source.bytes c.in_ok-begun.begun ≡ Some file = ap g.S.Source.bytes same ∙ known in
-    let format = c.detect_format-format.ensures ∙ ap format_of (c.head.ensures file begun) ∙ format_of_head file in
-    let parts = All-tail (λ (p : Part). g.S.Source.is_sure c.args.source.now p ≡ true) (head_part file) (format_parts c.args.which (format_of file) file) sure in
-    c.read_section.ensures.nothing_else file begun
-    (subst (λ source. AreSure (g.S.Source.is_sure source) (format_parts c.args.which c.detect_format-format.result file)) (sym same)
-    (subst (λ (f : Format). AreSure (g.S.Source.is_sure c.args.source.now) (format_parts c.args.which f file)) (sym format) parts))
-
-pub returns-clause-answer : goal.returns-clause-answer
-returns-clause-answer g c = λ file known.
-    let same = c.in_ok-begun.ensures.begun in
-    let begun : g.S.Source.bytes c.in_ok-begun.begun ≡ Some file = ap g.S.Source.bytes same ∙ known in
-    let format = c.detect_format-format.ensures ∙ ap format_of (c.head.ensures file begun) ∙ format_of_head file in
-    subst (λ (s : Selection). ReadsTables (g.S.Source.may_fail c.args.source.now ≡ true) c.args.which file (section_of s) c.read_sections.result) (sym c.in-All.is)
-    (subst (λ source. ReadsTables (g.S.Source.may_fail source ≡ true) c.args.which file (None) c.read_sections.result) same (c.read_sections.ensures.answer file begun format))
-
-pub returns-clause-nothing_else : goal.returns-clause-nothing_else
-returns-clause-nothing_else g c = λ file known sure_of.
-    let sure = subst (λ (s : Selection). AreSure (g.S.Source.is_sure c.args.source.now) (parts_in c.args.which (section_of s) file)) c.in-All.is sure_of in
-    let same = c.in_ok-begun.ensures.begun in
-    let begun : g.S.Source.bytes c.in_ok-begun.begun ≡ Some file = ap g.S.Source.bytes same ∙ known in
-    let format = c.detect_format-format.ensures ∙ ap format_of (c.head.ensures file begun) ∙ format_of_head file in
-    let parts = All-tail (λ (p : Part). g.S.Source.is_sure c.args.source.now p ≡ true) (head_part file) (all_format_parts c.args.which (format_of file) file) sure in
-    c.read_sections.ensures.nothing_else file begun
-    (subst (λ source. AreSure (g.S.Source.is_sure source) (all_format_parts c.args.which c.detect_format-format.result file)) (sym same)
-    (subst (λ (f : Format). AreSure (g.S.Source.is_sure c.args.source.now) (all_format_parts c.args.which f file)) (sym format) parts))
-
--- the first bytes are read for each selection
+-- what is true of each part that is read for a selection is true of those that name the format, and of those that the reading of this format reads
 head_is : (P : Part → Type 0) (which : SymbolTable) (section : Option (List ℕ)) (file : List ℕ) → All P (parts_in which section file) → P (head_part file)
 head_is P which (Some section) file all = All-head P (head_part file) (format_parts which (format_of file) file) all
 head_is P which None file all = All-head P (head_part file) (all_format_parts which (format_of file) file) all
 
-pub returns-in_err-begun-clause-nothing_else : goal.returns-in_err-begun-clause-nothing_else
-returns-in_err-begun-clause-nothing_else g c = λ file known sure.
+of_section : (P : Part → Type 0) (which : SymbolTable) (selection : Selection) (section file : List ℕ) (format : Format) → section_of selection ≡ Some section → format ≡ format_of file
+    → All P (parts_in which (section_of selection) file) → All P (format_parts which format file)
+of_section P which selection section file format is format_is all =
+    subst (λ (f : Format). All P (format_parts which f file)) (sym format_is)
+    (All-tail P (head_part file) (format_parts which (format_of file) file) (subst (λ (s : Option (List ℕ)). All P (parts_in which s file)) is all))
+
+of_all : (P : Part → Type 0) (which : SymbolTable) (selection : Selection) (file : List ℕ) (format : Format) → section_of selection ≡ None → format ≡ format_of file
+    → All P (parts_in which (section_of selection) file) → All P (all_format_parts which format file)
+of_all P which selection file format is format_is all =
+    subst (λ (f : Format). All P (all_format_parts which f file)) (sym format_is)
+    (All-tail P (head_part file) (all_format_parts which (format_of file) file) (subst (λ (s : Option (List ℕ)). All P (parts_in which s file)) is all))
+
+pub returns-in-Section-clause-answer : goal.returns-in-Section-clause-answer
+returns-in-Section-clause-answer g c = λ file known.
+    subst (λ (s : Selection). ReadsTables (g.S.Source.may_fail c.args.source.now ≡ true) c.args.which file (section_of s) c.read_section.result) (sym c.in-Section.is)
+    (c.read_section.ensures.answer file known (taken (c.in_ok-format.ensures.answer file known)))
+
+pub returns-in-All-clause-answer : goal.returns-in-All-clause-answer
+returns-in-All-clause-answer g c = λ file known.
+    subst (λ (s : Selection). ReadsTables (g.S.Source.may_fail c.args.source.now ≡ true) c.args.which file (section_of s) c.read_sections.result) (sym c.in-All.is)
+    (c.read_sections.ensures.answer file known (taken (c.in_ok-format.ensures.answer file known)))
+
+pub returns-in_err-format-clause-nothing_else : goal.returns-in_err-format-clause-nothing_else
+returns-in_err-format-clause-nothing_else g c = λ file known sure.
     let head = head_is (λ (p : Part). g.S.Source.is_sure c.args.source.now p ≡ true) c.args.which (section_of c.args.selection) file sure in
-    passed_surely c.in_err-begun.field-0.0 c.from_residual.result (c.in_err-begun.ensures.nothing_else file known head) c.from_residual.ensures
+    passed_surely c.in_err-format.field-0.0 c.from_residual.result (c.in_err-format.ensures.nothing_else file known head) c.from_residual.ensures
+
+pub returns-in-Section-clause-nothing_else : goal.returns-in-Section-clause-nothing_else
+returns-in-Section-clause-nothing_else g c = λ file known sure.
+    let P : Part → Type 0 = λ p. g.S.Source.is_sure c.args.source.now p ≡ true in
+    c.read_section.ensures.nothing_else file known
+    (of_section P c.args.which c.args.selection c.in-Section.section.now file c.in_ok-format.format (ap section_of c.in-Section.is) (taken (c.in_ok-format.ensures.answer file known)) sure)
+
+pub returns-in-All-clause-nothing_else : goal.returns-in-All-clause-nothing_else
+returns-in-All-clause-nothing_else g c = λ file known sure.
+    let P : Part → Type 0 = λ p. g.S.Source.is_sure c.args.source.now p ≡ true in
+    c.read_sections.ensures.nothing_else file known
+    (of_all P c.args.which c.args.selection file c.in_ok-format.format (ap section_of c.in-All.is) (taken (c.in_ok-format.ensures.answer file known)) sure)
+
+pub returns-in_err-format-clause-asked : goal.returns-in_err-format-clause-asked
+returns-in_err-format-clause-asked g c = λ file known allowed are before.
+    let P : Part → Type 0 = λ p. allowed p ≡ true in
+    c.in_err-format.ensures.asked file known allowed (alone P (head_part file) (head_is P c.args.which (section_of c.args.selection) file are)) before
+
+pub returns-in-Section-clause-asked : goal.returns-in-Section-clause-asked
+returns-in-Section-clause-asked g c = λ file known allowed are before.
+    let P : Part → Type 0 = λ p. allowed p ≡ true in
+    let head = c.in_ok-format.ensures.asked file known allowed (alone P (head_part file) (head_is P c.args.which (section_of c.args.selection) file are)) before in
+    c.read_section.ensures.asked file known allowed
+    (of_section P c.args.which c.args.selection c.in-Section.section.now file c.in_ok-format.format (ap section_of c.in-Section.is) (taken (c.in_ok-format.ensures.answer file known)) are) head
+
+pub returns-in-All-clause-asked : goal.returns-in-All-clause-asked
+returns-in-All-clause-asked g c = λ file known allowed are before.
+    let P : Part → Type 0 = λ p. allowed p ≡ true in
+    let head = c.in_ok-format.ensures.asked file known allowed (alone P (head_part file) (head_is P c.args.which (section_of c.args.selection) file are)) before in
+    c.read_sections.ensures.asked file known allowed
+    (of_all P c.args.which c.args.selection file c.in_ok-format.format (ap section_of c.in-All.is) (taken (c.in_ok-format.ensures.answer file known)) are) head

@@ -131,3 +131,43 @@ returns-in_err-has_table-in-Macho-clause-nothing_else g c = λ file known sure.
 pub returns-in_err-has_table-in-PE-clause-nothing_else : goal.returns-in_err-has_table-in-PE-clause-nothing_else
 returns-in_err-has_table-in-PE-clause-nothing_else g c = λ file known sure.
     converted_surely c.in_err-has_table-in-PE.field-0.0 c.from_residual-in_err-has_table-in-PE.result c.from_residual-in_err-has_table-in-PE.ensures
+
+pub returns-in_err-parts-in-Elf32-clause-asked : goal.returns-in_err-parts-in-Elf32-clause-asked
+unfolding all_format_parts
+returns-in_err-parts-in-Elf32-clause-asked g c = λ file known allowed are before.
+    c.in_err-parts-in-Elf32.ensures.asked file known allowed (subst (λ (f : Format). AreSure allowed (all_format_parts c.args.which f file)) c.in-Elf32.is are) before
+
+pub returns-in_ok-parts-in-Elf32-clause-asked : goal.returns-in_ok-parts-in-Elf32-clause-asked
+unfolding all_format_parts
+returns-in_ok-parts-in-Elf32-clause-asked g c = λ file known allowed are before.
+    c.in_ok-parts-in-Elf32.ensures.asked file known allowed (subst (λ (f : Format). AreSure allowed (all_format_parts c.args.which f file)) c.in-Elf32.is are) before
+
+pub returns-in_err-parts-in-Elf64-clause-asked : goal.returns-in_err-parts-in-Elf64-clause-asked
+unfolding all_format_parts
+returns-in_err-parts-in-Elf64-clause-asked g c = λ file known allowed are before.
+    c.in_err-parts-in-Elf64.ensures.asked file known allowed (subst (λ (f : Format). AreSure allowed (all_format_parts c.args.which f file)) c.in-Elf64.is are) before
+
+pub returns-in_ok-parts-in-Elf64-clause-asked : goal.returns-in_ok-parts-in-Elf64-clause-asked
+unfolding all_format_parts
+returns-in_ok-parts-in-Elf64-clause-asked g c = λ file known allowed are before.
+    c.in_ok-parts-in-Elf64.ensures.asked file known allowed (subst (λ (f : Format). AreSure allowed (all_format_parts c.args.which f file)) c.in-Elf64.is are) before
+
+pub returns-in_err-parts-in-Macho-clause-asked : goal.returns-in_err-parts-in-Macho-clause-asked
+unfolding all_format_parts
+returns-in_err-parts-in-Macho-clause-asked g c = λ file known allowed are before.
+    c.in_err-parts-in-Macho.ensures.asked file known allowed (subst (λ (f : Format). AreSure allowed (all_format_parts c.args.which f file)) c.in-Macho.is are) before
+
+pub returns-in_ok-parts-in-Macho-clause-asked : goal.returns-in_ok-parts-in-Macho-clause-asked
+unfolding all_format_parts
+returns-in_ok-parts-in-Macho-clause-asked g c = λ file known allowed are before.
+    c.in_ok-parts-in-Macho.ensures.asked file known allowed (subst (λ (f : Format). AreSure allowed (all_format_parts c.args.which f file)) c.in-Macho.is are) before
+
+pub returns-in_err-parts-in-PE-clause-asked : goal.returns-in_err-parts-in-PE-clause-asked
+unfolding all_format_parts
+returns-in_err-parts-in-PE-clause-asked g c = λ file known allowed are before.
+    c.in_err-parts-in-PE.ensures.asked file known allowed (subst (λ (f : Format). AreSure allowed (all_format_parts c.args.which f file)) c.in-PE.is are) before
+
+pub returns-in_ok-parts-in-PE-clause-asked : goal.returns-in_ok-parts-in-PE-clause-asked
+unfolding all_format_parts
+returns-in_ok-parts-in-PE-clause-asked g c = λ file known allowed are before.
+    c.in_ok-parts-in-PE.ensures.asked file known allowed (subst (λ (f : Format). AreSure allowed (all_format_parts c.args.which f file)) c.in-PE.is are) before

@@ -1,2 +1,3 @@
 pub mod PeSizes
+mod PeListed
 pub mod Made

@@ -1,25 +1,28 @@
 //! ELF files of either class (System V gABI).
 
-ghost use Rattle.std.specs.Prelude.{◌≡◌, ◌<◌, ◌≤◌, length, nat_eq, All, MatchResult};
+ghost use Rattle.std.specs.Prelude.{◌≡◌, ◌<◌, ◌≤◌, length, nat_eq, None, All, MatchResult};
 ghost use Rattle.std.specs.Option.{option_map};
 ghost use Rattle.binfarce_bytes.specs.Refusal.{Gives, refusal_of, unexpected_eof};
 ghost use Rattle.binfarce_bytes.specs.Walk.{MayBeAsked, FirstAccepted, first};
 ghost use Rattle.binfarce_bytes.specs.Entries.{Answers, ListsSome};
+ghost use Rattle.binfarce_bytes.specs.Found.{entry_at};
+ghost use Rattle.binfarce_bytes.specs.Selection.{section_of};
+ghost use Rattle.binfarce_bytes.specs.SymbolViews.{function_view};
+ghost use Rattle.binfarce.specs.ElfFunctions.{functions_left, functions_view};
 ghost use Rattle.binfarce.specs.Symbol.{HoldsSymbols};
 ghost use Rattle.binfarce_elf.specs.Elf.{header_of, section_table, walk, name_of};
-ghost use Rattle.binfarce_elf.specs.ElfSymbols.{is_named, section_data, elf_answer};
-ghost use Rattle.binfarce_elf.specs.ElfAll.{all_answer, all_left};
-ghost use Rattle.binfarce_elf.specs.ElfViews.{header_view, section_view, functions_view};
+ghost use Rattle.binfarce_elf.specs.ElfSymbols.{is_named, section_data, listed_of, elf_selected, elf_answer};
+ghost use Rattle.binfarce_elf.specs.ElfViews.{header_view, section_view, selected_view};
 ghost use Rattle.binfarce_elf.specs.declared.symbol_table.SymbolTable.TheVariants.{Symtab, Dynsym};
 
 use crate::symbols::symbols_of_elf;
+use binfarce_bytes::functions::{FunctionSymbol, Selection};
 use binfarce_bytes::{ByteOrder, ParseError};
-use binfarce_elf::all::{self, AllFunctions};
 use binfarce_elf::class::Class;
 use binfarce_elf::header::{Header, parse_header};
 use binfarce_elf::sections::{self, HasSections, Section, Sections, Table};
 use binfarce_elf::symbol_table::SymbolTable;
-use binfarce_elf::symbols::{self, Functions};
+use binfarce_elf::symbols::{self, Functions as AllFunctions};
 use binfarce_names::demangle::SymbolData;
 use std::alloc::Global;
 use std::marker::Model;
@@ -145,11 +148,14 @@ impl<'a, C: Class> Elf<'a, C> {
     /// section of type 2, `SHT_SYMTAB`) and of `.strtab` (the section that it links to); `UnexpectedSectionType` where
     /// that isn't of type 3 (`SHT_STRTAB`); `MalformedInput` where the string table's bytes end past `usize`, and
     /// `UnexpectedEof` past the file; the same for the symbol table's bytes; `UnexpectedEof` for a truncated last row.
-    pub fn functions(&self, section_name: &str) -> Result<(Functions<'a, C>, u64), ParseError>
-        ensures { Gives refusal_of (functions_view C.table)
+    #[tactic(auto, unfolding(binfarce_elf::specs::ElfSymbols::elf_answer))]
+    pub fn functions(&self, section_name: &str) -> Result<(Functions<'a>, u64), ParseError>
+        ensures { Gives refusal_of functions_view
             (elf_answer Symtab C.table (section_table C.table self.now) section_name.now) result }
     {
-        symbols::section_functions::<C>(self.section_table(), SymbolTable::Symtab, section_name)
+        let section = Selection::Section(section_name);
+        let functions = self.selected_functions(SymbolTable::Symtab, section)?;
+        Ok(of_section(functions))
     }
 
     /// The same functions from the dynamic symbol table, which a stripped file still has; and indirect functions
@@ -159,14 +165,14 @@ impl<'a, C: Class> Elf<'a, C> {
     ///
     /// Those of `functions`, but `SectionIsMissing` is of `.dynsym` (the first section of type 11, `SHT_DYNSYM`) and of
     /// `.dynstr` (the section that it links to).
-    pub fn dynamic_functions(
-        &self,
-        section_name: &str,
-    ) -> Result<(Functions<'a, C>, u64), ParseError>
-        ensures { Gives refusal_of (functions_view C.table)
+    #[tactic(auto, unfolding(binfarce_elf::specs::ElfSymbols::elf_answer))]
+    pub fn dynamic_functions(&self, section_name: &str) -> Result<(Functions<'a>, u64), ParseError>
+        ensures { Gives refusal_of functions_view
             (elf_answer Dynsym C.table (section_table C.table self.now) section_name.now) result }
     {
-        symbols::section_functions::<C>(self.section_table(), SymbolTable::Dynsym, section_name)
+        let section = Selection::Section(section_name);
+        let functions = self.selected_functions(SymbolTable::Dynsym, section)?;
+        Ok(of_section(functions))
     }
 
     /// The function symbols of all sections as the file stores them, each with the index of its section, in the order of
@@ -179,11 +185,28 @@ impl<'a, C: Class> Elf<'a, C> {
     ///
     /// In this order: `UnexpectedEof` where the section header table doesn't begin in the file, or a section header is
     /// truncated; those of `functions`, or `dynamic_functions`, from the missing symbol table on.
-    pub fn all_functions(&self, which: SymbolTable) -> Result<AllFunctions<'a, C>, ParseError>
-        ensures { Gives refusal_of (all_left C.table)
-            (all_answer which C.table (section_table C.table self.now)) result }
+    pub fn all_functions(&self, which: SymbolTable) -> Result<AllFunctions<'a>, ParseError>
+        ensures { Gives refusal_of selected_view
+            (elf_selected which C.table (section_table C.table self.now) None) result }
     {
-        all::all_functions::<C>(self.section_table(), which)
+        self.selected_functions(which, Selection::All)
+    }
+
+    /// The function symbols of a section as `functions` or `dynamic_functions` gives them, or those of all sections as
+    /// `all_functions` does, by this symbol table: each with the index of its section.
+    ///
+    /// # Errors
+    ///
+    /// Those of these calls.
+    pub fn selected_functions(
+        &self,
+        which: SymbolTable,
+        selection: Selection<'_>,
+    ) -> Result<AllFunctions<'a>, ParseError>
+        ensures { Gives refusal_of selected_view
+            (elf_selected which C.table (section_table C.table self.now) (section_of selection.entry)) result }
+    {
+        symbols::selected_functions::<C>(self.section_table(), which, selection)
     }
 
     /// The functions of the symbol table as symbols with readable names, and the section's size in bytes.
@@ -200,7 +223,7 @@ impl<'a, C: Class> Elf<'a, C> {
             (elf_answer Symtab C.table (section_table C.table self.now) section_name.now) result }
     {
         let (functions, size) = self.functions(section_name)?;
-        Ok((symbols_of_elf(alloc, functions)?, size))
+        Ok((symbols_of_elf(alloc, functions.all)?, size))
     }
 
     /// The functions of the dynamic symbol table as symbols with readable names, and the section's size in bytes.
@@ -217,7 +240,7 @@ impl<'a, C: Class> Elf<'a, C> {
             (elf_answer Dynsym C.table (section_table C.table self.now) section_name.now) result }
     {
         let (functions, size) = self.dynamic_functions(section_name)?;
-        let symbols = symbols_of_elf(alloc, functions)?;
+        let symbols = symbols_of_elf(alloc, functions.all)?;
         Ok((symbols, size))
     }
 
@@ -234,5 +257,52 @@ impl<'a, C: Class> HasSections<'a, C> for Elf<'a, C> {
 
     fn section_table(&self) -> Table<'a> {
         sections::section_table(self.data, self.byte_order, &self.header)
+    }
+}
+
+// The functions of one section, and its size.
+fn of_section(all: AllFunctions<'_>) -> (Functions<'_>, u64)
+    ensures { functions_view result ≡ listed_of (selected_view all.entry) }
+{
+    let size = all.section_size().unwrap_or(0);
+    (Functions { all }, size)
+}
+
+/// An iterator over the function symbols of a section, in the order of the symbol table.
+///
+/// Rows are read on demand, and names stay in the file: nothing is allocated or copied.
+#[must_use = "iterators are lazy and do nothing unless consumed"]
+#[derive(Drop)]
+pub struct Functions<'a> {
+    pub(crate) all: AllFunctions<'a>,
+}
+
+impl<'a> Functions<'a> {
+    /// The function symbol that an address symbolizes to, among those that are left: of those whose range holds it the
+    /// one of greatest address, and of several the first. `None` where no range holds it.
+    ///
+    /// A range begins at the symbol's address (`st_value`) and has its size in bytes. Each row that is left is read once;
+    /// nothing is allocated or copied.
+    pub fn symbol_at(self, address: u64) -> Option<FunctionSymbol<'a>>
+        ensures { option_map function_view result ≡ entry_at (functions_left self.entry) address }
+    {
+        self.all.symbol_at(address)
+    }
+}
+
+impl<'a> Iterator for Functions<'a> {
+    ghost use Rattle.std.specs.Iterator.{YieldsFirstBy, item_count};
+    ghost use Rattle.binfarce_bytes.specs.SymbolViews.{function_view};
+    ghost use Rattle.binfarce.specs.ElfFunctions.{functions_left};
+
+    type Item = FunctionSymbol<'a>;
+
+    ghost next_gives = { YieldsFirstBy function_view functions_left };
+
+    ghost remaining = { item_count functions_left };
+
+    #[inline(always)]
+    fn next(&mut self) -> Option<FunctionSymbol<'a>> {
+        Some(self.all.next()?.function)
     }
 }

@@ -5,7 +5,7 @@ ghost use Rattle.binfarce_bytes.specs.Refusal.{refusal_of, unexpected_eof};
 
 use crate::elf;
 use binfarce_bytes::{ByteOrder, ParseError};
-use binfarce_elf::{all, header, sections, symbols};
+use binfarce_elf::{header, sections, symbols};
 
 // The word of this class (gABI, "Data Representation"), which names the class.
 type Address = u32;
@@ -25,11 +25,11 @@ pub type Section = sections::Section<Offset>;
 pub type Sections<'a> = sections::Sections<'a, Offset>;
 
 /// An iterator over the function symbols of a section: the result of [`Elf32::functions`](elf::Elf::functions).
-pub type Functions<'a> = symbols::Functions<'a, Address>;
+pub type Functions<'a> = elf::Functions<'a>;
 
 /// An iterator over the function symbols of all sections: the result of
 /// [`Elf32::all_functions`](elf::Elf::all_functions).
-pub type AllFunctions<'a> = all::AllFunctions<'a, Address>;
+pub type AllFunctions<'a> = symbols::Functions<'a>;
 
 /// Reads the file header in the given order. The magic number isn't checked. Nothing is copied.
 ///

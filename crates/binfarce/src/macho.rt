@@ -5,23 +5,24 @@ ghost use Rattle.std.specs.Option.{option_map};
 ghost use Rattle.binfarce_bytes.specs.Refusal.{Gives, refusal_of, unexpected_eof};
 ghost use Rattle.binfarce_bytes.specs.Walk.{MayBeAsked, FirstAccepted, first};
 ghost use Rattle.binfarce_macho.specs.Macho.{header_of, section_data, walk, is_named, least_length};
-ghost use Rattle.binfarce_macho.specs.MachoAll.{all_answer, HasSection};
+ghost use Rattle.binfarce_macho.specs.MachoSections.{HasSection};
+ghost use Rattle.binfarce_macho.specs.MachoSelection.{all_answer, selected_answer, FileNeedsMemory};
 ghost use Rattle.binfarce_macho.specs.MachoSymbols.{ArrangesRows, SizesEntries, HasAddress, macho_answer};
 ghost use Rattle.binfarce_bytes.specs.Entries.{Answers};
 ghost use Rattle.binfarce_bytes.specs.SectionEntries.{AnswersAll};
-ghost use Rattle.binfarce_bytes.specs.SymbolViews.{HoldsFunctions, HoldsSectionFunctions};
+ghost use Rattle.binfarce_bytes.specs.Selection.{section_of};
+ghost use Rattle.binfarce_bytes.specs.SymbolViews.{HoldsFunctions, HoldsSectionFunctions, HoldsSized};
 ghost use Rattle.binfarce_macho.specs.MachoViews.{header_view, section_view};
 ghost use Rattle.binfarce.specs.Symbol.{HoldsSymbols};
 
-use crate::symbols::symbols_of_list;
+use crate::symbols::{symbols_of_list, without_sections};
 use binfarce_bytes::ParseError;
-use binfarce_bytes::functions::{FunctionSymbol, SectionFunction};
-use binfarce_macho::all::functions_of_sections;
+use binfarce_bytes::functions::{FunctionSymbol, SectionFunction, Selection};
+use binfarce_macho::functions::functions_of_file;
 pub use binfarce_macho::header::MachoHeader;
 use binfarce_macho::header::parse_header;
 use binfarce_macho::sections;
 pub use binfarce_macho::sections::{Section, Sections};
-use binfarce_macho::symbols::functions_of_file;
 use binfarce_names::demangle::SymbolData;
 use std::alloc::Global;
 use std::marker::Model;
@@ -165,7 +166,9 @@ impl<'a> Macho<'a> {
     pub fn functions(&self, alloc: Global) -> Result<(Vec<FunctionSymbol<'a>>, u64), ParseError>
         ensures { Answers HoldsFunctions (λ _. HasAddress self.now) (macho_answer self.now) result }
     {
-        functions_of_file(alloc, self.data, self.header)
+        let section = Selection::Section("__text");
+        let (functions, size) = self.selected_functions(alloc, section)?;
+        Ok((without_sections(alloc, &functions)?, size.unwrap_or(0)))
     }
 
     /// The function symbols of all sections that hold instructions, each with its section's number: by section, and in
@@ -186,6 +189,24 @@ impl<'a> Macho<'a> {
     pub fn all_functions(&self, alloc: Global) -> Result<Vec<SectionFunction<'a>>, ParseError>
         ensures { AnswersAll HoldsSectionFunctions (HasSection self.now) (all_answer self.now) result }
     {
-        functions_of_sections(alloc, self.data, self.header)
+        let (functions, _) = self.selected_functions(alloc, Selection::All)?;
+        Ok(functions)
+    }
+
+    /// The function symbols of `functions` with their section's number, and the text's size in bytes; or those of
+    /// `all_functions`, without a size.
+    ///
+    /// # Errors
+    ///
+    /// Those of these calls; `OutOfMemory` as they say.
+    pub fn selected_functions(
+        &self,
+        alloc: Global,
+        selection: Selection<'_>,
+    ) -> Result<(Vec<SectionFunction<'a>>, Option<u64>), ParseError>
+        ensures { let section = section_of selection.entry in
+            Answers HoldsSized (λ _. FileNeedsMemory section self.now) (selected_answer section self.now) result }
+    {
+        functions_of_file(alloc, self.data, self.header, selection)
     }
 }

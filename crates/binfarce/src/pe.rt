@@ -5,27 +5,27 @@ ghost use Rattle.std.specs.Option.{option_map};
 ghost use Rattle.binfarce_bytes.specs.Refusal.{Gives, refusal_of, unexpected_eof};
 ghost use Rattle.binfarce_bytes.specs.Walk.{MayBeAsked, FirstAccepted, first};
 ghost use Rattle.binfarce_bytes.specs.Entries.{Answers, ListsSome};
-ghost use Rattle.binfarce_bytes.specs.SectionEntries.{AnswersAll};
-ghost use Rattle.binfarce_bytes.specs.SymbolViews.{HoldsFunctions, HoldsSectionFunctions};
+ghost use Rattle.binfarce_bytes.specs.SectionEntries.{AnswersAll, SelectsSome};
+ghost use Rattle.binfarce_bytes.specs.Selection.{section_of};
+ghost use Rattle.binfarce_bytes.specs.SymbolViews.{HoldsFunctions, HoldsSectionFunctions, HoldsSized};
 ghost use Rattle.binfarce.specs.Symbol.{HoldsSymbols};
 ghost use Rattle.binfarce_pe.specs.Pe.{least_length, signature_offset, header_of, section_data, walk, is_named};
-ghost use Rattle.binfarce_pe.specs.PeAll.{all_answer, HasSection};
 ghost use Rattle.binfarce_pe.specs.PeParts.{places_of, places_view};
+ghost use Rattle.binfarce_pe.specs.PeSelection.{all_answer, selected_answer, HasSection};
 ghost use Rattle.binfarce_pe.specs.PeSymbols.{pe_answer, ArrangesRows};
 ghost use Rattle.binfarce_pe.specs.PeViews.{header_view, section_view};
 ghost use Rattle.binfarce.specs.PeSizes.{EqualAddressesEqualSizes};
 
-use crate::symbols::symbols_of_list;
+use crate::symbols::{symbols_of_list, without_sections};
 use binfarce_bytes::ParseError;
-use binfarce_bytes::functions::{FunctionSymbol, SectionFunction};
+use binfarce_bytes::functions::{FunctionSymbol, SectionFunction, Selection};
 use binfarce_names::demangle::SymbolData;
-use binfarce_pe::all::functions_of_sections;
+use binfarce_pe::functions::functions_of_file;
 pub use binfarce_pe::header::PeHeader;
 use binfarce_pe::header::parse_header;
 use binfarce_pe::parts::{Places, places_after};
 pub use binfarce_pe::sections::{Section, Sections};
 use binfarce_pe::sections::{self, first_of_file};
-use binfarce_pe::symbols::functions_of_file;
 use std::alloc::Global;
 use std::marker::Model;
 
@@ -150,7 +150,9 @@ impl<'a> Pe<'a> {
     pub fn functions(&self, alloc: Global) -> Result<(Vec<FunctionSymbol<'a>>, u64), ParseError>
         ensures { Answers HoldsFunctions ListsSome (pe_answer self.now) result }
     {
-        functions_of_file(alloc, self.data, self.places())
+        let section = Selection::Section(".text");
+        let (functions, size) = self.selected_functions(alloc, section)?;
+        Ok((without_sections(alloc, &functions)?, size.unwrap_or(0)))
     }
 
     /// The function symbols of `functions` with readable names, and the size of `.text` in bytes in the file.
@@ -185,7 +187,24 @@ impl<'a> Pe<'a> {
     pub fn all_functions(&self, alloc: Global) -> Result<Vec<SectionFunction<'a>>, ParseError>
         ensures { AnswersAll HoldsSectionFunctions (HasSection self.now) (all_answer self.now) result }
     {
-        functions_of_sections(alloc, self.data, self.places())
+        let (functions, _) = self.selected_functions(alloc, Selection::All)?;
+        Ok(functions)
+    }
+
+    /// The function symbols of `functions` with their section's number, and the size of `.text` in bytes in the file; or
+    /// those of `all_functions`, without a size.
+    ///
+    /// # Errors
+    ///
+    /// Those of these calls; `OutOfMemory` only instead of a list that isn't empty.
+    pub fn selected_functions(
+        &self,
+        alloc: Global,
+        selection: Selection<'_>,
+    ) -> Result<(Vec<SectionFunction<'a>>, Option<u64>), ParseError>
+        ensures { Answers HoldsSized SelectsSome (selected_answer (section_of selection.entry) self.now) result }
+    {
+        functions_of_file(alloc, self.data, self.places(), selection)
     }
 
     // The places of the tables.

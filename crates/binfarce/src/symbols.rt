@@ -1,15 +1,15 @@
 //! Function symbols as symbols with readable names.
 
-ghost use Rattle.std.specs.Prelude.{◌≢◌, List, [], Some, map, IfOk, OnErr};
+ghost use Rattle.std.specs.Prelude.{◌≡◌, ◌≢◌, List, [], Some, map, IfOk, OnErr};
 ghost use Rattle.std.specs.Iterator.{IsFinite, Drains};
-ghost use Rattle.binfarce_bytes.specs.SymbolViews.{function_view};
+ghost use Rattle.binfarce_bytes.specs.SymbolViews.{function_view, section_function_view};
 ghost use Rattle.binfarce_bytes.specs.declared.functions.FunctionSymbol.{FunctionSymbol};
 ghost use Rattle.binfarce_elf.specs.ElfViews.{functions_left};
 ghost use Rattle.binfarce.specs.Symbol.{IsSymbolOf, AreSymbolsOf};
 
-use binfarce_bytes::functions::FunctionSymbol;
-use binfarce_elf::class::Class;
-use binfarce_elf::symbols::Functions;
+use crate::elf::Functions;
+use binfarce_bytes::functions::{FunctionSymbol, SectionFunction};
+use binfarce_elf::symbols::Functions as AllFunctions;
 use binfarce_names::demangle::{Demangler, SymbolData};
 use std::alloc::{AllocError, Global};
 
@@ -19,14 +19,14 @@ use std::alloc::{AllocError, Global};
 /// # Errors
 ///
 /// A failed allocation, only where a function symbol is left.
-pub fn symbols_of_elf<C: Class>(
+pub fn symbols_of_elf(
     alloc: Global,
-    functions: Functions<'_, C>,
+    functions: AllFunctions<'_>,
 ) -> Result<Vec<SymbolData>, AllocError>
-    ensures symbols { IfOk result (λ v. AreSymbolsOf (functions_left C.table functions.entry) v.items) }
-    ensures memory { OnErr result (functions_left C.table functions.entry ≢ []) }
+    ensures symbols { IfOk result (λ v. AreSymbolsOf (map (λ e. e.entry) (functions_left functions.entry)) v.items) }
+    ensures memory { OnErr result (map (λ e. e.entry) (functions_left functions.entry) ≢ []) }
 {
-    symbols_of(alloc, functions)
+    symbols_of(alloc, Functions { all: functions })
 }
 
 /// One symbol for each function symbol of a list, in order, with its name in readable form. Names are copied; nothing
@@ -35,7 +35,7 @@ pub fn symbols_of_elf<C: Class>(
 /// # Errors
 ///
 /// A failed allocation, only where the list isn't empty.
-pub fn symbols_of_list(
+pub(crate) fn symbols_of_list(
     alloc: Global,
     functions: &[FunctionSymbol<'_>],
 ) -> Result<Vec<SymbolData>, AllocError>
@@ -43,6 +43,26 @@ pub fn symbols_of_list(
     ensures memory { OnErr result (functions.now ≢ []) }
 {
     symbols_of(alloc, functions.iter().copied())
+}
+
+/// The function symbols of a list, in order, without their sections.
+///
+/// # Errors
+///
+/// A failed allocation, only where the list isn't empty.
+pub(crate) fn without_sections<'a>(
+    alloc: Global,
+    functions: &[SectionFunction<'a>],
+) -> Result<Vec<FunctionSymbol<'a>>, AllocError>
+    ensures alone { IfOk result
+        (λ v. map function_view v.items ≡ map (λ e. e.entry) (map section_function_view functions.entry.now)) }
+    ensures memory { OnErr result (functions.entry.now ≢ []) }
+{
+    let mut alone = Vec::new(alloc);
+    for function in functions {
+        alone.push(function.function)?;
+    }
+    Ok(alone)
 }
 
 // One symbol for each function symbol that comes, in order.

@@ -19,9 +19,9 @@ abbrev pub ListsSome : Result Listed Refusal → Type 0
 ListsSome (Ok listed) = listed.entries ≢ []
 ListsSome (Err refusal) = ⊥
 
--- what a call returns for the file's answer: a value that holds the list, or the refusal. Only where the answer needs memory may it return
+-- what a call returns for the file's answer: a value that holds what the answer has, or the refusal. Only where the answer needs memory may it return
 -- `OutOfMemory` instead
-abbrev pub Answers : {X : Type 0} → (Listed → X → Type 0) → (Result Listed Refusal → Type 0) → Result Listed Refusal → Result X ParseError → Type 0
+abbrev pub Answers : {L X : Type 0} → (L → X → Type 0) → (Result L Refusal → Type 0) → Result L Refusal → Result X ParseError → Type 0
 Answers Holds NeedsMemory (Ok listed) (Ok value) = Holds listed value
 Answers Holds NeedsMemory (Ok listed) (Err e) = (refusal_of e ≡ out_of_memory) × NeedsMemory (Ok listed)
 Answers Holds NeedsMemory (Err refusal) (Ok value) = ⊥

@@ -1,19 +1,32 @@
 -- Entries with their sections: the function symbols of all sections of a file, and the sections' names.
-use Rattle.std.specs.Prelude.{◌≡◌, ◌⊎◌, ℕ, Bool, List, map, Option, Some, None, Result, Ok, Err}
+use Rattle.std.specs.Prelude.{◌≡◌, ◌≢◌, ◌⊎◌, ℕ, Bool, List, [], map, Option, Some, None, Result, Ok, Err, unwrap_or}
+use Rattle.std.specs.List.{sum_by}
 use Rattle.binfarce_bytes.specs.declared.error.ParseError.{ParseError}
 use Rattle.binfarce_bytes.specs.Refusal.{Refusal, refusal_of, out_of_memory}
-use Rattle.binfarce_bytes.specs.Entries.{Entry}
+use Rattle.binfarce_bytes.specs.Entries.{Entry, Listed}
 
 -- an entry, and the number of its section
 pub record SectionEntry : Type 0 where
   pub section : ℕ
   pub entry : Entry
 
--- the function symbols of all sections of a file; the name of the section of each number, where it has one; and whether its sections share addresses, as those of an object file do
-pub record AllSymbols : Type 0 where
+-- the function symbols of the selected sections of a file; the size of the selected section, and none where all are selected; the name of the section of each number, where the selection has it; and whether the sections share addresses
+pub record SelectedSymbols : Type 0 where
   pub entries : List SectionEntry
+  pub section_size : Option ℕ
   pub section_name : ℕ → Option (List ℕ)
   pub shares_addresses : Bool
+
+-- the answer has an entry
+abbrev pub SelectsSome : Result SelectedSymbols Refusal → Type 0
+SelectsSome (Ok selected) = selected.entries ≢ []
+SelectsSome (Err refusal) = ⊥
+
+-- the entries as one list, with the size of the selected section; where all are selected, with the sum of the entries' sizes
+abbrev pub as_listed : SelectedSymbols → Listed
+as_listed selected =
+    let entries = map (λ e. e.entry) selected.entries in
+    record { entries = entries; section_size = unwrap_or selected.section_size (sum_by (λ e. e.size) entries) }
 
 -- entries with the number of their section
 abbrev pub in_section : ℕ → List Entry → List SectionEntry

@@ -1,10 +1,10 @@
 -- What clauses see of a function symbol.
-use Rattle.std.specs.Prelude.{◌≡◌, ℕ, List, map}
+use Rattle.std.specs.Prelude.{◌≡◌, ℕ, List, map, Option}
 use Rattle.std.specs.Global.{Vec}
 use Rattle.binfarce_bytes.specs.declared.functions.FunctionSymbol.{FunctionSymbol}
 use Rattle.binfarce_bytes.specs.declared.functions.SectionFunction.{SectionFunction}
 use Rattle.binfarce_bytes.specs.Entries.{Entry, Listed}
-use Rattle.binfarce_bytes.specs.SectionEntries.{SectionEntry}
+use Rattle.binfarce_bytes.specs.SectionEntries.{SectionEntry, SelectedSymbols}
 
 -- a `FunctionSymbol`
 abbrev pub function_view : FunctionSymbol → Entry
@@ -21,3 +21,11 @@ section_function_view f = record { section = f.section; entry = function_view f.
 -- the value has these entries as function symbols with their sections
 abbrev pub HoldsSectionFunctions : List SectionEntry → Vec SectionFunction → Type 0
 HoldsSectionFunctions entries functions = map section_function_view functions.items ≡ entries
+
+-- the value has the selected entries as function symbols with their sections
+abbrev pub HoldsSelected : SelectedSymbols → Vec SectionFunction → Type 0
+HoldsSelected selected functions = HoldsSectionFunctions selected.entries functions
+
+-- and the size of the selected section
+abbrev pub HoldsSized : SelectedSymbols → Vec SectionFunction × Option ℕ → Type 0
+HoldsSized selected answer = HoldsSelected selected answer.0 × (answer.1 ≡ selected.section_size)

@@ -3,7 +3,7 @@
 ghost use Rattle.std.specs.Prelude.{◌≡◌, List, map, IfOk};
 ghost use Rattle.std.specs.Iterator.{IsFinite, Drains};
 ghost use Rattle.binfarce.specs.Elf.{elf32, elf64};
-ghost use Rattle.binfarce.specs.ElfViews.{functions_view};
+ghost use Rattle.binfarce.specs.ElfFunctions.{functions_view};
 ghost use Rattle.binfarce.specs.MachoSymbols.{macho_file_answer, HasAddress};
 ghost use Rattle.binfarce.specs.Refusal.{Gives, refusal_of};
 ghost use Rattle.binfarce.specs.Symbol.{Answers, ListsSome};
@@ -142,7 +142,7 @@ fn stored_in_elf32<'a>(
     byte_order: ByteOrder,
     section: &str,
 ) -> Result<(elf32::Functions<'a>, u64), ParseError>
-    ensures { Gives refusal_of (functions_view elf32)
+    ensures { Gives refusal_of functions_view
         (elf_file_answer Symtab elf32 byte_order file.entry.now section.now) result }
 {
     elf32::parse(file, byte_order)?.functions(section)
@@ -154,7 +154,7 @@ fn stored_in_elf64<'a>(
     byte_order: ByteOrder,
     section: &str,
 ) -> Result<(elf64::Functions<'a>, u64), ParseError>
-    ensures { Gives refusal_of (functions_view elf64)
+    ensures { Gives refusal_of functions_view
         (elf_file_answer Symtab elf64 byte_order file.entry.now section.now) result }
 {
     elf64::parse(file, byte_order)?.functions(section)

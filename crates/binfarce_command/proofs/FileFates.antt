@@ -10,7 +10,7 @@ use Rattle.binfarce_bytes.specs.declared.format.Format.{Format}
 use Rattle.binfarce_bytes.specs.declared.format.Format.TheVariants as formats
 use Rattle.binfarce_tools.specs.declared.SymbolTable.{SymbolTable}
 use Rattle.binfarce_tables.proofs.FirstBytes.{format_of_first}
-use Rattle.binfarce_tools.specs.AllAnswer.{all_symbols_answer, one_answer}
+use Rattle.binfarce_tools.specs.AllAnswer.{selected_symbols, one_answer}
 use Rattle.binfarce_tools.specs.Answer.{symbols_answer}
 use Rattle.binfarce_bytes.specs.Selection.{section_of}
 use Rattle.binfarce_tools.specs.Selection.{answer_in}
@@ -31,9 +31,9 @@ Ends asked file o = EndsAs (Fits asked.kind) (MemoryFor asked.symbols file) (ans
 
 -- a file of an unknown format has no answer
 no_answer : (which : SymbolTable) (file : List ℕ) (section : Option (List ℕ)) → format_of file ≡ formats.Unknown → answer_in which file section ≡ None
-unfolding answer_in symbols_answer all_symbols_answer
+unfolding answer_in symbols_answer selected_symbols
 no_answer which file (Some section) is = ap (λ (f : Format). symbols_answer which f file section) is
-no_answer which file None is = ap (λ (f : Format). one_answer (all_symbols_answer which f file)) is
+no_answer which file None is = ap (λ (f : Format). one_answer (selected_symbols which None f file)) is
 
 unknown_too : (file bytes : List ℕ) → format_of file ≡ formats.Unknown → bytes ≡ take 8 file → format_of bytes ≡ formats.Unknown
 unknown_too file bytes unknown is = ap format_of is ∙ format_of_first file ∙ unknown

@@ -1,12 +1,12 @@
 -- How a call ended that failed before its first write.
 use Rattle.std.proofs.Common.{◌≡◌, ◌≢◌, ◌∙◌, inl, inr, ℕ, Bool, true, List, Option, Some, None, Result, Ok, Err, IsErrAnd, refl, sym, ap, subst}
 use Rattle.binfarce.specs.Refusal.{Refusal, refusal_of}
-use Rattle.binfarce.specs.SectionEntries.{AllSymbols}
+use Rattle.binfarce.specs.SectionEntries.{SelectedSymbols, as_listed}
 use Rattle.binfarce.specs.Symbol.{Listed}
 use Rattle.binfarce_addresses.specs.PlacesViews.{IsMadeOf}
 use Rattle.binfarce_tables.specs.declared.error.ReadError.{ReadError}
 use Rattle.binfarce_tables.specs.declared.error.ReadError.TheVariants as reading
-use Rattle.binfarce_tools.specs.AllAnswer.{all_answer_of, as_one, one_answer}
+use Rattle.binfarce_tools.specs.AllAnswer.{all_answer_of, one_answer}
 use Rattle.binfarce_tools.specs.Selection.{addresses_are_shared, answer_in, share_in}
 use Rattle.binfarce_tools.specs.Tables.{ReadsAs}
 use Rattle.binfarce_tools.specs.declared.SymbolTable.{SymbolTable}
@@ -46,10 +46,10 @@ unfolding answer_in
 shared_answer which file (Some name) shared = absurd cc
 shared_answer which file None shared = by_answer (all_answer_of which file) shared
   where
-    by_answer : (answer : Option (Result AllSymbols Refusal)) → addresses_are_shared answer ≡ true → (listed : Listed) × (one_answer answer ≡ Some (Ok listed))
+    by_answer : (answer : Option (Result SelectedSymbols Refusal)) → addresses_are_shared answer ≡ true → (listed : Listed) × (one_answer answer ≡ Some (Ok listed))
     by_answer None shared = absurd cc
     by_answer (Some (Err refusal)) shared = absurd cc
-    by_answer (Some (Ok all)) shared = (as_one all, refl)
+    by_answer (Some (Ok all)) shared = (as_listed all, refl)
 
 -- so they aren't refused, and where they aren't read it is for another reason
 pub shared_unread : {T : Type 0} (AreTables : T → Type 0) (MayFail : Type 0) (which : SymbolTable) (file : List ℕ) (section : Option (List ℕ)) (e : ReadError) (result : Result (Unit {0}) Fault)

@@ -68,7 +68,13 @@ pub fn show<S: Source<Log = ()>, K: Sink>(
     ensures fails { Fails (K.has_failed out.old) (K.has_failed out.new) (outcome_of result) }
     ensures leaves { Leaves out.old out.new (outcome_of result) }
 {
-    let tables = read(alloc, source, &mut (), asked.symbols.which, asked.symbols.selection)?;
+    let tables = read(
+        alloc,
+        source,
+        &mut (),
+        asked.symbols.which,
+        asked.symbols.selection,
+    )?;
     show_tables(alloc, asked.kind, &tables, out)
 }
 

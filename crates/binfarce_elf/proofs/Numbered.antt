@@ -5,7 +5,7 @@ use Rattle.std.specs.Option.{option_and_then}
 use Rattle.std.specs.List.{range_with_len}
 use Rattle.binfarce_bytes.specs.declared.ByteOrder.{ByteOrder}
 use Rattle.binfarce_elf.specs.Elf.{ElfClass, SectionTable, Section, section_at, section_of, whole_headers, walk, name_among}
-use Rattle.binfarce_elf.specs.ElfAll.{name_of_index}
+use Rattle.binfarce_elf.specs.ElfSymbols.{name_of_index}
 use Rattle.binfarce_elf.specs.ElfParts.{headers_alone}
 use Rattle.binfarce_elf.proofs.Walks.{is_whole, is_truncated}
 

@@ -1,17 +1,18 @@
 -- The entries of the rows that are left.
-use Rattle.std.proofs.Common.{◌≡◌, ℕ, suc, ◌+◌, ◌-◌, ◌*◌, ◌<◌, ◌≤◌, Bool, List, [], ◌∷◌, Option, Some, None, map, refl, sym, ◌∙◌, ap, arith}
+use Rattle.std.proofs.Common.{◌≡◌, ℕ, suc, ◌+◌, ◌-◌, ◌*◌, ◌<◌, ◌≤◌, List, [], ◌∷◌, Option, Some, None, map, refl, sym, ◌∙◌, ap, arith}
 use Rattle.std.specs.Iterator.{YieldsFirstBy, Drains}
 use Rattle.std.specs.List.{range_with_len, filter_map}
-use Rattle.std.specs.Option.{option_map}
 use Rattle.binfarce_bytes.specs.declared.ByteOrder.{ByteOrder}
 use Rattle.binfarce_elf.specs.Elf.{ElfClass, SymbolRow}
-use Rattle.binfarce_elf.specs.ElfSymbols.{symbol_at, entry_of, function_name}
+use Rattle.binfarce_elf.specs.ElfSymbols.{symbol_at}
 use Rattle.binfarce_elf.specs.ElfViews.{functions_left}
 use Rattle.binfarce_elf.specs.declared.symbols.Functions.{Functions}
-use Rattle.binfarce_bytes.specs.declared.functions.FunctionSymbol.{FunctionSymbol}
+use Rattle.binfarce_bytes.specs.declared.functions.SectionFunction.{SectionFunction}
 use Rattle.binfarce_bytes.specs.Entries.{Entry}
-use Rattle.binfarce_bytes.specs.SymbolViews.{function_view}
+use Rattle.binfarce_bytes.specs.SectionEntries.{SectionEntry}
+use Rattle.binfarce_bytes.specs.SymbolViews.{function_view, section_function_view}
 use Rattle.binfarce_bytes.specs.Found.{entry_at}
+use Rattle.std.proofs.lemmas.Simd.{map-map}
 use Rattle.binfarce_bytes.proofs.FoundLaws as FoundLaws
 use Rattle.binfarce_bytes.proofs.Drained.{drained}
 
@@ -32,17 +33,13 @@ pub row_is : (class : ElfClass) (order : ByteOrder) (rows : List ℕ) (k length 
     → read ≡ symbol_at class order rows (k * length) → symbol_at class order rows (k * class.symbol_length) ≡ read
 row_is class order rows k length read is at = ap (λ (n : ℕ). symbol_at class order rows (k * n)) (sym is) ∙ sym at
 
-pub entry_is : (strings : List ℕ) (indirect : Bool) (index : ℕ) (row read : SymbolRow ℕ) (name : Option (List ℕ))
-    → row ≡ read → function_name strings indirect index read ≡ name
-    → entry_of strings indirect index row ≡ option_map (λ n. record { name = n; address = read.value; size = read.size }) name
-entry_is strings indirect index row read name same is =
-    ap (entry_of strings indirect index) same ∙ ap (option_map (λ (n : List ℕ). record { name = n; address = read.value; size = read.size })) is
-
 -- before any came, none is found
 pub none_at_first : (address : ℕ) → None ≡ entry_at [] address
 none_at_first = FoundLaws.none_at_first
 
 -- what is found among the functions that came is found among what was left
-pub shown_is : {C : Type 0} (class : ElfClass) (functions : Functions C) (given : List FunctionSymbol) (address : ℕ) (shown : Option Entry) → Drains (YieldsFirstBy function_view (functions_left class)) functions given
-    → shown ≡ entry_at (map function_view given) address → shown ≡ entry_at (functions_left class functions) address
-shown_is class functions given address shown drains is = is ∙ ap (λ (entries : List Entry). entry_at entries address) (drained function_view (functions_left class) functions given drains)
+pub shown_is : (functions : Functions) (given : List SectionFunction) (address : ℕ) (shown : Option Entry) → Drains (YieldsFirstBy section_function_view functions_left) functions given
+    → shown ≡ entry_at (map (λ f. function_view f.function) given) address → shown ≡ entry_at (map (λ e. e.entry) (functions_left functions)) address
+shown_is functions given address shown drains is =
+    is ∙ ap (λ (entries : List Entry). entry_at entries address) (sym (map-map (λ (e : SectionEntry). e.entry) section_function_view given))
+    ∙ ap (λ (entries : List SectionEntry). entry_at (map (λ e. e.entry) entries) address) (drained section_function_view functions_left functions given drains)

@@ -1,11 +1,11 @@
 -- The answer of a section's symbols, step by step.
-use Rattle.std.proofs.Common.{◌≡◌, ℕ, eqb, List, Result, Ok, Err, refl, ap, ◌∙◌}
+use Rattle.std.proofs.Common.{◌≡◌, ℕ, eqb, List, Some, Result, Ok, Err, refl, ap, ◌∙◌}
 use Rattle.std.proofs.Math.Path.{fun_ext}
 use Rattle.binfarce_bytes.specs.Refusal.{◌>>=◌, Refusal, symbols_section_is_missing, section_is_missing}
 use Rattle.binfarce_bytes.specs.Entries.{Listed}
 use Rattle.binfarce_elf.specs.Elf.{ElfClass, SectionTable, Section, walk, name_of}
-use Rattle.binfarce_elf.specs.ElfSymbols.{TableSections, NeededSections, TableRows, sought, is_named, section_data, string_table_kind, whole_rows, table_sections, needed, rows_at, listed_of, elf_answer}
-use Rattle.binfarce_elf.specs.SymbolTables.{section_type, table_name, strings_name}
+use Rattle.binfarce_elf.specs.ElfSymbols.{TableSections, Taken, NeededSections, TableRows, Selected, sought, is_named, section_data, string_table_kind, whole_rows, table_sections, taken, needed, rows_at, taken_from, elf_selected, listed_of, elf_answer}
+use Rattle.binfarce_elf.specs.SymbolTables.{section_type, table_name, strings_name, has_indirect}
 use Rattle.binfarce_elf.specs.declared.symbol_table.SymbolTable.{SymbolTable}
 
 pub assoc : {A B C : Type 0} (r : Result A Refusal) (f : A → Result B Refusal) (g : B → Result C Refusal) → ((r >>= f) >>= g) ≡ (r >>= λ x. f x >>= g)
@@ -59,22 +59,39 @@ module _ (which : SymbolTable) (class : ElfClass) (table : SectionTable) where
     abbrev section_step : Result Section Refusal
     section_step = sought symbols_section_is_missing (λ s. is_named name (name_of class table s)) (walk class table)
 
-    abbrev of_section : Section → Result NeededSections Refusal
-    of_section section = table_sections which (walk class table) >>= λ sections. Ok (record { section = section; table = sections })
+    -- what the section's name selects
+    abbrev by_section : Section → Taken
+    by_section section = record { accepts = λ index. eqb index section.index; indirect = has_indirect which; size = Some section.size }
+
+    abbrev with_table : Taken → Result NeededSections Refusal
+    with_table selected = table_sections which (walk class table) >>= λ sections. Ok (record { taken = selected; table = sections })
+
+    abbrev selected_of : Taken → TableRows → Selected
+    selected_of selected found = record { entries = taken_from class table.order selected found; size = selected.size }
+
+    abbrev of_needed : NeededSections → Result Selected Refusal
+    of_needed sections = rows_at class table.file sections.table >>= λ found. Ok (selected_of sections.taken found)
 
     abbrev listed : Section → TableRows → Result Listed Refusal
-    listed section found = Ok (listed_of which class table.order section found)
+    listed section found = Ok (listed_of (selected_of (by_section section) found))
 
-    abbrev of_needed : NeededSections → Result Listed Refusal
-    of_needed sections = rows_at class table.file sections.table >>= listed sections.section
+    abbrev then_listed : NeededSections → Result Listed Refusal
+    then_listed sections = rows_at class table.file sections.table >>= λ found. Ok (listed_of (selected_of sections.taken found))
+
+    abbrev all_needed : Result NeededSections Refusal
+    all_needed = (section_step >>= λ section. Ok (by_section section)) >>= with_table
 
     -- the steps to the answer
     pub answer_steps : elf_answer which class table name
         ≡ (section_step >>= λ section. symbols_step >>= λ symbols. linked_step symbols >>= λ linked. string_table_kind linked >>= λ strings. bytes_then (listed section) (record { symbols = symbols; strings = strings }))
-    unfolding elf_answer needed name_of
+    unfolding elf_answer elf_selected needed taken name_of
     answer_steps =
-        assoc section_step of_section of_needed
+        assoc all_needed of_needed (λ selected. Ok (listed_of selected))
+        ∙ ap (λ (k : NeededSections → Result Listed Refusal). all_needed >>= k) (fun_ext (λ sections.
+        assoc (rows_at class table.file sections.table) (λ found. Ok (selected_of sections.taken found)) (λ selected. Ok (listed_of selected))))
+        ∙ ap (λ (r : Result NeededSections Refusal). r >>= then_listed) (assoc section_step (λ section. Ok (by_section section)) with_table)
+        ∙ assoc section_step (λ section. with_table (by_section section)) then_listed
         ∙ ap (λ (k : Section → Result Listed Refusal). section_step >>= k) (fun_ext (λ section.
-        assoc (table_sections which (walk class table)) (λ sections. Ok (record { section = section; table = sections })) of_needed
+        assoc (table_sections which (walk class table)) (λ sections. Ok (record { taken = by_section section; table = sections })) then_listed
         ∙ ap (λ (k : TableSections → Result Listed Refusal). table_sections which (walk class table) >>= k) (fun_ext (rows_then (listed section)))
         ∙ sections_then (bytes_then (listed section))))

@@ -1,10 +1,12 @@
 -- What clauses see of the types of both classes; `number` gives the number of a word.
-use Rattle.std.specs.Prelude.{ℕ, List}
+use Rattle.std.specs.Prelude.{ℕ, Bool, ◌&&◌, List, nat_le}
 use Rattle.binfarce_elf.specs.declared.sections.Section.{Section}
 use Rattle.binfarce_elf.specs.declared.header.Header.{Header}
 use Rattle.binfarce_elf.specs.declared.symbols.Functions.{Functions}
-use Rattle.binfarce_bytes.specs.Entries.{Entry, Listed}
-use Rattle.binfarce_elf.specs.ElfSymbols.{entries_from}
+use Rattle.binfarce_elf.specs.declared.symbols.Taken as code
+use Rattle.binfarce_bytes.specs.SectionEntries.{SectionEntry}
+use Rattle.binfarce_elf.specs.Classes.{class_of}
+use Rattle.binfarce_elf.specs.ElfSymbols.{Selected, Taken, entries_from}
 use Rattle.binfarce_elf.specs.Elf as elf
 
 -- a `Section`
@@ -15,10 +17,18 @@ section_view number s = record { index = s.index; name_offset = s.name_offset; k
 abbrev pub header_view : {C : Type 0} → (C → ℕ) → Header C → elf.Header ℕ
 header_view number h = record { elf_type = h.elf_type; machine = h.machine; version = h.version; entry = number h.entry; phoff = number h.phoff; shoff = number h.shoff; flags = h.flags; ehsize = h.ehsize; phentsize = h.phentsize; phnum = h.phnum; shentsize = h.shentsize; shnum = h.shnum; shstrndx = h.shstrndx }
 
--- the entries that an iterator of function symbols has left
-abbrev pub functions_left : {C : Type 0} → elf.ElfClass → Functions C → List Entry
-functions_left class f = entries_from class f.byte_order f.strings.now f.indirect f.index f.rows.now f.next
+-- the functions of the section of this index are taken
+abbrev pub accepts : code.Taken → ℕ → Bool
+accepts t index = nat_le t.first index && nat_le index t.last
 
--- such an iterator, and the size of the section
-abbrev pub functions_view : {C : Type 0} → elf.ElfClass → Functions C × ℕ → Listed
-functions_view class answer = record { entries = functions_left class answer.0; section_size = answer.1 }
+-- a `Taken`
+abbrev pub taken_view : code.Taken → Taken
+taken_view t = record { accepts = accepts t; indirect = t.indirect; size = t.size }
+
+-- the entries that an iterator of function symbols has left
+abbrev pub functions_left : Functions → List SectionEntry
+functions_left f = entries_from (class_of f.width) f.byte_order f.strings.now f.taken.indirect (accepts f.taken) f.rows.now f.next
+
+-- and the size of the section
+abbrev pub selected_view : Functions → Selected
+selected_view f = record { entries = functions_left f; size = f.taken.size }

@@ -1,7 +1,7 @@
 pub mod Elf
+pub mod Classes
 pub mod SymbolTables
 pub mod ElfSymbols
-pub mod ElfAll
 pub mod ElfViews
 pub mod ElfParts
 pub mod machine

@@ -2,6 +2,7 @@
 
 ghost use Rattle.std.specs.Prelude.{◌≡◌, ◌+◌, ◌*◌, ◌<◌, ◌≤◌, ℕ, List, length, MatchResult};
 ghost use Rattle.binfarce_bytes.specs.Number.{number};
+ghost use Rattle.binfarce_elf.specs.Classes.{class_of};
 ghost use Rattle.binfarce_elf.specs.Elf.{elf32, elf64, entry_count};
 ghost use Rattle.binfarce_elf.specs.ElfSymbols.{symbol_at};
 ghost use Rattle.binfarce_elf.specs.machine.RawElf.{symbol_view, fields_of_header, fields_of_section};
@@ -15,6 +16,52 @@ pub type Half = u16;
 pub type Word = u32;
 
 pub type XWord = u64;
+
+/// The class of a file (`EI_CLASS`), by the width of its words.
+#[derive(Debug, Clone, Copy, PartialEq)]
+pub enum Width {
+    /// `ELFCLASS32`
+    Bits32,
+    /// `ELFCLASS64`
+    Bits64,
+}
+
+impl Width {
+    /// The length of the file header in bytes.
+    #[tactic(auto, unfolding(crate::specs::Elf::elf32, crate::specs::Elf::elf64))]
+    pub fn header_length(self) -> usize
+        ensures { result ≡ (class_of self).header_length }
+    {
+        match self {
+            Width::Bits32 => 52,
+            Width::Bits64 => 64,
+        }
+    }
+
+    /// The length of a section header in bytes.
+    #[tactic(auto, unfolding(crate::specs::Elf::elf32, crate::specs::Elf::elf64))]
+    pub fn section_length(self) -> usize
+        ensures is { result ≡ (class_of self).section_length }
+        ensures some { (0 < result) × (result ≤ 64) }
+    {
+        match self {
+            Width::Bits32 => 40,
+            Width::Bits64 => 64,
+        }
+    }
+
+    /// The length of a symbol table entry in bytes.
+    #[tactic(auto, unfolding(crate::specs::Elf::elf32, crate::specs::Elf::elf64))]
+    pub fn symbol_length(self) -> usize
+        ensures is { result ≡ (class_of self).symbol_length }
+        ensures some { 0 < result }
+    {
+        match self {
+            Width::Bits32 => 16,
+            Width::Bits64 => 24,
+        }
+    }
+}
 
 /// A row of a symbol table, with values of the wider class's widths.
 #[derive(Clone, Copy)]
@@ -33,6 +80,7 @@ pub struct SymbolRow {
 pub trait Class: RawNumber + Copy + Drop {
     ghost use Rattle.std.specs.Prelude.{ℕ};
     ghost use Rattle.binfarce_bytes.specs.declared.ByteOrder.{ByteOrder};
+    ghost use Rattle.binfarce_elf.specs.Classes.{class_of};
     ghost use Rattle.binfarce_elf.specs.Elf.{ElfClass};
 
     ghost table: { ElfClass };
@@ -41,16 +89,15 @@ pub trait Class: RawNumber + Copy + Drop {
 
     ghost SECTION_LENGTH: { ℕ };
 
-    ghost SYMBOL_LENGTH: { ℕ };
-
     /// The name of the file header's type, as it is printed.
     const HEADER: &'static str;
 
     /// The length of a section header in bytes.
     const SECTION_LENGTH: usize;
 
-    /// The length of a symbol table entry in bytes.
-    const SYMBOL_LENGTH: usize;
+    /// The class as a value.
+    fn width() -> Width
+        ensures { class_of result ≡ table };
 
     /// The word in the wider class's type.
     fn widened(self) -> u64
@@ -59,13 +106,6 @@ pub trait Class: RawNumber + Copy + Drop {
     /// How many entries of a size there are in this size; 0 where the entry size is 0.
     fn entries_of(self, entry_size: Self) -> Self
         ensures { number_of result ≡ entry_count (number_of self) (number_of entry_size) };
-
-    /// The row at `start`; refused where it is truncated.
-    fn symbol(bytes: &[u8], start: usize, byte_order: ByteOrder) -> Result<SymbolRow, UnexpectedEof>
-        ensures { MatchResult result
-            (λ r. (start + table.symbol_length ≤ length bytes.now)
-            × (symbol_view r ≡ symbol_at table byte_order bytes.now start))
-            (λ _. length bytes.now < start + table.symbol_length) };
 
     ghost word: { (order : ByteOrder) (bytes : List ℕ) → number_of (Self.value order bytes) ≡ number order bytes };
 
@@ -81,11 +121,7 @@ pub trait Class: RawNumber + Copy + Drop {
 
     ghost section_length: { SECTION_LENGTH ≡ table.section_length };
 
-    ghost symbol_length: { SYMBOL_LENGTH ≡ table.symbol_length };
-
     ghost some_section: { 0 < SECTION_LENGTH };
-
-    ghost some_symbol: { 0 < SYMBOL_LENGTH };
 }
 
 impl Class for u32 {
@@ -97,13 +133,13 @@ impl Class for u32 {
 
     ghost SECTION_LENGTH = { 40 };
 
-    ghost SYMBOL_LENGTH = { 16 };
-
     const HEADER: &'static str = "Elf32Header";
 
     const SECTION_LENGTH: usize = 40;
 
-    const SYMBOL_LENGTH: usize = 16;
+    fn width() -> Width {
+        Width::Bits32
+    }
 
     fn widened(self) -> u64 {
         u64::from(self)
@@ -111,17 +147,6 @@ impl Class for u32 {
 
     fn entries_of(self, entry_size: u32) -> u32 {
         self.checked_div(entry_size).unwrap_or(0)
-    }
-
-    #[inline]
-    #[tactic(auto, unfolding(crate::specs::Elf::elf32))]
-    fn symbol(
-        bytes: &[u8],
-        start: usize,
-        byte_order: ByteOrder,
-    ) -> Result<SymbolRow, UnexpectedEof> {
-        let row = slice_at(bytes, start, 16)?;
-        row_of_32(row, byte_order)
     }
 
     ghost word = { λ order bytes. refl };
@@ -138,11 +163,7 @@ impl Class for u32 {
 
     ghost section_length = { unfold elf32 in refl };
 
-    ghost symbol_length = { unfold elf32 in refl };
-
     ghost some_section = { lit< tt };
-
-    ghost some_symbol = { lit< tt };
 }
 
 impl Class for u64 {
@@ -154,13 +175,13 @@ impl Class for u64 {
 
     ghost SECTION_LENGTH = { 64 };
 
-    ghost SYMBOL_LENGTH = { 24 };
-
     const HEADER: &'static str = "Elf64Header";
 
     const SECTION_LENGTH: usize = 64;
 
-    const SYMBOL_LENGTH: usize = 24;
+    fn width() -> Width {
+        Width::Bits64
+    }
 
     fn widened(self) -> u64 {
         self
@@ -168,17 +189,6 @@ impl Class for u64 {
 
     fn entries_of(self, entry_size: u64) -> u64 {
         self.checked_div(entry_size).unwrap_or(0)
-    }
-
-    #[inline]
-    #[tactic(auto, unfolding(crate::specs::Elf::elf64))]
-    fn symbol(
-        bytes: &[u8],
-        start: usize,
-        byte_order: ByteOrder,
-    ) -> Result<SymbolRow, UnexpectedEof> {
-        let row = slice_at(bytes, start, 24)?;
-        row_of_64(row, byte_order)
     }
 
     ghost word = { λ order bytes. refl };
@@ -195,11 +205,50 @@ impl Class for u64 {
 
     ghost section_length = { unfold elf64 in refl };
 
-    ghost symbol_length = { unfold elf64 in refl };
-
     ghost some_section = { lit< tt };
+}
 
-    ghost some_symbol = { lit< tt };
+/// The row at `start` of a symbol table of this class; refused where it is truncated.
+#[inline(always)]
+pub fn row_at(
+    width: Width,
+    bytes: &[u8],
+    start: usize,
+    byte_order: ByteOrder,
+) -> Result<SymbolRow, UnexpectedEof>
+    ensures { MatchResult result
+        (λ r. (start + (class_of width).symbol_length ≤ length bytes.now)
+        × (symbol_view r ≡ symbol_at (class_of width) byte_order bytes.now start))
+        (λ _. length bytes.now < start + (class_of width).symbol_length) }
+{
+    match width {
+        Width::Bits32 => row_at_32(bytes, start, byte_order),
+        Width::Bits64 => row_at_64(bytes, start, byte_order),
+    }
+}
+
+#[inline]
+#[tactic(auto, unfolding(crate::specs::Elf::elf32))]
+fn row_at_32(bytes: &[u8], start: usize, byte_order: ByteOrder) -> Result<SymbolRow, UnexpectedEof>
+    ensures { MatchResult result
+        (λ r. (start + elf32.symbol_length ≤ length bytes.now)
+        × (symbol_view r ≡ symbol_at elf32 byte_order bytes.now start))
+        (λ _. length bytes.now < start + elf32.symbol_length) }
+{
+    let row = slice_at(bytes, start, 16)?;
+    row_of_32(row, byte_order)
+}
+
+#[inline]
+#[tactic(auto, unfolding(crate::specs::Elf::elf64))]
+fn row_at_64(bytes: &[u8], start: usize, byte_order: ByteOrder) -> Result<SymbolRow, UnexpectedEof>
+    ensures { MatchResult result
+        (λ r. (start + elf64.symbol_length ≤ length bytes.now)
+        × (symbol_view r ≡ symbol_at elf64 byte_order bytes.now start))
+        (λ _. length bytes.now < start + elf64.symbol_length) }
+{
+    let row = slice_at(bytes, start, 24)?;
+    row_of_64(row, byte_order)
 }
 
 // The row of a 32-bit file at the front of these bytes; refused where it is truncated. For a slice of one row, whose

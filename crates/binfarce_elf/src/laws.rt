@@ -1,6 +1,6 @@
 //! Worked examples, computed from the definitions alone.
 
-ghost use Rattle.std.specs.Prelude.{◌≡◌, true, false, [], ◌∷◌};
+ghost use Rattle.std.specs.Prelude.{◌≡◌, true, false, [], ◌∷◌, nat_eq};
 ghost use Rattle.binfarce_bytes.specs.declared.ByteOrder.TheVariants.{LittleEndian, BigEndian};
 ghost use Rattle.binfarce_elf.specs.Elf.{elf32, elf64, section_at};
 ghost use Rattle.binfarce_elf.specs.ElfSymbols.{entries_from};
@@ -26,17 +26,17 @@ fn worked_section()
 /// A row of the function `f` at 0x1000, of 16 bytes, in section 1: in both classes, as an object, and as an indirect function.
 #[tactic(auto, unfolding(crate::specs::Elf::elf32, crate::specs::Elf::elf64, crate::specs::ElfSymbols::symbol_at, crate::specs::ElfSymbols::function_name, binfarce_bytes::proofs::Computing::computing))]
 fn worked_rows()
-    ensures of_32_bits { entries_from elf32 BigEndian (0 ∷ 0x66 ∷ 0 ∷ []) true 1
+    ensures of_32_bits { entries_from elf32 BigEndian (0 ∷ 0x66 ∷ 0 ∷ []) true (λ index. nat_eq index 1)
         (0 ∷ 0 ∷ 0 ∷ 1 ∷ 0 ∷ 0 ∷ 0x10 ∷ 0 ∷ 0 ∷ 0 ∷ 0 ∷ 16 ∷ 0x12 ∷ 0 ∷ 0 ∷ 1 ∷ []) 0
-        ≡ record { name = 0x66 ∷ []; address = 0x1000; size = 16 } ∷ [] }
-    ensures of_64_bits { entries_from elf64 LittleEndian (0 ∷ 0x66 ∷ 0 ∷ []) true 1
+        ≡ record { section = 1; entry = record { name = 0x66 ∷ []; address = 0x1000; size = 16 } } ∷ [] }
+    ensures of_64_bits { entries_from elf64 LittleEndian (0 ∷ 0x66 ∷ 0 ∷ []) true (λ index. nat_eq index 1)
         (1 ∷ 0 ∷ 0 ∷ 0 ∷ 0x12 ∷ 0 ∷ 1 ∷ 0 ∷ 0 ∷ 0x10 ∷ 0 ∷ 0 ∷ 0 ∷ 0 ∷ 0 ∷ 0 ∷ 16 ∷ 0 ∷ 0 ∷ 0 ∷ 0 ∷ 0 ∷ 0 ∷ 0 ∷ []) 0
-        ≡ record { name = 0x66 ∷ []; address = 0x1000; size = 16 } ∷ [] }
-    ensures object { entries_from elf32 BigEndian (0 ∷ 0x66 ∷ 0 ∷ []) true 1
+        ≡ record { section = 1; entry = record { name = 0x66 ∷ []; address = 0x1000; size = 16 } } ∷ [] }
+    ensures object { entries_from elf32 BigEndian (0 ∷ 0x66 ∷ 0 ∷ []) true (λ index. nat_eq index 1)
         (0 ∷ 0 ∷ 0 ∷ 1 ∷ 0 ∷ 0 ∷ 0x10 ∷ 0 ∷ 0 ∷ 0 ∷ 0 ∷ 16 ∷ 0x11 ∷ 0 ∷ 0 ∷ 1 ∷ []) 0 ≡ [] }
-    ensures indirect { entries_from elf32 BigEndian (0 ∷ 0x66 ∷ 0 ∷ []) true 1
+    ensures indirect { entries_from elf32 BigEndian (0 ∷ 0x66 ∷ 0 ∷ []) true (λ index. nat_eq index 1)
         (0 ∷ 0 ∷ 0 ∷ 1 ∷ 0 ∷ 0 ∷ 0x10 ∷ 0 ∷ 0 ∷ 0 ∷ 0 ∷ 16 ∷ 0x1A ∷ 0 ∷ 0 ∷ 1 ∷ []) 0
-        ≡ record { name = 0x66 ∷ []; address = 0x1000; size = 16 } ∷ [] }
-    ensures left_out { entries_from elf32 BigEndian (0 ∷ 0x66 ∷ 0 ∷ []) false 1
+        ≡ record { section = 1; entry = record { name = 0x66 ∷ []; address = 0x1000; size = 16 } } ∷ [] }
+    ensures left_out { entries_from elf32 BigEndian (0 ∷ 0x66 ∷ 0 ∷ []) false (λ index. nat_eq index 1)
         (0 ∷ 0 ∷ 0 ∷ 1 ∷ 0 ∷ 0 ∷ 0x10 ∷ 0 ∷ 0 ∷ 0 ∷ 0 ∷ 16 ∷ 0x1A ∷ 0 ∷ 0 ∷ 1 ∷ []) 0 ≡ [] }
 {}

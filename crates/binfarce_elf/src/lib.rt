@@ -2,7 +2,6 @@
 #![tactic(auto)]
 
 mod accessors;
-pub mod all;
 pub mod class;
 pub mod header;
 mod laws;

@@ -1,100 +1,231 @@
-//! The sections that the symbols of one section, or of all sections, need, found in the section headers alone.
+//! What is read of files of either class: where the section headers are, and what is found in these alone.
 
-ghost use Rattle.std.specs.Prelude.{◌≡◌};
+ghost use Rattle.std.specs.Prelude.{◌≡◌, ◌+◌, ◌<◌, ◌≤◌, length, MatchResult};
 ghost use Rattle.std.specs.Option.{option_map};
-ghost use Rattle.binfarce_bytes.specs.Refusal.{Gives, refusal_of};
-ghost use Rattle.binfarce_elf.specs.Elf.{walk, name_among};
-ghost use Rattle.binfarce_elf.specs.ElfAll.{all_left, section_entries_from, name_of_index, needed_of_all};
-ghost use Rattle.binfarce_elf.specs.ElfParts.{headers_alone, needed_view, table_sections_view};
-ghost use Rattle.binfarce_elf.specs.ElfSymbols.{is_named, needed};
+ghost use Rattle.binfarce_bytes.specs.Refusal.{Gives, refusal_of, unexpected_eof};
+ghost use Rattle.binfarce_bytes.specs.Selection.{section_of};
+ghost use Rattle.binfarce_elf.specs.Classes.{class_of};
+ghost use Rattle.binfarce_elf.specs.Elf.{walk, name_among, names_bytes, section_at, section_table};
+ghost use Rattle.binfarce_elf.specs.ElfParts.{IsPlaceOf, headers_alone, needed_view, sections_left};
+ghost use Rattle.binfarce_elf.specs.ElfSymbols.{is_named, name_of_index, needed};
 ghost use Rattle.binfarce_elf.specs.ElfViews.{section_view};
 ghost use Rattle.binfarce_elf.specs.machine.RawElf.{table_view};
 
-use crate::all::{AllFunctions, needed_of_all};
-use crate::class::{Class, Half, Word};
-use crate::sections::{Section, Sections, Table, is_named, name_at, section_at, sections_of};
+use crate::class::{Class, Half, Width, Word};
+use crate::header::parse_header;
+use crate::sections::{
+    self, Section, Sections, Table, is_named, name_at, names_bytes, section_table, sections_of,
+};
 use crate::symbol_table::SymbolTable;
-use crate::symbols::{Needed, TableSections, needed_of};
+use crate::symbols::{Needed, needed_of};
+use binfarce_bytes::functions::Selection;
+use binfarce_bytes::parser::UnexpectedEof;
 use binfarce_bytes::{ByteOrder, ParseError};
 
-/// The sections that the symbols of a section need, found in `count` section headers, whose names are in `names`.
-/// Refused as `functions` and `dynamic_functions` of a reader are, up to the string table's type.
-pub fn needed_sections<C: Class>(
-    headers: &[u8],
-    byte_order: ByteOrder,
-    count: Half,
-    names: Option<&[u8]>,
-    which: SymbolTable,
-    section_name: &str,
-) -> Result<Needed<C>, ParseError>
-    ensures { Gives refusal_of (needed_view C.number_of)
-        (needed which (walk C.table (headers_alone byte_order headers.now count)) (option_map (λ b. b.now) names.entry)
-        section_name.now) result }
-{
-    needed_of::<C>(
-        headers_alone(headers, byte_order, count),
-        names,
-        which,
-        section_name,
-    )
+/// Where the section headers of a file are, and the file's type, as its header states.
+#[derive(Clone, Copy)]
+pub struct Place {
+    pub byte_order: ByteOrder,
+    pub shoff: usize,
+    pub shnum: Half,
+    pub shstrndx: Half,
+    pub elf_type: Half,
 }
 
-/// The sections of this symbol table, found in `count` section headers. Refused as `all_functions` of a reader is, up to
-/// the string table's type.
-pub fn needed_table<C: Class>(
-    headers: &[u8],
-    byte_order: ByteOrder,
-    count: Half,
-    which: SymbolTable,
-) -> Result<TableSections<C>, ParseError>
-    ensures { Gives refusal_of (table_sections_view C.number_of)
-        (needed_of_all which (walk C.table (headers_alone byte_order headers.now count))) result }
+/// The place that the header of a file of this class states. `UnexpectedEof` where the header is truncated.
+pub fn place_in(file: &[u8], width: Width, byte_order: ByteOrder) -> Result<Place, ParseError>
+    ensures { MatchResult result
+        (λ p. ((class_of width).header_length ≤ length file.now)
+        × IsPlaceOf (class_of width) byte_order file.now p)
+        (λ e. (length file.now < (class_of width).header_length) × (refusal_of e ≡ unexpected_eof)) }
 {
-    let table = headers_alone(headers, byte_order, count);
-    needed_of_all::<C>(table, which)
+    match width {
+        Width::Bits32 => place_of::<u32>(file, byte_order),
+        Width::Bits64 => place_of::<u64>(file, byte_order),
+    }
+}
+
+fn place_of<C: Class>(file: &[u8], byte_order: ByteOrder) -> Result<Place, ParseError>
+    ensures { MatchResult result
+        (λ p. (C.table.header_length ≤ length file.now) × IsPlaceOf C.table byte_order file.now p)
+        (λ e. (length file.now < C.table.header_length) × (refusal_of e ≡ unexpected_eof)) }
+{
+    let header = parse_header::<C>(file, byte_order)?;
+    Ok(Place {
+        byte_order,
+        shoff: header.shoff.widened() as usize,
+        shnum: header.shnum,
+        shstrndx: header.shstrndx,
+        elf_type: header.elf_type,
+    })
+}
+
+/// The section header at `start` in a file of this class; refused where it is truncated.
+#[inline(always)]
+pub fn section_at(
+    bytes: &[u8],
+    start: usize,
+    width: Width,
+    byte_order: ByteOrder,
+    index: Half,
+) -> Result<Section<u64>, UnexpectedEof>
+    ensures { MatchResult result
+        (λ s. (start + (class_of width).section_length ≤ length bytes.now)
+        × (section_view (λ n. n) s ≡ section_at (class_of width) byte_order bytes.now start index))
+        (λ _. length bytes.now < start + (class_of width).section_length) }
+{
+    match width {
+        Width::Bits32 => Ok(sections::section_at::<u32>(
+            bytes, start, byte_order, index,
+        )?.widened()),
+        Width::Bits64 => sections::section_at::<u64>(bytes, start, byte_order, index),
+    }
+}
+
+/// What the symbols of a selection need, found in the section headers of a file, whose names are in `names`. Refused as
+/// `functions` of a reader is, up to the string table's type.
+pub fn needed_in(
+    headers: &[u8],
+    width: Width,
+    place: Place,
+    names: Option<&[u8]>,
+    which: SymbolTable,
+    selection: Selection<'_>,
+) -> Result<Needed, ParseError>
+    ensures { Gives refusal_of needed_view
+        (needed which (walk (class_of width) (headers_alone place.byte_order headers.now place.shnum))
+        (option_map (λ b. b.now) names.entry) place.shnum (section_of selection.entry)) result }
+{
+    let table = headers_alone(headers, place.byte_order, place.shnum);
+    match width {
+        Width::Bits32 => needed_of::<u32>(table, names, which, selection),
+        Width::Bits64 => needed_of::<u64>(table, names, which, selection),
+    }
+}
+
+/// An iterator over the sections of a file of either class, in file order, with values of the wider class's types.
+#[must_use = "iterators are lazy and do nothing unless consumed"]
+#[derive(Drop)]
+pub enum AnySections<'a> {
+    Narrow(Sections<'a, u32>),
+    Wide(Sections<'a, u64>),
+}
+
+impl<'a> Iterator for AnySections<'a> {
+    ghost use Rattle.binfarce_bytes.specs.Refusal.{refusal_of};
+    ghost use Rattle.binfarce_bytes.specs.Walk.{YieldsNext, walk_count};
+    ghost use Rattle.binfarce_elf.specs.ElfParts.{sections_left};
+    ghost use Rattle.binfarce_elf.specs.ElfViews.{section_view};
+
+    type Item = Result<Section<u64>, ParseError>;
+
+    ghost next_gives = { λ before item after. YieldsNext refusal_of (section_view (λ n. n)) (sections_left before) item
+        (sections_left after) };
+
+    ghost remaining = { λ s. walk_count (sections_left s) };
+
+    fn next(&mut self) -> Option<Result<Section<u64>, ParseError>> {
+        match self {
+            AnySections::Narrow(sections) => match sections.next() {
+                Some(Ok(section)) => Some(Ok(section.widened())),
+                Some(Err(e)) => Some(Err(e)),
+                None => None,
+            },
+            AnySections::Wide(sections) => sections.next(),
+        }
+    }
 }
 
 /// The sections of `count` section headers, in order; `UnexpectedEof` where a header is truncated, or there are no
 /// bytes.
-pub fn sections_in<C: Class>(headers: &[u8], byte_order: ByteOrder, count: Half) -> Sections<'_, C>
-    ensures { result ≡ walk C.table (headers_alone byte_order headers.entry.now count) }
+pub fn sections_in(
+    headers: &[u8],
+    width: Width,
+    byte_order: ByteOrder,
+    count: Half,
+) -> AnySections<'_>
+    ensures { sections_left result ≡ walk (class_of width) (headers_alone byte_order headers.entry.now count) }
 {
-    sections_of::<C>(headers_alone(headers, byte_order, count))
+    let table = headers_alone(headers, byte_order, count);
+    match width {
+        Width::Bits32 => AnySections::Narrow(sections_of::<u32>(table)),
+        Width::Bits64 => AnySections::Wide(sections_of::<u64>(table)),
+    }
+}
+
+/// The sections of a file of this class, in order, and the section names, where the file has them. Nothing is copied.
+/// `UnexpectedEof` where the file header is truncated.
+pub fn sections_of_file(
+    file: &[u8],
+    width: Width,
+    byte_order: ByteOrder,
+) -> Result<(AnySections<'_>, Option<&[u8]>), ParseError>
+    ensures { let table = section_table (class_of width) (record { order = byte_order; bytes = file.entry.now }) in
+        MatchResult result
+        (λ r. ((class_of width).header_length ≤ length file.entry.now)
+        × (sections_left r.0 ≡ walk (class_of width) table)
+        × (option_map (λ b. b.now) r.1 ≡ names_bytes (class_of width) table))
+        (λ e. (length file.entry.now < (class_of width).header_length) × (refusal_of e ≡ unexpected_eof)) }
+{
+    match width {
+        Width::Bits32 => {
+            let table = table_in::<u32>(file, byte_order)?;
+            let left = AnySections::Narrow(sections_of::<u32>(table));
+            Ok((left, names_bytes::<u32>(table)))
+        }
+        Width::Bits64 => {
+            let table = table_in::<u64>(file, byte_order)?;
+            let left = AnySections::Wide(sections_of::<u64>(table));
+            Ok((left, names_bytes::<u64>(table)))
+        }
+    }
+}
+
+fn table_in<C: Class>(file: &[u8], byte_order: ByteOrder) -> Result<Table<'_>, ParseError>
+    ensures { MatchResult result
+        (λ t. (C.table.header_length ≤ length file.entry.now)
+        × (table_view t ≡ section_table C.table (record { order = byte_order; bytes = file.entry.now })))
+        (λ e. (length file.entry.now < C.table.header_length) × (refusal_of e ≡ unexpected_eof)) }
+{
+    let header = parse_header::<C>(file, byte_order)?;
+    Ok(section_table(file, byte_order, &header))
 }
 
 /// The section's name in these section names.
-pub fn name_in<'a, C: Class>(names: Option<&'a [u8]>, section: &Section<C>) -> Option<&'a str>
+pub fn name_in<'a>(names: Option<&'a [u8]>, section: &Section<u64>) -> Option<&'a str>
     ensures { option_map
         (λ t. t.now) result ≡ name_among (option_map (λ b. b.now) names.entry)
-        (section_view C.number_of section.now).name_offset }
+        (section_view (λ n. n) section.now).name_offset }
 {
     name_at(names, section.name_offset)
 }
 
 /// Whether this is the section's name in these section names.
-pub fn is_named_in<C: Class>(names: Option<&[u8]>, section: &Section<C>, name: &str) -> bool
+pub fn is_named_in(names: Option<&[u8]>, section: &Section<u64>, name: &str) -> bool
     ensures { result ≡ is_named name.now (name_among (option_map (λ b. b.now) names.entry)
-        (section_view C.number_of section.now).name_offset) }
+        (section_view (λ n. n) section.now).name_offset) }
 {
     is_named(names, section.name_offset, name)
 }
 
 /// The name among these section names of the section of this index, one of `count` section headers.
-pub fn name_of_index<'a, C: Class>(
+#[inline(always)]
+pub fn name_of_index<'a>(
     headers: &[u8],
     names: Option<&'a [u8]>,
+    width: Width,
     byte_order: ByteOrder,
     count: Half,
     index: Word,
 ) -> Option<&'a str>
     ensures { option_map (λ t. t.now) result ≡ name_of_index (option_map (λ b. b.now) names.entry)
-        (walk C.table (headers_alone byte_order headers.now count)) index }
+        (walk (class_of width) (headers_alone byte_order headers.now count)) index }
 {
     if index >= u32::from(count) {
         return None;
     }
-    let start = index as usize * C::SECTION_LENGTH;
-    match section_at::<C>(headers, start, byte_order, index as Half) {
+    let start = index as usize * width.section_length();
+    match section_at(headers, start, width, byte_order, index as Half) {
         Ok(section) => name_at(names, section.name_offset),
         Err(_) => None,
     }
@@ -111,17 +242,4 @@ fn headers_alone(headers: &[u8], byte_order: ByteOrder, count: Half) -> Table<'_
         shnum: count,
         shstrndx: 0,
     }
-}
-
-/// The function symbols of so many sections in whole rows, whose names are in these strings.
-pub fn all_functions_in<'a, C: Class>(
-    rows: &'a [u8],
-    strings: &'a [u8],
-    byte_order: ByteOrder,
-    count: Half,
-) -> AllFunctions<'a, C>
-    ensures { all_left C.table result
-        ≡ section_entries_from C.table byte_order strings.entry.now count rows.entry.now 0 }
-{
-    AllFunctions::new(rows, strings, byte_order, count)
 }

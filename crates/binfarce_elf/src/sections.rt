@@ -31,6 +31,22 @@ pub struct Section<C> {
 }
 
 impl<C: Class> Section<C> {
+    /// The values in the wider class's types.
+    pub fn widened(self) -> Section<u64>
+        ensures { section_view (λ n. n) result ≡ section_view C.number_of self }
+    {
+        Section {
+            index: self.index,
+            name_offset: self.name_offset,
+            kind: self.kind,
+            address: self.address.widened(),
+            link: self.link,
+            offset: self.offset.widened(),
+            size: self.size.widened(),
+            entry_size: self.entry_size.widened(),
+        }
+    }
+
     /// The section's bytes as a range of the file (`sh_offset`, `sh_size`). It isn't checked against the file's length.
     ///
     /// # Errors
@@ -124,6 +140,7 @@ pub fn section_table<'a, C: Class>(
 }
 
 /// The section header at `start`, of the section with this index; refused where it is truncated.
+#[inline(always)]
 pub fn section_at<C: Class>(
     bytes: &[u8],
     start: usize,

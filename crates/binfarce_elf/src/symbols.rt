@@ -1,131 +1,199 @@
-//! The function symbols of one section.
+//! The function symbols of one section, or of all sections.
 
-ghost use Rattle.std.specs.Prelude.{◌≡◌, [], ◌∷◌, MatchOption, nat_eq};
+ghost use Rattle.std.specs.Prelude.{◌≡◌, [], ◌∷◌, map, Some, None, MatchOption, MatchResult, nat_eq};
 ghost use Rattle.std.specs.Option.{option_map};
 ghost use Rattle.binfarce_bytes.specs.Refusal.{Gives, refusal_of, unexpected_eof, symbols_section_is_missing, section_is_missing};
 ghost use Rattle.binfarce_bytes.specs.Walk.{first};
-ghost use Rattle.binfarce_bytes.specs.SymbolViews.{function_view};
+ghost use Rattle.binfarce_bytes.specs.Selection.{section_of};
+ghost use Rattle.binfarce_bytes.specs.SymbolViews.{function_view, section_function_view};
 ghost use Rattle.binfarce_bytes.specs.Found.{entry_at};
+ghost use Rattle.binfarce_elf.specs.Classes.{class_of};
 ghost use Rattle.binfarce_elf.specs.Elf.{walk, name_among};
 ghost use Rattle.binfarce_elf.specs.ElfParts.{needed_view, table_sections_view};
-ghost use Rattle.binfarce_elf.specs.ElfSymbols.{is_named, sought, string_table_kind, whole_rows, table_sections, needed, rows_at, listed_of, elf_answer, entries_from, is_function, function_name};
+ghost use Rattle.binfarce_elf.specs.ElfSymbols.{is_named, sought, string_table_kind, whole_rows, table_sections, taken, needed, rows_at, taken_from, elf_selected, entry_of, is_function, function_name};
 ghost use Rattle.binfarce_elf.specs.SymbolTables.{section_type, table_name, strings_name};
-ghost use Rattle.binfarce_elf.specs.ElfViews.{section_view, functions_left, functions_view};
+ghost use Rattle.binfarce_elf.specs.ElfViews.{section_view, accepts, taken_view, functions_left, selected_view};
 ghost use Rattle.binfarce_elf.specs.machine.RawElf.{symbol_view, table_view, rows_view};
 
-use crate::class::{Class, Half, SymbolRow, Word};
+use crate::class::{Class, Half, SymbolRow, Width, Word, row_at};
 use crate::sections::{Section, Table, first_section, names_bytes, section_data, section_named};
 use crate::symbol_table::{STRING_TABLE, SymbolTable};
-use binfarce_bytes::functions::{FunctionSymbol, found_with};
+use binfarce_bytes::functions::{FunctionSymbol, SectionFunction, Selection, found_with};
 use binfarce_bytes::parser::{UnexpectedEof, parse_null_string};
 use binfarce_bytes::{ByteOrder, ParseError};
-use std::marker::PhantomData;
+
+// The index of no section, and the first of the reserved indices.
+const SHN_UNDEF: Half = 0;
+
+const SHN_LORESERVE: Half = 0xff00;
 
 /// A symbol table's section, and that of its strings.
 #[derive(Clone, Copy)]
-pub struct TableSections<C> {
-    pub symbols: Section<C>,
-    pub strings: Section<C>,
+pub struct TableSections {
+    pub symbols: Section<u64>,
+    pub strings: Section<u64>,
 }
 
-/// The sections that the symbols of a section need: that section, and those of the symbol table.
+/// What a selection takes of a symbol table: the functions of the sections whose indices are in a range.
 #[derive(Clone, Copy)]
-pub struct Needed<C> {
-    pub section: Section<C>,
-    pub table: TableSections<C>,
+pub struct Taken {
+    /// The first index.
+    pub first: Half,
+    /// The last index; below the first one where there is none.
+    pub last: Half,
+    /// Whether indirect functions (`STT_GNU_IFUNC`) count.
+    pub indirect: bool,
+    /// The size of the selected section; `None` for all sections.
+    pub size: Option<u64>,
+}
+
+/// What a selection needs: what it takes, and the sections of the symbol table.
+#[derive(Clone, Copy)]
+pub struct Needed {
+    pub taken: Taken,
+    pub table: TableSections,
 }
 
 // The strings and the rows of a symbol table.
 #[derive(Clone, Copy)]
-pub(crate) struct Rows<'a> {
-    pub(crate) strings: &'a [u8],
-    pub(crate) rows: &'a [u8],
+struct Rows<'a> {
+    strings: &'a [u8],
+    rows: &'a [u8],
 }
 
-/// The function symbols of the section with this name, by this symbol table, and the section's size.
-#[tactic(auto, unfolding(crate::specs::ElfSymbols::elf_answer))]
-pub fn section_functions<'a, C: Class>(
+/// The function symbols of a selection, by this symbol table.
+#[tactic(auto, unfolding(crate::specs::ElfSymbols::elf_selected))]
+pub fn selected_functions<'a, C: Class>(
     table: Table<'a>,
     which: SymbolTable,
-    section_name: &str,
-) -> Result<(Functions<'a, C>, u64), ParseError>
-    ensures { Gives refusal_of (functions_view C.table)
-        (elf_answer which C.table (table_view table.entry) section_name.now) result }
+    selection: Selection<'_>,
+) -> Result<Functions<'a>, ParseError>
+    ensures { Gives refusal_of selected_view
+        (elf_selected which C.table (table_view table.entry) (section_of selection.entry)) result }
 {
-    let names = names_bytes::<C>(table);
-    let needed = needed_of::<C>(table, names, which, section_name)?;
-    let Rows { strings, rows } = rows_at::<C>(table.data, needed.table)?;
-    Ok(functions_in(rows, strings, table.byte_order, which, needed.section))
+    let width = C::width();
+    let needed = needed_of::<C>(table, names_bytes::<C>(table), which, selection)?;
+    let Rows { strings, rows } = rows_at(table.data, width, needed.table)?;
+    Ok(functions_in(rows, strings, width, table.byte_order, needed.taken))
 }
 
-/// The function symbols of this section in whole rows of this symbol table, whose names are in these strings, and the
-/// section's size.
-pub fn functions_in<'a, C: Class>(
+/// The function symbols that a selection takes of the rows of a symbol table of this class, whose names are in these
+/// strings.
+pub fn functions_in<'a>(
     rows: &'a [u8],
     strings: &'a [u8],
+    width: Width,
     byte_order: ByteOrder,
-    which: SymbolTable,
-    section: Section<C>,
-) -> (Functions<'a, C>, u64)
-    ensures { functions_view C.table result ≡ listed_of which C.table byte_order (section_view C.number_of section)
+    taken: Taken,
+) -> Functions<'a>
+    ensures entries { functions_left result ≡ taken_from (class_of width) byte_order (taken_view taken)
         (record { strings = strings.entry.now; rows = rows.entry.now }) }
+    ensures size { (selected_view result).size ≡ taken.size }
 {
-    let functions = Functions::new(
+    Functions {
         rows,
         strings,
+        width,
         byte_order,
-        which.has_indirect(),
-        section.index,
-    );
-    (functions, section.size.widened())
+        taken,
+        next: 0,
+    }
 }
 
-// The sections that the symbols of the section with this name among the section names need.
+// What the symbols of a selection need, with names among the section names.
 #[tactic(auto, unfolding(crate::specs::ElfSymbols::needed))]
 pub(crate) fn needed_of<C: Class>(
     table: Table<'_>,
     names: Option<&[u8]>,
     which: SymbolTable,
-    section_name: &str,
-) -> Result<Needed<C>, ParseError>
-    ensures { Gives refusal_of (needed_view C.number_of)
-        (needed which (walk C.table (table_view table.entry)) (option_map (λ b. b.now) names.entry) section_name.now)
-        result }
+    selection: Selection<'_>,
+) -> Result<Needed, ParseError>
+    ensures { Gives refusal_of needed_view
+        (needed which (walk C.table (table_view table.entry)) (option_map (λ b. b.now) names.entry) table.entry.shnum
+        (section_of selection.entry)) result }
 {
-    let section = named_section::<C>(table, names, section_name)?;
+    let taken = taken_by::<C>(table, names, which, selection)?;
     let sections = table_sections::<C>(table, which)?;
     Ok(Needed {
-        section,
+        taken,
         table: sections,
     })
 }
 
+#[tactic(auto, unfolding(crate::specs::ElfSymbols::taken))]
+fn taken_by<C: Class>(
+    table: Table<'_>,
+    names: Option<&[u8]>,
+    which: SymbolTable,
+    selection: Selection<'_>,
+) -> Result<Taken, ParseError>
+    ensures { Gives refusal_of taken_view
+        (taken which (walk C.table (table_view table.entry)) (option_map (λ b. b.now) names.entry) table.entry.shnum
+        (section_of selection.entry)) result }
+{
+    match selection {
+        Selection::Section(name) => {
+            let section = named_section::<C>(table, names, name)?;
+            Ok(Taken {
+                first: section.index,
+                last: section.index,
+                indirect: which.has_indirect(),
+                size: Some(section.size.widened()),
+            })
+        }
+        Selection::All => {
+            whole_sections::<C>(table)?;
+            Ok(Taken {
+                first: SHN_UNDEF + 1,
+                last: table.shnum.min(SHN_LORESERVE).saturating_sub(1),
+                indirect: true,
+                size: None,
+            })
+        }
+    }
+}
+
+// Refused where a section header is truncated.
+#[tactic(auto, unfolding(crate::specs::Elf::walk))]
+fn whole_sections<C: Class>(table: Table<'_>) -> Result<(), UnexpectedEof>
+    ensures { let end = (walk C.table (table_view table.entry)).refusal in MatchResult result
+        (λ _. end ≡ None) (λ _. end ≡ Some unexpected_eof) }
+{
+    let room = table.data.len().saturating_sub(table.shoff) / C::SECTION_LENGTH;
+    if table.shoff < table.data.len() && usize::from(table.shnum) <= room {
+        Ok(())
+    } else {
+        Err(UnexpectedEof {})
+    }
+}
+
 // The sections of this symbol table.
 #[tactic(auto, unfolding(crate::specs::ElfSymbols::table_sections))]
-pub(crate) fn table_sections<C: Class>(
+fn table_sections<C: Class>(
     table: Table<'_>,
     which: SymbolTable,
-) -> Result<TableSections<C>, ParseError>
-    ensures { Gives refusal_of (table_sections_view C.number_of)
+) -> Result<TableSections, ParseError>
+    ensures { Gives refusal_of table_sections_view
         (table_sections which (walk C.table (table_view table.entry))) result }
 {
     let symbols = symbol_table::<C>(table, which)?;
     let linked = linked_section::<C>(table, which, symbols.link)?;
     let strings = string_table(linked)?;
-    Ok(TableSections { symbols, strings })
+    Ok(TableSections {
+        symbols: symbols.widened(),
+        strings: strings.widened(),
+    })
 }
 
 // The rows and the strings of these sections.
 #[tactic(auto, unfolding(crate::specs::ElfSymbols::rows_at))]
-pub(crate) fn rows_at<C: Class>(
-    file: &[u8],
-    sections: TableSections<C>,
-) -> Result<Rows<'_>, ParseError>
-    ensures { Gives refusal_of rows_view (rows_at C.table file.now (table_sections_view C.number_of sections)) result }
+fn rows_at(file: &[u8], width: Width, sections: TableSections) -> Result<Rows<'_>, ParseError>
+    ensures { Gives refusal_of rows_view
+        (rows_at (class_of width) file.now (table_sections_view sections)) result }
 {
     let strings = section_data(file, sections.strings)?;
     let rows = section_data(file, sections.symbols)?;
-    let rows = whole_rows::<C>(rows)?;
+    let rows = whole_rows(width, rows)?;
     Ok(Rows { strings, rows })
 }
 
@@ -199,131 +267,150 @@ fn string_table<C: Class>(section: Section<C>) -> Result<Section<C>, ParseError>
     }
 }
 
-/// The rows of a symbol table, of which none is truncated.
-pub fn whole_rows<C: Class>(rows: &[u8]) -> Result<&[u8], ParseError>
-    ensures { Gives refusal_of (λ b. b.now) (whole_rows C.table rows.now) result }
+/// The rows of a symbol table of this class, of which none is truncated.
+pub fn whole_rows(width: Width, rows: &[u8]) -> Result<&[u8], ParseError>
+    ensures { Gives refusal_of (λ b. b.now) (whole_rows (class_of width) rows.now) result }
 {
-    if rows.len() % C::SYMBOL_LENGTH == 0 {
+    if rows.len() % width.symbol_length() == 0 {
         Ok(rows)
     } else {
         Err(ParseError::UnexpectedEof)
     }
 }
 
-/// An iterator over the function symbols of a section, in the order of the symbol table.
+/// An iterator over the function symbols of a selection, each with the index of its section, in the order of the symbol
+/// table.
 ///
 /// Rows are read on demand, and names stay in the file: nothing is allocated or copied.
 #[must_use = "iterators are lazy and do nothing unless consumed"]
 #[derive(Drop)]
-pub struct Functions<'a, C> {
+pub struct Functions<'a> {
     rows: &'a [u8],
     strings: &'a [u8],
+    width: Width,
     byte_order: ByteOrder,
-    indirect: bool,
-    index: Half,
+    taken: Taken,
     next: usize,
-    class: PhantomData<C>,
 }
 
-impl<'a, C: Class> Functions<'a, C> {
+impl<'a> Functions<'a> {
+    /// The size of the selected section in bytes (`sh_size`); `None` for all sections.
+    pub fn section_size(&self) -> Option<u64>
+        ensures { result ≡ (selected_view self.now).size }
+    {
+        self.taken.size
+    }
+
     /// The function symbol that an address symbolizes to, among those that are left: of those whose range holds it the
     /// one of greatest address, and of several the first. `None` where no range holds it.
     ///
     /// A range begins at the symbol's address (`st_value`) and has its size in bytes. Each row that is left is read once;
     /// nothing is allocated or copied.
-    #[tactic(auto, using(crate::proofs::RowsLeft::shown_is, crate::proofs::RowsLeft::none_at_first))]
+    #[tactic(auto, using(crate::proofs::RowsLeft::none_at_first))]
     pub fn symbol_at(self, address: u64) -> Option<FunctionSymbol<'a>>
-        ensures { option_map function_view result ≡ entry_at (functions_left C.table self.entry) address }
+        ensures { option_map function_view result
+            ≡ entry_at (map (λ e. e.entry) (functions_left self.entry)) address }
     {
         let mut found = None;
         for function in self {
-            found = found_with(found, function, address);
+            found = found_with(found, function.function, address);
         }
         found
     }
 
-    // The functions of the section `index` in whole rows.
-    pub(crate) fn new(
-        rows: &'a [u8],
-        strings: &'a [u8],
-        byte_order: ByteOrder,
-        indirect: bool,
-        index: Half,
-    ) -> Self
-        ensures { functions_left C.table result
-            ≡ entries_from C.table byte_order strings.entry.now indirect index rows.entry.now 0 }
+    // The first function that is left, and the number of the row after it.
+    #[inline(always)]
+    fn first_left(&self) -> Option<(SectionFunction<'a>, usize)>
+        ensures { MatchOption result (functions_left self.now ≡ [])
+            (λ r. functions_left self.now ≡ section_function_view r.0 ∷ functions_left
+            (record self.now { next = r.1 })) }
     {
-        Functions {
-            rows,
-            strings,
-            byte_order,
-            indirect,
-            index,
-            next: 0,
-            class: PhantomData,
+        match self.width {
+            Width::Bits32 => self.first_of(Width::Bits32),
+            Width::Bits64 => self.first_of(Width::Bits64),
         }
     }
 
-    // The first function that is left, and the number of the row after it.
+    // So by this class, whose size of a row the compiler knows.
     #[inline(always)]
-    #[tactic(auto, using(crate::proofs::RowsLeft::passed, crate::proofs::RowsLeft::kept, crate::proofs::RowsLeft::ended))]
-    fn first_left(&self) -> Option<(FunctionSymbol<'a>, usize)>
-        ensures { MatchOption result (functions_left C.table self.now ≡ [])
-            (λ r. functions_left C.table self.now ≡ function_view r.0 ∷ functions_left C.table
-            (record self.now { next = r.1 })) }
+    #[tactic(auto, using(crate::proofs::RowsLeft::ended))]
+    fn first_of(&self, width: Width) -> Option<(SectionFunction<'a>, usize)>
+        ensures { MatchOption result (functions_left (record self.now { width = width }) ≡ [])
+            (λ r. functions_left (record self.now { width = width }) ≡ section_function_view r.0 ∷ functions_left
+            (record self.now { width = width; next = r.1 })) }
     {
-        for k in self.next..self.rows.len() / C::SYMBOL_LENGTH {
-            let row = C::symbol(self.rows, k * C::SYMBOL_LENGTH, self.byte_order).unwrap();
-            match function_name(self.strings, self.indirect, self.index, row) {
+        let length = width.symbol_length();
+        for k in self.next..self.rows.len() / length {
+            let row = row_at(width, self.rows, k * length, self.byte_order).unwrap();
+            match function_of(self.strings, self.taken, row) {
                 None => continue,
-                Some(name) => {
-                    let function = FunctionSymbol {
-                        name,
-                        address: row.value,
-                        size: row.size,
-                    };
-                    return Some((function, k + 1));
-                }
+                Some(function) => return Some((function, k + 1)),
             }
         }
         None
     }
 }
 
-impl<'a, C: Class> Iterator for Functions<'a, C> {
+impl<'a> Iterator for Functions<'a> {
     ghost use Rattle.std.specs.Iterator.{YieldsFirstBy, item_count};
-    ghost use Rattle.binfarce_bytes.specs.SymbolViews.{function_view};
+    ghost use Rattle.binfarce_bytes.specs.SymbolViews.{section_function_view};
     ghost use Rattle.binfarce_elf.specs.ElfViews.{functions_left};
 
-    type Item = FunctionSymbol<'a>;
+    type Item = SectionFunction<'a>;
 
-    ghost next_gives = { YieldsFirstBy function_view (functions_left C.table) };
+    ghost next_gives = { YieldsFirstBy section_function_view functions_left };
 
-    ghost remaining = { item_count (functions_left C.table) };
+    ghost remaining = { item_count functions_left };
 
     #[inline(always)]
-    fn next(&mut self) -> Option<FunctionSymbol<'a>> {
+    fn next(&mut self) -> Option<SectionFunction<'a>> {
         let (function, next) = self.first_left()?;
         self.next = next;
         Some(function)
     }
 }
 
-// The name of a function of the section `index`, with a size and a name offset; of an indirect one where these count.
-#[tactic(auto, unfolding(crate::specs::ElfSymbols::function_name))]
-pub(crate) fn function_name(
-    strings: &[u8],
-    indirect: bool,
-    index: Half,
-    row: SymbolRow,
-) -> Option<&str>
-    ensures { option_map (λ t. t.now) result ≡ function_name strings.now indirect index (symbol_view row) }
+// The function of a row with its section, where it is taken.
+#[inline(always)]
+fn function_of(strings: &[u8], taken: Taken, row: SymbolRow) -> Option<SectionFunction<'_>>
+    ensures { option_map section_function_view result
+        ≡ entry_of strings.entry.now taken.indirect (accepts taken) (symbol_view row) }
 {
-    if row.section == index && row.size != 0 && row.name != 0 && is_function(indirect, row) {
+    let name = function_name(strings, taken, row)?;
+    Some(SectionFunction {
+        section: u32::from(row.section),
+        function: FunctionSymbol {
+            name,
+            address: row.value,
+            size: row.size,
+        },
+    })
+}
+
+// The name of a row's function, where it is taken.
+#[inline(always)]
+#[tactic(auto, unfolding(crate::specs::ElfSymbols::function_name))]
+fn function_name(strings: &[u8], taken: Taken, row: SymbolRow) -> Option<&str>
+    ensures { option_map (λ t. t.now) result
+        ≡ function_name strings.entry.now taken.indirect (accepts taken) (symbol_view row) }
+{
+    if accepts(taken, row.section)
+        && row.size != 0
+        && row.name != 0
+        && is_function(taken.indirect, row)
+    {
         parse_null_string(strings, row.name as usize)
     } else {
         None
     }
+}
+
+// Whether the functions of the section of this index are taken.
+#[inline(always)]
+fn accepts(taken: Taken, index: Half) -> bool
+    ensures { result ≡ accepts taken index }
+{
+    taken.first <= index && index <= taken.last
 }
 
 // Whether a row's type is that of a function; of an indirect one where these count.

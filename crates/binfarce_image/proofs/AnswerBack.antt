@@ -1,13 +1,16 @@
 -- From the sections that were found on, the reader answers what the image holds.
-use Rattle.std.proofs.Common.{◌≡◌, ℕ, ◌+◌, ◌-◌, ◌*◌, ◌/◌, ◌%◌, ◌^◌, ◌<◌, Bool, true, false, cond, eqb, List, [], length, Result, Ok, Err, refl, sym, ap, ◌∙◌, arith}
+use Rattle.std.proofs.Common.{◌≡◌, ℕ, ◌+◌, ◌-◌, ◌*◌, ◌/◌, ◌%◌, ◌^◌, ◌<◌, Bool, true, false, cond, eqb, List, [], length, map, Some, Result, Ok, Err, refl, sym, ap, ◌∙◌, arith}
 use Rattle.std.specs.List.{AllByRecursion, filter_map, flat_map, range_with_len}
 use Rattle.std.specs.Global.{Vec}
 use Rattle.std.proofs.lemmas.Bool.{eq-eqb}
 use Rattle.std.proofs.lemmas.Nat.{div-mul-add, mod-mul-add}
 use Rattle.binfarce.specs.Refusal.{Refusal, ◌>>=◌, unexpected_section_type, unexpected_eof}
 use Rattle.binfarce.specs.Elf.{ElfClass, Section, SectionTable}
+use Rattle.binfarce.specs.declared.ByteOrder.{ByteOrder}
 use Rattle.binfarce.specs.declared.SymbolTable.TheVariants.{Symtab}
-use Rattle.binfarce.specs.ElfSymbols.{section_data, string_table_kind, whole_rows, symbol_at, entry_of, entries_from, listed_of}
+use Rattle.binfarce.specs.ElfSymbols.{section_data, string_table_kind, whole_rows, TableRows, symbol_at, entry_of, entries_from, listed_of}
+use Rattle.binfarce.specs.SectionEntries.{SectionEntry}
+use Rattle.binfarce.specs.SymbolTables.{has_indirect}
 use Rattle.binfarce.specs.Symbol.{Entry, Listed}
 use Rattle.binfarce_image.specs.declared.image.ElfLayout.{ElfLayout}
 use Rattle.binfarce_image.specs.declared.image.Image.{Image}
@@ -23,6 +26,10 @@ use Rattle.binfarce_image.proofs.RowsBack.{rows_back}
 use Rattle.binfarce_image.proofs.WalkBack.{table_of}
 use Rattle.binfarce_image.proofs.PartsBack.{Holds, part_back}
 
+-- the entries of a section by the symbol table, and its size
+abbrev pub list_of : ElfClass → ByteOrder → Section → TableRows → Listed
+list_of class order text found = listed_of (record { entries = entries_from class order found.strings (has_indirect Symtab) (λ section. eqb section text.index) found.rows 0; size = Some text.size })
+
 -- the answer with these sections
 abbrev pub listed_with : ElfClass → SectionTable → Section → Section → Section → Result Listed Refusal
 listed_with class table text symbols linked = do
@@ -30,7 +37,7 @@ listed_with class table text symbols linked = do
   strings ← section_data table.file string_table
   part ← section_data table.file symbols
   rows ← whole_rows class part
-  Ok (listed_of Symtab class table.order text (record { strings = strings; rows = rows }))
+  Ok (list_of class table.order text (record { strings = strings; rows = rows }))
 
 -- what the image answers with these parts
 abbrev pub answer_with : ℕ × Part → Part → Part → Result Listed Refusal
@@ -57,12 +64,13 @@ from_none n = omega arith
 -- the entries of the written rows
 entries_back : (layout : ElfLayout) (strings : List ℕ) (index : ℕ) (rows : List Row) (written : List ℕ) → written ≡ flat_map (symbol_bytes (class_of layout) (order_of layout)) rows
     → length written ≡ length rows * (class_of layout).symbol_length → AllByRecursion RowFits rows
-    → entries_from (class_of layout) (order_of layout) strings false index written 0 ≡ image_entries strings index rows
+    → map (λ (e : SectionEntry). e.entry) (entries_from (class_of layout) (order_of layout) strings false (λ section. eqb section index) written 0) ≡ image_entries strings index rows
 entries_back layout strings index rows written are long fits =
     let class = class_of layout in
     let order = order_of layout in
-    ap (λ (n : ℕ). filter_map (λ row. entry_of strings false index (symbol_at class order written (row * class.symbol_length))) (range_with_len 0 n)) (from_none (length written / class.symbol_length) ∙ count_is (length written) (length rows) class.symbol_length (is_class layout).symbol_some long)
-    ∙ rows_back layout strings index written [] 0 rows are (omega arith) fits
+    let accepts : ℕ → Bool = λ section. eqb section index in
+    ap (λ (n : ℕ). map (λ (e : SectionEntry). e.entry) (filter_map (λ row. entry_of strings false accepts (symbol_at class order written (row * class.symbol_length))) (range_with_len 0 n))) (from_none (length written / class.symbol_length) ∙ count_is (length written) (length rows) class.symbol_length (is_class layout).symbol_some long)
+    ∙ ap (map (λ (e : SectionEntry). e.entry)) (rows_back layout strings accepts written [] 0 rows are (omega arith) fits)
 
 -- the size of the section that was asked for
 size_back : (class : ElfClass) (part : Part) → is_table part ≡ false → body_length class part ≡ part_size part
@@ -73,9 +81,9 @@ same_listed : (a b : List Entry) (m n : ℕ) → a ≡ b → m ≡ n → Path (R
 same_listed a b m n p q = cc
 
 listed_is : (class : ElfClass) (table : SectionTable) (text symbols linked : Section) (strings rows : List ℕ) → string_table_kind linked ≡ Ok linked → section_data table.file linked ≡ Ok strings
-    → section_data table.file symbols ≡ Ok rows → whole_rows class rows ≡ Ok rows → listed_with class table text symbols linked ≡ Ok (listed_of Symtab class table.order text (record { strings = strings; rows = rows }))
+    → section_data table.file symbols ≡ Ok rows → whole_rows class rows ≡ Ok rows → listed_with class table text symbols linked ≡ Ok (list_of class table.order text (record { strings = strings; rows = rows }))
 listed_is class table text symbols linked strings rows kind first second whole =
-    let end : List ℕ → List ℕ → Result Listed Refusal = λ s r. Ok (listed_of Symtab class table.order text (record { strings = s; rows = r })) in
+    let end : List ℕ → List ℕ → Result Listed Refusal = λ s r. Ok (list_of class table.order text (record { strings = s; rows = r })) in
     ap (λ (r : Result Section Refusal). r >>= λ (t : Section). section_data table.file t >>= λ (s : List ℕ). section_data table.file symbols >>= λ (p : List ℕ). whole_rows class p >>= λ (q : List ℕ). end s q) kind
     ∙ ap (λ (r : Result (List ℕ) Refusal). r >>= λ (s : List ℕ). section_data table.file symbols >>= λ (p : List ℕ). whole_rows class p >>= λ (q : List ℕ). end s q) first
     ∙ ap (λ (r : Result (List ℕ) Refusal). r >>= λ (p : List ℕ). whole_rows class p >>= λ (q : List ℕ). end strings q) second
@@ -85,7 +93,7 @@ kind_refused : (class : ElfClass) (table : SectionTable) (text symbols linked : 
 kind_refused class table text symbols linked kind is other =
     let refused : string_table_kind linked ≡ Err (unexpected_section_type 3 kind) =
     ap (λ (k : ℕ). cond (eqb k 3) (Ok linked) (Err (unexpected_section_type 3 k))) is ∙ ap (λ (b : Bool). cond b (Ok linked) (Err (unexpected_section_type 3 kind))) other in
-    ap (λ (r : Result Section Refusal). r >>= λ (t : Section). section_data table.file t >>= λ (s : List ℕ). section_data table.file symbols >>= λ (p : List ℕ). whole_rows class p >>= λ (q : List ℕ). Ok (listed_of Symtab class table.order text (record { strings = s; rows = q }))) refused
+    ap (λ (r : Result Section Refusal). r >>= λ (t : Section). section_data table.file t >>= λ (s : List ℕ). section_data table.file symbols >>= λ (p : List ℕ). whole_rows class p >>= λ (q : List ℕ). Ok (list_of class table.order text (record { strings = s; rows = q }))) refused
 
 kind_passes : (linked : Section) (kind : ℕ) → linked.kind ≡ kind → eqb kind 3 ≡ true → string_table_kind linked ≡ Ok linked
 kind_passes linked kind is same = ap (λ (b : Bool). cond b (Ok linked) (Err (unexpected_section_type 3 linked.kind))) (ap (λ (k : ℕ). eqb k 3) is ∙ same)
@@ -106,7 +114,7 @@ module _ (image : Image) (layout : ElfLayout) (small : length (bytes image layou
       let listed = listed_is class table text symbols linked strings.items written (kind_passes linked kind (ap (λ (x : Section). x.kind) r.is) is) first second whole in
       let index : text.index ≡ found.0 = ap (λ (x : Section). x.index) t.is in
       let size : text.size ≡ part_size found.1 = ap (λ (x : Section). x.size) t.is ∙ size_back class found.1 other in
-      let all = entries_from class order strings.items false text.index written 0 in
+      let all = map (λ (e : SectionEntry). e.entry) (entries_from class order strings.items false (λ section. eqb section text.index) written 0) in
       let entries : all ≡ image_entries strings.items found.0 rows.items = entries_back layout strings.items text.index rows.items written refl long s.fits.2 ∙ ap (λ (i : ℕ). image_entries strings.items i rows.items) index in
       listed
       ∙ same_listed all (image_entries strings.items found.0 rows.items) text.size (part_size found.1) entries size

@@ -1,5 +1,5 @@
 -- The function symbols of an image, read from its parts and rows directly, and the law: its file in any layout reads back to them.
-use Rattle.std.specs.Prelude.{◌≡◌, ◌^◌, ◌<◌, ℕ, false, List, [], length, codes, Option, Some, None, Result, Ok, Err, find, nat_eq, if◌then◌else◌}
+use Rattle.std.specs.Prelude.{◌≡◌, ◌^◌, ◌<◌, ℕ, false, List, [], length, map, codes, Option, Some, None, Result, Ok, Err, find, nat_eq, if◌then◌else◌}
 use Rattle.std.specs.List.{AllByRecursion, enumerate_from, filter_map, slice_get}
 use Rattle.std.specs.Option.{option_and_then}
 use Rattle.binfarce.specs.Text.{text_at}
@@ -46,7 +46,7 @@ symbol_of row = record { name = row.name; value = row.address; size = row.size; 
 
 -- the entries of the rows, in table order
 abbrev pub entries_of : List ℕ → ℕ → List Row → List Entry
-entries_of strings index rows = filter_map (λ row. entry_of strings (has_indirect Symtab) index (symbol_of row)) rows
+entries_of strings index rows = map (λ e. e.entry) (filter_map (λ row. entry_of strings (has_indirect Symtab) (λ section. nat_eq section index) (symbol_of row)) rows)
 
 -- the refusals in order; else the entries of the table's rows, and the size of the requested part
 unfoldable pub symbols_of : Image → List ℕ → Result Listed Refusal

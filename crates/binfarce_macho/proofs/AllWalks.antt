@@ -7,10 +7,11 @@ use Rattle.std.proofs.lemmas.List.{append-nil, length-take, length-append, lengt
 use Rattle.std.proofs.lemmas.List.Elements.{All-nil, All-cons, All-same, All-append}
 use Rattle.std.proofs.lemmas.List.FromFn.{take-map-range_with_len, map-range_with_len_more}
 use Rattle.binfarce_bytes.specs.declared.error.ParseError.{ParseError}
+use Rattle.binfarce_bytes.specs.declared.error.ParseError.TheVariants.{OutOfMemory}
 use Rattle.binfarce_bytes.specs.Refusal.{Refusal, refusal_of, out_of_memory, unexpected_eof}
 use Rattle.binfarce_bytes.specs.Walk.{Walk, ended, ahead_of, and_then}
 use Rattle.binfarce_macho.specs.Macho.{Command, Section, commands, body_of, section_offset, section_count, whole_headers, segment, walk}
-use Rattle.binfarce_macho.specs.MachoAll.{first_starts, starts_in, starts_among, section_starts, HasSection}
+use Rattle.binfarce_macho.specs.MachoSections.{first_starts, starts_in, starts_among, section_starts, HasSection}
 use Rattle.binfarce_macho.proofs.Walks.{segment_truncated, segment_refusal, sections_left, segment_left, other_left, no_left, walk_is}
 
 module _ {A : Type 0} where
@@ -167,3 +168,9 @@ returns_refusal file (Err e) Q why is at = inl (at ∙ ap Err (sym is))
 pub returns_error : {X : Type 0} (file : List ℕ) (result : Result X ParseError) (Q : X → Type 0) (error : ParseError) → IsErrAnd result (λ e. e ≡ error) → Starts file error → MatchResult result Q (Starts file)
 returns_error file (Ok x) Q error is p = absurd is
 returns_error file (Err e) Q error is p = subst (Starts file) (sym is) p
+
+-- an allocation failed
+pub out_of_memory_returns : {X : Type 0} (N : Type 0) (P : ParseError → Type 0) (Q : X → Type 0) (result : Result X ParseError) → N → IsErrAnd result (λ e. e ≡ OutOfMemory)
+    → MatchResult result Q (λ e. P e ⊎ ((refusal_of e ≡ out_of_memory) × N))
+out_of_memory_returns N P Q (Ok x) needs is = absurd is
+out_of_memory_returns N P Q (Err e) needs is = inr (ap refusal_of is, needs)

@@ -1,14 +1,11 @@
 -- What is kept of rows up to a refusal, as a loop goes over them.
-use Rattle.std.proofs.Common.{◌≡◌, ◌≢◌, ℕ, zero, suc, ◌+◌, ◌<◌, ◌≤◌, ◌*◌, ◌/◌, Bool, true, false, cond, not, nat_eq, All, List, [], ◌∷◌, ◌++◌, length, get_or, take, drop, map, Option, Some, None, Result, Ok, Err, refl, sym, ap, subst, ◌∙◌, arith, drop-cons}
+use Rattle.std.proofs.Common.{◌≡◌, ◌≢◌, ℕ, suc, ◌+◌, ◌<◌, Bool, true, false, cond, not, nat_eq, List, [], ◌∷◌, ◌++◌, length, get_or, take, drop, map, Option, Some, None, Result, Ok, Err, refl, sym, ap, ◌∙◌, arith, drop-cons}
 use Rattle.std.specs.List.{range_with_len, filter_map, cons_option}
 use Rattle.std.proofs.lemmas.List.{append-nil, take_more, take-append-drop}
 use Rattle.std.proofs.lemmas.Bool.{not-true, not-false}
 use Rattle.binfarce_bytes.specs.Refusal.{◌>>=◌, Refusal}
-use Rattle.binfarce_macho.specs.MachoSymbols.{kept, symbol_of, address_of, row_addresses}
+use Rattle.binfarce_macho.specs.MachoSymbols.{kept, symbol_of, address_of}
 use Rattle.binfarce_bytes.specs.Sizes.{RowAddress}
-use Rattle.binfarce_bytes.specs.declared.sizes.RowAddress as code
-use Rattle.binfarce_bytes.specs.RowViews.{row_view, rows_view}
-use Rattle.std.proofs.lemmas.List.Elements.{All-nil, All-cons, All-head, All-tail, All-append, All-same}
 use Rattle.binfarce_macho.proofs.Walks.{kept_after}
 use Rattle.binfarce_bytes.proofs.Rows.{one_more}
 
@@ -36,38 +33,13 @@ address_some rows k v e some = rw (← e, not-true (nat_eq v 0) some) refl
 pub address_none : (rows : List ℕ) (k v : ℕ) → v ≡ (symbol_of rows k).value → not (nat_eq v 0) ≡ false → address_of rows k ≡ None
 address_none rows k v e none = rw (← e, not-false (nat_eq v 0) none) refl
 
--- what holds of each kept row
-pub all_kept : {X : Type 0} (P : X → Type 0) (f : ℕ → Option X) (n : ℕ) → ((k : ℕ) (x : X) → k < n → f k ≡ Some x → P x) → All P (filter_map f (range_with_len 0 n))
-all_kept P f zero each = All-nil P
-all_kept {X} P f (suc n) each = subst (λ (m : ℕ). All P (filter_map f (range_with_len 0 m))) (more n) (All-same P (filter_map f (range_with_len 0 (n + 1))) (filter_map f (range_with_len 0 n) ++ cons_option (f n) []) (one_more f n) (All-append P (filter_map f (range_with_len 0 n)) (cons_option (f n) []) (all_kept P f n (λ k x lt e. each k x (omega arith) e)) (last (f n) refl)))
-  where
-    more : (n : ℕ) → n + 1 ≡ suc n
-    more n = omega arith
-
-    last : (o : Option X) → f n ≡ o → All P (cons_option o [])
-    last None e = All-nil P
-    last (Some x) e = All-cons P x [] (each n x (omega arith) e) (All-nil P)
-
+-- the number of a row that is kept
 pub address_row : (rows : List ℕ) (k : ℕ) (x : RowAddress) → address_of rows k ≡ Some x → x.row ≡ k
 address_row rows k x e = by_test (nat_eq (symbol_of rows k).value 0) e
   where
     by_test : (b : Bool) → cond b None (Some (record { address = (symbol_of rows k).value; row = k })) ≡ Some x → x.row ≡ k
     by_test true e = absurd cc
     by_test false e = let same : record { address = (symbol_of rows k).value; row = k } ≡ x = cc in ap (λ (r : RowAddress). r.row) (sym same)
-
--- each address is that of a whole row
-pub rows_inside : (rows : List ℕ) → All (λ r. r.row * 16 + 16 ≤ length rows) (row_addresses rows)
-rows_inside rows = all_kept (λ r. r.row * 16 + 16 ≤ length rows) (address_of rows) (length rows / 16) (λ k x lt e. let at : x.row ≡ k = address_row rows k x e in omega arith)
-
--- the same of rows that are seen as these
-pub rows_view_inside : (rows : List ℕ) (addresses : List code.RowAddress) → rows_view addresses ≡ row_addresses rows → All (λ r. r.index * 16 + 16 ≤ length rows) addresses
-rows_view_inside rows addresses is = each addresses (All-same (λ r. r.row * 16 + 16 ≤ length rows) (rows_view addresses) (row_addresses rows) is (rows_inside rows))
-  where
-    each : (xs : List code.RowAddress) → All (λ r. r.row * 16 + 16 ≤ length rows) (rows_view xs) → All (λ r. r.index * 16 + 16 ≤ length rows) xs
-    each [] all = All-nil _
-    each (x ∷ xs) all =
-        let P = λ (r : RowAddress). r.row * 16 + 16 ≤ length rows in
-        All-cons (λ r. r.index * 16 + 16 ≤ length rows) x xs (All-head P (row_view x) (rows_view xs) all) (each xs (All-tail P (row_view x) (rows_view xs) all))
 
 pub empty : {X : Type 0} (xs : List X) → length xs ≡ 0 → xs ≡ []
 empty [] e = refl

@@ -5,7 +5,8 @@ pub mod MachoAnswers
 pub mod MachoLaws
 pub mod SectionNames
 pub mod SectionsLeft
-pub mod Needs
 pub mod Held
-pub mod AllRows
 pub mod AllWalks
+pub mod Groups
+pub mod SectionLists
+pub mod Selected

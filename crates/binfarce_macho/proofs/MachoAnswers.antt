@@ -13,63 +13,54 @@ use Rattle.binfarce_bytes.specs.declared.functions.FunctionSymbol.{FunctionSymbo
 use Rattle.binfarce_bytes.specs.Entries.{Entry, Listed, Answers}
 use Rattle.binfarce_bytes.specs.SymbolViews.{function_view, HoldsFunctions}
 use Rattle.binfarce_bytes.specs.Sizes.{RowAddress, arranged}
-use Rattle.binfarce_macho.specs.MachoSymbols.{Located, located, answer_of, listed_of, macho_answer, entry_of, kept, row_addresses, HasAddress}
+use Rattle.binfarce_macho.specs.MachoSymbols.{Located, located, answer_of, macho_answer, entry_of, kept, row_addresses, HasAddress}
 
-module _ {X : Type 0} (Holds : Listed → X → Type 0) where
+module _ {L X : Type 0} (Holds : L → X → Type 0) where
   -- an allocation failed where the answer needs one
-  pub out_of_memory_answers : (Needs : Result Listed Refusal → Type 0) (answer : Result Listed Refusal) (result : Result X ParseError) → Needs answer → IsErrAnd result (λ e. e ≡ OutOfMemory) → Answers Holds Needs answer result
+  pub out_of_memory_answers : (Needs : Result L Refusal → Type 0) (answer : Result L Refusal) (result : Result X ParseError) → Needs answer → IsErrAnd result (λ e. e ≡ OutOfMemory) → Answers Holds Needs answer result
   out_of_memory_answers Needs answer (Ok value) needs is = absurd is
   out_of_memory_answers Needs (Ok listed) (Err e) needs is = (ap refusal_of is, needs)
   out_of_memory_answers Needs (Err why) (Err e) needs is = inr (ap refusal_of is, needs)
 
   -- a refusal that a `?` passes on
-  pub refusal_answers : (Needs : Result Listed Refusal → Type 0) (answer : Result Listed Refusal) (error : ParseError) (result : Result X ParseError) → answer ≡ Err (refusal_of error) → IsErrAnd result (λ e. e ≡ error) → Answers Holds Needs answer result
+  pub refusal_answers : (Needs : Result L Refusal → Type 0) (answer : Result L Refusal) (error : ParseError) (result : Result X ParseError) → answer ≡ Err (refusal_of error) → IsErrAnd result (λ e. e ≡ error) → Answers Holds Needs answer result
   refusal_answers Needs answer error (Ok value) at is = absurd is
   refusal_answers Needs answer error (Err e) at is = rw (at, is) (inl refl)
 
+  -- the value holds the answer
+  pub value_answers : (Needs : Result L Refusal → Type 0) (answer : Result L Refusal) (held : L) (value : X) → answer ≡ Ok held → Holds held value → Answers Holds Needs answer (Ok value)
+  value_answers Needs answer held value is holds = rw is holds
+
+  -- a call whose answer is the same returned an error, or a value
+  module _ {Y : Type 0} (Given : L → Y → Type 0) (N M : Type 0) (a b : Result L Refusal) (same : a ≡ b) where
+    pub error_answers : (error : ParseError) (result : Result X ParseError) → (N → M) → Answers Given (λ _. N) a (Err error) → IsErrAnd result (λ e. e ≡ error) → Answers Holds (λ _. M) b result
+    error_answers error (Ok value) more given is = absurd is
+    error_answers error (Err e) more given is = subst (λ (x : Result L Refusal). Answers Holds (λ _. M) x (Err e)) same (by_case a given)
+      where
+        by_case : (a : Result L Refusal) → Answers Given (λ _. N) a (Err error) → Answers Holds (λ _. M) a (Err e)
+        by_case (Ok held) h = (ap refusal_of is ∙ h.0, more h.1)
+        by_case (Err why) (inl refused) = inl (ap refusal_of is ∙ refused)
+        by_case (Err why) (inr both) = inr (ap refusal_of is ∙ both.0, more both.1)
+
+    pub given_answers : (given : Y) (value : X) → ((held : L) → Given held given → Holds held value) → Answers Given (λ _. N) a (Ok given) → Answers Holds (λ _. M) b (Ok value)
+    given_answers given value each h = subst (λ (x : Result L Refusal). Answers Holds (λ _. M) x (Ok value)) same (by_case a h)
+      where
+        by_case : (a : Result L Refusal) → Answers Given (λ _. N) a (Ok given) → Answers Holds (λ _. M) a (Ok value)
+        by_case (Ok held) h = each held h
+        by_case (Err why) h = h
+
   -- the same answer, where all that needed memory does
-  pub same_answer : (N M : Type 0) (a b : Result Listed Refusal) (result : Result X ParseError) → a ≡ b → (N → M) → Answers Holds (λ _. N) a result → Answers Holds (λ _. M) b result
-  same_answer N M a b result same more answers = subst (λ (x : Result Listed Refusal). Answers Holds (λ _. M) x result) same (by_case a result answers)
+  pub same_answer : (N M : Type 0) (a b : Result L Refusal) (result : Result X ParseError) → a ≡ b → (N → M) → Answers Holds (λ _. N) a result → Answers Holds (λ _. M) b result
+  same_answer N M a b result same more answers = subst (λ (x : Result L Refusal). Answers Holds (λ _. M) x result) same (by_case a result answers)
     where
-      by_case : (a : Result Listed Refusal) (result : Result X ParseError) → Answers Holds (λ _. N) a result → Answers Holds (λ _. M) a result
+      by_case : (a : Result L Refusal) (result : Result X ParseError) → Answers Holds (λ _. N) a result → Answers Holds (λ _. M) a result
       by_case (Ok listed) (Ok value) h = h
       by_case (Ok listed) (Err e) h = (h.0, more h.1)
       by_case (Err why) (Ok value) h = h
       by_case (Err why) (Err e) (inl is) = inl is
       by_case (Err why) (Err e) (inr both) = inr (both.0, more both.1)
 
--- a table without an address lists nothing
-pub nothing_listed : (Needs : Result Listed Refusal → Type 0) (found : Located) (functions : Vec FunctionSymbol) → row_addresses found.rows ≡ [] → functions.items ≡ []
-    → Answers HoldsFunctions Needs (answer_of (Some found)) (Ok (functions, found.text_size))
-unfolding answer_of kept arranged
-nothing_listed Needs found functions none empty = rw (none, empty) (refl, refl)
-
--- the rows list what was kept of them
-pub rows_listed : (Needs : Result Listed Refusal → Type 0) (found : Located) (rows : List RowAddress) (functions : Vec FunctionSymbol) → kept (entry_of found) rows ≡ Ok (map function_view functions.items)
-    → Answers HoldsFunctions Needs (listed_of found rows) (Ok (functions, found.text_size))
-rows_listed Needs found rows functions is = rw is (refl, refl)
-
--- a row is refused
-pub row_refused : (found : Located) (rows : List RowAddress) (why : Refusal) → kept (entry_of found) rows ≡ Err why → listed_of found rows ≡ Err why
-row_refused found rows why is = rw is refl
-
-pub table_listed : (found : Located) (rows : List RowAddress) → rows ≡ arranged (row_addresses found.rows) → listed_of found rows ≡ answer_of (Some found)
-unfolding answer_of
-table_listed found rows is = ap (listed_of found) is
-
 module _ (file : List ℕ) where
-  pub answer_at : (o : Option Located) → located file ≡ Ok o → macho_answer file ≡ answer_of o
-  unfolding macho_answer
-  answer_at o at = rw at refl
-
-  pub refused_answer : (e : ParseError) → located file ≡ Err (refusal_of e) → macho_answer file ≡ Err (refusal_of e)
-  unfolding macho_answer
-  refused_answer e at = rw at refl
-
-  pub no_table_answer : (Needs : Result Listed Refusal → Type 0) (functions : Vec FunctionSymbol) → located file ≡ Ok None → functions.items ≡ [] → Answers HoldsFunctions Needs (macho_answer file) (Ok (functions, 0))
-  unfolding macho_answer answer_of
-  no_table_answer Needs functions at none = rw (at, none) (refl, refl)
-
   -- a list that isn't empty needs a table with an address
   pub needs_address : (listed : Listed) (entry : Entry) (others : List Entry) → macho_answer file ≡ Ok listed → listed.entries ≡ entry ∷ others → HasAddress file
   unfolding macho_answer answer_of kept arranged

@@ -2,5 +2,6 @@ pub mod Macho
 pub mod MachoSymbols
 pub mod MachoViews
 pub mod MachoParts
-pub mod MachoAll
+pub mod MachoSections
+pub mod MachoSelection
 pub mod machine

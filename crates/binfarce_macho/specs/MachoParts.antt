@@ -1,12 +1,8 @@
--- The first bytes of a Mach-O file that hold its load commands, and what clauses see of the tables that its function symbols need.
-use Rattle.std.specs.Prelude.{◌≢◌, ℕ, zero, suc, ◌+◌, Bool, true, false, ◌&&◌, List, [], length, Option, Some, None, nat_eq, nat_lt, nat_le, if◌then◌else◌}
-use Rattle.std.specs.Option.{option_map}
-use Rattle.binfarce_macho.specs.declared.parts.Needed.{Needed}
-use Rattle.binfarce_macho.specs.declared.symbols.Located as code
+-- The first bytes of a Mach-O file that hold its load commands, and what clauses see of its symbol table's command.
+use Rattle.std.specs.Prelude.{ℕ, zero, suc, ◌+◌, Bool, true, false, ◌&&◌, List, length, nat_eq, nat_lt, nat_le, if◌then◌else◌}
 use Rattle.binfarce_macho.specs.declared.symbols.SymbolTable as raw
 use Rattle.binfarce_macho.specs.Macho.{Command, header_of, header_length, command_length, command_at, body_of, is_segment, section_count, section_offset}
-use Rattle.binfarce_macho.specs.MachoSymbols.{SymbolTable, symbol_table_length, NeededTables, Located, row_addresses}
-use Rattle.binfarce_macho.specs.MachoViews.{section_view}
+use Rattle.binfarce_macho.specs.MachoSymbols.{SymbolTable, symbol_table_length}
 
 -- what is read of a command's body lies in these bytes: the section structures of a segment command, the four numbers of a symbol table's
 abbrev pub holds_body : List ℕ → Command → Bool
@@ -27,19 +23,6 @@ holds_from bytes (suc n) offset =
 abbrev pub holds_commands : List ℕ → Bool
 holds_commands bytes = holds_from bytes (header_of bytes).ncmds header_length
 
--- an address of a table, where there is one
-abbrev pub SomeAddress : Option Located → Type 0
-SomeAddress None = ⊥
-SomeAddress (Some found) = row_addresses found.rows ≢ []
-
 -- a `SymbolTable`
 abbrev pub table_view : raw.SymbolTable → SymbolTable ℕ
 table_view t = record { symbol_offset = t.symbol_offset; row_count = t.row_count; strings_offset = t.strings_offset; strings_size = t.strings_size }
-
--- a `Needed`
-abbrev pub needed_view : Needed → NeededTables
-needed_view n = record { text = section_view n.text; table = option_map table_view n.table }
-
--- a `Located`
-abbrev pub located_view : code.Located → Located
-located_view l = record { text_end = l.text_end; text_size = l.text_size; strings = l.strings.now; rows = l.rows.now }

@@ -78,6 +78,18 @@ text_section file = first (λ section. is_named (codes "__TEXT") (codes "__text"
 abbrev pub some_size : Section → Result Section Refusal
 some_size section = if nat_eq section.size 0 then Err malformed_input else Ok section
 
+-- where a section is in memory: its address, and its size in bytes
+pub record Extent : Type 0 where
+  pub address : ℕ
+  pub size : ℕ
+
+-- where the text is; it isn't empty
+abbrev pub text_extent : List ℕ → Result Extent Refusal
+text_extent file = do
+  found ← text_section file
+  text ← some_size found
+  Ok (record { address = text.address; size = text.size })
+
 -- LC_SYMTAB: the first such command, or none; a bad command before it is refused
 abbrev pub symbol_command : List ℕ → Result (Option Command) Refusal
 symbol_command file = first (λ command. nat_eq command.kind 2) (commands file)
@@ -87,11 +99,6 @@ abbrev pub whole_table : List ℕ → Command → Result (SymbolTable ℕ) Refus
 whole_table file command =
     if nat_le (body_of command + symbol_table_length) (length file) then Ok (symbol_table_at file (body_of command)) else Err unexpected_eof
 
--- the text section, and the symbol table's command, if any
-pub record NeededTables : Type 0 where
-  pub text : Section
-  pub table : Option (SymbolTable ℕ)
-
 abbrev pub named_table : List ℕ → Option Command → Result (Option (SymbolTable ℕ)) Refusal
 named_table file None = Ok None
 named_table file (Some command) = whole_table file command >>= λ table. Ok (Some table)
@@ -100,46 +107,48 @@ named_table file (Some command) = whole_table file command >>= λ table. Ok (Som
 abbrev pub table_of : List ℕ → Result (Option (SymbolTable ℕ)) Refusal
 table_of file = symbol_command file >>= named_table file
 
--- the refusals in order; else these tables
-unfoldable pub needed : List ℕ → Result NeededTables Refusal
-needed file = do
-  found ← text_section file
-  text ← some_size found
-  command ← symbol_command file
-  table ← named_table file command
-  Ok (record { text = text; table = table })
+-- the string table, and the rows of the symbol table, of which none is truncated
+pub record Symbols : Type 0 where
+  pub strings : List ℕ
+  pub rows : List ℕ
+
+-- the tables that the symbol table's command names, which have to lie in the file; None where there is no such command
+abbrev pub symbols_by : List ℕ → Option (SymbolTable ℕ) → Result (Option Symbols) Refusal
+symbols_by file None = Ok None
+symbols_by file (Some table) = do
+  strings ← slice_at file table.strings_offset table.strings_size
+  rows ← slice_at file table.symbol_offset (symbol_length * table.row_count)
+  Ok (Some (record { strings = strings; rows = rows }))
 
 -- where the text ends: below 2^64
-abbrev pub text_end_of : Section → Result ℕ Refusal
+abbrev pub text_end_of : Extent → Result ℕ Refusal
 text_end_of text = if nat_lt (text.address + text.size) (2 ^ 64) then Ok (text.address + text.size) else Err malformed_input
 
--- the text's end and size, the string table, and the rows, of which none is truncated
+-- the text's end and size, the string table, and the rows
 pub record Located : Type 0 where
   pub text_end : ℕ
   pub text_size : ℕ
   pub strings : List ℕ
   pub rows : List ℕ
 
--- the bytes of the string table and of the symbol table, which lie in the file
-unfoldable pub located_in : List ℕ → Section → SymbolTable ℕ → Result Located Refusal
-located_in file text table = do
-  strings ← slice_at file table.strings_offset table.strings_size
-  rows ← slice_at file table.symbol_offset (symbol_length * table.row_count)
+-- the text with its symbols
+unfoldable pub located_at : Extent → Symbols → Result Located Refusal
+located_at text symbols = do
   text_end ← text_end_of text
-  Ok (record { text_end = text_end; text_size = text.size; strings = strings; rows = rows })
+  Ok (record { text_end = text_end; text_size = text.size; strings = symbols.strings; rows = symbols.rows })
 
--- where the symbols of that table are; None where there is no table
-abbrev pub of_table : List ℕ → Section → Option (SymbolTable ℕ) → Result (Option Located) Refusal
-of_table file text None = Ok None
-of_table file text (Some table) = located_in file text table >>= λ found. Ok (Some found)
-
--- the same for the needed tables
-abbrev pub tables_in : List ℕ → NeededTables → Result (Option Located) Refusal
-tables_in file n = of_table file n.text n.table
+-- the same, where there is a symbol table
+abbrev pub located_by : Extent → Option Symbols → Result (Option Located) Refusal
+located_by text None = Ok None
+located_by text (Some symbols) = located_at text symbols >>= λ found. Ok (Some found)
 
 -- the refusals in order; else where the symbols are, or None where the file has no symbol table
 unfoldable pub located : List ℕ → Result (Option Located) Refusal
-located file = needed file >>= tables_in file
+located file = do
+  text ← text_extent file
+  table ← table_of file
+  symbols ← symbols_by file table
+  located_by text symbols
 
 -- the row's value, where it isn't 0, and the row's number
 abbrev pub address_of : List ℕ → ℕ → Option RowAddress

@@ -2,8 +2,8 @@
 #![tactic(auto)]
 
 mod accessors;
-pub mod all;
 mod commands;
+pub mod functions;
 pub mod header;
 mod laws;
 pub mod numbered;

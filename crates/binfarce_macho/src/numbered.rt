@@ -1,16 +1,20 @@
-//! The sections of a file by their numbers: where their structures begin, and their names.
+//! The sections of a file by their numbers, and those that a selection takes.
 
 ghost use Rattle.std.specs.Prelude.{◌≡◌, ◌≢◌, ◌+◌, ◌*◌, ◌<◌, ◌≤◌, ◌^◌, ◌++◌, ◌&&◌, ◌⊎◌, [], length, map, nat_eq, nat_le, take, All, None, Some, Ok, Err, IfOk, OnErr, MatchResult};
 ghost use Rattle.std.specs.Option.{option_map};
 ghost use Rattle.std.specs.String.{string_bytes};
 ghost use Rattle.binfarce_bytes.specs.Refusal.{refusal_of, out_of_memory};
+ghost use Rattle.binfarce_bytes.specs.Selection.{section_of};
 ghost use Rattle.binfarce_macho.specs.Macho.{header_of, segment, segment_read, section_count, whole_headers};
-ghost use Rattle.binfarce_macho.specs.MachoAll.{greatest_section, first_starts, starts_in, section_starts, HasSection, full_name, name_at};
+ghost use Rattle.binfarce_macho.specs.MachoSections.{greatest_section, first_starts, starts_in, section_starts, HasSection, has_instructions, extent_at, full_name, name_at, numbered_at, numbered_sections, name_of};
+ghost use Rattle.binfarce_macho.specs.MachoSelection.{sections_in, size_of, section_name, shares_addresses, extent_view, numbered_view, sections_view};
 ghost use Rattle.binfarce_macho.specs.MachoViews.{header_view, section_view};
 
 use crate::commands::{LC_SEGMENT_64, commands};
 use crate::header::MachoHeader;
 use crate::sections::{SECTION_LENGTH, Section, section_at};
+use crate::symbols::{Extent, text_extent};
+use binfarce_bytes::functions::Selection;
 use binfarce_bytes::parser::number_at;
 use binfarce_bytes::{ByteOrder, ParseError};
 use std::alloc::{AllocError, Global};
@@ -18,13 +22,95 @@ use std::alloc::{AllocError, Global};
 // The greatest number of a section that a row can state (`MAX_SECT`).
 pub(crate) const MAX_SECT: u8 = 255;
 
-/// Where the structures of a file's sections begin, in the order of the sections' numbers, up to number 255. Refused as
-/// `find_section` of a reader is with a callback that accepts none; `OutOfMemory` comes only where the file has a section.
-pub fn section_starts(
+// `S_ATTR_PURE_INSTRUCTIONS` and `S_ATTR_SOME_INSTRUCTIONS`.
+const S_ATTR_INSTRUCTIONS: u32 = 0x8000_0400;
+
+/// A section: where it is in memory, whether it holds instructions, and its name as `SEGMENT,SECTION`, `None` where one of
+/// the two isn't valid.
+#[derive(Drop)]
+pub struct NumberedSection {
+    pub extent: Extent,
+    pub has_instructions: bool,
+    pub name: Option<String>,
+}
+
+/// The selected sections of a file.
+#[derive(Drop)]
+pub enum SelectedSections {
+    /// The text.
+    Text(Extent),
+    /// All, in the order of their numbers.
+    All(Vec<NumberedSection>),
+}
+
+impl SelectedSections {
+    /// The text's size in bytes, and 0 in a file without a symbol table; `None` for all sections.
+    pub fn size(&self, has_symbols: bool) -> Option<u64>
+        ensures { result ≡ size_of (sections_view self.now) has_symbols }
+    {
+        match self {
+            SelectedSections::Text(text) => Some(if has_symbols { text.size } else { 0 }),
+            SelectedSections::All(_) => None,
+        }
+    }
+
+    /// The name of the section of this number, `SEGMENT,SECTION`; nothing is copied. `None` where there is no such section,
+    /// where one of its two names isn't valid, and for the text alone.
+    pub fn name(&self, number: u32) -> Option<&str>
+        ensures { option_map (λ t. t.now) result ≡ section_name (sections_view self.entry.now) number }
+    {
+        match self {
+            SelectedSections::Text(_) => None,
+            SelectedSections::All(sections) => name_of(sections, number),
+        }
+    }
+
+    /// Whether the sections share addresses: all those of an object file may.
+    pub fn share_addresses(&self, is_object: bool) -> bool
+        ensures { result ≡ shares_addresses (sections_view self.now) is_object }
+    {
+        match self {
+            SelectedSections::Text(_) => false,
+            SelectedSections::All(_) => is_object,
+        }
+    }
+}
+
+fn name_of(sections: &[NumberedSection], number: u32) -> Option<&str>
+    ensures { option_map (λ t. t.now) result ≡ name_of (map numbered_view sections.entry.now) number }
+{
+    let index = (number as usize).checked_sub(1)?;
+    match &sections.get(index)?.name {
+        None => None,
+        Some(name) => Some(name.as_str()),
+    }
+}
+
+/// The selected sections of a file with this header. A text is refused where it is missing or empty, and sections are as
+/// `find_section` of a reader is with a callback that accepts none. `OutOfMemory` comes only where all are selected and
+/// there is one.
+#[tactic(auto, unfolding(crate::specs::MachoSelection::sections_in))]
+pub fn selected_sections(
     alloc: Global,
     file: &[u8],
     header: MachoHeader,
-) -> Result<Vec<usize>, ParseError>
+    selection: Selection<'_>,
+) -> Result<SelectedSections, ParseError>
+    requires { header_view header ≡ header_of file.now }
+    ensures { let section = section_of selection.entry in MatchResult result
+        (λ sections. sections_in section file.now ≡ Ok (sections_view sections))
+        (λ e. (sections_in section file.now ≡ Err (refusal_of e))
+        ⊎ ((refusal_of e ≡ out_of_memory) × (section ≡ None) × HasSection file.now)) }
+{
+    match selection {
+        Selection::Section(_) => Ok(SelectedSections::Text(text_extent(file, header)?)),
+        Selection::All => Ok(SelectedSections::All(numbered_sections(alloc, file, header)?)),
+    }
+}
+
+// Where the structures of a file's sections begin, in the order of the sections' numbers, up to number 255. Refused as
+// `find_section` of a reader is with a callback that accepts none; `OutOfMemory` comes only where the file has a section.
+fn section_starts(alloc: Global, file: &[u8], header: MachoHeader) -> Result<Vec<usize>, ParseError>
     requires { header_view header ≡ header_of file.now }
     ensures { MatchResult result
         (λ v. (section_starts file.now ≡ Ok v.items) × All (λ start. start + 52 ≤ length file.now) v.items)
@@ -87,21 +173,72 @@ fn push_starts(starts: &mut Vec<usize>, body: usize, count: usize) -> Result<(),
     Ok(())
 }
 
-/// The names of the sections whose structures begin there, as `SEGMENT,SECTION`; `None` for a section of which one of the two
-/// isn't valid.
-pub fn section_names(
+// The sections of a file with this header, in the order of their numbers.
+#[tactic(auto, unfolding(crate::specs::MachoSections::numbered_sections))]
+fn numbered_sections(
+    alloc: Global,
+    file: &[u8],
+    header: MachoHeader,
+) -> Result<Vec<NumberedSection>, ParseError>
+    requires { header_view header ≡ header_of file.now }
+    ensures { MatchResult result
+        (λ v. numbered_sections file.now ≡ Ok (map numbered_view v.items))
+        (λ e. (numbered_sections file.now ≡ Err (refusal_of e))
+        ⊎ ((refusal_of e ≡ out_of_memory) × HasSection file.now)) }
+{
+    let starts = section_starts(alloc, file, header)?;
+    Ok(sections_at(alloc, file, &starts)?)
+}
+
+// The sections whose structures begin there.
+fn sections_at(
     alloc: Global,
     file: &[u8],
     starts: &[usize],
-) -> Result<Vec<Option<String>>, AllocError>
+) -> Result<Vec<NumberedSection>, AllocError>
     requires { All (λ start. start + 52 ≤ length file.now) starts.now }
-    ensures { IfOk result (λ v. map (option_map string_bytes) v.items ≡ map (name_at file.now) starts.now) }
+    ensures sections { IfOk result (λ v. map numbered_view v.items ≡ map (numbered_at file.now) starts.now) }
+    ensures memory { OnErr result (starts.now ≢ []) }
 {
-    let mut names = Vec::new(alloc);
+    let mut sections = Vec::new(alloc);
     for start in starts {
-        names.push(name_at(alloc, file, *start)?)?;
+        sections.push(numbered_at(alloc, file, *start)?)?;
     }
-    Ok(names)
+    Ok(sections)
+}
+
+#[tactic(auto, unfolding(crate::specs::MachoSections::numbered_at))]
+fn numbered_at(alloc: Global, file: &[u8], start: usize) -> Result<NumberedSection, AllocError>
+    requires { start + 52 ≤ length file.now }
+    ensures { IfOk result (λ section. numbered_view section ≡ numbered_at file.now start) }
+{
+    Ok(NumberedSection {
+        extent: extent_at(file, start),
+        has_instructions: has_instructions(file, start),
+        name: name_at(alloc, file, start)?,
+    })
+}
+
+#[tactic(auto, unfolding(crate::specs::MachoSections::extent_at, crate::specs::Macho::section_fields))]
+fn extent_at(file: &[u8], start: usize) -> Extent
+    requires { start + 52 ≤ length file.now }
+    ensures { extent_view result ≡ extent_at file.now start }
+{
+    Extent {
+        address: number_at(file, start + 32, ByteOrder::LittleEndian).unwrap(),
+        size: number_at(file, start + 40, ByteOrder::LittleEndian).unwrap(),
+    }
+}
+
+#[tactic(auto, unfolding(crate::specs::MachoSections::has_instructions))]
+fn has_instructions(file: &[u8], start: usize) -> bool
+    requires { start ≤ length file.now }
+    ensures { result ≡ has_instructions file.now start }
+{
+    match number_at::<u32>(file, start + 64, ByteOrder::LittleEndian) {
+        Ok(flags) => flags & S_ATTR_INSTRUCTIONS != 0,
+        Err(_) => false,
+    }
 }
 
 fn name_at(alloc: Global, file: &[u8], start: usize) -> Result<Option<String>, AllocError>

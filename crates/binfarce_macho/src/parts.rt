@@ -1,65 +1,16 @@
-//! The tables that the function symbols of a file need, found in its header and its load commands alone.
+//! Where the load commands of a file lie, and whether they are held by its first bytes.
 
 ghost use Rattle.std.specs.Prelude.{◌≡◌, ◌+◌, ◌≤◌, length, nat_le};
-ghost use Rattle.std.specs.Option.{option_map};
-ghost use Rattle.binfarce_bytes.specs.Refusal.{Gives, refusal_of};
 ghost use Rattle.binfarce_macho.specs.Macho.{header_of, header_length, section_count, section_offset};
-ghost use Rattle.binfarce_macho.specs.MachoParts.{needed_view, table_view, holds_body, holds_commands};
-ghost use Rattle.binfarce_macho.specs.MachoSymbols.{needed, named_table, table_of};
+ghost use Rattle.binfarce_macho.specs.MachoParts.{holds_body, holds_commands};
 ghost use Rattle.binfarce_macho.specs.MachoViews.{header_view};
 ghost use Rattle.binfarce_macho.specs.machine.RawMacho.{command_view};
 
 use crate::commands::{COMMAND_HEAD, Command, LC_SEGMENT_64, LC_SYMTAB, command_at};
 use crate::header::{HEADER_LENGTH, MachoHeader};
-use crate::sections::{SECTION_LENGTH, Section};
-pub use crate::symbols::{Located, SYMBOL_LENGTH, SymbolTable, functions_of, text_end};
-use crate::symbols::{some_size, symbol_command, symbol_table_at, text_section};
+use crate::sections::SECTION_LENGTH;
+use binfarce_bytes::ByteOrder;
 use binfarce_bytes::parser::number_at;
-use binfarce_bytes::{ByteOrder, ParseError};
-
-/// The text section, and the symbol table's command, if any. The section's names are slices of the file.
-#[derive(Clone, Copy)]
-pub struct Needed<'a> {
-    pub text: Section<'a>,
-    pub table: Option<SymbolTable>,
-}
-
-/// The tables that the function symbols of a file with this header need. Refused as `functions` of a reader is, up to
-/// the symbol table's command.
-#[tactic(auto, unfolding(crate::specs::MachoSymbols::needed))]
-pub fn needed_tables(file: &[u8], header: MachoHeader) -> Result<Needed<'_>, ParseError>
-    requires { header_view header ≡ header_of file.now }
-    ensures { Gives refusal_of needed_view (needed file.now) result }
-{
-    let found = text_section(file, header)?;
-    let text = some_size(found)?;
-    let command = symbol_command(file, header)?;
-    let table = named_table(file, command)?;
-    Ok(Needed { text, table })
-}
-
-/// What the command of the symbol table names, of a file that has this header; `None` without such a command. Refused as
-/// `functions` of a reader is, up to there.
-pub fn symbol_table(file: &[u8], header: MachoHeader) -> Result<Option<SymbolTable>, ParseError>
-    requires { header_view header ≡ header_of file.now }
-    ensures { Gives refusal_of (option_map table_view) (table_of file.now) result }
-{
-    let command = symbol_command(file, header)?;
-    named_table(file, command)
-}
-
-pub(crate) fn named_table(
-    bytes: &[u8],
-    command: Option<Command>,
-) -> Result<Option<SymbolTable>, ParseError>
-    ensures { Gives refusal_of (option_map table_view)
-        (named_table bytes.now (option_map command_view command)) result }
-{
-    match command {
-        None => Ok(None),
-        Some(command) => Ok(Some(symbol_table_at(bytes, command)?)),
-    }
-}
 
 /// Where the load commands end, as the header states (`sizeofcmds`).
 pub fn commands_end(header: MachoHeader) -> usize

@@ -6,3 +6,4 @@ pub mod Listing
 pub mod Answered
 pub mod SectionsLeft
 pub mod EachSection
+pub mod Selected

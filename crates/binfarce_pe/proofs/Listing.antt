@@ -1,21 +1,26 @@
 -- Rows numbered in the order in which they are kept, once arranged: the entries that they give, and the sizes.
-use Rattle.std.proofs.Common.{◌≡◌, ℕ, zero, suc, ◌+◌, ◌-◌, ◌<◌, Bool, true, false, cond, List, [], ◌∷◌, ◌++◌, length, get_or, take, map, All, Option, Some, None, inl, inr, refl, sym, ap, subst, ◌∙◌, arith, nat_lt}
+use Rattle.std.proofs.Common.{◌≡◌, ℕ, zero, suc, ◌+◌, ◌-◌, ◌<◌, Bool, true, false, cond, List, [], ◌∷◌, ◌++◌, length, get_or, take, map, Option, Some, None, inl, inr, refl, sym, ap, subst, ◌∙◌, append_assoc, arith, nat_lt}
 use Rattle.std.specs.Prelude.{unwrap_or, if◌then◌else◌, filter, IfSome}
 use Rattle.std.specs.Option.{option_map}
 use Rattle.std.specs.List.{filter_map, cons_option, AllZip}
 use Rattle.std.proofs.lemmas.Bool.{lt-ltb, le-ltb, cases_lt}
 use Rattle.std.proofs.lemmas.List.{take_more, get_or-map, length-map, map-append}
-use Rattle.std.proofs.lemmas.List.Elements.{All-nil, All-cons}
-use Rattle.std.proofs.lemmas.Slice.Zip.{AllZip-long}
+use Rattle.std.proofs.lemmas.Simd.{map-map}
 use Rattle.binfarce_bytes.specs.declared.sizes.RowAddress as code
 use Rattle.binfarce_bytes.specs.Sizes.{RowAddress, comes_before, put_in, arranged, addresses_of, least, least_of, least_above}
 use Rattle.binfarce_bytes.specs.Entries.{Entry}
+use Rattle.binfarce_bytes.specs.SectionEntries.{in_section}
+use Rattle.binfarce_pe.specs.PeSelection.{Rules, moved}
 use Rattle.binfarce_bytes.specs.RowViews.{row_view, rows_view}
 use Rattle.binfarce_pe.specs.PeSymbols.{SymbolTable, SymbolRow, symbol_of, name_of, kept_rows, size_among, size_members, entry_of, entries_of}
-use Rattle.binfarce_pe.specs.machine.RawPe.{numbered, IsNameOf, HoldsKept, function_at}
+use Rattle.binfarce_pe.specs.machine.RawPe.{numbered, IsNameOf, HoldsKept, function_in}
 use Rattle.binfarce_bytes.proofs.Above.{LeastAbove, arranged_above, least_above_is}
 use Rattle.binfarce_bytes.proofs.Arrangement.{Rising}
 use Rattle.binfarce_pe.proofs.Strictly.{kept_rise}
+
+-- the entry of a row whose name has its number
+abbrev function_at : List (List ℕ) → List ℕ → RowAddress → Entry
+function_at names members r = record { name = get_or names r.row []; address = r.address; size = size_among members r.address }
 
 -- what is read past the end
 none : RowAddress
@@ -94,21 +99,6 @@ arranged_rows_same table accepts =
     let kept = kept_rows table accepts in
     arranged_pairs (IsNumbered kept) (agree kept (kept_rise table accepts)) (numbered 0 (addresses_of kept)) kept (all_numbered kept)
 
-numbers_below : (kept xs ys : List RowAddress) → AllZip (IsNumbered kept) xs ys → All (λ r. r.row < length kept) xs
-numbers_below kept [] [] all = All-nil (λ r. r.row < length kept)
-numbers_below kept [] (q ∷ ys) all = absurd all
-numbers_below kept (x ∷ xs) [] all = absurd all
-numbers_below kept (x ∷ xs) (q ∷ ys) all = All-cons (λ r. r.row < length kept) x xs all.0.0 (numbers_below kept xs ys all.1)
-
--- the numbers of the arranged rows are those of names
-pub all_have_names : (table : SymbolTable) (accepts : SymbolRow ℕ → Bool) (held : List RowAddress) (names : List (List ℕ)) (rows : List code.RowAddress) (n : ℕ)
-    → HoldsKept table (kept_rows table accepts) held names → rows_view rows ≡ arranged held → n ≡ length names → All (λ r. r.index < n) rows
-all_have_names table accepts held names rows n h are long k d lt =
-    let kept = kept_rows table accepts in
-    let all : All (λ r. r.row < length kept) (rows_view rows) = subst (λ (rs : List RowAddress). All (λ r. r.row < length kept) rs) (sym (are ∙ ap arranged h.rows_are)) (numbers_below kept (arranged_numbers kept) (arranged kept) (arranged_rows_same table accepts)) in
-    let below : (get_or rows k d).index < length kept = rw (get_or-map row_view rows k d (row_view d) lt) at (all k (row_view d) (omega (arith, length-map rows row_view))) in
-    omega (arith, AllZip-long (IsNameOf table) kept names h.names_are)
-
 name_at : (table : SymbolTable) (kept : List RowAddress) (names : List (List ℕ)) (k : ℕ) → AllZip (IsNameOf table) kept names → k < length kept → IsNameOf table (get_or kept k none) (get_or names k [])
 name_at table [] [] k all lt = absurd (omega arith)
 name_at table [] (n ∷ names) k all lt = absurd all
@@ -160,7 +150,7 @@ entries_same table members others same (r ∷ rows) =
     ap (λ (o : Option Entry). cons_option o (filter_map (entry_of table members) rows)) first ∙ ap (cons_option (entry_of table others r)) (entries_same table members others same rows)
 
 -- what is listed of the arranged rows is the entries
-pub entries_are : (table : SymbolTable) (accepts : SymbolRow ℕ → Bool) (t : ℕ) (held in_order : List RowAddress) (names : List (List ℕ)) → HoldsKept table (kept_rows table accepts) held names → in_order ≡ arranged held
+entries_are : (table : SymbolTable) (accepts : SymbolRow ℕ → Bool) (t : ℕ) (held in_order : List RowAddress) (names : List (List ℕ)) → HoldsKept table (kept_rows table accepts) held names → in_order ≡ arranged held
     → map (function_at names (size_members t in_order)) in_order ≡ entries_of table accepts t
 unfolding entries_of
 entries_are table accepts t held in_order names h are =
@@ -168,6 +158,15 @@ entries_are table accepts t held in_order names h are =
     ap (λ (rs : List RowAddress). map (function_at names (size_members t rs)) rs) (are ∙ ap arranged h.rows_are)
     ∙ entries_listed table (size_members t (arranged_numbers kept)) kept names h.names_are (arranged_numbers kept) (arranged kept) (arranged_rows_same table accepts)
     ∙ entries_same table (size_members t (arranged_numbers kept)) (size_members t kept) (λ a. sizes_same t a kept) (arranged kept)
+
+-- in a section, at its addresses
+pub section_entries_are : (table : SymbolTable) (accepts : SymbolRow ℕ → Bool) (rules : Rules) (index : ℕ) (held in_order : List RowAddress) (names : List (List ℕ)) → HoldsKept table (kept_rows table accepts) held names → in_order ≡ arranged held
+    → map (function_in rules index names (size_members (rules.size index) in_order)) in_order ≡ in_section (index + 1) (map (moved (rules.address index)) (entries_of table accepts (rules.size index)))
+section_entries_are table accepts rules index held in_order names h are =
+    let listed = function_at names (size_members (rules.size index) in_order) in
+    sym (map-map (λ (e : Entry). record { section = index + 1; entry = e }) (λ (r : RowAddress). moved (rules.address index) (listed r)) in_order)
+    ∙ ap (in_section (index + 1)) (sym (map-map (moved (rules.address index)) listed in_order))
+    ∙ ap (λ (es : List Entry). in_section (index + 1) (map (moved (rules.address index)) es)) (entries_are table accepts (rules.size index) held in_order names h are)
 
 greater : (xs : List ℕ) (a : ℕ) (o : Option ℕ) → LeastAbove xs a o → IfSome o (λ b. a < b)
 greater xs a None is = tt
@@ -190,19 +189,20 @@ pub above_at : (rows : List code.RowAddress) (members : List ℕ) (above : List 
 above_at rows members above i d within is =
     ap (λ (xs : List (Option ℕ)). get_or xs i None) is ∙ get_or-map (λ (r : code.RowAddress). least_above members r.address) rows i d None within
 
--- a function of this name and size is the row's
-pub function_is : (names : List (List ℕ)) (members : List ℕ) (row : code.RowAddress) (name : List ℕ) (size : ℕ) → name ≡ get_or names row.index [] → size ≡ size_among members row.address
-    → record { name = name; address = row.address; size = size } ≡ function_at names members (row_view row)
-function_is names members row name size is sized =
-    ap (λ (n : List ℕ). record { name = n; address = row.address; size = size }) is ∙ ap (λ (s : ℕ). record { name = get_or names row.index []; address = row.address; size = s }) sized
+-- a function of this name, address and size is the row's
+pub function_is : (rules : Rules) (index : ℕ) (names : List (List ℕ)) (members : List ℕ) (row : code.RowAddress) (name : List ℕ) (address size : ℕ) → name ≡ get_or names row.index [] → address ≡ rules.address index row.address → size ≡ size_among members row.address
+    → record { section = index + 1; entry = record { name = name; address = address; size = size } } ≡ function_in rules index names members (row_view row)
+function_is rules index names members row name address size is moved sized = rw (is, moved, sized) refl
 
--- one more is listed
-pub one_more_listed : {F : Type 0} (seen : F → Entry) (entry : RowAddress → Entry) (rows : List code.RowAddress) (i : ℕ) (d : code.RowAddress) (functions : List F) (f : F) → i < length rows
-    → map seen functions ≡ map entry (take i (rows_view rows)) → seen f ≡ entry (row_view (get_or rows i d)) → map seen (functions ++ f ∷ []) ≡ map entry (take (i + 1) (rows_view rows))
-one_more_listed seen entry rows i d functions f within so_far is =
+-- one more is listed, after others
+pub one_more_listed : {F E : Type 0} (seen : F → E) (entry : RowAddress → E) (before : List E) (rows : List code.RowAddress) (i : ℕ) (d : code.RowAddress) (functions : List F) (f : F) → i < length rows
+    → map seen functions ≡ before ++ map entry (take i (rows_view rows)) → seen f ≡ entry (row_view (get_or rows i d)) → map seen (functions ++ f ∷ []) ≡ before ++ map entry (take (i + 1) (rows_view rows))
+one_more_listed {F} {E} seen entry before rows i d functions f within so_far is =
     let here : get_or (rows_view rows) i (row_view d) ≡ row_view (get_or rows i d) = get_or-map row_view rows i d (row_view d) within in
     map-append seen functions (f ∷ [])
-    ∙ ap (λ (es : List Entry). es ++ seen f ∷ []) so_far
-    ∙ ap (λ (e : Entry). map entry (take i (rows_view rows)) ++ e ∷ []) (is ∙ ap entry (sym here))
+    ∙ ap (λ (es : List E). es ++ seen f ∷ []) so_far
+    ∙ append_assoc before (map entry (take i (rows_view rows))) (seen f ∷ [])
+    ∙ ap (λ (es : List E). before ++ es)
+    (ap (λ (e : E). map entry (take i (rows_view rows)) ++ e ∷ []) (is ∙ ap entry (sym here))
     ∙ sym (map-append entry (take i (rows_view rows)) (get_or (rows_view rows) i (row_view d) ∷ []))
-    ∙ ap (map entry) (sym (take_more (rows_view rows) i (row_view d) (omega (arith, length-map rows row_view))))
+    ∙ ap (map entry) (sym (take_more (rows_view rows) i (row_view d) (omega (arith, length-map rows row_view)))))

@@ -1,16 +1,13 @@
 -- The rows of a PE file's symbol table, as a loop goes over them, and what is kept of them.
-use Rattle.std.proofs.Common.{◌≡◌, ◌≢◌, ℕ, zero, suc, ◌+◌, ◌-◌, ◌<◌, ◌≤◌, Bool, true, false, cond, List, [], ◌∷◌, ◌++◌, length, map, All, Option, Some, None, refl, sym, ap, subst, ◌∙◌, append_assoc, arith, nat_lt, nat_eq, IsPermutation}
+use Rattle.std.proofs.Common.{◌≡◌, ◌≢◌, ℕ, zero, suc, ◌+◌, ◌-◌, ◌<◌, ◌≤◌, Bool, true, false, cond, List, [], ◌∷◌, ◌++◌, length, All, Option, Some, None, refl, sym, ap, subst, ◌∙◌, append_assoc, arith, nat_lt, IsPermutation}
 use Rattle.std.specs.Option.{option_map}
 use Rattle.std.specs.List.{filter_map, cons_option, AllZip}
 use Rattle.std.proofs.lemmas.Bool.{le-ltb, lt-ltb, ltb-true, ltb-false}
-use Rattle.std.proofs.lemmas.Bool.Decides.{nat_tests}
-use Rattle.std.proofs.lemmas.List.{append-nil, length-map, map-append}
+use Rattle.std.proofs.lemmas.List.{append-nil, length-map}
 use Rattle.std.proofs.lemmas.List.Elements.{All-nil, All-cons, All-head}
 use Rattle.std.proofs.lemmas.List.Sorted.{All-permutation, length_permutation}
 use Rattle.std.proofs.lemmas.Slice.Zip.{AllZip-long}
-use Rattle.binfarce_bytes.specs.declared.sizes.RowAddress as code
 use Rattle.binfarce_bytes.specs.Sizes.{RowAddress, arranged, addresses_of}
-use Rattle.binfarce_bytes.specs.RowViews.{row_view, rows_view}
 use Rattle.binfarce_pe.specs.PeSymbols.{SymbolTable, SymbolRow, record_count, symbol_of, rows_from, name_of, function_name, kept_row, kept_rows, size_among, size_members, entry_of, entries_in, entries_of}
 use Rattle.binfarce_pe.specs.machine.RawPe.{numbered, IsNameOf, HoldsKept}
 use Rattle.binfarce_bytes.proofs.Arranging.{arranged_same}
@@ -104,7 +101,7 @@ unfolding function_name
 has_name table accepts k name e = named_too (accepts (symbol_of table k)) (name_of table k (symbol_of table k)) name e
 
 -- one that is kept is held after those so far, with its name
-one_more_held : (table : SymbolTable) (accepts : SymbolRow ℕ → Bool) (k next : ℕ) (row : SymbolRow ℕ) (name : List ℕ) (rows : List RowAddress) (names : List (List ℕ)) (n : ℕ) → k < record_count table → next ≡ after table k → row ≡ symbol_of table k → Some name ≡ function_name table accepts k row
+pub one_more_held : (table : SymbolTable) (accepts : SymbolRow ℕ → Bool) (k next : ℕ) (row : SymbolRow ℕ) (name : List ℕ) (rows : List RowAddress) (names : List (List ℕ)) (n : ℕ) → k < record_count table → next ≡ after table k → row ≡ symbol_of table k → Some name ≡ function_name table accepts k row
     → n ≡ length names → HoldsUpTo table accepts k rows names → HoldsUpTo table accepts next (rows ++ record { address = row.value; row = n } ∷ []) (names ++ name ∷ [])
 one_more_held table accepts k next row name rows names n within at is some long h =
     let x : RowAddress = record { address = (symbol_of table k).value; row = k } in
@@ -123,13 +120,6 @@ one_more_held table accepts k next row name rows names n within at is some long 
         names_are = all_zip_push (IsNameOf table) h.so_far names x name h.held.names_are (has_name table accepts k name function);
       };
     }
-
--- as the vectors hold them
-pub goes_on_with : {N : Type 0} (now : N → List ℕ) (table : SymbolTable) (accepts : SymbolRow ℕ → Bool) (k next : ℕ) (row : SymbolRow ℕ) (name : N) (rows : List code.RowAddress) (names : List N) (address n : ℕ) → k < record_count table → next ≡ after table k → row ≡ symbol_of table k → Some (now name) ≡ function_name table accepts k row
-    → address ≡ row.value → n ≡ length names → HoldsUpTo table accepts k (rows_view rows) (map now names) → HoldsUpTo table accepts next (rows_view (rows ++ record { address = address; index = n } ∷ [])) (map now (names ++ name ∷ []))
-goes_on_with now table accepts k next row name rows names address n within at is some value long h =
-    rw (map-append row_view rows (record { address = address; index = n } ∷ []), map-append now names (name ∷ []), value)
-    (one_more_held table accepts k next row (now name) (rows_view rows) (map now names) n within at is some (omega (arith, length-map names now)) h)
 
 first_kept : (table : SymbolTable) (accepts : SymbolRow ℕ → Bool) (k : ℕ) (so_far all : List RowAddress) (x : RowAddress) → k < record_count table → kept_row table accepts k ≡ Some x
     → all ≡ so_far ++ kept_from table accepts k → all ≢ []
@@ -215,14 +205,3 @@ held_long table kept rows names h = ap length h.rows_are ∙ numbered_long 0 (ad
 nil_is : (xs : List RowAddress) → length xs ≡ 0 → xs ≡ []
 nil_is [] e = refl
 nil_is (x ∷ xs) e = absurd (omega arith)
-
--- what a test for emptiness says of the kept rows
-pub tested_empty : (table : SymbolTable) (kept : List RowAddress) (rows : List code.RowAddress) (names : List (List ℕ)) (len : ℕ) → len ≡ length rows → HoldsKept table kept (rows_view rows) names → nat_eq len 0 ≡ true → kept ≡ []
-tested_empty table kept rows names len at h test =
-    let zero : len ≡ 0 = grind (arith, nat_tests) in
-    nil_is kept (omega (arith, held_long table kept (rows_view rows) names h, length-map rows row_view))
-
-pub tested_some : (table : SymbolTable) (kept : List RowAddress) (rows : List code.RowAddress) (names : List (List ℕ)) (len : ℕ) → len ≡ length rows → HoldsKept table kept (rows_view rows) names → nat_eq len 0 ≡ false → kept ≢ []
-tested_some table kept rows names len at h test none =
-    let some : len ≢ 0 = grind (arith, nat_tests) in
-    some (omega (arith, held_long table kept (rows_view rows) names h, length-map rows row_view, ap length none))

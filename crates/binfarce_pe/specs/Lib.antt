@@ -1,6 +1,6 @@
 pub mod Pe
 pub mod PeParts
-pub mod PeAll
 pub mod PeSymbols
+pub mod PeSelection
 pub mod PeViews
 pub mod machine

@@ -2,7 +2,7 @@
 #![tactic(auto)]
 
 mod accessors;
-pub mod all;
+pub mod functions;
 pub mod header;
 mod laws;
 pub mod parts;

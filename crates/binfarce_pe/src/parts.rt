@@ -1,22 +1,18 @@
 //! The tables that the symbols of a file need, found in the file header and the section headers alone.
 
-ghost use Rattle.std.specs.Prelude.{◌≡◌, ◌≢◌, ◌<◌, ◌≤◌, length, map, [], MatchResult, IfOk, OnErr};
+ghost use Rattle.std.specs.Prelude.{◌≡◌, ◌<◌, ◌≤◌, length, MatchResult};
 ghost use Rattle.binfarce_bytes.specs.declared.ByteOrder.TheVariants.{LittleEndian};
 ghost use Rattle.binfarce_bytes.specs.Number.{number, bytes_at};
 ghost use Rattle.binfarce_bytes.specs.Refusal.{Gives, refusal_of, unexpected_eof};
-ghost use Rattle.binfarce_bytes.specs.SymbolViews.{function_view};
 ghost use Rattle.binfarce_pe.specs.Pe.{header_after};
-ghost use Rattle.binfarce_pe.specs.PeParts.{places_after, places_view, headers_alone, text_place, text_view};
-ghost use Rattle.binfarce_pe.specs.PeSymbols.{is_function_of, entries_of};
+ghost use Rattle.binfarce_pe.specs.PeParts.{places_after, places_view, headers_view, text_place, text_view};
 ghost use Rattle.binfarce_pe.specs.PeViews.{header_view};
 
 use crate::header::{PeHeader, header_after};
-use crate::sections::Table;
-use crate::symbols::{SYMBOL_LENGTH, SymbolTable, functions_of, text_among};
-use binfarce_bytes::functions::FunctionSymbol;
+use crate::sections::{Table, section_named};
+use crate::symbols::SYMBOL_LENGTH;
 use binfarce_bytes::parser::number_at;
 use binfarce_bytes::{ByteOrder, ParseError};
-use std::alloc::{AllocError, Global};
 
 /// The position in the MS-DOS stub of the signature's offset.
 pub const SIGNATURE_POINTER: usize = 0x3c;
@@ -90,38 +86,13 @@ pub fn places_after(signature: u32, header: PeHeader) -> Places
     }
 }
 
-/// The first section `.text`, found in `count` section headers. Refused as `functions` of a reader is, up to
-/// `SymbolsSectionIsMissing`.
-pub fn text_in(headers: &[u8], count: u16) -> Result<Text, ParseError>
-    ensures { Gives refusal_of text_view (text_place (headers_alone headers.now count)) result }
+/// The first section `.text` of a table. Refused as `functions` of a reader is, up to `SymbolsSectionIsMissing`.
+pub fn text_in(table: Table<'_>) -> Result<Text, ParseError>
+    ensures { Gives refusal_of text_view (text_place (headers_view table.entry)) result }
 {
-    let table = Table {
-        bytes: headers,
-        offset: 0,
-        count,
-    };
-    let text = text_among(table)?;
+    let text = section_named(table, ".text")?.ok_or(ParseError::SymbolsSectionIsMissing)?;
     Ok(Text {
         index: text.index,
         size: text.size_of_raw_data,
     })
-}
-
-/// The function symbols of this section in these records, whose long names are in these strings. `OutOfMemory` only
-/// instead of a list that isn't empty.
-pub fn functions_in<'a>(
-    alloc: Global,
-    rows: &'a [u8],
-    strings: &'a [u8],
-    text: Text,
-) -> Result<Vec<FunctionSymbol<'a>>, AllocError>
-    ensures functions { IfOk result
-        (λ v. map function_view v.items
-        ≡ entries_of (record { rows = rows.entry.now; strings = strings.entry.now }) (is_function_of text.index)
-        text.size) }
-    ensures memory { OnErr result
-        (entries_of (record { rows = rows.entry.now; strings = strings.entry.now }) (is_function_of text.index)
-        text.size ≢ []) }
-{
-    functions_of(alloc, SymbolTable { rows, strings }, text.index, text.size)
 }

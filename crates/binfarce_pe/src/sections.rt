@@ -6,9 +6,9 @@ ghost use Rattle.binfarce_bytes.specs.Refusal.{Gives, refusal_of, unexpected_eof
 ghost use Rattle.binfarce_bytes.specs.Text.{padded_text};
 ghost use Rattle.binfarce_bytes.specs.Walk.{MayBeAsked, FirstAccepted, first, ended, ahead_of};
 ghost use Rattle.binfarce_pe.specs.Pe.{section_at, section_data, walk, is_named};
-ghost use Rattle.binfarce_pe.specs.PeParts.{section_table, table_walk, places_of, places_view};
+ghost use Rattle.binfarce_pe.specs.PeParts.{headers_view, section_table, table_walk, places_of, places_view};
 ghost use Rattle.binfarce_pe.specs.PeViews.{section_view};
-ghost use Rattle.binfarce_pe.specs.machine.RawPe.{headers_view, header_count, walk_from};
+ghost use Rattle.binfarce_pe.specs.machine.RawPe.{header_count, walk_from};
 
 use crate::parts::{Places, SECTION_LENGTH};
 use binfarce_bytes::parser::{Stream, UnexpectedEof, range, up_to_nul, utf8_text};
@@ -69,19 +69,20 @@ pub struct Sections<'a> {
     next: Option<u16>,
 }
 
-// Section headers: the bytes that hold them, their offset in these bytes, and their number.
+/// Section headers: the bytes that hold them, their offset in these bytes, and their number.
 #[derive(Clone, Copy)]
-pub(crate) struct Table<'a> {
-    pub(crate) bytes: &'a [u8],
-    pub(crate) offset: usize,
-    pub(crate) count: u16,
+pub struct Table<'a> {
+    pub bytes: &'a [u8],
+    pub offset: usize,
+    pub count: u16,
 }
 
 impl<'a> Model for Sections<'a> {
     ghost use Rattle.std.specs.Prelude.{◌≡◌, ◌≤◌, IfSome};
     ghost use Rattle.binfarce_bytes.specs.Walk.{Walk};
     ghost use Rattle.binfarce_pe.specs.Pe.{Section};
-    ghost use Rattle.binfarce_pe.specs.machine.RawPe.{headers_view, header_count, walk_from};
+    ghost use Rattle.binfarce_pe.specs.PeParts.{headers_view};
+    ghost use Rattle.binfarce_pe.specs.machine.RawPe.{header_count, walk_from};
 
     ghost Value = { Walk Section };
 

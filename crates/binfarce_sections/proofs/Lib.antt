@@ -1,5 +1,5 @@
+mod Opening
 pub mod FullNames
-pub mod Opening
 pub mod Pads
 pub mod Searching
 pub mod TablesRead

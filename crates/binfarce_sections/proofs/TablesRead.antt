@@ -18,11 +18,11 @@ use Rattle.binfarce_tables.specs.SectionReading.{FileSections, file_sections}
 use Rattle.binfarce_tables.specs.declared.error.ReadError.{ReadError}
 use Rattle.binfarce_tables.specs.declared.error.ReadError.TheVariants.{Refused, Unreadable, OutOfMemory}
 use Rattle.binfarce_sections.specs.Section.{Section, elf_named, macho_section, pe_section, mapped, sections_of, elf_sections, macho_sections, pe_sections}
-use Rattle.binfarce_sections.specs.Views.{Opens}
+use Rattle.binfarce_sections.specs.Views.{named_by, Opens}
 use Rattle.binfarce_sections.specs.declared.error.SectionError.TheVariants as errors
 use Rattle.binfarce_sections.specs.declared.sections.Sections.{Sections}
 use Rattle.binfarce_sections.specs.declared.tables.Tables.{Tables}
-use Rattle.binfarce_sections.specs.declared.tables.Tables.TheVariants.{Elf32, Elf64, Macho, Pe, Unknown}
+use Rattle.binfarce_sections.specs.declared.tables.Tables.TheVariants.{Elf, Macho, Pe, Unknown}
 use Rattle.binfarce_sections.specs.machine.Tables.{Has, AreTablesOf, HasLength, ReadsTables}
 
 -- what a step gave of a known file
@@ -56,15 +56,26 @@ walk_of seen (Ok s) = seen s
 walk_of seen (Err refusal) = ended (Some refusal)
 
 abbrev pub elf_walk : FileSections → Walk Section
-elf_walk seen = mapped (elf_named seen.name) seen.sections
+elf_walk seen = mapped (elf_named (named_by seen.names)) seen.sections
 
 abbrev table_of : elf.ElfClass → ByteOrder → List ℕ → elf.SectionTable
 table_of class order file = elf.section_table class (record { order = order; bytes = file })
 
 abbrev whole : elf.ElfClass → ByteOrder → List ℕ → FileSections
-whole class order file = record { sections = elf.walk class (table_of class order file); name = elf.name_of class (table_of class order file); file_length = length file }
+whole class order file =
+    let table = table_of class order file in
+    record {
+      class = class;
+      order = order;
+      elf_type = (elf.header_of class order file).elf_type;
+      count = table.shnum;
+      sections = elf.walk class table;
+      names = elf.names_bytes class table;
+      file_length = length file;
+    }
 
 pub elf_is : (class : elf.ElfClass) (order : ByteOrder) (file : List ℕ) → elf_sections class order file ≡ walk_of elf_walk (file_sections class order file)
+unfolding elf.name_of
 elf_is class order file = by_test (ltb (length file) class.header_length)
   where
     by_test : (short : Bool) → cond short (ended (Some unexpected_eof)) (elf_walk (whole class order file)) ≡ walk_of elf_walk (cond short (Err unexpected_eof) (Ok (whole class order file)))
@@ -142,8 +153,7 @@ unbegun may_fail seen answer file e r has reads err = passed_on may_fail file e 
 
 -- the length of tables that have sections is the file's
 pub length_is : (file : List ℕ) (tables : Tables) (n : ℕ) (sections : Sections) → AreTablesOf file tables → HasLength tables n → Opens (sections_of (format_of file) file) (Ok sections) → n ≡ length file
-length_is file (Elf32 parts) n sections are has opened = has ∙ are.1
-length_is file (Elf64 parts) n sections are has opened = has ∙ are.1
+length_is file (Elf parts) n sections are has opened = has ∙ are.1
 length_is file (Macho begun) n sections are has opened = has ∙ are.1
 length_is file (Pe begun) n sections are has opened = has ∙ are.1
 length_is file Unknown n sections are has opened = absurd (subst (λ (w : Option (Walk Section)). Opens w (Ok sections)) (of_unknown file are) opened)

@@ -114,8 +114,7 @@ pub(crate) fn first_in<'a>(
         (first (is_named name.now) (sections_left sections.entry)) result }
 {
     match sections {
-        Sections::Elf32(sections) => sections.first_named(name),
-        Sections::Elf64(sections) => sections.first_named(name),
+        Sections::Elf(sections) => sections.first_named(name),
         sections => first_of(sections, name),
     }
 }

@@ -2,7 +2,6 @@
 
 ghost use Rattle.std.specs.Prelude.{◌≡◌, ◌⊎◌, ◌<◌, ◌≤◌, length, MatchResult};
 ghost use Rattle.std.specs.Option.{option_map};
-ghost use Rattle.binfarce.specs.Elf as elf;
 ghost use Rattle.binfarce.specs.ElfViews as elf_views;
 ghost use Rattle.binfarce.specs.Format.{format_of};
 ghost use Rattle.binfarce.specs.declared.Format.TheVariants.{Macho, PE};
@@ -10,15 +9,20 @@ ghost use Rattle.binfarce.specs.MachoViews as macho_views;
 ghost use Rattle.binfarce.specs.PeViews as pe_views;
 ghost use Rattle.binfarce.specs.Refusal.{Gives, refusal_of};
 ghost use Rattle.binfarce.specs.Walk.{YieldsNext, first};
+ghost use Rattle.binfarce_elf.specs.Classes.{class_of};
 ghost use Rattle.binfarce_tables.specs.SectionReading.{sections_view};
 ghost use Rattle.binfarce_sections.specs.Named.{is_named};
 ghost use Rattle.binfarce_sections.specs.Section.{elf_named, macho_section, pe_section, pe_size, mapped, least_length, sections_of, elf_sections, macho_sections, pe_sections};
-ghost use Rattle.binfarce_sections.specs.Views.{section_view, sections_left, elf32_left, elf64_left, elf32_name, elf64_name, Opens};
+ghost use Rattle.binfarce_sections.specs.Views.{section_view, sections_left, elf_left, named_by, Opens};
 ghost use Rattle.binfarce_sections.specs.declared.error.SectionError.TheVariants.{Unknown};
 ghost use Rattle.binfarce_sections.specs.machine.Opened.{OpensWalk};
 
 use crate::error::SectionError;
-use binfarce::{ByteOrder, Format, ParseError, detect_format, elf32, elf64, macho, pe};
+use binfarce::{ByteOrder, Format, ParseError, detect_format, macho, pe};
+use binfarce_elf::parts::{AnySections, is_named_in, name_in, sections_of_file};
+use binfarce_elf::sections as elf_sections;
+use binfarce_tables::Width;
+use binfarce_tables::elf::SectionParts;
 
 /// A section of a file of any format. Its names are slices of the file; nothing is copied.
 #[derive(Debug, Clone, Copy)]
@@ -46,38 +50,16 @@ pub struct Section<'a> {
 #[must_use = "iterators are lazy and do nothing unless consumed"]
 #[derive(Drop)]
 pub enum Sections<'a> {
-    Elf32(Elf32Sections<'a>),
-    Elf64(Elf64Sections<'a>),
+    Elf(ElfSections<'a>),
     Macho(macho::Sections<'a>),
     Pe(pe::Sections<'a>),
 }
 
-/// The sections of a 32-bit ELF file that are left, with the source of their names.
+/// The sections of an ELF file that are left, and the bytes of the section names, where the file has them.
 #[derive(Drop)]
-pub struct Elf32Sections<'a> {
-    names: Elf32Names<'a>,
-    left: elf32::Sections<'a>,
-}
-
-// The source of the names of a 32-bit ELF file's sections: the whole file, or its parts that were read.
-#[derive(Drop)]
-enum Elf32Names<'a> {
-    File(elf32::Elf32<'a>),
-    Parts(&'a binfarce_tables::elf32::SectionParts),
-}
-
-/// The sections of a 64-bit ELF file that are left, with the source of their names.
-#[derive(Drop)]
-pub struct Elf64Sections<'a> {
-    names: Elf64Names<'a>,
-    left: elf64::Sections<'a>,
-}
-
-// The source of the names of a 64-bit ELF file's sections: the whole file, or its parts that were read.
-#[derive(Drop)]
-enum Elf64Names<'a> {
-    File(elf64::Elf64<'a>),
-    Parts(&'a binfarce_tables::elf64::SectionParts),
+pub struct ElfSections<'a> {
+    names: Option<&'a [u8]>,
+    left: AnySections<'a>,
 }
 
 impl<'a> Iterator for Sections<'a> {
@@ -94,8 +76,7 @@ impl<'a> Iterator for Sections<'a> {
 
     fn next(&mut self) -> Option<Result<Section<'a>, ParseError>> {
         match self {
-            Sections::Elf32(sections) => sections.next(),
-            Sections::Elf64(sections) => sections.next(),
+            Sections::Elf(sections) => sections.next(),
             Sections::Macho(left) => next_macho(left),
             Sections::Pe(left) => next_pe(left),
         }
@@ -115,58 +96,32 @@ pub fn sections_of(file: &[u8]) -> Result<Sections<'_>, SectionError>
         (λ e. (e ≡ Unknown) ⊎ (length file.entry.now < least)) }
 {
     match detect_format(file) {
-        Format::Elf32 { byte_order } => Ok(open_elf32(file, byte_order)?),
-        Format::Elf64 { byte_order } => Ok(open_elf64(file, byte_order)?),
+        Format::Elf32 { byte_order } => Ok(open_elf(file, Width::Bits32, byte_order)?),
+        Format::Elf64 { byte_order } => Ok(open_elf(file, Width::Bits64, byte_order)?),
         Format::Macho => Ok(open_macho(file)?),
         Format::PE => Ok(open_pe(file)?),
         Format::Unknown => Err(SectionError::Unknown),
     }
 }
 
-#[tactic(auto, using(crate::proofs::Opening::of_32_bits))]
-fn open_elf32(bytes: &[u8], byte_order: ByteOrder) -> Result<Sections<'_>, ParseError>
-    ensures opens { OpensWalk (elf_sections elf.elf32 byte_order bytes.entry.now) result }
-    ensures header { let least = elf.elf32.header_length in MatchResult result
+fn open_elf(bytes: &[u8], width: Width, byte_order: ByteOrder) -> Result<Sections<'_>, ParseError>
+    ensures opens { OpensWalk (elf_sections (class_of width) byte_order bytes.entry.now) result }
+    ensures header { let least = (class_of width).header_length in MatchResult result
         (λ _. least ≤ length bytes.entry.now)
         (λ _. length bytes.entry.now < least) }
 {
-    let file = elf32::parse(bytes, byte_order)?;
-    let left = file.sections();
-    let names = Elf32Names::File(file);
-    Ok(Sections::Elf32(Elf32Sections { names, left }))
+    let (left, names) = sections_of_file(bytes, width, byte_order)?;
+    Ok(Sections::Elf(ElfSections { names, left }))
 }
 
 // The sections of a file, from its parts that were read.
-pub(crate) fn elf32_sections(parts: &binfarce_tables::elf32::SectionParts) -> Sections<'_>
-    ensures { let seen = sections_view elf.elf32 parts.entry.now in
-        sections_left result ≡ mapped (elf_named seen.name) seen.sections }
+pub(crate) fn elf_sections_of(parts: &SectionParts) -> Sections<'_>
+    ensures { let seen = sections_view parts.entry.now in
+        sections_left result ≡ mapped (elf_named (named_by seen.names)) seen.sections }
 {
+    let names = parts.names();
     let left = parts.sections();
-    let names = Elf32Names::Parts(parts);
-    Sections::Elf32(Elf32Sections { names, left })
-}
-
-#[tactic(auto, using(crate::proofs::Opening::of_64_bits))]
-fn open_elf64(bytes: &[u8], byte_order: ByteOrder) -> Result<Sections<'_>, ParseError>
-    ensures opens { OpensWalk (elf_sections elf.elf64 byte_order bytes.entry.now) result }
-    ensures header { let least = elf.elf64.header_length in MatchResult result
-        (λ _. least ≤ length bytes.entry.now)
-        (λ _. length bytes.entry.now < least) }
-{
-    let file = elf64::parse(bytes, byte_order)?;
-    let left = file.sections();
-    let names = Elf64Names::File(file);
-    Ok(Sections::Elf64(Elf64Sections { names, left }))
-}
-
-// The sections of a file, from its parts that were read.
-pub(crate) fn elf64_sections(parts: &binfarce_tables::elf64::SectionParts) -> Sections<'_>
-    ensures { let seen = sections_view elf.elf64 parts.entry.now in
-        sections_left result ≡ mapped (elf_named seen.name) seen.sections }
-{
-    let left = parts.sections();
-    let names = Elf64Names::Parts(parts);
-    Sections::Elf64(Elf64Sections { names, left })
+    Sections::Elf(ElfSections { names, left })
 }
 
 pub(crate) fn open_macho(bytes: &[u8]) -> Result<Sections<'_>, ParseError>
@@ -189,13 +144,13 @@ pub(crate) fn open_pe(bytes: &[u8]) -> Result<Sections<'_>, ParseError>
     Ok(Sections::Pe(file.sections()))
 }
 
-impl<'a> Elf32Sections<'a> {
+impl<'a> ElfSections<'a> {
     // The first section that is left, or why it can't be read.
     fn next(&mut self) -> Option<Result<Section<'a>, ParseError>>
-        ensures { YieldsNext refusal_of section_view (elf32_left self.old) result (elf32_left self.new) }
+        ensures { YieldsNext refusal_of section_view (elf_left self.old) result (elf_left self.new) }
     {
         match self.left.next() {
-            Some(Ok(section)) => Some(Ok(elf32_section(&self.names, section))),
+            Some(Ok(section)) => Some(Ok(elf_section(self.names, section))),
             Some(Err(e)) => Some(Err(e)),
             None => None,
         }
@@ -205,42 +160,13 @@ impl<'a> Elf32Sections<'a> {
     // ones can share their bytes.
     pub(crate) fn first_named(self, name: &str) -> Result<Option<Section<'a>>, ParseError>
         ensures { Gives refusal_of (option_map section_view)
-            (first (is_named name.now) (elf32_left self.entry)) result }
+            (first (is_named name.now) (elf_left self.entry)) result }
     {
-        let Elf32Sections { names, left } = self;
+        let ElfSections { names, left } = self;
         for section in left {
             let section = section?;
-            if is_elf32_named(&names, &section, name) {
-                return Ok(Some(elf32_section(&names, section)));
-            }
-        }
-        Ok(None)
-    }
-}
-
-impl<'a> Elf64Sections<'a> {
-    // The first section that is left, or why it can't be read.
-    fn next(&mut self) -> Option<Result<Section<'a>, ParseError>>
-        ensures { YieldsNext refusal_of section_view (elf64_left self.old) result (elf64_left self.new) }
-    {
-        match self.left.next() {
-            Some(Ok(section)) => Some(Ok(elf64_section(&self.names, section))),
-            Some(Err(e)) => Some(Err(e)),
-            None => None,
-        }
-    }
-
-    // The first section with this name, of those that are left. Names are compared and not read whole, since many long
-    // ones can share their bytes.
-    pub(crate) fn first_named(self, name: &str) -> Result<Option<Section<'a>>, ParseError>
-        ensures { Gives refusal_of (option_map section_view)
-            (first (is_named name.now) (elf64_left self.entry)) result }
-    {
-        let Elf64Sections { names, left } = self;
-        for section in left {
-            let section = section?;
-            if is_elf64_named(&names, &section, name) {
-                return Ok(Some(elf64_section(&names, section)));
+            if is_elf_named(names, &section, name) {
+                return Ok(Some(elf_section(names, section)));
             }
         }
         Ok(None)
@@ -268,45 +194,12 @@ fn next_pe<'a>(left: &mut pe::Sections<'a>) -> Option<Result<Section<'a>, ParseE
     }
 }
 
-fn elf32_section<'a>(names: &Elf32Names<'a>, section: elf32::Section) -> Section<'a>
-    ensures { section_view result ≡ elf_named (elf32_name names.now) (elf_views.section_view (λ n. n) section) }
+fn elf_section<'a>(names: Option<&'a [u8]>, section: elf_sections::Section<u64>) -> Section<'a>
+    ensures { section_view result ≡ elf_named (named_by (option_map (λ b. b.now) names.entry)) (elf_views.section_view (λ n. n) section) }
 {
     Section {
         segment: None,
-        name: elf32_name(names, &section),
-        address: u64::from(section.address()),
-        offset: u64::from(section.offset()),
-        size: u64::from(section.size()),
-        has_bytes: section.section_type() != SHT_NOBITS,
-    }
-}
-
-fn elf32_name<'a>(names: &Elf32Names<'a>, section: &elf32::Section) -> Option<&'a str>
-    ensures { option_map (λ t. t.now) result ≡ elf32_name names.now (elf_views.section_view (λ n. n) section.now) }
-{
-    match names {
-        Elf32Names::File(file) => section.name(file),
-        Elf32Names::Parts(parts) => parts.name(section),
-    }
-}
-
-#[tactic(auto, using(crate::proofs::FullNames::elf_names))]
-fn is_elf32_named(names: &Elf32Names<'_>, section: &elf32::Section, name: &str) -> bool
-    ensures { result ≡ is_named name.now
-        (elf_named (elf32_name names.now) (elf_views.section_view (λ n. n) section.now)) }
-{
-    match names {
-        Elf32Names::File(file) => section.is_named(file, name),
-        Elf32Names::Parts(parts) => parts.is_named(section, name),
-    }
-}
-
-fn elf64_section<'a>(names: &Elf64Names<'a>, section: elf64::Section) -> Section<'a>
-    ensures { section_view result ≡ elf_named (elf64_name names.now) (elf_views.section_view (λ n. n) section) }
-{
-    Section {
-        segment: None,
-        name: elf64_name(names, &section),
+        name: name_in(names, &section),
         address: section.address(),
         offset: section.offset(),
         size: section.size(),
@@ -314,24 +207,12 @@ fn elf64_section<'a>(names: &Elf64Names<'a>, section: elf64::Section) -> Section
     }
 }
 
-fn elf64_name<'a>(names: &Elf64Names<'a>, section: &elf64::Section) -> Option<&'a str>
-    ensures { option_map (λ t. t.now) result ≡ elf64_name names.now (elf_views.section_view (λ n. n) section.now) }
-{
-    match names {
-        Elf64Names::File(file) => section.name(file),
-        Elf64Names::Parts(parts) => parts.name(section),
-    }
-}
-
 #[tactic(auto, using(crate::proofs::FullNames::elf_names))]
-fn is_elf64_named(names: &Elf64Names<'_>, section: &elf64::Section, name: &str) -> bool
+fn is_elf_named(names: Option<&[u8]>, section: &elf_sections::Section<u64>, name: &str) -> bool
     ensures { result ≡ is_named name.now
-        (elf_named (elf64_name names.now) (elf_views.section_view (λ n. n) section.now)) }
+        (elf_named (named_by (option_map (λ b. b.now) names.entry)) (elf_views.section_view (λ n. n) section.now)) }
 {
-    match names {
-        Elf64Names::File(file) => section.is_named(file, name),
-        Elf64Names::Parts(parts) => parts.is_named(section, name),
-    }
+    is_named_in(names, section, name)
 }
 
 fn macho_section(section: macho::Section<'_>) -> Section<'_>

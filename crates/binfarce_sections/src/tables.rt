@@ -15,18 +15,17 @@ ghost use Rattle.binfarce_sections.specs.machine.Tables.{AreTablesOf, ReadsTable
 
 use crate::bytes::first_in;
 use crate::error::SectionError;
-use crate::sections::{Section, Sections, elf32_sections, elf64_sections, open_macho, open_pe};
+use crate::sections::{Section, Sections, elf_sections_of, open_macho, open_pe};
 use binfarce::Format;
 use binfarce_bytes::source::Source;
 use binfarce_tables::format::read_format;
-use binfarce_tables::{Beginning, ReadError, elf32, elf64, macho, part, pe};
+use binfarce_tables::{Beginning, ReadError, Width, elf, macho, part, pe};
 use std::alloc::Global;
 
 // The tables of a file's sections.
 #[derive(Drop)]
 pub(crate) enum Tables {
-    Elf32(elf32::SectionParts),
-    Elf64(elf64::SectionParts),
+    Elf(elf::SectionParts),
     Macho(Beginning),
     Pe(Beginning),
     Unknown,
@@ -40,8 +39,7 @@ impl Tables {
         ensures unwritten { IfErr result (λ e. e ≢ Write) }
     {
         match self {
-            Tables::Elf32(parts) => Ok(elf32_sections(parts)),
-            Tables::Elf64(parts) => Ok(elf64_sections(parts)),
+            Tables::Elf(parts) => Ok(elf_sections_of(parts)),
             Tables::Macho(beginning) => Ok(open_macho(beginning.bytes())?),
             Tables::Pe(beginning) => Ok(open_pe(beginning.bytes())?),
             Tables::Unknown => Err(SectionError::Unknown),
@@ -53,8 +51,7 @@ impl Tables {
         ensures { HasLength self.now result }
     {
         match self {
-            Tables::Elf32(parts) => parts.file_length(),
-            Tables::Elf64(parts) => parts.file_length(),
+            Tables::Elf(parts) => parts.file_length(),
             Tables::Macho(beginning) => beginning.file_length(),
             Tables::Pe(beginning) => beginning.file_length(),
             Tables::Unknown => 0,
@@ -97,12 +94,12 @@ fn read_as<S: Source>(
 {
     match format {
         Format::Elf32 { byte_order } => {
-            let parts = elf32::read_sections(alloc, source, log, byte_order)?;
-            Ok(Tables::Elf32(parts))
+            let parts = elf::read_sections(alloc, source, log, Width::Bits32, byte_order)?;
+            Ok(Tables::Elf(parts))
         }
         Format::Elf64 { byte_order } => {
-            let parts = elf64::read_sections(alloc, source, log, byte_order)?;
-            Ok(Tables::Elf64(parts))
+            let parts = elf::read_sections(alloc, source, log, Width::Bits64, byte_order)?;
+            Ok(Tables::Elf(parts))
         }
         Format::Macho => {
             let beginning = macho::read_sections(alloc, source, log)?;

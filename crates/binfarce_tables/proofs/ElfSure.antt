@@ -1,16 +1,14 @@
 -- What is true of each part of an ELF file that is read, by the step that reads it.
-use Rattle.std.proofs.Common.{◌≡◌, ℕ, ◌+◌, ◌*◌, ◌<◌, Bool, true, false, cond, ltb, eqb, List, length, Option, Some, None, Result, Ok, Err, ap, subst, ◌∙◌, arith}
+use Rattle.std.proofs.Common.{◌≡◌, ℕ, ◌+◌, ◌*◌, ◌<◌, Bool, true, false, cond, ltb, eqb, List, length, Option, Some, Result, Ok, Err, ap, subst, arith}
 use Rattle.std.specs.Prelude.{All}
 use Rattle.std.proofs.lemmas.Bool.{lt-ltb, ne_eqb, eq-eqb}
 use Rattle.std.proofs.lemmas.List.Elements.{All-head, All-tail}
 use Rattle.binfarce_bytes.specs.declared.ByteOrder.{ByteOrder}
 use Rattle.binfarce_bytes.specs.Part.{Part, part, parts_if}
-use Rattle.binfarce_bytes.specs.Refusal.{◌>>=◌, Refusal, symbols_section_is_missing, unexpected_eof}
-use Rattle.binfarce_bytes.specs.SectionEntries.{unless}
+use Rattle.binfarce_bytes.specs.Refusal.{◌>>=◌, Refusal, unexpected_eof}
 use Rattle.binfarce_bytes.specs.Walk.{Walk}
-use Rattle.binfarce_elf.specs.Elf.{ElfClass, SectionTable, Section, walk, whole_headers, names_section, name_among}
-use Rattle.binfarce_elf.specs.ElfAll.{needed_of_all}
-use Rattle.binfarce_elf.specs.ElfSymbols.{TableSections, NeededSections, needed, table_sections, sought, is_named}
+use Rattle.binfarce_elf.specs.Elf.{ElfClass, SectionTable, Section, walk, whole_headers, names_section}
+use Rattle.binfarce_elf.specs.ElfSymbols.{TableSections, Taken, NeededSections, taken, needed, table_sections}
 use Rattle.binfarce_elf.specs.declared.symbol_table.SymbolTable.{SymbolTable}
 use Rattle.binfarce_tables.specs.ElfReads.{table_of, section_parts, names_header, names_parts, headers_size, headers_parts, table_parts, rows_parts, found_parts, elf_section_parts, elf_parts}
 use Rattle.binfarce_tables.specs.machine.Places.{table_step}
@@ -74,35 +72,26 @@ module _ (P : Part → Type 0) (class : ElfClass) (order : ByteOrder) (file : Li
   unfolding elf_parts
   of_symbols which all = back P (elf_section_parts class order file) (found_parts file (table_sections which (walk class (table_of class order file)))) all
 
-  -- those of a table that was found
-  module _ (table : SectionTable) (placed : table_step class order file ≡ Ok table) where
-    pub of_table : All P (elf_section_parts class order file) → All P (table_parts class table)
-    of_table all = subst (λ (t : SectionTable). All P (table_parts class t)) (table_found class order file table placed) (of_tables all)
+  -- of the strings and the rows of its symbol table
+  pub of_rows : (which : SymbolTable) (sections : TableSections) → table_sections which (walk class (table_of class order file)) ≡ Ok sections → All P (elf_parts which class order file) → All P (rows_parts file sections)
+  of_rows which sections found all = of_found P file (table_sections which (walk class (table_of class order file))) sections found (of_symbols which all)
 
-    pub of_rows : (which : SymbolTable) (sections : TableSections) → table_sections which (walk class table) ≡ Ok sections → All P (elf_parts which class order file) → All P (rows_parts file sections)
-    of_rows which sections found all =
-        of_found P file (table_sections which (walk class (table_of class order file))) sections
-        (ap (λ (t : SectionTable). table_sections which (walk class t)) (table_found class order file table placed) ∙ found) (of_symbols which all)
+  -- those of a table that was found
+  pub of_table : (table : SectionTable) → table_step class order file ≡ Ok table → All P (elf_section_parts class order file) → All P (table_parts class table)
+  of_table table placed all = subst (λ (t : SectionTable). All P (table_parts class t)) (table_found class order file table placed) (of_tables all)
 
 -- the symbol table that is needed is the one that is found
-pub needed_table : (which : SymbolTable) (sections : Walk Section) (names : Option (List ℕ)) (wanted : List ℕ) (found : NeededSections) → needed which sections names wanted ≡ Ok found → table_sections which sections ≡ Ok found.table
+pub needed_table : (which : SymbolTable) (sections : Walk Section) (names : Option (List ℕ)) (count : ℕ) (section : Option (List ℕ)) (found : NeededSections)
+    → needed which sections names count section ≡ Ok found → table_sections which sections ≡ Ok found.table
 unfolding needed
-needed_table which sections names wanted found is = by_section (sought symbols_section_is_missing (λ s. is_named wanted (name_among names s.name_offset)) sections) is
+needed_table which sections names count section found is = by_taken (taken which sections names count section) is
   where
-    by_table : (section : Section) (tables : Result TableSections Refusal) → (tables >>= λ table. Ok (record { section = section; table = table })) ≡ Ok found → tables ≡ Ok found.table
-    by_table section (Ok table) e =
-        let same : record { section = section; table = table } ≡ found = cc in
+    by_table : (selected : Taken) (tables : Result TableSections Refusal) → (tables >>= λ table. Ok (record { taken = selected; table = table })) ≡ Ok found → tables ≡ Ok found.table
+    by_table selected (Ok table) e =
+        let same : record { taken = selected; table = table } ≡ found = cc in
         ap (λ (n : NeededSections). Ok n.table) same
-    by_table section (Err refusal) e = absurd cc
+    by_table selected (Err refusal) e = absurd cc
 
-    by_section : (o : Result Section Refusal) → (o >>= λ section. table_sections which sections >>= λ table. Ok (record { section = section; table = table })) ≡ Ok found → table_sections which sections ≡ Ok found.table
-    by_section (Ok section) e = by_table section (table_sections which sections) e
-    by_section (Err refusal) e = absurd cc
-
-pub needed_of_all_table : (which : SymbolTable) (sections : Walk Section) (found : TableSections) → needed_of_all which sections ≡ Ok found → table_sections which sections ≡ Ok found
-unfolding needed_of_all
-needed_of_all_table which sections found is = by_end sections.refusal is
-  where
-    by_end : (end : Option Refusal) → (unless end sections >>= table_sections which) ≡ Ok found → table_sections which sections ≡ Ok found
-    by_end None e = e
-    by_end (Some refusal) e = absurd cc
+    by_taken : (o : Result Taken Refusal) → (o >>= λ selected. table_sections which sections >>= λ table. Ok (record { taken = selected; table = table })) ≡ Ok found → table_sections which sections ≡ Ok found.table
+    by_taken (Ok selected) e = by_table selected (table_sections which sections) e
+    by_taken (Err refusal) e = absurd cc

@@ -9,8 +9,12 @@ use Rattle.binfarce_bytes.specs.declared.ByteOrder.{ByteOrder}
 use Rattle.binfarce_bytes.specs.Field.{Field, value_at}
 use Rattle.binfarce_bytes.specs.Number.{bytes_at, number}
 use Rattle.binfarce_bytes.specs.Refusal.{unexpected_eof}
-use Rattle.binfarce_elf.specs.Elf.{ElfClass, SectionTable, Header, header_of, section_table, section_at, section_of, walk, whole_headers}
-use Rattle.binfarce_elf.specs.ElfParts.{headers_alone}
+use Rattle.binfarce_elf.specs.Elf.{ElfClass, elf32, elf64, SectionTable, Header, header_of, section_table, section_at, section_of, walk, whole_headers}
+use Rattle.binfarce_elf.specs.Classes.{class_of}
+use Rattle.binfarce_elf.specs.ElfParts.{IsPlaceOf, headers_alone}
+use Rattle.binfarce_elf.specs.declared.class.Width.{Width}
+use Rattle.binfarce_elf.specs.declared.class.Width.TheVariants.{Bits32, Bits64}
+use Rattle.binfarce_elf.specs.declared.parts.Place.{Place}
 use Rattle.binfarce_elf.specs.machine.RawElf.{fields_of_header, fields_of_section}
 use Rattle.binfarce_tables.specs.machine.Places.{headers_of}
 
@@ -49,7 +53,7 @@ pub record HasWithin (class : ElfClass) : Type 0 where
   pub size : Within class.section_length class.section.size
   pub entry_size : Within class.section_length class.section.entry_size
 
-pub within_class : (class : ElfClass) (w : ℕ) → class.header ≡ fields_of_header w → class.header_length ≡ 40 + 3 * w → class.section ≡ fields_of_section w → class.section_length ≡ 16 + 6 * w → HasWithin class
+within_class : (class : ElfClass) (w : ℕ) → class.header ≡ fields_of_header w → class.header_length ≡ 40 + 3 * w → class.section ≡ fields_of_section w → class.section_length ≡ 16 + 6 * w → HasWithin class
 within_class class w header_fields header_len fields len = record {
   elf_type = rw (header_fields, header_len) (omega arith);
   shoff = rw (header_fields, header_len) (omega arith);
@@ -63,6 +67,18 @@ within_class class w header_fields header_len fields len = record {
   size = rw (fields, len) (omega arith);
   entry_size = rw (fields, len) (omega arith);
 }
+
+-- so in the classes of the standard
+pub within_of : (width : Width) → HasWithin (class_of width)
+unfolding elf32 elf64
+within_of Bits32 = within_class elf32 4 refl refl refl refl
+within_of Bits64 = within_class elf64 8 refl refl refl refl
+
+-- their section headers have some bytes
+pub some_of : (width : Width) → 0 < (class_of width).section_length
+unfolding elf32 elf64
+some_of Bits32 = omega arith
+some_of Bits64 = omega arith
 
 -- a section header within a part
 pub section_in : (class : ElfClass) (order : ByteOrder) (file : List ℕ) (start len k index : ℕ) → HasWithin class → k + class.section_length ≤ len
@@ -97,7 +113,13 @@ unfolding header_of
 type_is class order file size header within is same =
     ap (λ (h : Header ℕ). h.elf_type) same ∙ value_in order file 0 size 0 class.header.elf_type (omega (arith, is, within.elf_type))
 
--- functions that agree on so many numbers
+-- the table at the place that was read from the file header alone
+pub table_is : (class : ElfClass) (order : ByteOrder) (file header : List ℕ) (place : Place) → HasWithin class → header ≡ bytes_at file 0 class.header_length → IsPlaceOf class order header place
+    → section_table class (record { order = order; bytes = file }) ≡ record { order = place.byte_order; file = file; shoff = place.shoff; shnum = place.shnum; shstrndx = place.shstrndx }
+table_is class order file header place within same states =
+    place_is class order file class.header_length (header_of class order header) within refl (ap (λ (b : List ℕ). header_of class order b) same)
+    ∙ cc (states.0, states.1, states.2, states.3)
+
 map_same : {X : Type 0} (f g : ℕ → X) (a n : ℕ) → ((i : ℕ) → i < a + n → f i ≡ g i) → map f (range_with_len a n) ≡ map g (range_with_len a n)
 map_same f g a zero agree = refl
 map_same f g a (suc n) agree = ap₂ (λ x xs. x ∷ xs) (agree a (omega arith)) (map_same f g (a + 1) n (λ i lt. agree i (omega arith)))

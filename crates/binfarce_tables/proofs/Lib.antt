@@ -10,13 +10,10 @@ mod PeSteps
 mod MachoPrefix
 mod MachoSure
 mod MachoLocated
-pub mod SomeAddress
 mod SectionsRead
 mod PeBeginning
 mod PeSure
-mod AllRead
 pub mod ElfLaw
-mod MachoAllLocated
 pub mod MachoLaw
-mod PeAllLocated
+mod PeWhole
 pub mod PeLaw

@@ -1,17 +1,20 @@
--- The answer of a section's symbols, by the parts that were read of a file.
-use Rattle.std.proofs.Common.{◌≡◌, ℕ, ◌-◌, ◌/◌, ◌%◌, ◌<◌, ◌≤◌, Bool, true, false, cond, ltb, eqb, List, length, min, Option, Some, None, Result, Ok, Err, refl, sym, ap, ap₂, ◌∙◌, arith}
+-- The answer for a selection, by the parts that were read of a file.
+use Rattle.std.proofs.Common.{◌≡◌, ℕ, ◌-◌, ◌/◌, ◌%◌, ◌<◌, ◌≤◌, Bool, true, false, cond, ltb, eqb, List, length, min, Option, None, Some, Result, Ok, Err, refl, sym, ap, ◌∙◌, arith}
 use Rattle.std.proofs.Math.Nat.{zero-div}
+use Rattle.std.proofs.Math.Path.{fun_ext}
 use Rattle.std.proofs.lemmas.Bool.{le-ltb, lt-ltb, le-leb}
 use Rattle.binfarce_bytes.specs.declared.ByteOrder.{ByteOrder}
-use Rattle.binfarce_bytes.specs.Refusal.{◌>>=◌, Refusal, symbols_section_is_missing, unexpected_eof}
-use Rattle.binfarce_bytes.specs.Walk.{Walk, ended}
-use Rattle.binfarce_bytes.specs.Entries.{Listed}
-use Rattle.binfarce_elf.specs.Elf.{ElfClass, SectionTable, Section, section_table, walk, whole_headers, names_bytes}
-use Rattle.binfarce_elf.specs.ElfParts.{headers_alone}
-use Rattle.binfarce_elf.specs.ElfSymbols.{TableSections, NeededSections, TableRows, needed, section_data, whole_rows, rows_at, listed_of, elf_answer, elf_file_answer}
+use Rattle.binfarce_bytes.specs.Refusal.{◌>>=◌, Refusal, unexpected_eof}
+use Rattle.binfarce_bytes.specs.SectionEntries.{SelectedSymbols}
+use Rattle.binfarce_bytes.specs.Walk.{ended}
+use Rattle.binfarce_elf.specs.Elf.{ElfClass, SectionTable, header_of, section_table, walk, whole_headers, names_bytes}
+use Rattle.binfarce_elf.specs.ElfSymbols.{TableSections, NeededSections, TableRows, Selected, table_sections, needed, section_data, whole_rows, rows_at, taken_from, elf_selected, symbols_of, selected_file_answer}
 use Rattle.binfarce_elf.specs.declared.symbol_table.SymbolTable.{SymbolTable}
-use Rattle.binfarce_tables.specs.machine.Places.{table_step, headers_of}
-use Rattle.binfarce_tables.proofs.HeadersAlone.{HasWithin, headers_walk}
+use Rattle.binfarce_elf.proofs.Steps.{assoc}
+use Rattle.binfarce_tables.specs.ElfReading.{symbols_in}
+use Rattle.binfarce_tables.specs.ElfReads.{table_of}
+use Rattle.binfarce_tables.specs.SectionReading.{FileSections, file_sections}
+use Rattle.binfarce_tables.proofs.ElfSure.{needed_table}
 
 -- nothing is found after the file's end
 pub walk_outside : (class : ElfClass) (table : SectionTable) → length table.file ≤ table.shoff → walk class table ≡ ended (Some unexpected_eof)
@@ -22,29 +25,12 @@ walk_outside class table outside =
     let count : min table.shnum (whole_headers class table) ≡ 0 = omega arith in
     rw (count, le-ltb table.shoff (length table.file) outside) refl
 
-pub needed_outside : (which : SymbolTable) (class : ElfClass) (table : SectionTable) (names : Option (List ℕ)) (wanted : List ℕ) → length table.file ≤ table.shoff → needed which (walk class table) names wanted ≡ Err unexpected_eof
-unfolding needed
-needed_outside which class table names wanted outside = ap (λ (w : Walk Section). needed which w names wanted) (walk_outside class table outside)
-
 -- nothing is found where there are no sections
 pub walk_of_none : (class : ElfClass) (table : SectionTable) → table.shoff < length table.file → table.shnum ≡ 0 → walk class table ≡ ended None
 unfolding walk
 walk_of_none class table inside empty =
     let count : min table.shnum (whole_headers class table) ≡ 0 = omega arith in
     rw (count, lt-ltb table.shoff (length table.file) inside, le-leb table.shnum (whole_headers class table) (omega arith)) refl
-
-pub needed_of_none : (which : SymbolTable) (class : ElfClass) (table : SectionTable) (names : Option (List ℕ)) (wanted : List ℕ) → table.shoff < length table.file → table.shnum ≡ 0
-    → needed which (walk class table) names wanted ≡ Err symbols_section_is_missing
-unfolding needed
-needed_of_none which class table names wanted inside empty = ap (λ (w : Walk Section). needed which w names wanted) (walk_of_none class table inside empty)
-
--- what is needed, by the section headers and the section names that were read
-pub needed_read : (which : SymbolTable) (class : ElfClass) (table : SectionTable) (headers : List ℕ) (names : Option (List ℕ)) (wanted : List ℕ) → HasWithin class → 0 < class.section_length → table.shoff < length table.file → 0 < table.shnum
-    → headers ≡ headers_of class table → names ≡ names_bytes class table
-    → needed which (walk class table) (names_bytes class table) wanted ≡ needed which (walk class (headers_alone table.order headers table.shnum)) names wanted
-needed_read which class table headers names wanted within some inside any headers_are names_are =
-    let walked : walk class (headers_alone table.order headers table.shnum) ≡ walk class table = ap (λ (h : List ℕ). walk class (headers_alone table.order h table.shnum)) headers_are ∙ headers_walk class table within some inside any in
-    sym (ap₂ (λ (w : Walk Section) (n : Option (List ℕ)). needed which w n wanted) walked names_are)
 
 -- rows that are whole are those that were given
 rows_are : (class : ElfClass) (bytes rows : List ℕ) → whole_rows class bytes ≡ Ok rows → whole_rows class bytes ≡ Ok bytes
@@ -78,30 +64,70 @@ module _ (class : ElfClass) (file : List ℕ) (sections : TableSections) where
       pub rows_read : (rows : List ℕ) → whole_rows class bytes ≡ Ok rows → rows_at class file sections ≡ Ok (record { strings = strings; rows = bytes })
       rows_read rows whole = from_rows ∙ ap (λ (a : Result (List ℕ) Refusal). a >>= λ r. Ok (record { strings = strings; rows = r })) (rows_are class bytes rows whole)
 
--- what follows what is needed, up to the answer
-abbrev pub after_needed : SymbolTable → ElfClass → ByteOrder → List ℕ → NeededSections → Result Listed Refusal
-after_needed which class order file sections = rows_at class file sections.table >>= λ found. Ok (listed_of which class order sections.section found)
+-- what follows what is needed of a file with these sections, up to the answer
+abbrev pub after_needed : List ℕ → FileSections → NeededSections → Result SelectedSymbols Refusal
+after_needed file seen needs = rows_at seen.class file needs.table >>= λ found. Ok (symbols_in seen needs.taken found)
 
-pub answer_from : (which : SymbolTable) (class : ElfClass) (table : SectionTable) (wanted : List ℕ) → elf_answer which class table wanted ≡ (needed which (walk class table) (names_bytes class table) wanted >>= after_needed which class table.order table.file)
-unfolding elf_answer
-answer_from which class table wanted = refl
+-- what is needed of them
+abbrev pub needed_of : SymbolTable → Option (List ℕ) → FileSections → Result NeededSections Refusal
+needed_of which section seen = needed which seen.sections seen.names seen.count section
 
--- a file's answer, by its table
-file_answer_from : (which : SymbolTable) (class : ElfClass) (order : ByteOrder) (file wanted : List ℕ) → elf_file_answer which class order file wanted ≡ (table_step class order file >>= λ table. elf_answer which class table wanted)
-file_answer_from which class order file wanted = by_test (ltb (length file) class.header_length)
+-- what follows these sections
+abbrev pub after_sections : SymbolTable → Option (List ℕ) → List ℕ → FileSections → Result SelectedSymbols Refusal
+after_sections which section file seen = needed_of which section seen >>= after_needed file seen
+
+-- the sections of a file that has a header
+abbrev sections_in : ElfClass → ByteOrder → List ℕ → FileSections
+sections_in class order file =
+    let table = table_of class order file in
+    record { class = class; order = order; elf_type = (header_of class order file).elf_type; count = table.shnum; sections = walk class table; names = names_bytes class table; file_length = length file }
+
+sections_are : (class : ElfClass) (order : ByteOrder) (file : List ℕ) (seen : FileSections) → file_sections class order file ≡ Ok seen → sections_in class order file ≡ seen
+sections_are class order file seen given = by_test (ltb (length file) class.header_length) given
   where
-    by_test : (short : Bool) → cond short (Err unexpected_eof) (elf_answer which class (section_table class (record { order = order; bytes = file })) wanted)
-        ≡ (cond short (Err unexpected_eof) (Ok (section_table class (record { order = order; bytes = file }))) >>= λ table. elf_answer which class table wanted)
-    by_test true = refl
-    by_test false = refl
+    by_test : (short : Bool) → cond short (Err unexpected_eof) (Ok (sections_in class order file)) ≡ Ok seen → sections_in class order file ≡ seen
+    by_test true is = absurd cc
+    by_test false is = cc
 
--- a file's answer from a step on, where those before it were taken
-module _ (which : SymbolTable) (class : ElfClass) (order : ByteOrder) (file wanted : List ℕ) (table : SectionTable) (placed : table_step class order file ≡ Ok table) where
-  pub from_table : elf_file_answer which class order file wanted ≡ (needed which (walk class table) (names_bytes class table) wanted >>= after_needed which class table.order table.file)
-  from_table =
-      file_answer_from which class order file wanted
-      ∙ ap (λ (a : Result SectionTable Refusal). a >>= λ t. elf_answer which class t wanted) placed
-      ∙ answer_from which class table wanted
+-- a file's answer for a selection from a step on, where those before it were taken
+module _ (which : SymbolTable) (class : ElfClass) (order : ByteOrder) (file : List ℕ) (section : Option (List ℕ)) where
+  pub from_file : selected_file_answer which class order file section ≡ (file_sections class order file >>= after_sections which section file)
+  unfolding selected_file_answer elf_selected section_table
+  from_file = by_test (ltb (length file) class.header_length)
+    where
+      table : SectionTable
+      table = table_of class order file
 
-  pub from_needed : (found : NeededSections) → needed which (walk class table) (names_bytes class table) wanted ≡ Ok found → elf_file_answer which class order file wanted ≡ after_needed which class table.order table.file found
-  from_needed found needs = from_table ∙ ap (λ (a : Result NeededSections Refusal). a >>= after_needed which class table.order table.file) needs
+      seen : FileSections
+      seen = sections_in class order file
+
+      selected : NeededSections → TableRows → Result Selected Refusal
+      selected needs found = Ok (record { entries = taken_from class order needs.taken found; size = needs.taken.size })
+
+      shown : Selected → Result SelectedSymbols Refusal
+      shown s = Ok (symbols_of s seen.names seen.sections seen.elf_type)
+
+      steps : (elf_selected which class table section >>= shown) ≡ after_sections which section file seen
+      steps =
+          assoc (needed_of which section seen) (λ needs. rows_at class file needs.table >>= selected needs) shown
+          ∙ ap (λ (k : NeededSections → Result SelectedSymbols Refusal). needed_of which section seen >>= k) (fun_ext (λ needs. assoc (rows_at class file needs.table) (selected needs) shown))
+
+      by_test : (short : Bool) → cond short (Err unexpected_eof) (elf_selected which class table section >>= shown) ≡ (cond short (Err unexpected_eof) (Ok seen) >>= after_sections which section file)
+      by_test true = refl
+      by_test false = steps
+
+  module _ (seen : FileSections) (given : file_sections class order file ≡ Ok seen) where
+    pub from_seen : selected_file_answer which class order file section ≡ after_sections which section file seen
+    from_seen = from_file ∙ ap (λ (a : Result FileSections Refusal). a >>= after_sections which section file) given
+
+    pub from_needed : (needs : NeededSections) → needed_of which section seen ≡ Ok needs → selected_file_answer which class order file section ≡ after_needed file seen needs
+    from_needed needs is = from_seen ∙ ap (λ (a : Result NeededSections Refusal). a >>= after_needed file seen) is
+
+    -- its length, and the sections of its symbol table
+    pub length_is : seen.file_length ≡ length file
+    length_is = ap (λ (s : FileSections). s.file_length) (sym (sections_are class order file seen given))
+
+    pub table_found : (needs : NeededSections) → needed_of which section seen ≡ Ok needs → table_sections which (walk class (table_of class order file)) ≡ Ok needs.table
+    table_found needs is =
+        ap (λ (s : FileSections). table_sections which s.sections) (sections_are class order file seen given)
+        ∙ needed_table which seen.sections seen.names seen.count section needs is

@@ -6,16 +6,14 @@ use Rattle.std.proofs.lemmas.List.{take_all}
 use Rattle.binfarce_bytes.specs.Number.{bytes_at}
 use Rattle.binfarce_bytes.specs.Part.{part, whole_part, parts_if, SameIn, SameParts}
 use Rattle.binfarce_bytes.specs.Refusal.{◌>>=◌, Refusal, unexpected_eof}
-use Rattle.binfarce_macho.specs.Macho.{Section, header_of, header_length}
-use Rattle.binfarce_macho.specs.MachoAll.{AllLocated, Symbols, symbols_by, all_located_answer, all_symbols, all_file_answer}
+use Rattle.binfarce_macho.specs.Macho.{header_of, header_length}
 use Rattle.binfarce_macho.specs.MachoParts.{holds_commands}
-use Rattle.binfarce_macho.specs.MachoSymbols.{SymbolTable, symbol_length, slice_at, NeededTables, needed, tables_in, of_table, Located, located, answer_of, macho_answer, macho_file_answer, HasAddress}
-use Rattle.binfarce_macho.proofs.Needs.{located_needed}
+use Rattle.binfarce_macho.specs.MachoSelection.{SelectedTables, selected_file_tables, selected_file_answer, symbols_of}
+use Rattle.binfarce_macho.specs.MachoSymbols.{SymbolTable, Symbols, Extent, symbol_length, slice_at, symbols_by, text_extent, table_of, Located, located_by, located, answer_of, macho_answer, macho_file_answer, HasAddress}
 use Rattle.binfarce_tables.specs.MachoReads.{said_end, command_bytes, macho_section_parts, macho_parts, table_parts}
-use Rattle.binfarce_tables.specs.machine.MachoPlaces.{CommandParts, all_commands}
-use Rattle.binfarce_tables.proofs.MachoAllLocated.{after_commands, commands_of_bytes, steps_are}
-use Rattle.binfarce_tables.proofs.MachoLocated.{after_rows, from_start}
-use Rattle.binfarce_tables.proofs.MachoPrefix.{header_said, needed_of_bytes, needed_table}
+use Rattle.binfarce_tables.specs.machine.MachoPlaces.{CommandParts, selected_commands}
+use Rattle.binfarce_tables.proofs.MachoLocated.{commands_same, after_commands, steps_are}
+use Rattle.binfarce_tables.proofs.MachoPrefix.{header_said, same_sections, text_of_bytes}
 use Rattle.binfarce_tables.proofs.MachoSure.{header_part, prefix_part, file_part, section_parts, symbol_parts, commands_table}
 use Rattle.binfarce_tables.proofs.Sure.{front, back, only}
 
@@ -42,11 +40,18 @@ module _ (file other : List ℕ) (long : length file ≡ length other) (inside :
       by_held true held = refl
       by_held false held = same_files file other (length file) long (omega arith) (file_part (SameIn file other) file held same)
 
-  all_commands_same : all_commands other ≡ all_commands file
-  all_commands_same = sym (commands_of_bytes other (omega (arith, inside, long))) ∙ ap all_commands commands_are ∙ commands_of_bytes file inside
+  selected_same : (section : Option (List ℕ)) → selected_commands section other ≡ selected_commands section file
+  selected_same section =
+      sym (commands_same section other (command_bytes other) (omega (arith, inside, long)) refl) ∙ ap (selected_commands section) commands_are ∙ commands_same section file (command_bytes file) inside refl
 
-  needed_same : needed other ≡ needed file
-  needed_same = sym (needed_of_bytes other (omega (arith, inside, long))) ∙ ap needed commands_are ∙ needed_of_bytes file inside
+  text_same : text_extent other ≡ text_extent file
+  text_same = sym (text_of_bytes other (omega (arith, inside, long))) ∙ ap text_extent commands_are ∙ text_of_bytes file inside
+
+  table_same : table_of other ≡ table_of file
+  table_same =
+      let these = same_sections other (command_bytes other) (omega (arith, inside, long)) refl in
+      let those = same_sections file (command_bytes file) inside refl in
+      sym these.table ∙ ap table_of commands_are ∙ those.table
 
 -- bytes that lie in both files
 slice_same : (file other : List ℕ) (offset size : ℕ) → length file ≡ length other → All (SameIn file other) (whole_part file offset size) → slice_at other offset size ≡ slice_at file offset size
@@ -71,25 +76,31 @@ module _ (file other : List ℕ) (long : length file ≡ length other) where
       (slice_same file other table.strings_offset table.strings_size long (front (SameIn file other) strings rows same))
       (slice_same file other table.symbol_offset (symbol_length * table.row_count) long (back (SameIn file other) strings rows same))
 
-  tables_same : (text : Section) (table : Option (SymbolTable ℕ)) → All (SameIn file other) (parts_if table (table_parts file)) → of_table other text table ≡ of_table file text table
-  tables_same text None same = refl
-  tables_same text (Some table) same =
-      ap (λ (r : Result Located Refusal). r >>= λ found. Ok (Some found)) (from_start other text table ∙ both_same table (after_rows text) same ∙ sym (from_start file text table))
-
   symbols_same : (table : Option (SymbolTable ℕ)) → All (SameIn file other) (parts_if table (table_parts file)) → symbols_by other table ≡ symbols_by file table
   symbols_same None same = refl
   symbols_same (Some table) same = both_same table (λ strings rows. Ok (Some (record { strings = strings; rows = rows }))) same
 
+-- where the symbols of the text are, by the steps to them
+located_by_steps : List ℕ → Result Extent Refusal → Result (Option (SymbolTable ℕ)) Refusal → Result (Option Located) Refusal
+located_by_steps file text table = text >>= λ text. table >>= λ table. symbols_by file table >>= located_by text
+
+located_is : (file : List ℕ) → located file ≡ located_by_steps file (text_extent file) (table_of file)
+unfolding located located_by_steps
+located_is file = refl
+
 located_from : (file other : List ℕ) → SameParts (macho_parts file) file other → 28 ≤ length file → located other ≡ located file
+unfolding located_by_steps
 located_from file other same inside =
-    located_needed other
-    ∙ ap (λ (r : Result NeededTables Refusal). r >>= tables_in other) (needed_same file other same.lengths inside (section_parts (SameIn file other) file same.each))
-    ∙ by_needed (needed file) refl
-    ∙ sym (located_needed file)
+    let sections = section_parts (SameIn file other) file same.each in
+    located_is other ∙ ap₂ (located_by_steps other) (text_same file other same.lengths inside sections) (table_same file other same.lengths inside sections)
+    ∙ by_steps (text_extent file) (table_of file) refl
+    ∙ sym (located_is file)
   where
-    by_needed : (r : Result NeededTables Refusal) → needed file ≡ r → (r >>= tables_in other) ≡ (r >>= tables_in file)
-    by_needed (Err why) is = refl
-    by_needed (Ok n) is = tables_same file other same.lengths n.text n.table (symbol_parts (SameIn file other) file n.table (needed_table file n is) same.each)
+    by_steps : (text : Result Extent Refusal) (table : Result (Option (SymbolTable ℕ)) Refusal) → table_of file ≡ table → located_by_steps other text table ≡ located_by_steps file text table
+    by_steps (Err why) table is = refl
+    by_steps (Ok text) (Err why) is = refl
+    by_steps (Ok text) (Ok table) is =
+        ap (λ (r : Result (Option Symbols) Refusal). r >>= located_by text) (symbols_same file other same.lengths table (symbol_parts (SameIn file other) file table is same.each))
 
 -- the symbols have one location
 located_same : (file other : List ℕ) → SameParts (macho_parts file) file other → located other ≡ located file
@@ -98,7 +109,7 @@ located_same file other same = elim (cases_lt (length file) 28) [
   | inr inside ↦ located_from file other same inside
 ]
 
--- its function symbols, and whether they have an address
+-- the function symbols of the text, and whether they have an address
 pub macho_parts_decide : (file other : List ℕ) → SameParts (macho_parts file) file other → macho_file_answer other ≡ macho_file_answer file
 unfolding macho_answer
 macho_parts_decide file other same =
@@ -110,25 +121,26 @@ has_address file other same has = record { found = has.found; is_located = same 
 pub macho_parts_decide_address : (file other : List ℕ) → SameParts (macho_parts file) file other → HasAddress other ↔ HasAddress file
 macho_parts_decide_address file other same = (has_address other file (sym (located_same file other same)), has_address file other (located_same file other same))
 
-all_located_from : (file other : List ℕ) → SameParts (macho_parts file) file other → 28 ≤ length file → all_located_answer other ≡ all_located_answer file
-all_located_from file other same inside =
-    steps_are other (omega (arith, inside, same.lengths))
-    ∙ ap (λ (r : Result CommandParts Refusal). r >>= after_commands other) (all_commands_same file other same.lengths inside (section_parts (SameIn file other) file same.each))
-    ∙ by_found (all_commands file) refl
-    ∙ sym (steps_are file inside)
-  where
-    by_found : (r : Result CommandParts Refusal) → all_commands file ≡ r → (r >>= after_commands other) ≡ (r >>= after_commands file)
-    by_found (Err why) is = refl
-    by_found (Ok found) is =
-        ap (λ (r : Result (Option Symbols) Refusal). r >>= λ symbols. Ok (record { sections = found.sections; names = found.names; symbols = symbols; shares_addresses = found.shares_addresses }))
-        (symbols_same file other same.lengths found.table (symbol_parts (SameIn file other) file found.table (commands_table file found is) same.each))
+-- those of a selection
+module _ (section : Option (List ℕ)) (file other : List ℕ) (same : SameParts (macho_parts file) file other) where
+  selected_from : 28 ≤ length file → selected_file_tables section other ≡ selected_file_tables section file
+  selected_from inside =
+      steps_are section other (omega (arith, inside, same.lengths))
+      ∙ ap (λ (r : Result CommandParts Refusal). r >>= after_commands other) (selected_same file other same.lengths inside (section_parts (SameIn file other) file same.each) section)
+      ∙ by_found (selected_commands section file) refl
+      ∙ sym (steps_are section file inside)
+    where
+      by_found : (r : Result CommandParts Refusal) → selected_commands section file ≡ r → (r >>= after_commands other) ≡ (r >>= after_commands file)
+      by_found (Err why) is = refl
+      by_found (Ok found) is =
+          ap (λ (r : Result (Option Symbols) Refusal). r >>= λ symbols. Ok (record { sections = found.sections; symbols = symbols; is_object = found.is_object }))
+          (symbols_same file other same.lengths found.table (symbol_parts (SameIn file other) file found.table (commands_table section file found is) same.each))
 
-all_located_same : (file other : List ℕ) → SameParts (macho_parts file) file other → all_located_answer other ≡ all_located_answer file
-all_located_same file other same = elim (cases_lt (length file) 28) [
-  | inl short ↦ ap all_located_answer (same_files file other 28 same.lengths (omega arith) (header_part (SameIn file other) file (section_parts (SameIn file other) file same.each)))
-  | inr inside ↦ all_located_from file other same inside
-]
+  selected_tables_same : selected_file_tables section other ≡ selected_file_tables section file
+  selected_tables_same = elim (cases_lt (length file) 28) [
+    | inl short ↦ ap (selected_file_tables section) (same_files file other 28 same.lengths (omega arith) (header_part (SameIn file other) file (section_parts (SameIn file other) file same.each)))
+    | inr inside ↦ selected_from inside
+  ]
 
--- the function symbols of all sections
-pub all_macho_parts_decide : (file other : List ℕ) → SameParts (macho_parts file) file other → all_file_answer other ≡ all_file_answer file
-all_macho_parts_decide file other same = ap (λ (r : Result AllLocated Refusal). r >>= λ found. Ok (all_symbols found)) (all_located_same file other same)
+  pub selected_macho_parts_decide : selected_file_answer section other ≡ selected_file_answer section file
+  selected_macho_parts_decide = ap (λ (r : Result SelectedTables Refusal). r >>= symbols_of) selected_tables_same

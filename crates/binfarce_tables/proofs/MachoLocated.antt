@@ -1,67 +1,86 @@
--- Where the symbols of a Mach-O file are, by what was read of it.
-use Rattle.std.proofs.Common.{◌≡◌, ℕ, ◌*◌, ◌≤◌, List, [], length, Vec, Global, Option, None, Result, Ok, Err, refl, sym, ap, ◌∙◌}
+-- What the function symbols of a selection of a Mach-O file are made of, by what was read of it.
+use Rattle.std.proofs.Common.{◌≡◌, ◌⊎◌, ◌≢◌, ℕ, ◌≤◌, Bool, false, List, length, Option, Result, Ok, Err, inl, inr, refl, sym, ap, subst, ◌∙◌}
+use Rattle.std.specs.Global.{Vec}
 use Rattle.std.proofs.lemmas.Bool.{le-ltb}
-use Rattle.binfarce_bytes.specs.Refusal.{◌>>=◌, Refusal}
-use Rattle.binfarce_macho.specs.Macho.{Section}
-use Rattle.binfarce_macho.specs.MachoSymbols.{SymbolTable, slice_at, symbol_length, text_end_of, Located, located, answer_of, NeededTables, needed, located_in, tables_in}
-use Rattle.binfarce_macho.proofs.Needs.{located_refused, located_at}
-use Rattle.binfarce_bytes.specs.declared.functions.FunctionSymbol.{FunctionSymbol}
-use Rattle.binfarce_bytes.specs.Entries.{Listed, Answers}
-use Rattle.binfarce_bytes.specs.SymbolViews.{HoldsFunctions}
-use Rattle.binfarce_tables.specs.MachoReading.{located_answer}
+use Rattle.binfarce_bytes.specs.declared.error.ParseError.{ParseError}
+use Rattle.binfarce_bytes.specs.Refusal.{◌>>=◌, Refusal, refusal_of, out_of_memory}
+use Rattle.binfarce_bytes.specs.Entries.{Answers}
+use Rattle.binfarce_bytes.specs.SectionEntries.{SectionEntry, SelectedSymbols}
+use Rattle.binfarce_bytes.specs.SymbolViews.{HoldsSectionFunctions, HoldsSelected}
+use Rattle.binfarce_bytes.specs.declared.functions.SectionFunction.{SectionFunction}
+use Rattle.binfarce_macho.specs.MachoSelection.{SelectedSections, SelectedTables, sections_in, is_object, selected_tables, selected_file_tables, entries_in, section_size, section_name, shares_addresses, symbols_of}
+use Rattle.binfarce_macho.specs.MachoSymbols.{SymbolTable, symbols_by, table_of}
+use Rattle.binfarce_tables.specs.declared.error.ReadError.{ReadError}
+use Rattle.binfarce_tables.specs.declared.error.ReadError.TheVariants.{Refused, Unreadable, OutOfMemory}
+use Rattle.binfarce_tables.specs.Reading.{Reads}
 use Rattle.binfarce_tables.specs.MachoReads.{command_bytes}
-use Rattle.binfarce_tables.proofs.MachoPrefix.{command_bytes_long, needed_of_bytes}
+use Rattle.binfarce_tables.specs.machine.MachoPlaces.{CommandParts, selected_commands}
+use Rattle.binfarce_tables.proofs.MachoPrefix.{same_sections}
 
--- what follows the bytes of the symbol table, and those of the string table
-abbrev pub after_rows : Section → List ℕ → List ℕ → Result Located Refusal
-after_rows text strings rows = text_end_of text >>= λ text_end. Ok (record { text_end = text_end; text_size = text.size; strings = strings; rows = rows })
+-- a file, by the bytes that its commands are in
+module _ (section : Option (List ℕ)) (file bytes : List ℕ) (inside : 28 ≤ length file) (are : bytes ≡ command_bytes file) where
+  pub commands_same : selected_commands section bytes ≡ selected_commands section file
+  commands_same = let same = same_sections file bytes inside are in rw (same.sections section, same.table, same.object) refl
 
-abbrev pub after_strings : List ℕ → Section → SymbolTable ℕ → List ℕ → Result Located Refusal
-after_strings file text table strings = slice_at file table.symbol_offset (symbol_length * table.row_count) >>= after_rows text strings
+  pub sections_refused : (why : Refusal) → sections_in section bytes ≡ Err why → selected_commands section file ≡ Err why
+  sections_refused why at = sym commands_same ∙ rw at refl
 
-module _ (file : List ℕ) (text : Section) (table : SymbolTable ℕ) where
-  pub from_start : located_in file text table ≡ (slice_at file table.strings_offset table.strings_size >>= after_strings file text table)
-  unfolding located_in
-  from_start = refl
+  pub table_refused : (sections : SelectedSections) (why : Refusal) → sections_in section bytes ≡ Ok sections → table_of bytes ≡ Err why → selected_commands section file ≡ Err why
+  table_refused sections why at is = sym commands_same ∙ rw (at, is) refl
 
-  pub from_strings : (strings : List ℕ) → slice_at file table.strings_offset table.strings_size ≡ Ok strings → located_in file text table ≡ after_strings file text table strings
-  from_strings strings at = from_start ∙ ap (λ (r : Result (List ℕ) Refusal). r >>= after_strings file text table) at
+  pub all_found : (found : CommandParts) → sections_in section bytes ≡ Ok found.sections → table_of bytes ≡ Ok found.table → found.is_object ≡ is_object bytes → selected_commands section file ≡ Ok found
+  all_found found at is object = sym commands_same ∙ rw (at, is, sym object) refl
 
-  pub from_rows : (strings rows : List ℕ) → slice_at file table.strings_offset table.strings_size ≡ Ok strings → slice_at file table.symbol_offset (symbol_length * table.row_count) ≡ Ok rows
-      → located_in file text table ≡ after_rows text strings rows
-  from_rows strings rows at lists = from_strings strings at ∙ ap (λ (r : Result (List ℕ) Refusal). r >>= after_rows text strings) lists
+-- what follows the commands
+abbrev pub after_commands : List ℕ → CommandParts → Result SelectedTables Refusal
+after_commands file found = symbols_by file found.table >>= λ symbols. Ok (record { sections = found.sections; symbols = symbols; is_object = found.is_object })
 
-  pub end_refused : (strings rows : List ℕ) (why : Refusal) → slice_at file table.strings_offset table.strings_size ≡ Ok strings → slice_at file table.symbol_offset (symbol_length * table.row_count) ≡ Ok rows
-      → text_end_of text ≡ Err why → located_in file text table ≡ Err why
-  end_refused strings rows why at lists is =
-      from_rows strings rows at lists ∙ ap (λ (r : Result ℕ Refusal). r >>= λ text_end. Ok (record { text_end = text_end; text_size = text.size; strings = strings; rows = rows })) is
+module _ (section : Option (List ℕ)) (file : List ℕ) where
+  tables_are : selected_tables section file ≡ (selected_commands section file >>= after_commands file)
+  unfolding selected_tables
+  tables_are = by_steps (sections_in section file) (table_of file)
+    where
+      by_steps : (r : Result SelectedSections Refusal) (t : Result (Option (SymbolTable ℕ)) Refusal)
+          → (r >>= λ sections. t >>= λ table. symbols_by file table >>= λ symbols. Ok (record { sections = sections; symbols = symbols; is_object = is_object file }))
+          ≡ ((r >>= λ sections. t >>= λ table. Ok (record { sections = sections; table = table; is_object = is_object file })) >>= after_commands file)
+      by_steps (Err why) t = refl
+      by_steps (Ok sections) (Err why) = refl
+      by_steps (Ok sections) (Ok table) = refl
 
-  pub all_read : (strings rows : List ℕ) (text_end text_size : ℕ) → slice_at file table.strings_offset table.strings_size ≡ Ok strings → slice_at file table.symbol_offset (symbol_length * table.row_count) ≡ Ok rows
-      → text_end_of text ≡ Ok text_end → text_size ≡ text.size → located_in file text table ≡ Ok (record { text_end = text_end; text_size = text_size; strings = strings; rows = rows })
-  all_read strings rows text_end text_size at lists is size =
-      from_rows strings rows at lists
-      ∙ ap (λ (r : Result ℕ Refusal). r >>= λ text_end. Ok (record { text_end = text_end; text_size = text.size; strings = strings; rows = rows })) is
-      ∙ ap (λ (n : ℕ). Ok (record { text_end = text_end; text_size = n; strings = strings; rows = rows })) (sym size)
+  pub steps_are : 28 ≤ length file → selected_file_tables section file ≡ (selected_commands section file >>= after_commands file)
+  steps_are inside = rw (le-ltb (length file) 28 inside) tables_are
 
--- a file whose header is there
-module _ (file commands : List ℕ) (inside : 28 ≤ length file) (are : commands ≡ command_bytes file) where
-  pub commands_long : 28 ≤ length commands
-  commands_long = rw are (command_bytes_long file inside)
+  pub from_found : (found : CommandParts) → 28 ≤ length file → selected_commands section file ≡ Ok found → selected_file_tables section file ≡ after_commands file found
+  from_found found inside is = steps_are inside ∙ ap (λ (r : Result CommandParts Refusal). r >>= after_commands file) is
 
-  -- what is needed, by the bytes that the commands are in
-  pub needed_is : needed file ≡ needed commands
-  needed_is = sym (ap needed are ∙ needed_of_bytes file inside)
+-- the function symbols of parts, by the entries of their sections
+pub entries_selected : (tables : SelectedTables) (N : Type 0) (result : Result (Vec SectionFunction) ParseError) → Answers HoldsSectionFunctions (λ _. N) (entries_in tables.sections tables.symbols) result
+    → Answers HoldsSelected (λ _. N) (symbols_of tables) result
+unfolding symbols_of
+entries_selected tables N result given = by_entries (entries_in tables.sections tables.symbols) result given
+  where
+    selected : List SectionEntry → SelectedSymbols
+    selected entries = record {
+      entries = entries;
+      section_size = section_size tables.sections tables.symbols;
+      section_name = section_name tables.sections;
+      shares_addresses = shares_addresses tables.sections tables.is_object;
+    }
 
-  located_is : located_answer file ≡ located file
-  located_is = rw (le-ltb (length file) 28 inside) refl
+    by_entries : (r : Result (List SectionEntry) Refusal) (result : Result (Vec SectionFunction) ParseError) → Answers HoldsSectionFunctions (λ _. N) r result → Answers HoldsSelected (λ _. N) (r >>= λ entries. Ok (selected entries)) result
+    by_entries (Ok entries) (Ok functions) h = h
+    by_entries (Ok entries) (Err e) h = h
+    by_entries (Err why) (Ok functions) h = h
+    by_entries (Err why) (Err e) h = h
 
-  pub refused_is : (why : Refusal) → needed commands ≡ Err why → located_answer file ≡ Err why
-  refused_is why at = located_is ∙ located_refused file why (needed_is ∙ at)
+-- a reading of bytes in memory
+pub in_memory : {X Y : Type 0} (fails : Bool) (view : X → Y) (answer : Result Y Refusal) (e : ReadError) → Reads false view answer (Err e) → Reads fails view answer (Err e)
+in_memory fails view answer (Refused p) reads = reads
+in_memory fails view answer Unreadable reads = absurd cc
+in_memory fails view answer OutOfMemory reads = tt
 
-  pub found_is : (n : NeededTables) → needed commands ≡ Ok n → located_answer file ≡ tables_in file n
-  found_is n at = located_is ∙ located_at file n.text n.table (tables_in file n) (needed_is ∙ at) refl
-
--- without a symbol table nothing is listed
-pub nothing_listed : (Needs : Result Listed Refusal → Type 0) (found : Option Located) (functions : Vec FunctionSymbol Global) → found ≡ None → functions.items ≡ [] → Answers HoldsFunctions Needs (answer_of found) (Ok (functions, 0))
-unfolding answer_of
-nothing_listed Needs found functions none empty = rw (none, empty) (refl, refl)
+-- a refusal, or a failed allocation
+pub with_memory : {X Y : Type 0} (view : X → Y) (answer : Result Y Refusal) (p : ParseError) (e : ReadError) → ((refusal_of p ≡ out_of_memory) × (e ≡ OutOfMemory)) ⊎ ((refusal_of p ≢ out_of_memory) × (e ≡ Refused p))
+    → (refusal_of p ≢ out_of_memory → answer ≡ Err (refusal_of p)) → Reads false view answer (Err e)
+with_memory view answer p e (inl memory) refused = subst (λ (error : ReadError). Reads false view answer (Err error)) (sym memory.1) tt
+with_memory view answer p e (inr other) refused = subst (λ (error : ReadError). Reads false view answer (Err error)) (sym other.1) (refused other.0)

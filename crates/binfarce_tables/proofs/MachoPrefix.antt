@@ -1,5 +1,5 @@
 -- A prefix of a Mach-O file that has its load commands.
-use Rattle.std.proofs.Common.{◌≡◌, ℕ, zero, suc, ◌+◌, ◌-◌, ◌<◌, ◌≤◌, Bool, true, false, cond, ltb, eqb, ◌&&◌, List, [], ◌∷◌, ◌++◌, length, map, drop, take, min, find, codes, Option, Some, None, Result, Ok, Err, refl, sym, ap, ap₂, ◌∙◌, arith}
+use Rattle.std.proofs.Common.{◌≡◌, ℕ, zero, suc, ◌+◌, ◌-◌, ◌<◌, ◌≤◌, Bool, true, false, cond, ltb, eqb, nat_eq, ◌&&◌, List, [], ◌∷◌, ◌++◌, length, map, drop, take, min, find, codes, Option, Some, None, Result, Ok, Err, refl, sym, ap, ap₂, ◌∙◌, arith}
 use Rattle.std.proofs.Math.Nat.{div-mul-le_self}
 use Rattle.std.proofs.lemmas.Bool.{and_parts, ltb-false, ltb-true, leb-true, eqb-true, le-ltb, le-leb}
 use Rattle.std.proofs.lemmas.List.{length-take-le, take_all}
@@ -7,7 +7,6 @@ use Rattle.std.proofs.lemmas.List.Elements.{All-nil, All-head, All-tail, All-sam
 use Rattle.std.proofs.lemmas.Nat.{le-div}
 use Rattle.std.specs.Prelude.{All}
 use Rattle.std.specs.List.{range_with_len, filter_map, cons_option}
-use Rattle.std.specs.Option.{option_map}
 use Rattle.binfarce_bytes.specs.declared.ByteOrder.TheVariants.{LittleEndian}
 use Rattle.binfarce_bytes.specs.Field.{Field, field, number_in}
 use Rattle.binfarce_bytes.specs.Number.{bytes_at, number}
@@ -15,8 +14,9 @@ use Rattle.binfarce_bytes.specs.Refusal.{◌>>=◌, Refusal, required, symbols_s
 use Rattle.binfarce_bytes.specs.SectionEntries.{unless}
 use Rattle.binfarce_bytes.specs.Walk.{Walk, first, found_or_end, ahead_of, and_then}
 use Rattle.binfarce_macho.specs.Macho.{Command, Section, header_of, header_fields, header_length, command_at, body_of, commands_from, commands, section_at, section_fields, section_offset, section_count, whole_headers, sections_below, segment, is_segment, sections_of, walk, is_named}
-use Rattle.binfarce_macho.specs.MachoSymbols.{SymbolTable, symbol_table_at, symbol_table_fields, text_section, some_size, symbol_command, whole_table, NeededTables, needed, named_table, table_of}
-use Rattle.binfarce_macho.specs.MachoAll.{first_starts, starts_in, starts_among, section_starts, has_instructions, extent_at, full_name, name_at}
+use Rattle.binfarce_macho.specs.MachoSections.{NumberedSection, first_starts, starts_in, starts_among, section_starts, has_instructions, extent_at, numbered_at, numbered_sections}
+use Rattle.binfarce_macho.specs.MachoSelection.{the_text, all_sections, sections_in, is_object}
+use Rattle.binfarce_macho.specs.MachoSymbols.{SymbolTable, symbol_table_at, symbol_table_fields, Extent, some_size, text_extent, symbol_command, whole_table, named_table, table_of}
 use Rattle.binfarce_macho.specs.MachoParts.{holds_body, holds_from, holds_commands}
 use Rattle.binfarce_macho.proofs.AllWalks.{each_start}
 use Rattle.binfarce_macho.proofs.CommandWalks.{bad, given}
@@ -28,52 +28,12 @@ pub assoc : {A B C : Type 0} (r : Result A Refusal) (f : A → Result B Refusal)
 assoc (Ok x) f g = refl
 assoc (Err e) f g = refl
 
-abbrev both : Section → Option (SymbolTable ℕ) → Result NeededTables Refusal
-both text table = Ok (record { text = text; table = table })
-
--- what is needed, by the text and the table that is named
-needed_by : Result Section Refusal → Result (Option (SymbolTable ℕ)) Refusal → Result NeededTables Refusal
-needed_by found named = do
-  section ← found
-  text ← some_size section
-  table ← named
-  both text table
-
-needed_as : (file : List ℕ) → needed file ≡ needed_by (text_section file) (symbol_command file >>= named_table file)
-unfolding needed needed_by
-needed_as file = by_text (text_section file)
-  where
-    by_size : (r : Result Section Refusal)
-        → (r >>= λ text. symbol_command file >>= λ command. named_table file command >>= both text)
-        ≡ (r >>= λ text. (symbol_command file >>= named_table file) >>= both text)
-    by_size (Err e) = refl
-    by_size (Ok text) = sym (assoc (symbol_command file) (named_table file) (both text))
-
-    by_text : (r : Result Section Refusal)
-        → (r >>= λ found. some_size found >>= λ text. symbol_command file >>= λ command. named_table file command >>= both text)
-        ≡ (r >>= λ found. some_size found >>= λ text. (symbol_command file >>= named_table file) >>= both text)
-    by_text (Err e) = refl
-    by_text (Ok found) = by_size (some_size found)
-
--- the needed table is the one that the commands name
-pub needed_table : (file : List ℕ) (n : NeededTables) → needed file ≡ Ok n → table_of file ≡ Ok n.table
-unfolding needed_by
-needed_table file n is = by_text (text_section file) (sym (needed_as file) ∙ is)
-  where
-    by_table : (text : Section) (r : Result (Option (SymbolTable ℕ)) Refusal) → (r >>= both text) ≡ Ok n → r ≡ Ok n.table
-    by_table text (Ok table) is = cc
-    by_table text (Err why) is = absurd cc
-
-    by_size : (r : Result Section Refusal) → (r >>= λ text. table_of file >>= both text) ≡ Ok n → table_of file ≡ Ok n.table
-    by_size (Ok text) is = by_table text (table_of file) is
-    by_size (Err why) is = absurd cc
-
-    by_text : (r : Result Section Refusal) → needed_by r (table_of file) ≡ Ok n → table_of file ≡ Ok n.table
-    by_text (Ok found) is = by_size (some_size found) is
-    by_text (Err why) is = absurd cc
-
-abbrev text_in : Walk Section → Result Section Refusal
-text_in sections = first (λ section. is_named (codes "__TEXT") (codes "__text") section) sections >>= required symbols_section_is_missing
+-- the text among these sections
+abbrev text_in : Walk Section → Result Extent Refusal
+text_in sections = do
+  found ← first (λ section. is_named (codes "__TEXT") (codes "__text") section) sections >>= required symbols_section_is_missing
+  text ← some_size found
+  Ok (record { address = text.address; size = text.size })
 
 -- what there is, unless it is refused
 unless_refused : {A : Type 0} (refusal : Option Refusal) (all given : A) → unless refusal all ≡ Ok given → given ≡ all
@@ -278,20 +238,18 @@ module _ (file bytes : List ℕ) (short : length bytes ≤ length file) (same : 
       by_kind false is rest = rest
 
   -- what is read of a section
-  extent_same : (start : ℕ) → start + 80 ≤ length bytes → extent_at bytes start ≡ extent_at file start
-  unfolding extent_at has_instructions section_fields
-  extent_same start h = rw (
+  numbered_same : (start : ℕ) → start + 80 ≤ length bytes → numbered_at bytes start ≡ numbered_at file start
+  unfolding numbered_at extent_at has_instructions section_fields
+  numbered_same start h = rw (
     number_same start section_fields.address (omega (arith, h)),
     number_same start section_fields.size (omega (arith, h)),
     le-leb (start + 68) (length bytes) (omega (arith, h)),
     le-leb (start + 68) (length file) (omega (arith, h, short)),
     number_same start (field 64 4) (omega (arith, h)),
+    section_same start (omega (arith, h)),
   ) refl
 
-  name_same : (start : ℕ) → start + 80 ≤ length bytes → name_at bytes start ≡ name_at file start
-  name_same start h = ap (option_map full_name) (section_same start (omega (arith, h)))
-
-  -- where they hold all commands of the header, the same is needed
+  -- where they hold all commands of the header, the same sections are selected
   module _ (whole : 28 ≤ length bytes) (held : holds_commands bytes ≡ true) where
     agrees : Agrees (header_of bytes).ncmds header_length
     agrees = commands_held (header_of bytes).ncmds header_length held
@@ -310,10 +268,7 @@ module _ (file bytes : List ℕ) (short : length bytes ≤ length file) (same : 
         (λ command is. let found = found_held (commands bytes).items command agrees.1 is in whole_same command found.0 found.1)
         ∙ ap (λ (w : Walk Command). first (λ c. eqb c.kind 2) w >>= named_table file) commands_same
 
-    pub needed_held : needed bytes ≡ needed file
-    needed_held = needed_as bytes ∙ ap₂ needed_by (ap text_in walk_same) named_held ∙ sym (needed_as file)
-
-    pub starts_same : section_starts bytes ≡ section_starts file
+    starts_same : section_starts bytes ≡ section_starts file
     unfolding section_starts
     starts_same =
         ap₂ (λ (end : Option Refusal) (starts : List ℕ). unless end (take 255 starts)) (ap (λ (w : Walk Section). w.refusal) walk_same)
@@ -325,12 +280,18 @@ module _ (file bytes : List ℕ) (short : length bytes ≤ length file) (same : 
         let all = starts_among bytes (commands bytes).items in
         All-same IsHeld starts (take 255 all) (unless_refused (walk bytes).refusal (take 255 all) starts is) (All-take IsHeld 255 all (starts_whole (commands bytes).items agrees.1))
 
-    -- what is read of each section
-    pub extents_same : (starts : List ℕ) → section_starts bytes ≡ Ok starts → map (extent_at bytes) starts ≡ map (extent_at file) starts
-    extents_same starts is = map_held (extent_at bytes) (extent_at file) starts extent_same (each_whole starts is)
+    numbered_held : numbered_sections bytes ≡ numbered_sections file
+    unfolding numbered_sections
+    numbered_held = by_starts (section_starts bytes) refl ∙ ap (λ (r : Result (List ℕ) Refusal). r >>= λ starts. Ok (map (numbered_at file) starts)) starts_same
+      where
+        by_starts : (r : Result (List ℕ) Refusal) → section_starts bytes ≡ r → (r >>= λ starts. Ok (map (numbered_at bytes) starts)) ≡ (r >>= λ starts. Ok (map (numbered_at file) starts))
+        by_starts (Err why) is = refl
+        by_starts (Ok starts) is = ap Ok (map_held (numbered_at bytes) (numbered_at file) starts numbered_same (each_whole starts is))
 
-    pub names_same : (starts : List ℕ) → section_starts bytes ≡ Ok starts → map (name_at bytes) starts ≡ map (name_at file) starts
-    names_same starts is = map_held (name_at bytes) (name_at file) starts name_same (each_whole starts is)
+    pub sections_held : (section : Option (List ℕ)) → sections_in section bytes ≡ sections_in section file
+    unfolding sections_in
+    sections_held (Some name) = ap (λ (w : Walk Section). text_in w >>= λ text. Ok (the_text text)) walk_same
+    sections_held None = ap (λ (r : Result (List NumberedSection) Refusal). r >>= λ sections. Ok (all_sections sections)) numbered_held
 
     pub table_held : table_of bytes ≡ table_of file
     table_held = named_held
@@ -360,22 +321,12 @@ header_said file inside =
     let long = prefix_long file 28 inside in
     said_same file (bytes_at file 0 28) (omega (arith, long, inside)) (λ k width h. prefix_same file 28 k width inside h) (omega (arith, long))
 
--- what is needed of a file, by the bytes that its commands are in
 pub command_bytes_long : (file : List ℕ) → 28 ≤ length file → 28 ≤ length (command_bytes file)
 command_bytes_long file inside = by_held (holds_commands (bytes_at file 0 (said_end file)))
   where
     by_held : (b : Bool) → 28 ≤ length (cond b (bytes_at file 0 (said_end file)) file)
     by_held true = let long = prefix_long file (said_end file) (omega arith) in omega (arith, long, inside)
     by_held false = inside
-
-pub needed_of_bytes : (file : List ℕ) → 28 ≤ length file → needed (command_bytes file) ≡ needed file
-needed_of_bytes file inside = by_held (holds_commands (bytes_at file 0 (said_end file))) refl
-  where
-    by_held : (b : Bool) → holds_commands (bytes_at file 0 (said_end file)) ≡ b → needed (cond b (bytes_at file 0 (said_end file)) file) ≡ needed file
-    by_held true held =
-        let long = prefix_long file (said_end file) (omega arith) in
-        needed_held file (bytes_at file 0 (said_end file)) (omega (arith, long)) (λ k width h. prefix_same file (said_end file) k width (omega arith) h) (omega (arith, long, inside)) held
-    by_held false held = refl
 
 -- the file's sections
 walk_of_bytes : (file : List ℕ) → 28 ≤ length file → walk (command_bytes file) ≡ walk file
@@ -386,6 +337,9 @@ walk_of_bytes file inside = by_held (holds_commands (bytes_at file 0 (said_end f
         let long = prefix_long file (said_end file) (omega arith) in
         walk_same file (bytes_at file 0 (said_end file)) (omega (arith, long)) (λ k width h. prefix_same file (said_end file) k width (omega arith) h) (omega (arith, long, inside)) held
     by_held false held = refl
+
+pub text_of_bytes : (file : List ℕ) → 28 ≤ length file → text_extent (command_bytes file) ≡ text_extent file
+text_of_bytes file inside = ap text_in (walk_of_bytes file inside)
 
 pub sections_of_bytes : (file bytes : List ℕ) → 28 ≤ length file → bytes ≡ command_bytes file → macho_sections bytes ≡ macho_sections file
 sections_of_bytes file bytes inside is =
@@ -400,11 +354,9 @@ begins_with_commands file bytes is = by_held (holds_commands (bytes_at file 0 (s
 
 -- what the bytes that its commands are in say of a file's sections and of its symbol table
 pub record SameSections (file bytes : List ℕ) : Type 0 where
-  pub starts : section_starts bytes ≡ section_starts file
+  pub sections : (section : Option (List ℕ)) → sections_in section bytes ≡ sections_in section file
   pub table : table_of bytes ≡ table_of file
-  pub filetype : (header_of bytes).filetype ≡ (header_of file).filetype
-  pub extents : (starts : List ℕ) → section_starts bytes ≡ Ok starts → map (extent_at bytes) starts ≡ map (extent_at file) starts
-  pub names : (starts : List ℕ) → section_starts bytes ≡ Ok starts → map (name_at bytes) starts ≡ map (name_at file) starts
+  pub object : is_object bytes ≡ is_object file
 
 pub same_sections : (file bytes : List ℕ) → 28 ≤ length file → bytes ≡ command_bytes file → SameSections file bytes
 same_sections file bytes inside is = rw is (by_held (holds_commands (bytes_at file 0 (said_end file))) refl)
@@ -416,10 +368,8 @@ same_sections file bytes inside is = rw is (by_held (holds_commands (bytes_at fi
         let short : length begins ≤ length file = omega (arith, long) in
         let whole : 28 ≤ length begins = omega (arith, long, inside) in
         record {
-          starts = starts_same file begins short (λ k width h. prefix_same file (said_end file) k width (omega arith) h) whole held;
+          sections = sections_held file begins short (λ k width h. prefix_same file (said_end file) k width (omega arith) h) whole held;
           table = table_held file begins short (λ k width h. prefix_same file (said_end file) k width (omega arith) h) whole held;
-          filetype = filetype_same file begins short (λ k width h. prefix_same file (said_end file) k width (omega arith) h) whole;
-          extents = extents_same file begins short (λ k width h. prefix_same file (said_end file) k width (omega arith) h) whole held;
-          names = names_same file begins short (λ k width h. prefix_same file (said_end file) k width (omega arith) h) whole held;
+          object = ap (λ (n : ℕ). nat_eq n 1) (filetype_same file begins short (λ k width h. prefix_same file (said_end file) k width (omega arith) h) whole);
         }
-    by_held false held = record { starts = refl; table = refl; filetype = refl; extents = λ starts is. refl; names = λ starts is. refl }
+    by_held false held = record { sections = λ section. refl; table = refl; object = refl }

@@ -1,16 +1,15 @@
 -- The parts of a Mach-O file that are surely given.
-use Rattle.std.proofs.Common.{◌≡◌, ℕ, Bool, true, false, eqb, map, List, ◌∷◌, length, Option, Result, Ok, Err, subst}
+use Rattle.std.proofs.Common.{◌≡◌, ℕ, Bool, true, false, List, ◌∷◌, length, Option, Result, Ok, Err, subst}
 use Rattle.std.specs.Prelude.{All}
 use Rattle.std.proofs.lemmas.List.Elements.{All-head, All-tail}
 use Rattle.binfarce_bytes.specs.Number.{bytes_at}
 use Rattle.binfarce_bytes.specs.Part.{Part, part, parts_if}
 use Rattle.binfarce_bytes.specs.Refusal.{◌>>=◌, Refusal}
-use Rattle.binfarce_macho.specs.Macho.{header_of}
-use Rattle.binfarce_macho.specs.MachoAll.{section_starts, extent_at, name_at}
+use Rattle.binfarce_macho.specs.MachoSelection.{SelectedSections, sections_in, is_object}
 use Rattle.binfarce_macho.specs.MachoParts.{holds_commands}
 use Rattle.binfarce_macho.specs.MachoSymbols.{SymbolTable, table_of}
 use Rattle.binfarce_tables.specs.MachoReads.{said_end, whole_file, macho_section_parts, table_parts, found_parts, macho_parts}
-use Rattle.binfarce_tables.specs.machine.MachoPlaces.{CommandParts, all_commands}
+use Rattle.binfarce_tables.specs.machine.MachoPlaces.{CommandParts, selected_commands}
 use Rattle.binfarce_tables.proofs.Sure.{front, back, only}
 
 -- a source surely gives this part
@@ -42,11 +41,11 @@ module _ (P : Part → Type 0) (file : List ℕ) where
   symbol_parts table is all = subst (λ (r : Result (Option (SymbolTable ℕ)) Refusal). All P (found_parts file r)) is (back P (macho_section_parts file) (found_parts file (table_of file)) all)
 
 -- the table that is found with the sections is the one that the commands name
-pub commands_table : (file : List ℕ) (found : CommandParts) → all_commands file ≡ Ok found → table_of file ≡ Ok found.table
-commands_table file found is = by_starts (section_starts file) (table_of file) is
+pub commands_table : (section : Option (List ℕ)) (file : List ℕ) (found : CommandParts) → selected_commands section file ≡ Ok found → table_of file ≡ Ok found.table
+commands_table section file found is = by_sections (sections_in section file) (table_of file) is
   where
-    by_starts : (starts : Result (List ℕ) Refusal) (table : Result (Option (SymbolTable ℕ)) Refusal)
-        → (starts >>= λ s. table >>= λ t. Ok (record { sections = map (extent_at file) s; names = map (name_at file) s; table = t; shares_addresses = eqb (header_of file).filetype 1 })) ≡ Ok found → table ≡ Ok found.table
-    by_starts (Ok s) (Ok t) is = cc
-    by_starts (Ok s) (Err why) is = absurd cc
-    by_starts (Err why) table is = absurd cc
+    by_sections : (r : Result SelectedSections Refusal) (table : Result (Option (SymbolTable ℕ)) Refusal)
+        → (r >>= λ s. table >>= λ t. Ok (record { sections = s; table = t; is_object = is_object file })) ≡ Ok found → table ≡ Ok found.table
+    by_sections (Ok s) (Ok t) is = cc
+    by_sections (Ok s) (Err why) is = absurd cc
+    by_sections (Err why) table is = absurd cc

@@ -1,5 +1,5 @@
 -- PE files of one length that agree in the parts that are read have one answer.
-use Rattle.std.proofs.Common.{◌≡◌, ℕ, ◌+◌, ◌*◌, ◌-◌, ◌/◌, ◌<◌, ◌≤◌, Bool, true, false, cond, ltb, leb, ◌&&◌, List, [], ◌∷◌, length, min, max, Option, Some, None, Result, Ok, Err, refl, sym, ap, ap₂, ◌∙◌, arith, inl, inr}
+use Rattle.std.proofs.Common.{◌≡◌, ℕ, ◌+◌, ◌*◌, ◌-◌, ◌/◌, ◌<◌, ◌≤◌, Bool, true, false, cond, ltb, leb, ◌&&◌, List, [], ◌∷◌, ◌++◌, length, min, max, Option, Some, None, Result, Ok, Err, refl, sym, ap, ap₂, ◌∙◌, arith, inl, inr}
 use Rattle.std.specs.Prelude.{All}
 use Rattle.std.proofs.lemmas.Bool.{cases_lt, cases_eq, lt-ltb, le-ltb, le-leb}
 use Rattle.std.proofs.lemmas.List.Elements.{All-head, All-tail}
@@ -9,17 +9,16 @@ use Rattle.binfarce_bytes.specs.Part.{Part, part, SameIn, SameParts}
 use Rattle.binfarce_bytes.specs.Refusal.{◌>>=◌, Refusal, unexpected_eof}
 use Rattle.binfarce_bytes.specs.SectionEntries.{unless}
 use Rattle.binfarce_pe.specs.Pe.{header_after, header_of, image_base, least_length, signature_offset}
-use Rattle.binfarce_pe.specs.PeAll.{base_at, all_file_answer}
+use Rattle.binfarce_pe.specs.PeSelection.{SelectedSections, the_text, all_sections, base_at, symbols_of, selected_file_answer}
 use Rattle.binfarce_pe.specs.PeParts.{TablePlaces, TextPlace, SectionTable, headers_alone, places_after, places_of, table_walk, text_place}
-use Rattle.binfarce_pe.specs.PeSymbols.{SymbolTable, pe_file_answer}
+use Rattle.binfarce_pe.specs.PeSymbols.{SymbolTable}
 use Rattle.binfarce_tables.specs.BeginningReading.{pe_sections}
-use Rattle.binfarce_tables.specs.PeAllReading.{all_view}
-use Rattle.binfarce_tables.specs.PeReads.{pointer_part, header_part, headers_part, table_parts, beginning_part, optional_header_part, pe_section_parts, pe_parts, pe_all_parts}
-use Rattle.binfarce_tables.specs.machine.PePlaces.{places_step, headers_at, text_at, whole_at, table_at}
-use Rattle.binfarce_tables.proofs.PeAllLocated as all
+use Rattle.binfarce_tables.specs.PeReads.{pointer_part, header_part, headers_part, table_parts, beginning_part, optional_header_part, selected_parts, pe_section_parts, pe_parts}
+use Rattle.binfarce_tables.specs.machine.PePlaces.{places_step, headers_at, text_at, whole_at, chosen_at, table_at}
 use Rattle.binfarce_tables.proofs.PeAlone.{headers_of, header_alone, text_alone, text_of_none, text_outside}
 use Rattle.binfarce_tables.proofs.PeBeginning.{sections_held}
-use Rattle.binfarce_tables.proofs.PeSteps.{steps_are, after_places, listed, table_inside, table_outside, table_past}
+use Rattle.binfarce_tables.proofs.PeSteps.{steps_are, after_places, table_inside, table_outside, table_past}
+use Rattle.binfarce_tables.proofs.Sure.{front, back}
 
 -- what follows the places of a file
 then_same : {X : Type 0} (file : List ℕ) (f g : TablePlaces → Result X Refusal) → f (places_of file) ≡ g (places_of file) → (places_step file >>= f) ≡ (places_step file >>= g)
@@ -54,6 +53,17 @@ module _ (file other : List ℕ) (long : length file ≡ length other) where
 
     whole_same : SameIn file other (headers_part file places) → whole_at other places ≡ whole_at file places
     whole_same same = ap₂ (λ (why : Option Refusal) (headers : List ℕ). unless why (headers_alone headers places.section_count)) refusal_same (headers_same same)
+
+    base_same : SameIn file other (optional_header_part places) → base_at other places ≡ base_at file places
+    base_same same = ap image_base (sym same)
+
+    chosen_same : (section : Option (List ℕ)) → All (SameIn file other) (selected_parts section file places) → chosen_at section other places ≡ chosen_at section file places
+    chosen_same (Some name) same =
+        ap (λ (text : Result TextPlace Refusal). text >>= λ text. Ok (the_text text)) (text_same (All-head (SameIn file other) (headers_part file places) [] same))
+    chosen_same None same =
+        ap₂ (λ (sections : Result SectionTable Refusal) (base : Option ℕ). sections >>= λ sections. Ok (all_sections base sections))
+        (whole_same (All-head (SameIn file other) (headers_part file places) (optional_header_part places ∷ []) same))
+        (base_same (All-head (SameIn file other) (optional_header_part places) [] (All-tail (SameIn file other) (headers_part file places) (optional_header_part places ∷ []) same)))
 
     abbrev end : ℕ
     end = places.symbols + places.symbols_size
@@ -113,12 +123,15 @@ module _ (file other : List ℕ) (long : length file ≡ length other) where
           ∙ sections_held file places end step refl
     ]
 
-module _ (file other : List ℕ) (same : SameParts (pe_parts file) file other) where
+module _ (section : Option (List ℕ)) (file other : List ℕ) (same : SameParts (pe_parts section file) file other) where
   abbrev P : Part → Type 0
   P = SameIn file other
 
+  abbrev places : TablePlaces
+  places = places_of file
+
   abbrev rest : List Part
-  rest = headers_part file (places_of file) ∷ table_parts file (places_of file)
+  rest = selected_parts section file places ++ table_parts file places
 
   each : All P (pointer_part ∷ header_part file ∷ rest)
   unfolding pe_parts
@@ -133,37 +146,20 @@ module _ (file other : List ℕ) (same : SameParts (pe_parts file) file other) w
   step : places_step other ≡ places_step file
   step = step_same file other same.lengths (All-head P pointer_part (header_part file ∷ rest) each) (All-head P (header_part file) rest after_pointer)
 
-  headers : SameIn file other (headers_part file (places_of file))
-  headers = All-head P (headers_part file (places_of file)) (table_parts file (places_of file)) after_header
+  chosen : chosen_at section other places ≡ chosen_at section file places
+  chosen = chosen_same file other same.lengths places section (front P (selected_parts section file places) (table_parts file places) after_header)
 
-  table : table_at other (places_of file) ≡ table_at file (places_of file)
-  table = table_same file other same.lengths (places_of file) (All-tail P (headers_part file (places_of file)) (table_parts file (places_of file)) after_header)
+  table : table_at other places ≡ table_at file places
+  table = table_same file other same.lengths places (back P (selected_parts section file places) (table_parts file places) after_header)
 
-  -- of `.text`
-  pub file_answer_same : pe_file_answer other ≡ pe_file_answer file
+  -- of a selection
+  pub file_answer_same : selected_file_answer section other ≡ selected_file_answer section file
   file_answer_same =
-      steps_are other
-      ∙ ap (λ (r : Result TablePlaces Refusal). r >>= after_places other) step
-      ∙ then_same file (after_places other) (after_places file)
-      (ap₂ (λ (text : Result TextPlace Refusal) (table : Result SymbolTable Refusal). text >>= λ text. table >>= listed text) (text_same file other same.lengths (places_of file) headers) table)
-      ∙ sym (steps_are file)
-
-  -- of all sections, where they agree in the optional header's beginning too
-  all_answer_same : SameIn file other (optional_header_part (places_of file)) → all_file_answer other ≡ all_file_answer file
-  all_answer_same optional_header =
-      let places = places_of file in
-      all.steps_are other
-      ∙ ap (λ (r : Result TablePlaces Refusal). r >>= all.after_places other) step
-      ∙ then_same file (all.after_places other) (all.after_places file)
-      (ap (λ (header : List ℕ). whole_at other places >>= λ sections. table_at other places >>= λ symbols. Ok (all_view (record { image_base = image_base header; sections = sections; symbols = symbols }))) (sym optional_header)
-      ∙ ap₂ (λ (sections : Result SectionTable Refusal) (table : Result SymbolTable Refusal). sections >>= λ sections. table >>= λ symbols. Ok (all_view (record { image_base = base_at file places; sections = sections; symbols = symbols }))) (whole_same file other same.lengths places headers) table)
-      ∙ sym (all.steps_are file)
-
-pub all_file_answer_same : (file other : List ℕ) → SameParts (pe_all_parts file) file other → all_file_answer other ≡ all_file_answer file
-unfolding pe_all_parts
-all_file_answer_same file other same =
-    let P = SameIn file other in
-    all_answer_same file other (record { lengths = same.lengths; each = All-tail P (optional_header_part (places_of file)) (pe_parts file) same.each }) (All-head P (optional_header_part (places_of file)) (pe_parts file) same.each)
+      steps_are section other
+      ∙ ap (λ (r : Result TablePlaces Refusal). r >>= after_places section other) step
+      ∙ then_same file (after_places section other) (after_places section file)
+      (ap₂ (λ (chosen : Result SelectedSections Refusal) (table : Result SymbolTable Refusal). chosen >>= λ chosen. table >>= λ symbols. Ok (symbols_of chosen symbols)) chosen table)
+      ∙ sym (steps_are section file)
 
 -- the sections
 pub file_sections_same : (file other : List ℕ) → SameParts (pe_section_parts file) file other → pe_sections other ≡ pe_sections file

@@ -1,74 +1,69 @@
 -- The answer of a PE file by the steps of a reading.
-use Rattle.std.proofs.Common.{◌≡◌, ℕ, ◌+◌, ◌-◌, ◌<◌, ◌≤◌, Bool, true, false, cond, ltb, List, length, drop, Result, Ok, Err, refl, sym, ap, ap₂, ◌∙◌, arith, inl, inr, length-drop}
+use Rattle.std.proofs.Common.{◌≡◌, ℕ, ◌+◌, ◌-◌, ◌<◌, ◌≤◌, Bool, true, false, cond, ltb, List, length, drop, Option, Some, None, Result, Ok, Err, refl, sym, ap, ap₂, ◌∙◌, arith, inl, inr, length-drop}
 use Rattle.std.proofs.lemmas.Bool.{cases_lt, lt-ltb, le-ltb, lt-leb, le-leb}
 use Rattle.std.proofs.lemmas.List.{take_all}
 use Rattle.binfarce_bytes.specs.Number.{bytes_at}
 use Rattle.binfarce_bytes.specs.Refusal.{◌>>=◌, Refusal, unexpected_eof}
-use Rattle.binfarce_bytes.specs.Entries.{Listed}
-use Rattle.binfarce_pe.specs.Pe.{Section, least_length, signature_offset, header_after, header_of}
-use Rattle.binfarce_pe.specs.PeParts.{TablePlaces, TextPlace, places_after, places_of, section_table, text_among}
-use Rattle.binfarce_pe.specs.PeSymbols.{SymbolTable, Located, text_section, symbol_table, located, is_function_of, entries_of, pe_answer, pe_file_answer}
-use Rattle.binfarce_pe.proofs.Walks.{text_of}
+use Rattle.binfarce_bytes.specs.SectionEntries.{SelectedSymbols, unless}
+use Rattle.binfarce_pe.specs.Pe.{least_length, signature_offset, header_after, header_of}
+use Rattle.binfarce_pe.specs.PeParts.{TablePlaces, places_after, places_of, table_walk}
+use Rattle.binfarce_pe.specs.PeSelection.{SelectedSections, all_sections, base_at, sections_in, symbols_of, selected_answer, selected_file_answer}
+use Rattle.binfarce_pe.specs.PeSymbols.{SymbolTable, symbol_table}
 use Rattle.binfarce_tables.specs.declared.error.ReadError.{ReadError}
 use Rattle.binfarce_tables.specs.Reading.{Reads}
-use Rattle.binfarce_tables.specs.machine.PePlaces.{signature_step, places_step, text_at, table_at}
+use Rattle.binfarce_tables.specs.machine.PePlaces.{signature_step, places_step, headers_at, alone_at, chosen_at, table_at}
 use Rattle.binfarce_tables.proofs.PeAlone.{header_alone}
+use Rattle.binfarce_tables.proofs.PeWhole.{held, view_same}
 use Rattle.binfarce_tables.proofs.Readings.{instead}
 
--- what follows the symbol table, the text, and the places
-abbrev pub listed : TextPlace → SymbolTable → Result Listed Refusal
-listed text table = Ok (record { entries = entries_of table (is_function_of text.index) text.size; section_size = text.size })
+-- what follows the selected sections, and the places
+abbrev pub symbols_at : List ℕ → TablePlaces → SelectedSections → Result SelectedSymbols Refusal
+symbols_at file places chosen = table_at file places >>= λ symbols. Ok (symbols_of chosen symbols)
 
-abbrev pub answer_at : List ℕ → TablePlaces → TextPlace → Result Listed Refusal
-answer_at file places text = table_at file places >>= listed text
+abbrev pub after_places : Option (List ℕ) → List ℕ → TablePlaces → Result SelectedSymbols Refusal
+after_places section file places = chosen_at section file places >>= symbols_at file places
 
-abbrev pub after_places : List ℕ → TablePlaces → Result Listed Refusal
-after_places file places = text_at file places >>= answer_at file places
+by_steps : Result SelectedSections Refusal → Result SymbolTable Refusal → Result SelectedSymbols Refusal
+by_steps chosen symbols = chosen >>= λ chosen. symbols >>= λ symbols. Ok (symbols_of chosen symbols)
 
-listed_by : Result Section Refusal → Result SymbolTable Refusal → Result Listed Refusal
-listed_by text table = (text >>= λ text. table >>= λ table. Ok (record { text = text; table = table })) >>= λ (found : Located). Ok (record { entries = entries_of found.table (is_function_of found.text.index) found.text.size_of_raw_data; section_size = found.text.size_of_raw_data })
+-- all sections say the same by their headers alone
+by_refusal : (file : List ℕ) (places : TablePlaces) (why : Option Refusal) (symbols : Result SymbolTable Refusal) → (table_walk (headers_at file places)).refusal ≡ why
+    → by_steps (unless why (headers_at file places) >>= λ sections. Ok (all_sections (base_at file places) sections)) symbols
+    ≡ by_steps (unless why (alone_at file places) >>= λ sections. Ok (all_sections (base_at file places) sections)) symbols
+unfolding by_steps
+by_refusal file places (Some why) symbols is = refl
+by_refusal file places None (Err why) is = refl
+by_refusal file places None (Ok symbols) is = let whole = held file places is in ap Ok (sym (view_same file places whole.0 whole.1 (base_at file places) symbols))
 
-by_places : Result Section Refusal → Result SymbolTable Refusal → Result Listed Refusal
-by_places text table = (text >>= λ text. Ok (record { index = text.index; size = text.size_of_raw_data })) >>= λ (text : TextPlace). table >>= λ table. Ok (record { entries = entries_of table (is_function_of text.index) text.size; section_size = text.size })
+answer_is : (section : Option (List ℕ)) (file : List ℕ) → selected_answer section file ≡ by_steps (sections_in section file) (table_at file (places_of file))
+unfolding selected_answer symbol_table by_steps
+answer_is section file = refl
 
-same_listed : (text : Result Section Refusal) (table : Result SymbolTable Refusal) → listed_by text table ≡ by_places text table
-unfolding listed_by by_places
-same_listed (Ok text) (Ok table) = refl
-same_listed (Ok text) (Err e) = refl
-same_listed (Err e) table = refl
+chosen_is : (section : Option (List ℕ)) (file : List ℕ) → by_steps (sections_in section file) (table_at file (places_of file)) ≡ by_steps (chosen_at section file (places_of file)) (table_at file (places_of file))
+chosen_is (Some name) file = refl
+chosen_is None file = by_refusal file (places_of file) (table_walk (headers_at file (places_of file))).refusal (table_at file (places_of file)) refl
 
-answer_is : (file : List ℕ) → pe_answer file ≡ listed_by (text_section file) (symbol_table file)
-unfolding pe_answer located listed_by
-answer_is file = refl
+after_is : (section : Option (List ℕ)) (file : List ℕ) → by_steps (chosen_at section file (places_of file)) (table_at file (places_of file)) ≡ after_places section file (places_of file)
+unfolding by_steps
+after_is section file = refl
 
-table_is : (file : List ℕ) → symbol_table file ≡ table_at file (places_of file)
-unfolding symbol_table
-table_is file = refl
+after_test : (b : Bool) (section : Option (List ℕ)) (file : List ℕ) → cond b (Err unexpected_eof) (after_places section file (places_of file)) ≡ (cond b (Err unexpected_eof) (Ok (places_of file)) >>= after_places section file)
+after_test true section file = refl
+after_test false section file = refl
 
-after_is : (file : List ℕ) → by_places (text_among (section_table file)) (table_at file (places_of file)) ≡ after_places file (places_of file)
-unfolding by_places
-after_is file = refl
-
-after_test : (b : Bool) (file : List ℕ) → cond b (Err unexpected_eof) (after_places file (places_of file)) ≡ (cond b (Err unexpected_eof) (Ok (places_of file)) >>= after_places file)
-after_test true file = refl
-after_test false file = refl
-
-pub steps_are : (file : List ℕ) → pe_file_answer file ≡ (places_step file >>= after_places file)
-steps_are file =
-    ap (λ (a : Result Listed Refusal). cond (ltb (length file) (least_length file)) (Err unexpected_eof) a)
-    (answer_is file ∙ same_listed (text_section file) (symbol_table file) ∙ ap₂ by_places (sym (text_of file (section_table file) refl)) (table_is file) ∙ after_is file)
-    ∙ after_test (ltb (length file) (least_length file)) file
+pub steps_are : (section : Option (List ℕ)) (file : List ℕ) → selected_file_answer section file ≡ (places_step file >>= after_places section file)
+steps_are section file =
+    ap (λ (a : Result SelectedSymbols Refusal). cond (ltb (length file) (least_length file)) (Err unexpected_eof) a) (answer_is section file ∙ chosen_is section file ∙ after_is section file)
+    ∙ after_test (ltb (length file) (least_length file)) section file
 
 -- a reading from here on
-module _ {X : Type 0} (fails : Bool) (view : X → Listed) (file : List ℕ) where
-  pub from_file : (r : Result X ReadError) → Reads fails view (places_step file >>= after_places file) r → Reads fails view (pe_file_answer file) r
-  from_file r reads = instead fails view (pe_file_answer file) (places_step file >>= after_places file) r (steps_are file) reads
+module _ {X : Type 0} (fails : Bool) (view : X → SelectedSymbols) (section : Option (List ℕ)) (file : List ℕ) where
+  pub from_places : (places : TablePlaces) (r : Result X ReadError) → places_step file ≡ Ok places → Reads fails view (after_places section file places) r → Reads fails view (selected_file_answer section file) r
+  from_places places r step reads =
+      instead fails view (selected_file_answer section file) (after_places section file places) r (steps_are section file ∙ ap (λ (s : Result TablePlaces Refusal). s >>= after_places section file) step) reads
 
-  pub from_places : (places : TablePlaces) (r : Result X ReadError) → places_step file ≡ Ok places → Reads fails view (after_places file places) r → Reads fails view (pe_file_answer file) r
-  from_places places r step reads = from_file r (instead fails view (places_step file >>= after_places file) (after_places file places) r (ap (λ (s : Result TablePlaces Refusal). s >>= after_places file) step) reads)
-
-  pub from_text : (places : TablePlaces) (text : TextPlace) (r : Result X ReadError) → places_step file ≡ Ok places → text_at file places ≡ Ok text → Reads fails view (answer_at file places text) r → Reads fails view (pe_file_answer file) r
-  from_text places text r step found reads = from_places places r step (instead fails view (after_places file places) (answer_at file places text) r (ap (λ (t : Result TextPlace Refusal). t >>= answer_at file places) found) reads)
+  pub from_sections : (places : TablePlaces) (chosen : SelectedSections) (r : Result X ReadError) → places_step file ≡ Ok places → chosen_at section file places ≡ Ok chosen → Reads fails view (symbols_at file places chosen) r → Reads fails view (selected_file_answer section file) r
+  from_sections places chosen r step found reads = from_places places r step (instead fails view (after_places section file places) (symbols_at file places chosen) r (ap (λ (t : Result SelectedSections Refusal). t >>= symbols_at file places) found) reads)
 
 -- the symbol table, where it lies in the file
 pub table_inside : (file : List ℕ) (places : TablePlaces) → places.symbols < length file → places.symbols + places.symbols_size ≤ length file

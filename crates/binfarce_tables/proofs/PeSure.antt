@@ -1,58 +1,46 @@
 -- The parts of a PE file that a source surely gives.
-use Rattle.std.proofs.Common.{◌≡◌, ℕ, ◌+◌, ◌-◌, ◌≤◌, Bool, true, List, [], ◌∷◌, length, Ok, sym, subst}
+use Rattle.std.proofs.Common.{◌≡◌, ℕ, ◌+◌, ◌-◌, ◌≤◌, Bool, true, List, [], ◌∷◌, ◌++◌, length, Option, Ok, sym, subst}
 use Rattle.std.proofs.lemmas.Bool.{le-leb}
 use Rattle.std.proofs.lemmas.List.Elements.{All-head, All-tail, All-take}
 use Rattle.binfarce_bytes.specs.Part.{Part, part, AreSure}
 use Rattle.binfarce_pe.specs.PeParts.{TablePlaces, places_of}
-use Rattle.binfarce_tables.specs.PeReads.{pointer_part, header_part, places_parts, headers_part, table_parts, beginning_part, pe_section_parts, optional_header_part, pe_parts, pe_all_parts}
+use Rattle.binfarce_tables.specs.PeReads.{pointer_part, header_part, places_parts, table_parts, beginning_part, pe_section_parts, selected_parts, pe_parts}
 use Rattle.binfarce_tables.specs.machine.PePlaces.{signature_step, places_step}
 use Rattle.binfarce_tables.proofs.PeBeginning.{places_read}
 use Rattle.binfarce_tables.proofs.PeSteps.{signature_known}
+use Rattle.binfarce_tables.proofs.Sure.{front, back}
 
 module _ (sure : Part → Bool) (file : List ℕ) where
   abbrev P : Part → Type 0
   P = λ (p : Part). sure p ≡ true
 
-  -- those of the symbols, at the places that were read
-  module _ (are : AreSure sure (pe_parts file)) where
-    each : AreSure sure (pointer_part ∷ header_part file ∷ headers_part file (places_of file) ∷ table_parts file (places_of file))
+  -- those of the symbols of a selection, at the places that were read
+  module _ (section : Option (List ℕ)) (are : AreSure sure (pe_parts section file)) where
+    abbrev rest : List Part
+    rest = selected_parts section file (places_of file) ++ table_parts file (places_of file)
+
+    each : AreSure sure (pointer_part ∷ header_part file ∷ rest)
     unfolding pe_parts
     each = are
 
-    rest : AreSure sure (headers_part file (places_of file) ∷ table_parts file (places_of file))
-    rest =
-        All-tail P (header_part file) (headers_part file (places_of file) ∷ table_parts file (places_of file))
-        (All-tail P pointer_part (header_part file ∷ headers_part file (places_of file) ∷ table_parts file (places_of file)) each)
+    rest_sure : AreSure sure rest
+    rest_sure = All-tail P (header_part file) rest (All-tail P pointer_part (header_part file ∷ rest) each)
 
     pub pointer_sure : sure pointer_part ≡ true
-    pointer_sure = All-head P pointer_part (header_part file ∷ headers_part file (places_of file) ∷ table_parts file (places_of file)) each
+    pointer_sure = All-head P pointer_part (header_part file ∷ rest) each
 
     pub places_sure : AreSure sure (places_parts file)
-    places_sure = All-take P 2 (pointer_part ∷ header_part file ∷ headers_part file (places_of file) ∷ table_parts file (places_of file)) each
+    places_sure = All-take P 2 (pointer_part ∷ header_part file ∷ rest) each
 
     module _ (places : TablePlaces) (step : places_step file ≡ Ok places) where
       same : places_of file ≡ places
       same = let is = places_read file places step in sym is.0
 
-      pub headers_sure : sure (headers_part file places) ≡ true
-      headers_sure = subst (λ (p : TablePlaces). sure (headers_part file p) ≡ true) same (All-head P (headers_part file (places_of file)) (table_parts file (places_of file)) rest)
+      pub selected_sure : AreSure sure (selected_parts section file places)
+      selected_sure = subst (λ (p : TablePlaces). AreSure sure (selected_parts section file p)) same (front P (selected_parts section file (places_of file)) (table_parts file (places_of file)) rest_sure)
 
       pub table_sure : AreSure sure (table_parts file places)
-      table_sure = subst (λ (p : TablePlaces). AreSure sure (table_parts file p)) same (All-tail P (headers_part file (places_of file)) (table_parts file (places_of file)) rest)
-
-  -- those of the symbols of all sections
-  module _ (are : AreSure sure (pe_all_parts file)) where
-    all_each : AreSure sure (optional_header_part (places_of file) ∷ pe_parts file)
-    unfolding pe_all_parts
-    all_each = are
-
-    pub symbols_sure : AreSure sure (pe_parts file)
-    symbols_sure = All-tail P (optional_header_part (places_of file)) (pe_parts file) all_each
-
-    pub optional_header_sure : (places : TablePlaces) → places_step file ≡ Ok places → sure (optional_header_part places) ≡ true
-    optional_header_sure places step =
-        let is = places_read file places step in
-        subst (λ (p : TablePlaces). sure (optional_header_part p) ≡ true) (sym is.0) (All-head P (optional_header_part (places_of file)) (pe_parts file) all_each)
+      table_sure = subst (λ (p : TablePlaces). AreSure sure (table_parts file p)) same (back P (selected_parts section file (places_of file)) (table_parts file (places_of file)) rest_sure)
 
   -- those of the sections
   module _ (are : AreSure sure (pe_section_parts file)) where

@@ -5,7 +5,7 @@ use Rattle.std.proofs.lemmas.Nat.{div_below}
 use Rattle.binfarce_bytes.specs.declared.ByteOrder.{ByteOrder}
 use Rattle.binfarce_bytes.specs.Refusal.{◌>>=◌, Refusal, refusal_of, unexpected_eof}
 use Rattle.binfarce_bytes.specs.Walk.{Walk}
-use Rattle.binfarce_elf.specs.Elf.{ElfClass, SectionTable, Section, section_table, whole_headers, walk, name_of, names_bytes, name_among}
+use Rattle.binfarce_elf.specs.Elf.{ElfClass, SectionTable, Section, header_of, section_table, whole_headers, walk, names_bytes}
 use Rattle.binfarce_elf.specs.ElfParts.{headers_alone}
 use Rattle.binfarce_tables.specs.Reading.{Reads}
 use Rattle.binfarce_tables.specs.SectionReading.{FileSections, file_sections}
@@ -51,32 +51,27 @@ walk_of_none class table headers inside none one =
       le-leb table.shnum alone (omega (arith, none)),
     ) refl
 
-abbrev of_parts : Walk Section → (Section → Option (List ℕ)) → ℕ → FileSections
-of_parts sections name len = record { sections = sections; name = name; file_length = len }
+abbrev of_table : ElfClass → ℕ → List ℕ → SectionTable → Result FileSections Refusal
+of_table class elf_type file table =
+    Ok (record { class = class; order = table.order; elf_type = elf_type; count = table.shnum; sections = walk class table; names = names_bytes class table; file_length = length file })
 
-abbrev of_table : ElfClass → List ℕ → SectionTable → Result FileSections Refusal
-of_table class file table = Ok (of_parts (walk class table) (name_of class table) (length file))
-
-sections_from : (class : ElfClass) (order : ByteOrder) (file : List ℕ) → file_sections class order file ≡ (table_step class order file >>= of_table class file)
+sections_from : (class : ElfClass) (order : ByteOrder) (file : List ℕ) → file_sections class order file ≡ (table_step class order file >>= of_table class (header_of class order file).elf_type file)
+unfolding section_table
 sections_from class order file = by_test (ltb (length file) class.header_length)
   where
-    by_test : (short : Bool) → cond short (Err unexpected_eof) (of_table class file (section_table class (record { order = order; bytes = file })))
-        ≡ (cond short (Err unexpected_eof) (Ok (section_table class (record { order = order; bytes = file }))) >>= of_table class file)
+    table : SectionTable
+    table = section_table class (record { order = order; bytes = file })
+
+    by_test : (short : Bool) → cond short (Err unexpected_eof) (of_table class (header_of class order file).elf_type file table)
+        ≡ (cond short (Err unexpected_eof) (Ok table) >>= of_table class (header_of class order file).elf_type file)
     by_test true = refl
     by_test false = refl
 
--- a file's sections, where its table is this, and these are its walk, its section names and its length
-pub sections_read : (class : ElfClass) (order : ByteOrder) (file : List ℕ) (table : SectionTable) (sections : Walk Section) (names : Option (List ℕ)) (len : ℕ)
-    → table_step class order file ≡ Ok table → sections ≡ walk class table → names ≡ names_bytes class table → len ≡ length file
-    → file_sections class order file ≡ Ok (record { sections = sections; name = λ s. name_among names s.name_offset; file_length = len })
-unfolding name_of
-sections_read class order file table sections names len placed walked named long =
+-- a file's sections, where its table is this, and these are its type, its walk, its section names and its length
+pub sections_read : (class : ElfClass) (order : ByteOrder) (file : List ℕ) (table : SectionTable) (elf_type : ℕ) (sections : Walk Section) (names : Option (List ℕ)) (len : ℕ)
+    → table_step class order file ≡ Ok table → elf_type ≡ (header_of class order file).elf_type → sections ≡ walk class table → names ≡ names_bytes class table → len ≡ length file
+    → file_sections class order file ≡ Ok (record { class = class; order = table.order; elf_type = elf_type; count = table.shnum; sections = sections; names = names; file_length = len })
+sections_read class order file table elf_type sections names len placed typed walked named long =
     sections_from class order file
-    ∙ ap (λ (a : Result SectionTable Refusal). a >>= of_table class file) placed
-    ∙ ap Ok same_parts
-  where
-    same_parts : of_parts (walk class table) (name_of class table) (length file) ≡ of_parts sections (λ s. name_among names s.name_offset) len
-    same_parts =
-        ap (λ (w : Walk Section). of_parts w (name_of class table) (length file)) (sym walked)
-        ∙ ap (λ (n : Option (List ℕ)). of_parts sections (λ s. name_among n s.name_offset) (length file)) (sym named)
-        ∙ ap (of_parts sections (λ s. name_among names s.name_offset)) (sym long)
+    ∙ ap (λ (a : Result SectionTable Refusal). a >>= of_table class (header_of class order file).elf_type file) placed
+    ∙ ap Ok (cc (typed, walked, named, long))

@@ -1,5 +1,5 @@
 pub mod BeginningReading
-pub mod ElfAllReading
+pub mod ElfReading
 pub mod ElfReads
 pub mod Errors
 pub mod PeReading
@@ -8,6 +8,4 @@ pub mod Reading
 pub mod SectionReading
 pub mod MachoReading
 pub mod MachoReads
-pub mod MachoAllReading
-pub mod PeAllReading
 pub mod machine

@@ -32,6 +32,6 @@ abbrev pub found_parts : List ℕ → Result (Option (SymbolTable ℕ)) Refusal 
 found_parts file (Ok table) = parts_if table (table_parts file)
 found_parts file (Err why) = []
 
--- what a reading of the symbols reads, of the text and of all sections
+-- what a reading of the symbols reads, whichever sections are selected
 unfoldable pub macho_parts : List ℕ → List Part
 macho_parts file = macho_section_parts file ++ found_parts file (table_of file)

@@ -1,8 +1,13 @@
--- The parts of a PE file that were read.
-use Rattle.binfarce_bytes.specs.Entries.{Listed}
-use Rattle.binfarce_pe.specs.PeSymbols.{is_function_of, entries_of}
-use Rattle.binfarce_tables.specs.declared.pe.Parts.{Parts}
+-- What a reading of a PE file's parts gives that the function symbols of a selection are read from.
+use Rattle.binfarce_bytes.specs.SectionEntries.{SelectedSymbols}
+use Rattle.binfarce_pe.specs.PeSelection.{SelectedSections, symbols_of}
+use Rattle.binfarce_pe.specs.PeSymbols.{SymbolTable}
 
--- the content of a file's parts: its entries, and the size of the text in the file
-abbrev pub parts_view : Parts → Listed
-parts_view p = record { entries = entries_of (record { rows = p.rows.items; strings = p.strings.items }) (is_function_of p.text.index) p.text.size; section_size = p.text.size }
+-- the selected sections, and a symbol table
+pub record SelectedTables : Type 0 where
+  pub sections : SelectedSections
+  pub symbols : SymbolTable
+
+-- their function symbols
+abbrev pub selected_view : SelectedTables → SelectedSymbols
+selected_view t = symbols_of t.sections t.symbols

@@ -1,5 +1,5 @@
 -- The parts of a PE file that are read.
-use Rattle.std.specs.Prelude.{ℕ, ◌+◌, ◌-◌, ◌*◌, List, [], ◌∷◌, length, min, max, nat_le, if◌then◌else◌}
+use Rattle.std.specs.Prelude.{ℕ, ◌+◌, ◌-◌, ◌*◌, List, [], ◌∷◌, ◌++◌, length, Option, Some, None, min, max, nat_le, if◌then◌else◌}
 use Rattle.binfarce_bytes.specs.Field.{field}
 use Rattle.binfarce_bytes.specs.Part.{Part, field_part, part}
 use Rattle.binfarce_pe.specs.Pe.{headers_length, signature_offset, section_length}
@@ -40,10 +40,11 @@ beginning_part file places = part 0 (min (max (places.sections + max (places.sec
 unfoldable pub pe_section_parts : List ℕ → List Part
 pe_section_parts file = pointer_part ∷ header_part file ∷ beginning_part file (places_of file) ∷ []
 
--- what a reading of the symbols of `.text` reads
-unfoldable pub pe_parts : List ℕ → List Part
-pe_parts file = pointer_part ∷ header_part file ∷ headers_part file (places_of file) ∷ table_parts file (places_of file)
+-- what a selection needs: of the text the section headers, and of all sections the beginning of the optional header too
+abbrev pub selected_parts : Option (List ℕ) → List ℕ → TablePlaces → List Part
+selected_parts (Some name) file places = headers_part file places ∷ []
+selected_parts None file places = headers_part file places ∷ optional_header_part places ∷ []
 
--- and one of the symbols of all sections
-unfoldable pub pe_all_parts : List ℕ → List Part
-pe_all_parts file = optional_header_part (places_of file) ∷ pe_parts file
+-- what a reading of the symbols of a selection reads
+unfoldable pub pe_parts : Option (List ℕ) → List ℕ → List Part
+pe_parts section file = pointer_part ∷ header_part file ∷ (selected_parts section file (places_of file) ++ table_parts file (places_of file))

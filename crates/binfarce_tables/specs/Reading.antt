@@ -1,13 +1,8 @@
 -- The parts of a file that were read.
 use Rattle.std.specs.Prelude.{◌≡◌, ℕ, Bool, true, List, length, Option, Some, Result, Ok, Err}
 use Rattle.binfarce_bytes.specs.Refusal.{Refusal, refusal_of}
-use Rattle.binfarce_bytes.specs.Entries.{Listed}
-use Rattle.binfarce_elf.specs.Elf.{ElfClass}
-use Rattle.binfarce_elf.specs.ElfSymbols.{listed_of}
-use Rattle.binfarce_elf.specs.ElfViews.{section_view}
 use Rattle.binfarce_tables.specs.declared.error.ReadError.{ReadError}
 use Rattle.binfarce_tables.specs.declared.error.ReadError.TheVariants.{Refused, Unreadable, OutOfMemory}
-use Rattle.binfarce_tables.specs.declared.elf.Parts.{Parts}
 
 -- a reading gives the file's answer, through a view; or a source that may fail is unreadable, or an allocation failed
 abbrev pub Reads : {X Y : Type 0} → Bool → (X → Y) → Result Y Refusal → Result X ReadError → Type 0
@@ -19,7 +14,3 @@ Reads may_fail view answer (Err OutOfMemory) = Unit {0}
 -- the bytes are known, and have this length
 abbrev pub Known : Option (List ℕ) → ℕ → List ℕ → Type 0
 Known bytes len file = (bytes ≡ Some file) × (len ≡ length file)
-
--- the content of a file's parts: its entries, and the size of the requested section
-abbrev pub parts_view : {C : Type 0} → ElfClass → (C → ℕ) → Parts C → Listed
-parts_view class number p = listed_of p.which class p.byte_order (section_view number p.section) (record { strings = p.strings.items; rows = p.rows.items })

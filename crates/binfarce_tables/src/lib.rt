@@ -3,17 +3,13 @@
 
 mod beginning;
 pub mod elf;
-pub mod elf32;
-pub mod elf64;
-mod elf_all;
 mod error;
 pub mod format;
 pub mod macho;
-mod macho_all;
 pub mod pe;
-mod pe_all;
 mod sections;
 
 pub use crate::beginning::Beginning;
 pub use crate::elf::part;
 pub use crate::error::ReadError;
+pub use binfarce_elf::class::Width;

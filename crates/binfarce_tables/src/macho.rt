@@ -1,98 +1,130 @@
 //! 64-bit Mach-O files, of which only the tables are read (Apple's `<mach-o/loader.h>` and `<mach-o/nlist.h>`).
 
-ghost use Rattle.std.specs.Prelude.{◌∷◌, [], ◌≡◌, ◌≢◌, ◌<◌, ◌≤◌, List, ℕ, true, Ok, Some, length, MatchResult, IfErr};
+ghost use Rattle.std.specs.Prelude.{◌∷◌, [], ◌≡◌, ◌≢◌, ◌⊎◌, ◌<◌, ◌≤◌, List, ℕ, false, true, Ok, Some, length, MatchResult, IfErr};
 ghost use Rattle.std.specs.Option.{option_map};
-ghost use Rattle.binfarce_bytes.specs.Part.{part, whole_part, parts_if, AreSure};
-ghost use Rattle.binfarce_bytes.specs.Source.{AskedFor};
-ghost use Rattle.binfarce_bytes.specs.Refusal.{Gives, refusal_of};
-ghost use Rattle.binfarce_macho.specs.Macho.{least_length, header_of};
-ghost use Rattle.binfarce_macho.specs.MachoParts.{SomeAddress, needed_view, table_view, holds_commands};
-ghost use Rattle.binfarce_macho.specs.MachoSymbols.{answer_of, slice_at, needed, located_in, tables_in};
-ghost use Rattle.binfarce_macho.specs.MachoViews.{header_view, section_view};
 ghost use Rattle.binfarce_bytes.specs.Entries.{Answers};
-ghost use Rattle.binfarce_bytes.specs.SymbolViews.{HoldsFunctions};
+ghost use Rattle.binfarce_bytes.specs.Part.{part, whole_part, parts_if, AreSure};
+ghost use Rattle.binfarce_bytes.specs.Refusal.{refusal_of, out_of_memory};
+ghost use Rattle.binfarce_bytes.specs.Selection.{section_of};
+ghost use Rattle.binfarce_bytes.specs.Source.{AskedFor};
+ghost use Rattle.binfarce_bytes.specs.SymbolViews.{HoldsSelected};
+ghost use Rattle.binfarce_macho.specs.Macho.{least_length, header_of};
+ghost use Rattle.binfarce_macho.specs.MachoParts.{table_view, holds_commands};
+ghost use Rattle.binfarce_macho.specs.MachoSelection as selection;
+ghost use Rattle.binfarce_macho.specs.MachoSelection.{selected_file_tables, section_name, section_size, shares_addresses, symbols_of, NeedsMemory};
+ghost use Rattle.binfarce_macho.specs.MachoSymbols.{slice_at, symbols_by};
+ghost use Rattle.binfarce_macho.specs.MachoViews.{header_view};
 ghost use Rattle.binfarce_tables.specs.BeginningReading.{ReadsBeginning, macho_sections};
-ghost use Rattle.binfarce_tables.specs.MachoReading.{located_answer, parts_view, tables_view};
+ghost use Rattle.binfarce_tables.specs.MachoReading.{parts_view, symbols_view};
 ghost use Rattle.binfarce_tables.specs.MachoReads.{said_end, command_bytes, macho_section_parts, macho_parts, table_parts};
 ghost use Rattle.binfarce_tables.specs.Reading.{Reads, Known};
-ghost use Rattle.binfarce_tables.specs.declared.error.ReadError.TheVariants.{Unreadable};
+ghost use Rattle.binfarce_tables.specs.declared.error.ReadError.TheVariants.{Refused, Unreadable, OutOfMemory};
+ghost use Rattle.binfarce_tables.specs.machine.MachoPlaces.{selected_commands, found_view};
 
 use crate::beginning::Beginning;
 use crate::elf::part;
 use crate::error::ReadError;
-pub use crate::macho_all::{AllParts, read_all};
 use binfarce_bytes::ParseError;
-use binfarce_bytes::functions::FunctionSymbol;
+use binfarce_bytes::functions::{SectionFunction, Selection};
 use binfarce_bytes::source::Source;
+use binfarce_macho::functions::functions_of;
 use binfarce_macho::header::{MachoHeader, parse_header};
-use binfarce_macho::parts::{self, Located, Needed, SYMBOL_LENGTH, SymbolTable};
-use binfarce_macho::sections::Section;
+use binfarce_macho::numbered::{SelectedSections, is_object, selected_sections};
+use binfarce_macho::parts::{commands_end, holds_commands};
+use binfarce_macho::symbols::{SYMBOL_LENGTH, SymbolBytes, SymbolTable, symbol_table};
 use std::alloc::Global;
 
 // The number of the header's bytes that are read.
-pub(crate) const HEADER: usize = 28;
+const HEADER: usize = 28;
 
-/// The parts of a file that have its function symbols, in memory.
+/// The parts of a file that have the function symbols of a selection, in memory.
 #[derive(Drop)]
 pub struct Parts {
-    tables: Option<Tables>,
+    sections: SelectedSections,
+    symbols: Option<SymbolParts>,
+    is_object: bool,
 }
 
-// Where the text ends, how long it is, the string table and the symbol table.
+// The string table and the symbol table.
 #[derive(Drop)]
-struct Tables {
-    text_end: u64,
-    text_size: u64,
+struct SymbolParts {
     strings: Vec<u8>,
     rows: Vec<u8>,
 }
 
 impl Parts {
-    /// The function symbols that `functions` of a reader of the whole file gives, in its order, and the text's size in
-    /// bytes. Nothing is read: names are slices of the parts.
+    /// The function symbols that a reader of the whole file gives for the selection, in its order. Nothing is read: names
+    /// are slices of the parts.
     ///
     /// # Errors
     ///
-    /// `MalformedInput` where a row that would be kept lies past the text's end with no address above it. `OutOfMemory`
-    /// only where the table has a value that isn't 0; it may replace that error.
-    pub fn functions(&self, alloc: Global) -> Result<(Vec<FunctionSymbol<'_>>, u64), ParseError>
-        ensures { Answers HoldsFunctions
-            (λ _. SomeAddress (parts_view self.now)) (answer_of (parts_view self.now)) result }
+    /// `MalformedInput` where the text's end exceeds 64 bits, or a row that would be kept lies past it with no address
+    /// above it. `OutOfMemory` only where the text's table has a value that isn't 0, or where all sections are selected
+    /// and there is one; it may replace the second of these errors.
+    pub fn functions(&self, alloc: Global) -> Result<Vec<SectionFunction<'_>>, ParseError>
+        ensures { let tables = parts_view self.now in
+            Answers HoldsSelected (λ _. NeedsMemory tables.sections tables.symbols) (symbols_of tables) result }
     {
-        match &self.tables {
-            None => Ok((Vec::new(alloc), 0)),
-            Some(tables) => listed(alloc, tables),
-        }
+        functions_of(alloc, &self.sections, symbols_in(&self.symbols))
+    }
+
+    /// The text's size in bytes, 0 in a file without a symbol table; `None` where all sections are selected.
+    pub fn section_size(&self) -> Option<u64>
+        ensures { let tables = parts_view self.now in result ≡ section_size tables.sections tables.symbols }
+    {
+        self.sections.size(self.symbols.is_some())
+    }
+
+    /// The name of the section of this number, `SEGMENT,SECTION`; nothing is copied. `None` where there is no such section,
+    /// where one of its two names isn't valid, and where the text alone is selected.
+    pub fn section_name(&self, number: u32) -> Option<&str>
+        ensures { option_map (λ t. t.now) result ≡ section_name (parts_view self.entry.now).sections number }
+    {
+        self.sections.name(number)
+    }
+
+    /// Whether the selected sections share addresses: all those of an object file (`MH_OBJECT`) may.
+    pub fn shares_addresses(&self) -> bool
+        ensures { let tables = parts_view self.now in result ≡ shares_addresses tables.sections tables.is_object }
+    {
+        self.sections.share_addresses(self.is_object)
     }
 }
 
-fn listed(alloc: Global, tables: &Tables) -> Result<(Vec<FunctionSymbol<'_>>, u64), ParseError>
-    ensures { let found = Some (tables_view tables.entry.now) in
-        Answers HoldsFunctions (λ _. SomeAddress found) (answer_of found) result }
+fn symbols_in(symbols: &Option<SymbolParts>) -> Option<SymbolBytes<'_>>
+    ensures { option_map selection.symbols_view result ≡ option_map symbols_view symbols.entry.now }
 {
-    let found = Located {
-        text_end: tables.text_end,
-        text_size: tables.text_size,
-        strings: &tables.strings,
-        rows: &tables.rows,
-    };
-    parts::functions_of(alloc, found)
+    symbols.as_ref().map(bytes_of)
 }
 
-/// Reads the parts of a file that have its function symbols: the header of 28 bytes, the file's first bytes up to the
-/// end of the load commands that the header states (`sizeofcmds`), the string table and the symbol table. Each is read
-/// into memory of its size, which is never more than the file has of it. No other byte is read, unless the commands, or
-/// the sections of a segment command, extend past that end: then the whole file is read for them. The magic number
-/// isn't checked.
+fn bytes_of(symbols: &SymbolParts) -> SymbolBytes<'_>
+    ensures { selection.symbols_view result ≡ symbols_view symbols.entry.now }
+{
+    SymbolBytes {
+        strings: &symbols.strings,
+        rows: &symbols.rows,
+    }
+}
+
+/// Reads the parts of a file that have the function symbols of a selection: the header of 28 bytes, the file's first
+/// bytes up to the end of the load commands that the header states (`sizeofcmds`), the string table and the symbol
+/// table. Each is read into memory of its size, which is never more than the file has of it. No other byte is read,
+/// unless the commands, or the sections of a segment command, extend past that end: then the whole file is read for
+/// them. The magic number isn't checked.
 ///
 /// # Errors
 ///
-/// `Refused` with the error of `parse` or `functions` of a reader of the whole file, if it comes before they read the
-/// symbol table's rows; `Unreadable` where the source can't be read at offsets, or a read of it fails, and never for a
-/// source that can't fail, such as bytes in memory; `OutOfMemory` where an allocation fails.
-pub fn read<S: Source>(alloc: Global, source: &S, log: &mut S::Log) -> Result<Parts, ReadError>
+/// `Refused` with the error of `parse`, or of a reader of the whole file for the selection, if it comes before they look
+/// at the text's end and the symbol table's rows; `Unreadable` where the source can't be read at offsets, or a read of
+/// it fails, and never for a source that can't fail, such as bytes in memory; `OutOfMemory` where an allocation fails.
+pub fn read<S: Source>(
+    alloc: Global,
+    source: &S,
+    log: &mut S::Log,
+    selection: Selection<'_>,
+) -> Result<Parts, ReadError>
     ensures answer { (file : List ℕ) → S.bytes source.now ≡ Some file
-        → Reads (S.may_fail source.now) parts_view (located_answer file) result }
+        → Reads (S.may_fail source.now) parts_view (selected_file_tables (section_of selection.entry) file) result }
     ensures nothing_else { (file : List ℕ) → S.bytes source.now ≡ Some file
         → AreSure (S.is_sure source.now) (macho_parts file) → IfErr result (λ e. e ≢ Unreadable) }
     ensures asked { (file : List ℕ) → S.bytes source.now ≡ Some file
@@ -103,8 +135,92 @@ pub fn read<S: Source>(alloc: Global, source: &S, log: &mut S::Log) -> Result<Pa
         return Err(ReadError::Refused(ParseError::UnexpectedEof));
     }
     let commands = read_commands(alloc, source, log, len)?;
-    let needed = needed_in(&commands)?;
-    read_tables(alloc, source, log, len, needed)
+    let found = found_in(alloc, &commands, selection)?;
+    let symbols = read_symbols(alloc, source, log, len, found.table)?;
+    Ok(Parts {
+        sections: found.sections,
+        symbols,
+        is_object: found.is_object,
+    })
+}
+
+// The content of the load commands: the selected sections, and where the symbol table is.
+#[derive(Drop)]
+struct Found {
+    sections: SelectedSections,
+    table: Option<SymbolTable>,
+    is_object: bool,
+}
+
+// What the load commands say, which these bytes of the file hold.
+fn found_in(alloc: Global, commands: &[u8], selection: Selection<'_>) -> Result<Found, ReadError>
+    ensures { (file : List ℕ) → least_length ≤ length file → commands.now ≡ command_bytes file
+        → Reads false found_view (selected_commands (section_of selection.entry) file) result }
+{
+    let header = header_in(commands)?;
+    let sections = match selected_sections(alloc, commands, header, selection) {
+        Ok(sections) => sections,
+        Err(e) => return Err(error_of(e)),
+    };
+    let table = symbol_table(commands, header)?;
+    Ok(Found {
+        sections,
+        table,
+        is_object: is_object(header),
+    })
+}
+
+// A failed allocation is returned as such, and any other error as a refusal.
+fn error_of(e: ParseError) -> ReadError
+    ensures { ((refusal_of e ≡ out_of_memory) × (result ≡ OutOfMemory))
+        ⊎ ((refusal_of e ≢ out_of_memory) × (result ≡ Refused e)) }
+{
+    match e {
+        ParseError::OutOfMemory => ReadError::OutOfMemory,
+        e => ReadError::Refused(e),
+    }
+}
+
+// The string table and the symbol table, where there is one.
+fn read_symbols<S: Source>(
+    alloc: Global,
+    source: &S,
+    log: &mut S::Log,
+    len: usize,
+    table: Option<SymbolTable>,
+) -> Result<Option<SymbolParts>, ReadError>
+    ensures answer { (file : List ℕ) → Known (S.bytes source.now) len file
+        → Reads (S.may_fail source.now) (option_map symbols_view) (symbols_by file (option_map table_view table))
+        result }
+    ensures nothing_else { (file : List ℕ) → Known (S.bytes source.now) len file
+        → AreSure (S.is_sure source.now) (parts_if (option_map table_view table) (table_parts file))
+        → IfErr result (λ e. e ≢ Unreadable) }
+    ensures asked { (file : List ℕ) → Known (S.bytes source.now) len file
+        → AskedFor (S.logs_only log.old) (S.logs_only log.new) (parts_if (option_map table_view table) (table_parts file)) }
+{
+    let table = match table {
+        None => return Ok(None),
+        Some(table) => table,
+    };
+    let strings_at = table.strings_offset as usize;
+    let strings = read_table(
+        alloc,
+        source,
+        log,
+        len,
+        strings_at,
+        table.strings_size as usize,
+    )?;
+    let rows_size = SYMBOL_LENGTH * table.row_count as usize;
+    let rows = read_table(
+        alloc,
+        source,
+        log,
+        len,
+        table.symbol_offset as usize,
+        rows_size,
+    )?;
+    Ok(Some(SymbolParts { strings, rows }))
 }
 
 /// Reads the prefix of a file that has its sections: the header of 28 bytes, and the bytes up to the end of the load
@@ -139,7 +255,7 @@ pub fn read_sections<S: Source>(
 }
 
 // The prefix of the file that has the load commands.
-pub(crate) fn read_commands<S: Source>(
+fn read_commands<S: Source>(
     alloc: Global,
     source: &S,
     log: &mut S::Log,
@@ -177,11 +293,11 @@ fn read_end<S: Source>(
 {
     let bytes = part(alloc, source, log, 0, HEADER)?;
     let header = header_in(&bytes)?;
-    Ok(parts::commands_end(header).min(len))
+    Ok(commands_end(header).min(len))
 }
 
 // The header in a file's first bytes; refused where it is truncated.
-pub(crate) fn header_in(bytes: &[u8]) -> Result<MachoHeader, ParseError>
+fn header_in(bytes: &[u8]) -> Result<MachoHeader, ParseError>
     ensures { MatchResult result
         (λ h. (28 ≤ length bytes.now) × (header_view h ≡ header_of bytes.now))
         (λ _. length bytes.now < 28) }
@@ -193,90 +309,13 @@ fn are_held(commands: &[u8]) -> bool
     ensures { least_length ≤ length commands.now → result ≡ holds_commands commands.now }
 {
     match parse_header(commands) {
-        Ok(header) => parts::holds_commands(commands, header),
+        Ok(header) => holds_commands(commands, header),
         Err(_) => false,
     }
 }
 
-fn needed_in(commands: &[u8]) -> Result<Needed<'_>, ParseError>
-    ensures { least_length ≤ length commands.now → Gives refusal_of needed_view (needed commands.now) result }
-{
-    let header = parse_header(commands)?;
-    parts::needed_tables(commands, header)
-}
-
-fn read_tables<S: Source>(
-    alloc: Global,
-    source: &S,
-    log: &mut S::Log,
-    len: usize,
-    needed: Needed<'_>,
-) -> Result<Parts, ReadError>
-    ensures answer { (file : List ℕ) → Known (S.bytes source.now) len file
-        → Reads (S.may_fail source.now) parts_view (tables_in file (needed_view needed.entry)) result }
-    ensures nothing_else { (file : List ℕ) → Known (S.bytes source.now) len file
-        → AreSure (S.is_sure source.now) (parts_if (option_map table_view needed.entry.table) (table_parts file))
-        → IfErr result (λ e. e ≢ Unreadable) }
-    ensures asked { (file : List ℕ) → Known (S.bytes source.now) len file
-        → AskedFor (S.logs_only log.old) (S.logs_only log.new)
-        (parts_if (option_map table_view needed.entry.table) (table_parts file)) }
-{
-    match needed.table {
-        None => Ok(Parts { tables: None }),
-        Some(table) => {
-            let tables = read_located(alloc, source, log, len, needed.text, table)?;
-            Ok(Parts {
-                tables: Some(tables),
-            })
-        }
-    }
-}
-
-fn read_located<S: Source>(
-    alloc: Global,
-    source: &S,
-    log: &mut S::Log,
-    len: usize,
-    text: Section<'_>,
-    table: SymbolTable,
-) -> Result<Tables, ReadError>
-    ensures answer { (file : List ℕ) → Known (S.bytes source.now) len file
-        → Reads (S.may_fail source.now) tables_view
-        (located_in file (section_view text.entry) (table_view table)) result }
-    ensures nothing_else { (file : List ℕ) → Known (S.bytes source.now) len file
-        → AreSure (S.is_sure source.now) (table_parts file (table_view table)) → IfErr result (λ e. e ≢ Unreadable) }
-    ensures asked { (file : List ℕ) → Known (S.bytes source.now) len file
-        → AskedFor (S.logs_only log.old) (S.logs_only log.new) (table_parts file (table_view table)) }
-{
-    let strings_at = table.strings_offset as usize;
-    let strings = read_table(
-        alloc,
-        source,
-        log,
-        len,
-        strings_at,
-        table.strings_size as usize,
-    )?;
-    let rows_size = SYMBOL_LENGTH * table.row_count as usize;
-    let rows = read_table(
-        alloc,
-        source,
-        log,
-        len,
-        table.symbol_offset as usize,
-        rows_size,
-    )?;
-    let text_end = parts::text_end(text)?;
-    Ok(Tables {
-        text_end,
-        text_size: text.size(),
-        strings,
-        rows,
-    })
-}
-
 // The bytes of a table; refused where they don't lie in the file.
-pub(crate) fn read_table<S: Source>(
+fn read_table<S: Source>(
     alloc: Global,
     source: &S,
     log: &mut S::Log,

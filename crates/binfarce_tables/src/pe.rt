@@ -1,86 +1,221 @@
 //! PE files, of which only the tables are read (Microsoft PE Format).
 
-ghost use Rattle.std.specs.Prelude.{◌∷◌, [], ◌≡◌, ◌≢◌, List, ℕ, true, Ok, Some, IfErr};
-ghost use Rattle.binfarce_bytes.specs.Entries.{Answers, ListsSome};
+ghost use Rattle.std.specs.Prelude.{◌∷◌, [], ◌≡◌, ◌≢◌, ◌<◌, ◌≤◌, List, ℕ, true, Ok, Some, None, IfOk, IfErr};
+ghost use Rattle.std.specs.Option.{option_map};
+ghost use Rattle.binfarce_bytes.specs.Entries.{Answers};
 ghost use Rattle.binfarce_bytes.specs.Part.{AreSure};
 ghost use Rattle.binfarce_bytes.specs.Source.{AskedFor};
-ghost use Rattle.binfarce_bytes.specs.SymbolViews.{HoldsFunctions};
-ghost use Rattle.binfarce_pe.specs.PeParts.{places_view, text_view};
-ghost use Rattle.binfarce_pe.specs.PeSymbols.{pe_file_answer};
+ghost use Rattle.binfarce_bytes.specs.SectionEntries.{SelectsSome};
+ghost use Rattle.binfarce_bytes.specs.Selection.{section_of};
+ghost use Rattle.binfarce_bytes.specs.SymbolViews.{HoldsSelected};
+ghost use Rattle.binfarce_pe.specs.PeParts.{headers_alone, places_view, text_view, whole_in};
+ghost use Rattle.binfarce_pe.specs.PeSelection.{sections_view, selected_file_answer, IsWhole};
 ghost use Rattle.binfarce_tables.specs.BeginningReading.{ReadsBeginning, pe_sections};
-ghost use Rattle.binfarce_tables.specs.PeReading.{parts_view};
-ghost use Rattle.binfarce_tables.specs.PeReads.{pointer_part, places_parts, headers_part, table_parts, pe_section_parts, pe_parts};
+ghost use Rattle.binfarce_tables.specs.PeReading.{selected_view};
+ghost use Rattle.binfarce_tables.specs.PeReads.{pointer_part, places_parts, headers_part, selected_parts, table_parts, pe_section_parts, pe_parts};
 ghost use Rattle.binfarce_tables.specs.Reading.{Reads, Known};
 ghost use Rattle.binfarce_tables.specs.declared.error.ReadError.TheVariants.{Unreadable};
-ghost use Rattle.binfarce_tables.specs.machine.PePlaces.{signature_step, places_step, text_at, table_at, records_view};
+ghost use Rattle.binfarce_tables.specs.machine.PePlaces.{signature_step, places_step, text_at, whole_at, chosen_at, table_at, read_view, records_view};
 
 use crate::beginning::Beginning;
 use crate::elf::part;
 use crate::error::ReadError;
-pub use crate::pe_all::{AllParts, read_all};
 use binfarce_bytes::ParseError;
-use binfarce_bytes::functions::FunctionSymbol;
+use binfarce_bytes::functions::{SectionFunction, Selection};
 use binfarce_bytes::source::Source;
+use binfarce_pe::functions::{SelectedSections, functions_of, section_name};
+use binfarce_pe::header::image_base;
 use binfarce_pe::parts::{
-    HEADERS_LENGTH, Places, SECTION_LENGTH, SIGNATURE_POINTER, Text, functions_in, places_in,
-    signature_in, text_in,
+    HEADERS_LENGTH, Places, SECTION_LENGTH, SIGNATURE_POINTER, Text, places_in, signature_in,
+    text_in,
 };
+use binfarce_pe::sections::Table;
+use binfarce_pe::symbols::SymbolTable;
 use std::alloc::Global;
+use std::marker::Model;
 
 // The length of the MS-DOS stub in bytes.
 const STUB_LENGTH: usize = 64;
 
-/// The parts of a file that have the function symbols of `.text`, in memory.
+// How many bytes at the end of the last section header may be missing.
+const SECTION_UNREAD: usize = 16;
+
+/// The parts of a file that have the function symbols of a selection, in memory.
 #[derive(Drop)]
 pub struct Parts {
-    rows: Vec<u8>,
-    strings: Vec<u8>,
-    text: Text,
+    sections: Sections,
+    records: Records,
+}
+
+// The selected sections: the text; or all, with the image base, and with their headers, of which none is truncated.
+#[derive(Drop)]
+enum Sections {
+    Text(Text),
+    All(Option<u64>, Vec<u8>, u16),
+}
+
+impl Model for Parts {
+    ghost use Rattle.binfarce_pe.specs.PeSelection.{IsWhole};
+    ghost use Rattle.binfarce_tables.specs.PeReading.{SelectedTables};
+    ghost use Rattle.binfarce_tables.specs.machine.PePlaces.{read_view, records_view};
+
+    ghost Value = { SelectedTables };
+
+    ghost view = { λ p. record { sections = read_view p.sections; symbols = records_view p.records } };
+
+    ghost invariant = { λ p. IsWhole (read_view p.sections) };
 }
 
 impl Parts {
-    /// The function symbols of the section `.text`, by address and at equal addresses in table order, and the section's
-    /// size in bytes in the file: the answer of `functions` of a reader of the whole file. Nothing is read: names are
-    /// slices of the parts.
+    /// The function symbols of the selection: those that `functions` of a reader of the whole file gives, in its order.
+    /// Nothing is read: names are slices of the parts.
     ///
     /// # Errors
     ///
     /// `OutOfMemory`, only instead of a list that isn't empty.
-    pub fn functions(&self, alloc: Global) -> Result<(Vec<FunctionSymbol<'_>>, u64), ParseError>
-        ensures { Answers HoldsFunctions ListsSome (Ok (parts_view self.now)) result }
+    pub fn functions(&self, alloc: Global) -> Result<Vec<SectionFunction<'_>>, ParseError>
+        ensures { Answers HoldsSelected SelectsSome (Ok (selected_view self.entry.now)) result }
     {
-        let functions = functions_in(alloc, &self.rows, &self.strings, self.text)?;
-        Ok((functions, u64::from(self.text.size)))
+        let symbols = SymbolTable {
+            rows: &self.records.rows,
+            strings: &self.records.strings,
+        };
+        Ok(functions_of(alloc, self.sections.chosen(), symbols)?)
+    }
+
+    /// How many bytes the section `.text` has in the file; `None` where all sections are selected.
+    pub fn section_size(&self) -> Option<u64>
+        ensures { result ≡ (selected_view self.entry.now).section_size }
+    {
+        self.sections.chosen().section_size()
+    }
+
+    /// The name of the section of this number, which is one more than its index, as its header has it: as `/4` for a
+    /// name of more than 8 bytes, which is in the string table. It is a slice of the parts; nothing is copied. `None`
+    /// where there is no such section, where its name isn't UTF-8, and where not all sections are selected.
+    pub fn section_name(&self, number: u32) -> Option<&str>
+        ensures { option_map (λ t. t.now) result ≡ (selected_view self.entry.now).section_name number }
+    {
+        match self.sections.chosen() {
+            SelectedSections::Text(_) => None,
+            SelectedSections::All(_, headers) => section_name(headers, number),
+        }
+    }
+
+    /// Whether the selected sections share addresses: all sections of a file without an image base, as an object file.
+    pub fn shares_addresses(&self) -> bool
+        ensures { result ≡ (selected_view self.entry.now).shares_addresses }
+    {
+        match self.sections.chosen() {
+            SelectedSections::Text(_) => false,
+            SelectedSections::All(base, _) => base.is_none(),
+        }
     }
 }
 
-/// Reads the parts of a file that have the function symbols of the section `.text`: the offset of the signature, the
-/// signature and the file header, which are 24 bytes, the section headers, the symbol table, and the strings, which are
-/// all that follows it. Each is read once, into memory of its size, which is never more than the file has of it. No
-/// other byte is read. The signature isn't checked.
+impl Sections {
+    fn chosen(&self) -> SelectedSections<'_>
+        ensures { sections_view result ≡ read_view self.entry.now }
+    {
+        match self {
+            Sections::Text(text) => SelectedSections::Text(*text),
+            Sections::All(base, headers, count) => SelectedSections::All(
+                *base,
+                Table {
+                    bytes: headers,
+                    offset: 0,
+                    count: *count,
+                },
+            ),
+        }
+    }
+}
+
+/// Reads the parts of a file that have the function symbols of a selection: the offset of the signature, the signature
+/// and the file header, which are 24 bytes, the section headers, the symbol table, and the strings, which are all that
+/// follows it; for all sections up to 32 bytes of the optional header. Each is read once, into memory of its size, which
+/// is never more than the file has of it. No other byte is read. The signature isn't checked.
 ///
 /// # Errors
 ///
 /// `Refused` with the error of `parse` or `functions` of a reader of the whole file; `Unreadable` where the source
 /// can't be read at offsets, or a read of it fails, and never for a source that can't fail, such as bytes in memory;
 /// `OutOfMemory` where an allocation fails.
-pub fn read<S: Source>(alloc: Global, source: &S, log: &mut S::Log) -> Result<Parts, ReadError>
+pub fn read<S: Source>(
+    alloc: Global,
+    source: &S,
+    log: &mut S::Log,
+    selection: Selection<'_>,
+) -> Result<Parts, ReadError>
     ensures answer { (file : List ℕ) → S.bytes source.now ≡ Some file
-        → Reads (S.may_fail source.now) parts_view (pe_file_answer file) result }
+        → Reads (S.may_fail source.now) selected_view (selected_file_answer (section_of selection.entry) file) result }
     ensures nothing_else { (file : List ℕ) → S.bytes source.now ≡ Some file
-        → AreSure (S.is_sure source.now) (pe_parts file) → IfErr result (λ e. e ≢ Unreadable) }
+        → AreSure (S.is_sure source.now) (pe_parts (section_of selection.entry) file)
+        → IfErr result (λ e. e ≢ Unreadable) }
     ensures asked { (file : List ℕ) → S.bytes source.now ≡ Some file
-        → AskedFor (S.logs_only log.old) (S.logs_only log.new) (pe_parts file) }
+        → AskedFor (S.logs_only log.old) (S.logs_only log.new) (pe_parts (section_of selection.entry) file) }
 {
     let len = source.length()? as usize;
     let places = read_places(alloc, source, log, len)?;
-    let text = read_text(alloc, source, log, len, places)?;
+    let sections = read_selected(alloc, source, log, len, places, selection)?;
     let records = read_records(alloc, source, log, len, places)?;
-    Ok(Parts {
-        rows: records.rows,
-        strings: records.strings,
-        text,
-    })
+    Ok(Parts { sections, records })
+}
+
+// The selected sections of a file whose tables are at these places.
+fn read_selected<S: Source>(
+    alloc: Global,
+    source: &S,
+    log: &mut S::Log,
+    len: usize,
+    places: Places,
+    selection: Selection<'_>,
+) -> Result<Sections, ReadError>
+    ensures answer { (file : List ℕ) → Known (S.bytes source.now) len file → places_step file ≡ Ok (places_view places)
+        → Reads (S.may_fail source.now) read_view
+        (chosen_at (section_of selection.entry) file (places_view places)) result }
+    ensures whole { IfOk result (λ s. IsWhole (read_view s)) }
+    ensures nothing_else { (file : List ℕ) → Known (S.bytes source.now) len file
+        → AreSure (S.is_sure source.now) (selected_parts (section_of selection.entry) file (places_view places))
+        → IfErr result (λ e. e ≢ Unreadable) }
+    ensures asked { (file : List ℕ) → Known (S.bytes source.now) len file → places_step file ≡ Ok (places_view places)
+        → AskedFor (S.logs_only log.old) (S.logs_only log.new)
+        (selected_parts (section_of selection.entry) file (places_view places)) }
+{
+    match selection {
+        Selection::Section(_) => {
+            let text = read_text(alloc, source, log, len, places)?;
+            Ok(Sections::Text(text))
+        }
+        Selection::All => read_all_sections(alloc, source, log, len, places),
+    }
+}
+
+fn read_all_sections<S: Source>(
+    alloc: Global,
+    source: &S,
+    log: &mut S::Log,
+    len: usize,
+    places: Places,
+) -> Result<Sections, ReadError>
+    ensures answer { (file : List ℕ) → Known (S.bytes source.now) len file → places_step file ≡ Ok (places_view places)
+        → Reads (S.may_fail source.now) read_view (chosen_at None file (places_view places)) result }
+    ensures whole { IfOk result (λ s. IsWhole (read_view s)) }
+    ensures nothing_else { (file : List ℕ) → Known (S.bytes source.now) len file
+        → AreSure (S.is_sure source.now) (selected_parts None file (places_view places))
+        → IfErr result (λ e. e ≢ Unreadable) }
+    ensures asked { (file : List ℕ) → Known (S.bytes source.now) len file → places_step file ≡ Ok (places_view places)
+        → AskedFor (S.logs_only log.old) (S.logs_only log.new) (selected_parts None file (places_view places)) }
+{
+    let headers = read_headers(alloc, source, log, len, places)?;
+    let header = part(
+        alloc,
+        source,
+        log,
+        places.optional_header,
+        places.optional_header_size,
+    )?;
+    Ok(Sections::All(image_base(&header), headers, places.section_count))
 }
 
 /// Reads the prefix of a file that has its sections: up to the end of the section headers, or where there are none up
@@ -116,7 +251,8 @@ pub fn read_sections<S: Source>(
     Ok(Beginning { bytes, file_length })
 }
 
-pub(crate) fn read_places<S: Source>(
+// The places that the file header states.
+fn read_places<S: Source>(
     alloc: Global,
     source: &S,
     log: &mut S::Log,
@@ -169,7 +305,7 @@ fn read_text<S: Source>(
     ensures nothing_else { (file : List ℕ) → Known (S.bytes source.now) len file
         → S.is_sure source.now (headers_part file (places_view places)) ≡ true → IfErr result (λ e. e ≢ Unreadable) }
     ensures asked { (file : List ℕ) → Known (S.bytes source.now) len file
-        → AskedFor (S.logs_only log.old) (S.logs_only log.new) ((headers_part file (places_view places)) ∷ []) }
+        → AskedFor (S.logs_only log.old) (S.logs_only log.new) (headers_part file (places_view places) ∷ []) }
 {
     let offset = places.sections;
     if offset >= len {
@@ -180,18 +316,54 @@ fn read_text<S: Source>(
     }
     let size = places.section_count as usize * SECTION_LENGTH;
     let headers = part(alloc, source, log, offset, size.min(len - offset))?;
-    Ok(text_in(&headers, places.section_count)?)
+    let table = Table {
+        bytes: &headers,
+        offset: 0,
+        count: places.section_count,
+    };
+    Ok(text_in(table)?)
+}
+
+// The section headers, of which none is truncated.
+fn read_headers<S: Source>(
+    alloc: Global,
+    source: &S,
+    log: &mut S::Log,
+    len: usize,
+    places: Places,
+) -> Result<Vec<u8>, ReadError>
+    ensures answer { (file : List ℕ) → Known (S.bytes source.now) len file
+        → Reads (S.may_fail source.now) (λ v. headers_alone v.items places.section_count)
+        (whole_at file (places_view places)) result }
+    ensures begins { IfOk result (λ _. places.sections < len) }
+    ensures whole { IfOk result
+        (λ v. places.section_count ≤ whole_in (headers_alone v.items places.section_count)) }
+    ensures nothing_else { (file : List ℕ) → Known (S.bytes source.now) len file
+        → S.is_sure source.now (headers_part file (places_view places)) ≡ true → IfErr result (λ e. e ≢ Unreadable) }
+    ensures asked { (file : List ℕ) → Known (S.bytes source.now) len file
+        → AskedFor (S.logs_only log.old) (S.logs_only log.new) (headers_part file (places_view places) ∷ []) }
+{
+    let offset = places.sections;
+    if offset >= len {
+        return Err(ReadError::Refused(ParseError::UnexpectedEof));
+    }
+    let rest = len - offset;
+    let size = places.section_count as usize * SECTION_LENGTH;
+    if size.saturating_sub(SECTION_UNREAD) > rest {
+        return Err(ReadError::Refused(ParseError::UnexpectedEof));
+    }
+    part(alloc, source, log, offset, size.min(rest))
 }
 
 // The records of the symbol table, and the strings, which follow them.
 #[derive(Drop)]
-pub(crate) struct Records {
-    pub(crate) rows: Vec<u8>,
-    pub(crate) strings: Vec<u8>,
+struct Records {
+    rows: Vec<u8>,
+    strings: Vec<u8>,
 }
 
 // The symbol table and its strings.
-pub(crate) fn read_records<S: Source>(
+fn read_records<S: Source>(
     alloc: Global,
     source: &S,
     log: &mut S::Log,

@@ -7,11 +7,12 @@ pub mod Lines
 pub mod CrateSums
 pub mod CrateLines
 pub mod Reports
+pub mod Selected
+pub mod FilesGive
 pub mod TablesRead
 pub mod TablesGive
 pub mod Totals
 pub mod Maps
-pub mod AllGiven
 pub mod Selections
 mod Decided
 mod SymbolLaws

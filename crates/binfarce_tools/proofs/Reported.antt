@@ -5,7 +5,7 @@ use Rattle.binfarce.specs.declared.ByteOrder.{ByteOrder}
 use Rattle.binfarce.specs.Refusal.{Refusal, ◌>>=◌, required, symbols_section_is_missing, section_is_missing, unexpected_section_type, malformed_input, unexpected_eof, out_of_memory, bytes_in_file}
 use Rattle.binfarce.specs.Walk.{Walk, found_or_end, first, ended, ahead_of, and_then}
 use Rattle.binfarce.specs.Elf.{ElfClass, SectionTable, Section, walk, names_bytes, name_among, section_table, whole_headers}
-use Rattle.binfarce.specs.ElfSymbols.{TableSections, sought, is_named, section_data, table_sections, needed, rows_at, elf_answer, elf_file_answer}
+use Rattle.binfarce.specs.ElfSymbols.{TableSections, sought, is_named, section_data, table_sections, taken, needed, rows_at, elf_selected, elf_answer, elf_file_answer}
 use Rattle.binfarce.specs.SymbolTables.{section_type, table_name, strings_name}
 use Rattle.binfarce.specs.declared.SymbolTable.{SymbolTable}
 use Rattle.std.specs.Str.{bytes_eq}
@@ -17,8 +17,9 @@ use Rattle.binfarce.specs.PeSymbols as pe
 use Rattle.binfarce.specs.PeSymbols.{pe_answer, pe_file_answer}
 use Rattle.binfarce.specs.Macho as macho_file
 use Rattle.binfarce.specs.Macho.{Command, command_at, commands_from, commands, body_of, header_of, segment, is_segment, sections_of, walk as macho_walk}
+use Rattle.binfarce.specs.MachoSelection as selection
 use Rattle.binfarce.specs.MachoSymbols as macho
-use Rattle.binfarce.specs.MachoSymbols.{size_up_to, macho_size, whole_table, slice_at, text_end_of, symbol_table_at, some_size, symbol_command, named_table, needed as needed_tables, located_in, of_table, row_addresses, kept, answer_of, macho_answer, macho_file_answer}
+use Rattle.binfarce.specs.MachoSymbols.{size_up_to, macho_size, whole_table, slice_at, text_end_of, symbol_table_at, some_size, symbol_command, named_table, row_addresses, kept, answer_of, macho_answer, macho_file_answer}
 
 -- a refusal that isn't that an allocation failed
 abbrev pub is_reported : Refusal → Bool
@@ -68,11 +69,12 @@ reported_table_sections which class table =
     reported_step _ _ (reported_sought class table (section_is_missing (strings_name which)) (λ section. nat_eq section.index symbols.link) refl) (λ linked.
     reported_step _ _ (reported_if (nat_eq linked.kind 3) (Ok linked) (Err (unexpected_section_type 3 linked.kind)) tt refl) (λ strings. tt)))
 
-reported_needed : (which : SymbolTable) (class : ElfClass) (table : SectionTable) (names : Option (List ℕ)) (name : List ℕ) → Reported (needed which (walk class table) names name)
-unfolding needed
-reported_needed which class table names name =
-    reported_step _ _ (reported_sought class table symbols_section_is_missing (λ section. is_named name (name_among names section.name_offset)) refl) (λ text.
-    reported_step (table_sections which (walk class table)) _ (reported_table_sections which class table) (λ sections. tt))
+reported_needed : (which : SymbolTable) (class : ElfClass) (table : SectionTable) (names : Option (List ℕ)) (count : ℕ) (name : List ℕ) → Reported (needed which (walk class table) names count (Some name))
+unfolding needed taken
+reported_needed which class table names count name =
+    reported_step (taken which (walk class table) names count (Some name)) _
+    (reported_step _ _ (reported_sought class table symbols_section_is_missing (λ section. is_named name (name_among names section.name_offset)) refl) (λ section. tt))
+    (λ selected. reported_step (table_sections which (walk class table)) _ (reported_table_sections which class table) (λ sections. tt))
 
 reported_rows : (class : ElfClass) (file : List ℕ) (sections : TableSections) → Reported (rows_at class file sections)
 unfolding rows_at
@@ -82,12 +84,14 @@ reported_rows class file sections =
     reported_step _ _ (reported_if (nat_eq (length part % class.symbol_length) 0) (Ok part) (Err unexpected_eof) tt refl) (λ rows. tt)))
 
 pub reported_elf : (which : SymbolTable) (class : ElfClass) (order : ByteOrder) (file section : List ℕ) → Reported (elf_file_answer which class order file section)
-unfolding elf_answer
+unfolding elf_answer elf_selected
 reported_elf which class order file section =
     let table = section_table class (record { order = order; bytes = file }) in
     reported_if (ltb (length file) class.header_length) (Err unexpected_eof) _ refl
-    (reported_step (needed which (walk class table) (names_bytes class table) section) _ (reported_needed which class table (names_bytes class table) section) (λ sections.
+    (reported_step (elf_selected which class table (Some section)) _
+    (reported_step (needed which (walk class table) (names_bytes class table) table.shnum (Some section)) _ (reported_needed which class table (names_bytes class table) table.shnum section) (λ sections.
     reported_step (rows_at class table.file sections.table) _ (reported_rows class table.file sections.table) (λ found. tt)))
+    (λ selected. tt))
 
 -- a walk doesn't end with a failed allocation
 abbrev ReportedEnd : Option Refusal → Type 0
@@ -163,37 +167,46 @@ reported_whole_table file command = reported_if _ (Ok (symbol_table_at file (bod
 reported_slice_at : (file : List ℕ) (offset size : ℕ) → Reported (slice_at file offset size)
 reported_slice_at file offset size = reported_if _ (Ok (bytes_at file offset size)) (Err unexpected_eof) tt refl
 
-reported_text_end : (text : macho_file.Section) → Reported (text_end_of text)
+reported_text_end : (text : macho.Extent) → Reported (text_end_of text)
 reported_text_end text = reported_if _ (Ok (text.address + text.size)) (Err malformed_input) tt refl
+
+reported_text_extent : (file : List ℕ) → Reported (macho.text_extent file)
+reported_text_extent file =
+    let accepts : macho_file.Section → Bool = λ section. macho_file.is_named (codes "__TEXT") (codes "__text") section in
+    reported_step (macho.text_section file) _
+    (reported_step (first accepts (macho_walk file)) (required symbols_section_is_missing)
+    (reported_found (find accepts (macho_walk file).items) (macho_walk file).refusal (reported_macho_walk file))
+    (λ o. reported_required symbols_section_is_missing o refl))
+    (λ found. reported_step (some_size found) _ (reported_if (nat_eq found.size 0) (Err malformed_input) (Ok found) refl tt) (λ text. tt))
 
 reported_named_table : (file : List ℕ) (command : Option Command) → Reported (named_table file command)
 reported_named_table file None = tt
 reported_named_table file (Some command) = reported_step (whole_table file command) _ (reported_whole_table file command) (λ table. tt)
 
-reported_of_table : (file : List ℕ) (text : macho_file.Section) (table : Option (macho.SymbolTable ℕ)) → Reported (of_table file text table)
-unfolding located_in
-reported_of_table file text None = tt
-reported_of_table file text (Some table) =
-    reported_step (located_in file text table) _
-    (reported_step (slice_at file table.strings_offset table.strings_size) _ (reported_slice_at file table.strings_offset table.strings_size) (λ strings.
-    reported_step (slice_at file table.symbol_offset (16 * table.row_count)) _ (reported_slice_at file table.symbol_offset (16 * table.row_count)) (λ rows.
-    reported_step (text_end_of text) _ (reported_text_end text) (λ text_end. tt))))
-    (λ found. tt)
+reported_table_of : (file : List ℕ) → Reported (macho.table_of file)
+reported_table_of file =
+    reported_step (symbol_command file) _
+    (reported_found (find (λ command. nat_eq command.kind 2) (commands file).items) (commands file).refusal (reported_commands file (header_of file).ncmds 32))
+    (reported_named_table file)
+
+reported_symbols_by : (file : List ℕ) (table : Option (macho.SymbolTable ℕ)) → Reported (macho.symbols_by file table)
+reported_symbols_by file None = tt
+reported_symbols_by file (Some table) =
+    reported_step (slice_at file table.strings_offset table.strings_size) _ (reported_slice_at file table.strings_offset table.strings_size) (λ strings.
+    reported_step (slice_at file table.symbol_offset (16 * table.row_count)) _ (reported_slice_at file table.symbol_offset (16 * table.row_count)) (λ rows. tt))
+
+reported_located_by : (text : macho.Extent) (symbols : Option macho.Symbols) → Reported (macho.located_by text symbols)
+unfolding macho.located_at
+reported_located_by text None = tt
+reported_located_by text (Some symbols) =
+    reported_step (macho.located_at text symbols) _ (reported_step (text_end_of text) _ (reported_text_end text) (λ text_end. tt)) (λ found. tt)
 
 reported_macho_located : (file : List ℕ) → Reported (macho.located file)
-unfolding macho.located needed_tables
+unfolding macho.located
 reported_macho_located file =
-    let accepts : macho_file.Section → Bool = λ section. macho_file.is_named (codes "__TEXT") (codes "__text") section in
-    reported_step (needed_tables file) _
-    (reported_step (macho.text_section file) _
-    (reported_step (first accepts (macho_walk file)) (required symbols_section_is_missing)
-    (reported_found (find accepts (macho_walk file).items) (macho_walk file).refusal (reported_macho_walk file))
-    (λ o. reported_required symbols_section_is_missing o refl))
-    (λ found. reported_step (some_size found) _ (reported_if (nat_eq found.size 0) (Err malformed_input) (Ok found) refl tt)
-    (λ text. reported_step (symbol_command file) _
-    (reported_found (find (λ command. nat_eq command.kind 2) (commands file).items) (commands file).refusal (reported_commands file (header_of file).ncmds 32))
-    (λ command. reported_step (named_table file command) _ (reported_named_table file command) (λ table. tt)))))
-    (λ n. reported_of_table file n.text n.table)
+    reported_step (macho.text_extent file) _ (reported_text_extent file) (λ text.
+    reported_step (macho.table_of file) _ (reported_table_of file) (λ table.
+    reported_step (macho.symbols_by file table) _ (reported_symbols_by file table) (λ symbols. reported_located_by text symbols)))
 
 reported_size : (members : List ℕ) (text_end address : ℕ) → Reported (macho_size members text_end address)
 unfolding macho_size
@@ -216,3 +229,15 @@ reported_answer_of (Some found) = reported_step (kept (macho.entry_of found) (ar
 pub reported_macho : (file : List ℕ) → Reported (macho_file_answer file)
 unfolding macho_answer
 reported_macho file = reported_if (ltb (length file) 28) (Err unexpected_eof) _ refl (reported_step (macho.located file) answer_of (reported_macho_located file) reported_answer_of)
+
+-- what is made of the tables of a selection
+reported_entries : (sections : selection.SelectedSections) (symbols : Option macho.Symbols) → Reported (selection.entries_in sections symbols)
+unfolding selection.entries_in
+reported_entries (selection.the_text text) symbols =
+    reported_step (macho.located_by text symbols) _ (reported_located_by text symbols) (λ found. reported_step (answer_of found) _ (reported_answer_of found) (λ listed. tt))
+reported_entries (selection.all_sections sections) None = tt
+reported_entries (selection.all_sections sections) (Some symbols) = tt
+
+pub reported_symbols_of : (tables : selection.SelectedTables) → Reported (selection.symbols_of tables)
+unfolding selection.symbols_of
+reported_symbols_of tables = reported_step (selection.entries_in tables.sections tables.symbols) _ (reported_entries tables.sections tables.symbols) (λ entries. tt)

@@ -3,12 +3,14 @@ use Rattle.std.proofs.Common.{◌≡◌, ℕ, false, true, List, map, Option, So
 use Rattle.std.specs.Prelude.{IfOk}
 use Rattle.std.specs.Result.{IsErrAnd}
 use Rattle.std.specs.Option.{is_some, unwrap_or}
+use Rattle.binfarce.specs.declared.Format.TheVariants as formats
 use Rattle.binfarce.specs.Refusal.{Refusal}
 use Rattle.binfarce.specs.Symbol.{Entry, Listed}
-use Rattle.binfarce.specs.SectionEntries.{SectionEntry, AllSymbols}
+use Rattle.binfarce.specs.SectionEntries.{SectionEntry, SelectedSymbols}
 use Rattle.binfarce.specs.declared.SymbolTable.{SymbolTable}
-use Rattle.binfarce_tables.specs.declared.error.ReadError.{ReadError}
-use Rattle.binfarce_tables.specs.declared.error.ReadError.TheVariants.{Refused, Unreadable, OutOfMemory}
+use Rattle.binfarce_tables.specs.ElfReading as elf
+use Rattle.binfarce_tables.specs.MachoReading as macho
+use Rattle.binfarce_tables.specs.PeReading as pe
 use Rattle.binfarce_tools.specs.declared.functions.AllFunctions.{AllFunctions}
 use Rattle.binfarce_tools.specs.declared.functions.Functions.{Functions}
 use Rattle.binfarce_tools.specs.declared.functions.Selected.{Selected}
@@ -17,19 +19,21 @@ use Rattle.binfarce_tools.specs.declared.list.ListError.{ListError}
 use Rattle.binfarce_tools.specs.declared.report.CrateSums.{CrateSums}
 use Rattle.binfarce_tools.specs.declared.tables.Tables.{Tables}
 use Rattle.binfarce_tools.specs.declared.tables.Tables.TheVariants as variants
-use Rattle.binfarce_tools.specs.AllAnswer.{all_answer_of, AllNeedsMemory, one_answer}
-use Rattle.binfarce_tools.specs.AllListing.{IsAllListingOf, IsListingIn}
+use Rattle.binfarce_tools.specs.AllAnswer.{selected_symbols, selected_answer, all_answer_of, AllNeedsMemory, one_answer}
+use Rattle.binfarce_tools.specs.AllListing.{IsLineIn, IsAllListingOf, IsListingIn}
 use Rattle.binfarce_tools.specs.Answer.{answer_of, FileNeedsMemory}
-use Rattle.binfarce_tools.specs.Entries.{GetsAs, GetsIn, Gets, HoldsAll, HoldsIn, HoldsLeft, HoldsOne, all_left, selected_left, size_of}
+use Rattle.binfarce_tools.specs.Entries.{GetsAs, GetsIn, Gets, HoldsIn, HoldsLeft, HoldsOne, all_left, selected_left, size_of}
 use Rattle.binfarce_tools.specs.Listing.{IsListingOf}
 use Rattle.binfarce_tools.specs.Report.{Share, IsReportIn, IsReportOfShares, IsSumsOfShares}
 use Rattle.binfarce_tools.specs.Selection.{addresses_are_shared, answer_in, MemoryIn, share_in}
 use Rattle.binfarce_tools.specs.Sums.{AreSumsOf, GetsSums}
-use Rattle.binfarce_tools.specs.Tables.{AreTablesOf, AreTablesOfSection, AreTablesOfAll, ReadsAs, ReadsTables, section_names, shares_addresses_of}
+use Rattle.binfarce_tools.specs.Tables.{AreTablesOf, section_names, shares_addresses_of}
 use Rattle.binfarce_tools.specs.Writing.{Outcome, Takes}
 use Rattle.binfarce_tools.specs.machine.Shares.{IsReportWith, WritesMade}
-use Rattle.binfarce_tools.proofs.AllGiven.{names_are, object_is}
-use Rattle.binfarce_tools.proofs.Reports.{HoldsList, takes}
+use Rattle.binfarce_tools.proofs.Lines.{AreLines}
+use Rattle.binfarce_tools.proofs.Reports.{HoldsList, size_of_all, takes}
+use Rattle.binfarce_tools.proofs.Selected.{in_is, sized_in, macho_made}
+use Rattle.binfarce_tools.proofs.TablesRead.{of_format}
 
 -- a section's functions that were got are those of the selection
 one_held : (memory : Result Listed Refusal → Type 0) (answer : Option (Result Listed Refusal)) (functions : Functions) (size : ℕ)
@@ -55,33 +59,10 @@ module _ (which : SymbolTable) (file : List ℕ) where
   none_in section e (Err f) gets is =
       subst (λ (f : ListError). GetsIn which file (Some section) (Err f)) (sym is) (not_held (FileNeedsMemory file) (answer_of which file section) e gets)
 
-  by_all : (answer : Option (Result AllSymbols Refusal)) (result : Result Selected ListError) → all_answer_of which file ≡ answer → GetsAs HoldsAll (AllNeedsMemory file) answer result
-      → GetsAs (HoldsIn which file None) (λ _. AllNeedsMemory file answer) (one_answer answer) result
-  by_all None (Ok selected) is gets = absurd gets
-  by_all None (Err e) is gets = gets
-  by_all (Some (Err refusal)) (Ok selected) is gets = absurd gets
-  by_all (Some (Err refusal)) (Err e) is gets = gets
-  by_all (Some (Ok all)) (Ok selected) is gets = (all, is, gets)
-  by_all (Some (Ok all)) (Err e) is gets = gets
+some_result : {a b : Result SelectedSymbols Refusal} → Path (Option (Result SelectedSymbols Refusal)) (Some a) (Some b) → a ≡ b
+some_result e = cc
 
-  -- what was got of all sections is what was got of the selection
-  pub all_in : (result : Result Selected ListError) → GetsAs HoldsAll (AllNeedsMemory file) (all_answer_of which file) result → GetsIn which file None result
-  unfolding answer_in MemoryIn
-  all_in result gets = by_all (all_answer_of which file) result refl gets
-
-  -- entries of all sections that are left of what the file answers
-  pub all_held : (all : AllSymbols) (functions : AllFunctions) → all_answer_of which file ≡ Some (Ok all) → all_left functions ≡ all.entries → GetsAs HoldsAll (AllNeedsMemory file) (all_answer_of which file) (Ok (All functions))
-  all_held all functions is left = subst (λ (a : Option (Result AllSymbols Refusal)). GetsAs HoldsAll (AllNeedsMemory file) a (Ok (All functions))) (sym is) left
-
-  -- so for any selection
-  pub by_section : (section : Option (List ℕ)) (tables : Tables) (result : Result Selected ListError) → AreTablesOf which file section tables
-      → ((name : List ℕ) → AreTablesOfSection which file name tables → GetsIn which file (Some name) result)
-      → (AreTablesOfAll which file tables → GetsAs HoldsAll (AllNeedsMemory file) (all_answer_of which file) result) → GetsIn which file section result
-  unfolding AreTablesOf
-  by_section (Some name) tables result are one all = one name are
-  by_section None tables result are one all = all_in result (all are)
-
-some_ok : {a b : AllSymbols} → Path (Option (Result AllSymbols Refusal)) (Some (Ok a)) (Some (Ok b)) → a ≡ b
+some_ok : {a b : SelectedSymbols} → Path (Option (Result SelectedSymbols Refusal)) (Some (Ok a)) (Some (Ok b)) → a ≡ b
 some_ok e = cc
 
 abbrev entries_of : List SectionEntry → List Entry
@@ -97,12 +78,16 @@ module _ (which : SymbolTable) (file : List ℕ) where
   of_one memory (Some (Ok listed)) (All functions) gets = absurd gets
 
   -- and of all sections, as one without a size
-  of_all : (memory : Result Listed Refusal → Type 0) (answer : Option (Result AllSymbols Refusal)) (selected : Selected) → all_answer_of which file ≡ answer → GetsAs (HoldsIn which file None) memory (one_answer answer) (Ok selected)
+  of_all : (memory : Result Listed Refusal → Type 0) (answer : Option (Result SelectedSymbols Refusal)) (selected : Selected) → all_answer_of which file ≡ answer → GetsAs (HoldsIn which file None) memory (one_answer answer) (Ok selected)
       → GetsAs HoldsList memory (one_answer answer) (Ok (selected_left selected, size_of selected)) × (is_some (size_of selected) ≡ false)
   of_all memory None selected is gets = absurd gets
   of_all memory (Some (Err refusal)) selected is gets = absurd gets
   of_all memory (Some (Ok all)) (Section functions size) is gets = absurd gets.2
-  of_all memory (Some (Ok all)) (All functions) is gets = ((ap entries_of (gets.2 ∙ ap (λ (a : AllSymbols). a.entries) (some_ok (sym gets.1 ∙ is))), refl), refl)
+  of_all memory (Some (Ok all)) (All functions) is gets = ((ap entries_of (gets.2 ∙ ap (λ (a : SelectedSymbols). a.entries) (some_ok (sym gets.1 ∙ is))), no_size all.section_size (sized_in which file None all is).0), refl)
+    where
+      no_size : (size : Option ℕ) → is_some size ≡ false → size_of_all (entries_of all.entries) ≡ unwrap_or size (size_of_all (entries_of all.entries))
+      no_size None is = refl
+      no_size (Some size) is = absurd cc
 
   both : (section : Option (List ℕ)) (selected : Selected) → GetsIn which file section (Ok selected)
       → GetsAs HoldsList (MemoryIn file section) (answer_in which file section) (Ok (selected_left selected, size_of selected)) × (is_some (size_of selected) ≡ is_some section)
@@ -131,6 +116,13 @@ report_takes None None memory answer sums made old new o sized same gets is wrot
 report_takes (Some name) (Some size) memory answer sums made old new o sized same gets is wrote =
     takes IsReportOfShares memory answer sums made old new o gets (subst (λ (n : ℕ). IfOk made (λ t. (shares : List Share) → AreSumsOf shares sums → IsReportOfShares shares n (string_bytes t))) (sym same) is) wrote
 
+-- the lines of what a file holds are its listing
+pub is_all_listing : (names : ℕ → Option (List ℕ)) (entries : List SectionEntry) (text : List ℕ) (all : SelectedSymbols) → AreLines (IsLineIn names) entries text → entries ≡ all.entries → names ≡ all.section_name → IsAllListingOf all text
+is_all_listing names entries text all are same named =
+    let P : (ℕ → Option (List ℕ)) → Type 0 = λ n. AreLines (IsLineIn n) all.entries text in
+    let Q : List SectionEntry → Type 0 = λ es. AreLines (IsLineIn names) es text in
+    subst P named (subst Q same are)
+
 -- a listing of a section is that of the selection
 pub listing_of_one : {Y E : Type 0} (which : SymbolTable) (file : List ℕ) (section : Option (List ℕ)) (listed : Listed) (functions : Functions) (size : ℕ) (result : Result (String Y) E)
     → HoldsIn which file section listed (Section functions size) → IfOk result (λ t. (listed : Listed) → HoldsLeft listed (functions, size) → IsListingOf listed (string_bytes t))
@@ -139,44 +131,51 @@ listing_of_one which file section listed functions size (Err e) holds is = is
 listing_of_one which file (Some name) listed functions size (Ok t) holds is = is listed holds
 listing_of_one which file None listed functions size (Ok t) holds is = absurd holds.2
 
+-- what was read beside the function symbols is the file's: the sections' names, and whether they share addresses
+module _ (which : SymbolTable) (file : List ℕ) where
+  pub names_are : (read : Tables) (all : SelectedSymbols) → AreTablesOf which file None read → all_answer_of which file ≡ Some (Ok all) → section_names read ≡ all.section_name
+  unfolding AreTablesOf selected_symbols
+  names_are (variants.Elf parts) all are is = ap (λ (a : SelectedSymbols). a.section_name) (some_ok (sym are ∙ is))
+  names_are (variants.Macho parts) all are is = (macho_made file (macho.parts_view parts) all (some_result (sym are.1 ∙ is))).1
+  names_are (variants.Pe parts) all are is = ap (λ (a : SelectedSymbols). a.section_name) (some_ok (sym are.1 ∙ is))
+  names_are variants.Unknown all are is =
+      let e : Path (Option (Result SelectedSymbols Refusal)) None (Some (Ok all)) = sym (of_format which None file formats.Unknown are) ∙ is in absurd cc
+  names_are (variants.Whole whole named) all are is = let never : None ≡ Some named.now = are.2 in absurd cc
+
+  shares_are : (section : Option (List ℕ)) (read : Tables) (seen : SelectedSymbols) → AreTablesOf which file section read → selected_answer which section file ≡ Some (Ok seen) → is_some section ≡ false → shares_addresses_of read ≡ seen.shares_addresses
+  unfolding AreTablesOf selected_symbols
+  shares_are section (variants.Elf parts) seen are is all = ap (λ (a : SelectedSymbols). a.shares_addresses) (some_ok (sym are ∙ is))
+  shares_are section (variants.Macho parts) seen are is all = (macho_made file (macho.parts_view parts) seen (some_result (sym are.1 ∙ is))).2
+  shares_are section (variants.Pe parts) seen are is all = ap (λ (a : SelectedSymbols). a.shares_addresses) (some_ok (sym are.1 ∙ is))
+  shares_are section variants.Unknown seen are is all =
+      let e : Path (Option (Result SelectedSymbols Refusal)) None (Some (Ok seen)) = sym (of_format which section file formats.Unknown are) ∙ is in absurd cc
+  shares_are section (variants.Whole whole named) seen are is all = let never : true ≡ false = ap is_some (sym are.2) ∙ all in absurd cc
+
+  shares_none : (name : List ℕ) (read : Tables) (seen : SelectedSymbols) → AreTablesOf which file (Some name) read → selected_answer which (Some name) file ≡ Some (Ok seen) → shares_addresses_of read ≡ false
+  unfolding AreTablesOf
+  shares_none name (variants.Elf parts) seen are is = (sized_in which file (Some name) (elf.parts_view parts) are).1 refl
+  shares_none name (variants.Macho parts) seen are is = (macho_made file (macho.parts_view parts) seen (some_result (sym are.1 ∙ is))).2 ∙ (sized_in which file (Some name) seen is).1 refl
+  shares_none name (variants.Pe parts) seen are is = (sized_in which file (Some name) (pe.selected_view parts) are.1).1 refl
+  shares_none name variants.Unknown seen are is = refl
+  shares_none name (variants.Whole whole named) seen are is = refl
+
 -- so is one of all sections
 pub listing_of_all : {Y E : Type 0} (which : SymbolTable) (file : List ℕ) (section : Option (List ℕ)) (listed : Listed) (tables : Tables) (functions : AllFunctions) (result : Result (String Y) E)
     → AreTablesOf which file section tables → HoldsIn which file section listed (All functions)
-    → IfOk result (λ t. (all : AllSymbols) → all_left functions ≡ all.entries → section_names tables ≡ all.section_name → IsAllListingOf all (string_bytes t))
+    → IfOk result (λ t. (all : SelectedSymbols) → all_left functions ≡ all.entries → section_names tables ≡ all.section_name → IsAllListingOf all (string_bytes t))
     → IfOk result (λ t. IsListingIn which file section listed (string_bytes t))
-unfolding AreTablesOf
 listing_of_all which file section listed tables functions (Err e) are holds is = is
 listing_of_all which file (Some name) listed tables functions (Ok t) are holds is = absurd holds
 listing_of_all which file None listed tables functions (Ok t) are holds is = (holds.0, holds.1, is holds.0 holds.2 (names_are which file tables holds.0 are holds.1))
 
--- the sections that were read share addresses where the file's do
+-- so do the sections that were read where the file's do
 pub sharing_is : (which : SymbolTable) (file : List ℕ) (section : Option (List ℕ)) (tables : Tables) (listed : Listed) → AreTablesOf which file section tables → answer_in which file section ≡ Some (Ok listed)
     → shares_addresses_of tables ≡ share_in which file section
-unfolding answer_in AreTablesOf
-sharing_is which file None tables listed are answered = by_answer (all_answer_of which file) refl answered
+sharing_is which file section tables listed are answered = by_answer section (selected_answer which section file) refl (sym (in_is which file section) ∙ answered) are
   where
-    by_answer : (answer : Option (Result AllSymbols Refusal)) → all_answer_of which file ≡ answer → one_answer answer ≡ Some (Ok listed) → shares_addresses_of tables ≡ addresses_are_shared answer
-    by_answer None is some = absurd cc
-    by_answer (Some (Err refusal)) is some = absurd cc
-    by_answer (Some (Ok all)) is some = object_is which file tables all are is
-sharing_is which file (Some name) tables listed are answered = of_section tables are
-  where
-    of_section : (tables : Tables) → AreTablesOfSection which file name tables → shares_addresses_of tables ≡ false
-    of_section (variants.Elf32 parts) are = refl
-    of_section (variants.Elf64 parts) are = refl
-    of_section (variants.Macho parts) are = refl
-    of_section (variants.Pe parts) are = refl
-    of_section (variants.AllElf32 parts) are = absurd are
-    of_section (variants.AllElf64 parts) are = absurd are
-    of_section (variants.AllMacho parts) are = absurd are
-    of_section (variants.AllPe parts) are = absurd are
-    of_section variants.Unknown are = refl
-    of_section (variants.Whole whole named) are = refl
-
--- what reading a file for all sections gives is what it gives for the selection
-pub reads_all : (which : SymbolTable) (file : List ℕ) (MayFail : Type 0) (result : Result Tables ReadError) → ReadsAs (AreTablesOfAll which file) MayFail (all_answer_of which file) result → ReadsTables MayFail which file None result
-unfolding answer_in AreTablesOf
-reads_all which file MayFail (Ok tables) reads = reads
-reads_all which file MayFail (Err (Refused e)) reads = ap one_answer reads
-reads_all which file MayFail (Err Unreadable) reads = reads
-reads_all which file MayFail (Err OutOfMemory) reads = reads
+    by_answer : (section : Option (List ℕ)) (answer : Option (Result SelectedSymbols Refusal)) → selected_answer which section file ≡ answer → one_answer answer ≡ Some (Ok listed) → AreTablesOf which file section tables
+        → shares_addresses_of tables ≡ share_in which file section
+    by_answer section None is some are = absurd cc
+    by_answer section (Some (Err refusal)) is some are = absurd cc
+    by_answer (Some name) (Some (Ok seen)) is some are = shares_none which file name tables seen are is
+    by_answer None (Some (Ok seen)) is some are = shares_are which file None tables seen are is refl ∙ ap addresses_are_shared (sym is)

@@ -1,134 +1,115 @@
--- What the parts of a Mach-O or PE file give is what the file answers.
-use Rattle.std.proofs.Common.{◌≡◌, ℕ, Bool, true, false, ltb, List, [], length, Vec, Global, Option, Some, None, Result, Ok, Err, refl, sym, ap, subst, ◌∙◌, inl, inr}
-use Rattle.std.specs.Prelude.{◌≢◌, IfErr, if◌then◌else◌}
+-- What the tables of a file give is what the file answers for the selection.
+use Rattle.std.proofs.Common.{◌≡◌, ℕ, Bool, true, false, List, [], ◌∷◌, map, Option, Some, None, is_some, unwrap_or, Result, Ok, Err, refl, sym, ap, subst, ◌∙◌, inl, inr}
+use Rattle.std.specs.Prelude.{◌≢◌, IfErr}
+use Rattle.std.specs.Global.{Vec}
 use Rattle.std.specs.Result.{IsErrAnd}
 use Rattle.binfarce.specs.declared.Format.{Format}
 use Rattle.binfarce.specs.declared.Format.TheVariants as formats
-use Rattle.binfarce.specs.declared.FunctionSymbol.{FunctionSymbol}
 use Rattle.binfarce.specs.declared.ParseError.{ParseError}
-use Rattle.binfarce.specs.Format.{format_of}
+use Rattle.binfarce.specs.declared.SectionFunction.{SectionFunction}
 use Rattle.binfarce.specs.declared.SymbolTable.{SymbolTable}
-use Rattle.binfarce.specs.declared.SymbolTable.TheVariants.{Symtab, Dynsym}
-use Rattle.binfarce.specs.MachoParts.{SomeAddress}
-use Rattle.binfarce.specs.MachoSymbols.{Located, HasAddress, located, kept, listed_of, answer_of, macho_file_answer}
-use Rattle.binfarce.specs.Refusal.{◌>>=◌, Refusal, unexpected_eof}
-use Rattle.binfarce.specs.Sizes.{RowAddress, arranged}
-use Rattle.binfarce.specs.Symbol.{Entry, Listed, ListsSome, Answers}
-use Rattle.binfarce.specs.SymbolViews.{HoldsFunctions}
-use Rattle.binfarce_tables.specs.MachoReading.{located_answer}
+use Rattle.binfarce.specs.declared.SymbolTable.TheVariants.{Symtab}
+use Rattle.binfarce.specs.Format.{format_of}
+use Rattle.binfarce.specs.MachoSelection as macho
+use Rattle.binfarce.specs.PeSelection as pe
+use Rattle.binfarce.specs.Refusal.{Refusal}
+use Rattle.binfarce.specs.SectionEntries.{SectionEntry, SelectedSymbols, as_listed}
+use Rattle.binfarce.specs.Symbol.{Entry, Listed, Answers}
+use Rattle.binfarce.specs.SymbolViews.{HoldsSelected}
 use Rattle.binfarce_tools.specs.declared.functions.Functions.{Functions}
+use Rattle.binfarce_tools.specs.declared.functions.Selected.{Selected}
+use Rattle.binfarce_tools.specs.declared.functions.Selected.TheVariants.{Section, All}
 use Rattle.binfarce_tools.specs.declared.list.ListError.{ListError}
 use Rattle.binfarce_tools.specs.declared.list.ListError.TheVariants.{Unknown, Parse, OutOfMemory, Write}
-use Rattle.binfarce_tools.specs.Answer.{symbols_answer, answer_of as answer_by, NeedsMemory}
-use Rattle.binfarce_tools.specs.Entries.{HoldsLeft, IsArranged, Gets}
+use Rattle.binfarce_tools.specs.Answer.{answer_of, NeedsMemory, FileNeedsMemory}
+use Rattle.binfarce_tools.specs.AllAnswer.{selected_symbols, selected_answer, one_answer, HasSections}
+use Rattle.binfarce_tools.specs.Entries.{GetsAs, GetsIn, Gets, HoldsIn, IsSelection}
 use Rattle.binfarce_tools.specs.ListWords.{list_error_of}
-use Rattle.binfarce_tools.proofs.Listings.{as_memory, reported_refusal}
-use Rattle.binfarce_tools.proofs.TablesRead.{macho_is}
-use Rattle.binfarce_tools.proofs.Reported.{reported_macho}
+use Rattle.binfarce_tools.specs.Selection.{answer_in, MemoryIn}
+use Rattle.binfarce_tools.proofs.Listings.{as_memory, parse}
+use Rattle.binfarce_tools.proofs.Reported.{Reported, is_reported}
+use Rattle.binfarce_tools.proofs.Selected.{in_is, sized_in, by_symtab, some_of, macho_needs, pe_has_section}
+use Rattle.binfarce_tools.proofs.TablesRead.{of_format}
 
--- a list that is arranged
-arranged_left : (listed : Listed) (functions : Vec FunctionSymbol Global × ℕ) (value : Functions × ℕ) → HoldsFunctions listed functions → IsArranged functions value → HoldsLeft listed value
-arranged_left listed functions value holds is = (is.0 ∙ holds.0, is.1 ∙ holds.1)
+-- a selection of these entries, whose size is known
+pub same_selection : (entries same : List SectionEntry) (size known : Option ℕ) (value : Selected) → entries ≡ same → size ≡ known → IsSelection entries size value → IsSelection same known value
+same_selection entries same size known value is sized selection =
+    subst (λ (n : Option ℕ). IsSelection same n value) sized (subst (λ (es : List SectionEntry). IsSelection es size value) is selection)
 
--- entries that are left of what the file answers
-pub held : (memory : Result Listed Refusal → Type 0) (answer : Option (Result Listed Refusal)) (listed : Listed) (value : Functions × ℕ) → answer ≡ Some (Ok listed) → HoldsLeft listed value → Gets memory answer (Ok value)
-held memory answer listed value is holds = subst (λ (a : Option (Result Listed Refusal)). Gets memory a (Ok value)) (sym is) holds
+module _ (which : SymbolTable) (file : List ℕ) where
+  held : (section : Option (List ℕ)) (seen : SelectedSymbols) (size : Option ℕ) (value : Selected) → selected_answer which section file ≡ Some (Ok seen) → seen.section_size ≡ size → is_some size ≡ is_some section
+      → IsSelection seen.entries size value → HoldsIn which file section (as_listed seen) value
+  held (Some name) seen (Some n) (Section functions m) is at sized selection =
+      (ap (map (λ e. e.entry)) selection.0, selection.1 ∙ ap (λ (o : Option ℕ). unwrap_or o (as_listed (record { entries = seen.entries; section_size = None; section_name = seen.section_name; shares_addresses = seen.shares_addresses })).section_size) (sym at))
+  held (Some name) seen (Some n) (All functions) is at sized selection = absurd selection
+  held (Some name) seen None value is at sized selection = absurd cc
+  held None seen (Some n) value is at sized selection = absurd cc
+  held None seen None (Section functions m) is at sized selection = absurd selection
+  held None seen None (All functions) is at sized selection = (seen, is, selection)
 
--- parts that hold what the file answers
-pub given : (memory needs : Result Listed Refusal → Type 0) (answer : Option (Result Listed Refusal)) (listed : Listed) (functions : Vec FunctionSymbol Global × ℕ) (value : Functions × ℕ)
-    → answer ≡ Some (Ok listed) → Answers HoldsFunctions needs (Ok listed) (Ok functions) → IsArranged functions value → Gets memory answer (Ok value)
-given memory needs answer listed functions value is answers arranged = held memory answer listed value is (arranged_left listed functions value answers arranged)
+  -- function symbols that are those of the file's answer
+  pub given : (section : Option (List ℕ)) (seen : SelectedSymbols) (value : Selected) → selected_answer which section file ≡ Some (Ok seen) → IsSelection seen.entries seen.section_size value → GetsIn which file section (Ok value)
+  given section seen value is selection =
+      subst (λ (a : Option (Result Listed Refusal)). GetsAs (HoldsIn which file section) (MemoryIn file section) a (Ok value)) (sym (in_is which file section ∙ ap one_answer is))
+      (held section seen seen.section_size value is refl (sized_in which file section seen is).0 selection)
 
-pub not_given : (memory needs : Result Listed Refusal → Type 0) (answer : Option (Result Listed Refusal)) (listed : Listed) (e : ParseError) (result : Result (Functions × ℕ) ListError)
-    → answer ≡ Some (Ok listed) → (needs (Ok listed) → memory (Ok listed)) → Answers HoldsFunctions needs (Ok listed) (Err e) → IsErrAnd result (λ f. f ≡ list_error_of e) → Gets memory answer result
-not_given memory needs answer listed e (Ok x) is more answers err = absurd err
-not_given memory needs answer listed e (Err f) is more answers err =
-    subst (λ (a : Option (Result Listed Refusal)). Gets memory a (Err f)) (sym is) (more answers.1, err ∙ as_memory e answers.0)
+  -- so for an answer that the parts give, or refuse
+  pub given_of : (section : Option (List ℕ)) (N : Type 0) (answer : Result SelectedSymbols Refusal) (functions : Vec SectionFunction) (value : Selected) → selected_answer which section file ≡ Some answer
+      → Answers HoldsSelected (λ _. N) answer (Ok functions) → ((seen : SelectedSymbols) → answer ≡ Ok seen → HoldsSelected seen functions → IsSelection seen.entries seen.section_size value) → GetsIn which file section (Ok value)
+  given_of section N (Ok seen) functions value is answers selection = given section seen value is (selection seen refl answers)
+  given_of section N (Err why) functions value is answers selection = absurd answers
 
--- where the symbols of a Mach-O file are that isn't too short
-whole_located : (short : Bool) (r : Result (Option Located) Refusal) (found : Option Located) → (if short then Err unexpected_eof else r) ≡ Ok found → r ≡ Ok found
-whole_located true r found is = absurd cc
-whole_located false r found is = is
+  -- and why there are none
+  pub not_given : (section : Option (List ℕ)) (N : Type 0) (answer : Result SelectedSymbols Refusal) (e : ParseError) (result : Result Selected ListError) → selected_answer which section file ≡ Some answer
+      → ((a : Result Listed Refusal) → one_answer (Some answer) ≡ Some a → N → MemoryIn file section a) → Reported answer → Answers {X = Vec SectionFunction} HoldsSelected (λ _. N) answer (Err e)
+      → IsErrAnd result (λ f. f ≡ list_error_of e) → GetsIn which file section result
+  not_given section N answer e (Ok value) is memory reported answers err = absurd err
+  not_given section N answer e (Err f) is memory reported answers err =
+      let P : Option (Result Listed Refusal) → ListError → Type 0 = λ a f. GetsAs (HoldsIn which file section) (MemoryIn file section) a (Err f) in
+      subst (λ (f : ListError). P (answer_in which file section) f) (sym err)
+      (subst (λ (a : Option (Result Listed Refusal)). P a (list_error_of e)) (sym (in_is which file section ∙ ap one_answer is)) (by_answer answer memory reported answers))
+    where
+      by_answer : (answer : Result SelectedSymbols Refusal) → ((a : Result Listed Refusal) → one_answer (Some answer) ≡ Some a → N → MemoryIn file section a) → Reported answer → Answers {X = Vec SectionFunction} HoldsSelected (λ _. N) answer (Err e)
+          → GetsAs (HoldsIn which file section) (MemoryIn file section) (one_answer (Some answer)) (Err (list_error_of e))
+      by_answer (Ok seen) memory reported h = (memory (Ok (as_listed seen)) refl h.1, as_memory e h.0)
+      by_answer (Err why) memory reported (inl is) = inl (e, is, parse e (ap is_reported is ∙ reported))
+      by_answer (Err why) memory reported (inr h) = inr (memory (Err why) refl h.1, as_memory e h.0)
 
-addressed : (file : List ℕ) (found : Option Located) → located file ≡ Ok found → SomeAddress found → HasAddress file
-addressed file None is some = absurd some
-addressed file (Some found) is some = record { found = found; is_located = is; some = some }
+  -- the parts of a Mach-O file that need memory are of a file that needs it
+  pub macho_memory : (section : Option (List ℕ)) (t : macho.SelectedTables) (answer : Result Listed Refusal) → format_of file ≡ formats.Macho → macho.selected_file_tables section file ≡ Ok t
+      → macho.NeedsMemory t.sections t.symbols → MemoryIn file section answer
+  unfolding MemoryIn NeedsMemory HasSections
+  macho_memory (Some name) t answer format is need = subst (λ (f : Format). NeedsMemory f file answer) (sym format) (macho_needs file (Some name) t is need)
+  macho_memory None t answer format is need = subst (λ (f : Format). HasSections f file) (sym format) (macho_needs file None t is need)
 
--- a table that lists some symbol has an address
-listed_entries : Result Listed Refusal → List Entry
-listed_entries (Ok listed) = listed.entries
-listed_entries (Err refusal) = []
+  -- and so are the function symbols of a PE file
+  pub pe_memory : (section : Option (List ℕ)) (seen : SelectedSymbols) (answer : Result Listed Refusal) → format_of file ≡ formats.PE → selected_answer which section file ≡ Some (Ok seen)
+      → one_answer (Some (Ok seen)) ≡ Some answer → seen.entries ≢ [] → MemoryIn file section answer
+  unfolding MemoryIn NeedsMemory HasSections selected_symbols
+  pe_memory (Some name) seen answer format is one some =
+      let P : Format → Result Listed Refusal → Type 0 = λ f a. NeedsMemory f file a in
+      let same : Ok (as_listed seen) ≡ answer = cc in
+      subst (λ (f : Format). P f answer) (sym format) (subst (P formats.PE) same (some_of seen.entries some))
+  pe_memory None seen answer format is one some =
+      let answered : selected_symbols which None formats.PE file ≡ Some (Ok seen) = sym (of_format which None file formats.PE format) ∙ is in
+      subst (λ (f : Format). HasSections f file) (sym format) (pe_has_section file seen (by_symtab which (pe.selected_file_answer None file) seen answered) some)
 
-addressed_list : (found : Option Located) (listed : Listed) → answer_of found ≡ Ok listed → listed.entries ≢ [] → SomeAddress found
-unfolding answer_of arranged kept listed_entries
-addressed_list None listed is some = absurd (some (sym (ap listed_entries is)))
-addressed_list (Some found) listed is some = λ none.
-    some (sym (ap listed_entries is) ∙ ap (λ (rows : List RowAddress). listed_entries (listed_of found (arranged rows))) none)
-
-listed_address : (file : List ℕ) (r : Result (Option Located) Refusal) (listed : Listed) → located_answer file ≡ r → (r >>= answer_of) ≡ Ok listed → listed.entries ≢ [] → HasAddress file
-listed_address file (Err refusal) listed at is some = absurd cc
-listed_address file (Ok found) listed at is some =
-    addressed file found (whole_located (ltb (length file) 28) (located file) found at) (addressed_list found listed is some)
-
-some_is : (a b : Result Listed Refusal) → Some a ≡ Some b → a ≡ b
-some_is a b is = cc
-
--- a list that isn't empty needs memory, whatever the file's format
-by_format : (which : SymbolTable) (format : Format) (file section : List ℕ) (listed : Listed) → symbols_answer which format file section ≡ Some (Ok listed) → ListsSome (Ok listed) → NeedsMemory format file (Ok listed)
-unfolding symbols_answer NeedsMemory
-by_format which (formats.Elf32 order) file section listed is some = some
-by_format which (formats.Elf64 order) file section listed is some = some
-by_format Symtab formats.Macho file section listed is some =
-    listed_address file (located_answer file) listed refl (sym (macho_is file) ∙ some_is (macho_file_answer file) (Ok listed) is) some
-by_format Dynsym formats.Macho file section listed is some = absurd cc
-by_format which formats.PE file section listed is some = some
-by_format which formats.Unknown file section listed is some = absurd cc
-
-pub needs_memory : (which : SymbolTable) (file section : List ℕ) (listed : Listed) → answer_by which file section ≡ Some (Ok listed) → ListsSome (Ok listed) → NeedsMemory (format_of file) file (Ok listed)
-needs_memory which file section listed is some = by_format which (format_of file) file section listed is some
-
-of_ok : (A B : Type 0) (answer : Result Listed Refusal) (functions : Vec FunctionSymbol Global × ℕ) (value : Functions × ℕ)
-    → Answers HoldsFunctions (λ _. A) answer (Ok functions) → IsArranged functions value → Gets (λ _. B) (Some answer) (Ok value)
-of_ok A B (Ok listed) functions value answers arranged = arranged_left listed functions value answers arranged
-of_ok A B (Err refusal) functions value answers arranged = absurd answers
-
-of_err : (A B : Type 0) (answer : Result Listed Refusal) (e : ParseError) → (A → B) → Answers HoldsFunctions (λ _. A) answer (Err e) → Answers HoldsLeft (λ _. B) answer (Err e)
-of_err A B (Ok listed) e f answers = (answers.0, f answers.1)
-of_err A B (Err refusal) e f (inl is) = inl is
-of_err A B (Err refusal) e f (inr h) = inr (h.0, f h.1)
-
-module _ (which : SymbolTable) (file section : List ℕ) (found : Option Located)
-    (is : (format_of file ≡ formats.Macho) × (answer_by which file section ≡ Some (macho_file_answer file)) × (located_answer file ≡ Ok found)) where
-  same : answer_of found ≡ macho_file_answer file
-  same = sym (macho_is file ∙ ap (λ (l : Result (Option Located) Refusal). l >>= answer_of) is.2)
-
-  of_file : (result : Result (Functions × ℕ) ListError) → Gets (λ _. HasAddress file) (Some (macho_file_answer file)) result → Gets (NeedsMemory (format_of file) file) (answer_by which file section) result
-  unfolding NeedsMemory
-  of_file result gets =
-      subst (λ (a : Option (Result Listed Refusal)). Gets (NeedsMemory (format_of file) file) a result) (sym is.1)
-      (subst (λ (f : Format). Gets (NeedsMemory f file) (Some (macho_file_answer file)) result) (sym is.0) gets)
-
-  pub given_macho : (functions : Vec FunctionSymbol Global × ℕ) (value : Functions × ℕ) → Answers HoldsFunctions (λ _. SomeAddress found) (answer_of found) (Ok functions) → IsArranged functions value
-      → Gets (NeedsMemory (format_of file) file) (answer_by which file section) (Ok value)
-  given_macho functions value answers arranged =
-      of_file (Ok value)
-      (subst (λ (a : Result Listed Refusal). Gets (λ _. HasAddress file) (Some a) (Ok value)) same (of_ok (SomeAddress found) (HasAddress file) (answer_of found) functions value answers arranged))
-
-  pub not_given_macho : (e : ParseError) (result : Result (Functions × ℕ) ListError) → Answers HoldsFunctions (λ _. SomeAddress found) (answer_of found) (Err e) → IsErrAnd result (λ f. f ≡ list_error_of e)
-      → Gets (NeedsMemory (format_of file) file) (answer_by which file section) result
-  not_given_macho e result answers err =
-      let some = addressed file found (whole_located (ltb (length file) 28) (located file) found is.2) in
-      of_file result
-      (reported_refusal (λ _. HasAddress file) (macho_file_answer file) e result (reported_macho file)
-      (subst (λ (a : Result Listed Refusal). Answers HoldsLeft (λ _. HasAddress file) a (Err e)) same (of_err (SomeAddress found) (HasAddress file) (answer_of found) e some answers)) err)
+  -- a file of an unknown format has no answer
+  pub of_unknown : (section : Option (List ℕ)) → format_of file ≡ formats.Unknown → GetsIn which file section (Err Unknown)
+  unfolding selected_symbols
+  of_unknown section is =
+      subst (λ (a : Option (Result Listed Refusal)). GetsAs (HoldsIn which file section) (MemoryIn file section) a (Err Unknown)) (sym (in_is which file section ∙ ap one_answer answered)) refl
+    where
+      answered : selected_answer which section file ≡ None
+      answered = of_format which section file formats.Unknown is
 
 -- what a whole file gives is its own answer for its section by the symbol table
-pub of_whole : (which : SymbolTable) (file section whole named : List ℕ) (result : Result (Functions × ℕ) ListError) → (which ≡ Symtab) × (file ≡ whole) × (section ≡ named)
-    → Gets (NeedsMemory (format_of whole) whole) (answer_by Symtab whole named) result → Gets (NeedsMemory (format_of file) file) (answer_by which file section) result
-of_whole which file section whole named result is gets =
-    subst (λ (w : SymbolTable). Gets (NeedsMemory (format_of file) file) (answer_by w file section) result) (sym is.0)
-    (subst (λ (s : List ℕ). Gets (NeedsMemory (format_of file) file) (answer_by Symtab file s) result) (sym is.2)
-    (subst (λ (f : List ℕ). Gets (NeedsMemory (format_of f) f) (answer_by Symtab f named) result) (sym is.1) gets))
+pub of_whole : (which : SymbolTable) (file whole named : List ℕ) (section : Option (List ℕ)) (result : Result Selected ListError) → (which ≡ Symtab) × (file ≡ whole) × (section ≡ Some named)
+    → GetsIn Symtab whole (Some named) result → GetsIn which file section result
+of_whole which file whole named section result is gets =
+    subst (λ (w : SymbolTable). GetsIn w file section result) (sym is.0)
+    (subst (λ (s : Option (List ℕ)). GetsIn Symtab file s result) (sym is.2)
+    (subst (λ (f : List ℕ). GetsIn Symtab f (Some named) result) (sym is.1) gets))
 
 -- no such answer is a failed write
 pub unwritten : (memory : Result Listed Refusal → Type 0) (answer : Option (Result Listed Refusal)) (result : Result (Functions × ℕ) ListError) → Gets memory answer result → IfErr result (λ e. e ≢ Write)

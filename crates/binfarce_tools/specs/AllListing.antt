@@ -4,7 +4,7 @@ use Rattle.std.specs.Fmt.{decimal}
 use Rattle.std.specs.List.{AllZip, concat}
 use Rattle.binfarce_names.specs.Name.{Name}
 use Rattle.binfarce_names.specs.Named.{IsNamed}
-use Rattle.binfarce.specs.SectionEntries.{SectionEntry, AllSymbols}
+use Rattle.binfarce.specs.SectionEntries.{SectionEntry, SelectedSymbols}
 use Rattle.binfarce.specs.Symbol.{Listed}
 use Rattle.binfarce.specs.declared.SymbolTable.{SymbolTable}
 use Rattle.binfarce_tools.specs.AllAnswer.{all_answer_of}
@@ -24,10 +24,10 @@ abbrev pub IsLineIn : (ℕ → Option (List ℕ)) → SectionEntry → List ℕ 
 IsLineIn section_name e line = (name : Name) × IsNamed e.entry.name name × (line ≡ section_line e (section_text (section_name e.section) e.section) name)
 
 -- text is the listing of all sections: a line for each entry, in order
-abbrev pub IsAllListingOf : AllSymbols → List ℕ → Type 0
+abbrev pub IsAllListingOf : SelectedSymbols → List ℕ → Type 0
 IsAllListingOf all text = (lines : List (List ℕ)) × AllZip (IsLineIn all.section_name) all.entries lines × (text ≡ concat lines)
 
 -- text is the listing of a file's answer for a selection
 abbrev pub IsListingIn : SymbolTable → (file : List ℕ) → (section : Option (List ℕ)) → Listed → List ℕ → Type 0
 IsListingIn which file (Some section) listed text = IsListingOf listed text
-IsListingIn which file None listed text = (all : AllSymbols) × (all_answer_of which file ≡ Some (Ok all)) × IsAllListingOf all text
+IsListingIn which file None listed text = (all : SelectedSymbols) × (all_answer_of which file ≡ Some (Ok all)) × IsAllListingOf all text

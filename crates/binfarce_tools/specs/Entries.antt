@@ -1,57 +1,39 @@
 -- The entries of a file of any format: iterators over them, and the result of a call that reads them.
 use Rattle.std.specs.Prelude.{◌≡◌, ◌⊎◌, ℕ, List, map, drop, Option, Some, None, Result, Ok, Err}
-use Rattle.std.specs.Global.{Vec}
-use Rattle.binfarce.specs.declared.FunctionSymbol.{FunctionSymbol}
 use Rattle.binfarce.specs.declared.ParseError.{ParseError}
-use Rattle.binfarce.specs.Elf.{elf32, elf64}
-use Rattle.binfarce.specs.ElfAll as elf_all
 use Rattle.binfarce.specs.ElfViews as elf
 use Rattle.binfarce.specs.Refusal.{Refusal, refusal_of}
 use Rattle.binfarce.specs.Symbol.{Entry, Listed}
-use Rattle.binfarce.specs.SectionEntries.{SectionEntry, AllSymbols}
-use Rattle.binfarce.specs.SymbolViews.{function_view, section_function_view}
+use Rattle.binfarce.specs.SectionEntries.{SectionEntry, SelectedSymbols}
+use Rattle.binfarce.specs.SymbolViews.{section_function_view}
 use Rattle.binfarce.specs.declared.SymbolTable.{SymbolTable}
 use Rattle.binfarce_tools.specs.AllAnswer.{all_answer_of}
 use Rattle.binfarce_tools.specs.Selection.{answer_in, MemoryIn}
 use Rattle.binfarce_tools.specs.declared.functions.AllFunctions.{AllFunctions}
-use Rattle.binfarce_tools.specs.declared.functions.AllArranged.{AllArranged}
-use Rattle.binfarce_tools.specs.declared.functions.AllFunctions.TheVariants as all_variants
-use Rattle.binfarce_tools.specs.declared.functions.Functions.{Functions}
+use Rattle.binfarce_tools.specs.declared.functions.AllFunctions.TheVariants as variants
 use Rattle.binfarce_tools.specs.declared.functions.Arranged.{Arranged}
-use Rattle.binfarce_tools.specs.declared.functions.Functions.TheVariants as variants
+use Rattle.binfarce_tools.specs.declared.functions.Functions.{Functions}
 use Rattle.binfarce_tools.specs.declared.functions.Selected.{Selected}
 use Rattle.binfarce_tools.specs.declared.functions.Selected.TheVariants.{Section, All}
 use Rattle.binfarce_tools.specs.declared.list.ListError.{ListError}
 use Rattle.binfarce_tools.specs.declared.list.ListError.TheVariants.{Unknown, Parse, OutOfMemory}
 
 -- the entries that a list has left
-abbrev pub arranged_left : Arranged → List Entry
-arranged_left a = map function_view (drop a.next a.functions.items)
+abbrev pub arranged_left : Arranged → List SectionEntry
+arranged_left a = map section_function_view (drop a.next a.functions.items)
 
--- those of all sections that a list has left
-abbrev pub all_arranged_left : AllArranged → List SectionEntry
-all_arranged_left a = map section_function_view (drop a.next a.functions.items)
-
--- the entries of all sections that are left of a file's
+-- the entries that are left of a file's, with their sections
 abbrev pub all_left : AllFunctions → List SectionEntry
-all_left (all_variants.Elf32 functions) = elf_all.all_left elf32 functions
-all_left (all_variants.Elf64 functions) = elf_all.all_left elf64 functions
-all_left (all_variants.Arranged functions) = all_arranged_left functions
+all_left (variants.Elf functions) = elf.functions_left functions
+all_left (variants.Arranged functions) = arranged_left functions
 
--- the entries that are left of a file's
+-- and without them
 abbrev pub functions_left : Functions → List Entry
-functions_left (variants.Elf32 functions) = elf.functions_left elf32 functions
-functions_left (variants.Elf64 functions) = elf.functions_left elf64 functions
-functions_left (variants.Arranged functions) = arranged_left functions
-functions_left (variants.All functions) = map (λ e. e.entry) (all_left functions)
+functions_left functions = map (λ e. e.entry) (all_left functions.all)
 
 -- these entries are left, and the size is that of their section
 abbrev pub HoldsLeft : Listed → Functions × ℕ → Type 0
 HoldsLeft listed answer = (functions_left answer.0 ≡ listed.entries) × (answer.1 ≡ listed.section_size)
-
--- all functions of a list are left, with the same size
-abbrev pub IsArranged : Vec FunctionSymbol × ℕ → Functions × ℕ → Type 0
-IsArranged listed answer = (functions_left answer.0 ≡ map function_view listed.0.items) × (answer.1 ≡ listed.1)
 
 -- the entries of a selection that are left, as one list
 abbrev pub selected_left : Selected → List Entry
@@ -64,7 +46,7 @@ size_of (Section functions size) = Some size
 size_of (All functions) = None
 
 -- these entries of all sections are left
-abbrev pub HoldsAll : AllSymbols → Selected → Type 0
+abbrev pub HoldsAll : SelectedSymbols → Selected → Type 0
 HoldsAll all (Section functions size) = ⊥
 HoldsAll all (All functions) = all_left functions ≡ all.entries
 
@@ -73,10 +55,17 @@ abbrev pub HoldsOne : Listed → Selected → Type 0
 HoldsOne listed (Section functions size) = HoldsLeft listed (functions, size)
 HoldsOne listed (All functions) = ⊥
 
+-- these entries are left: of a section of this size, or where there is no size of all sections
+abbrev pub IsSelection : List SectionEntry → Option ℕ → Selected → Type 0
+IsSelection entries (Some size) (Section functions n) = (all_left functions.all ≡ entries) × (n ≡ size)
+IsSelection entries (Some size) (All functions) = ⊥
+IsSelection entries None (Section functions n) = ⊥
+IsSelection entries None (All functions) = all_left functions ≡ entries
+
 -- what is left is what a file answers for a selection
 abbrev pub HoldsIn : SymbolTable → (file : List ℕ) → (section : Option (List ℕ)) → Listed → Selected → Type 0
 HoldsIn which file (Some section) listed selected = HoldsOne listed selected
-HoldsIn which file None listed selected = (all : AllSymbols) × (all_answer_of which file ≡ Some (Ok all)) × HoldsAll all selected
+HoldsIn which file None listed selected = (all : SelectedSymbols) × (all_answer_of which file ≡ Some (Ok all)) × HoldsAll all selected
 
 -- what reading the functions of a file returns where its answer is this: a value that holds what the answer does, or why it can't be had. In place of an answer that needs memory, and of no other, it may return that an allocation failed
 abbrev pub GetsAs : {L X : Type 0} → (L → X → Type 0) → (Result L Refusal → Type 0) → Option (Result L Refusal) → Result X ListError → Type 0

@@ -10,7 +10,7 @@ use Rattle.binfarce.specs.Refusal.{Refusal}
 use Rattle.binfarce.specs.Symbol.{Listed}
 use Rattle.binfarce_tables.specs.ElfReads.{elf_parts}
 use Rattle.binfarce_tables.specs.MachoReads.{macho_parts}
-use Rattle.binfarce_tables.specs.PeReads.{pe_parts, pe_all_parts}
+use Rattle.binfarce_tables.specs.PeReads.{pe_parts}
 use Rattle.binfarce_tools.specs.Answer.{answer_of, NeedsMemory}
 use Rattle.binfarce_tools.specs.AllAnswer.{all_answer_of}
 
@@ -18,41 +18,25 @@ use Rattle.binfarce_tools.specs.AllAnswer.{all_answer_of}
 abbrev pub head_part : List ℕ → Part
 head_part file = part 0 (min 8 (length file))
 
--- what a reading by this symbol table reads of a file of this format; nothing of an unknown one
-unfoldable pub format_parts : SymbolTable → Format → List ℕ → List Part
-format_parts which (Elf32 order) file = elf_parts which elf32 order file
-format_parts which (Elf64 order) file = elf_parts which elf64 order file
-format_parts which Macho file = macho_parts file
-format_parts which PE file = pe_parts file
-format_parts which Unknown file = []
+-- what a reading of a selection by this symbol table reads of a file of this format, which is the same for each name; nothing of an unknown one
+unfoldable pub format_parts : SymbolTable → Option (List ℕ) → Format → List ℕ → List Part
+format_parts which section (Elf32 order) file = elf_parts which elf32 order file
+format_parts which section (Elf64 order) file = elf_parts which elf64 order file
+format_parts which section Macho file = macho_parts file
+format_parts which section PE file = pe_parts section file
+format_parts which section Unknown file = []
 
--- and one of the symbols of all sections
-unfoldable pub all_format_parts : SymbolTable → Format → List ℕ → List Part
-all_format_parts which (Elf32 order) file = elf_parts which elf32 order file
-all_format_parts which (Elf64 order) file = elf_parts which elf64 order file
-all_format_parts which Macho file = macho_parts file
-all_format_parts which PE file = pe_all_parts file
-all_format_parts which Unknown file = []
-
--- all that they read of a file
-abbrev pub parts_of : SymbolTable → List ℕ → List Part
-parts_of which file = head_part file ∷ format_parts which (format_of file) file
-
-abbrev pub all_parts_of : SymbolTable → List ℕ → List Part
-all_parts_of which file = head_part file ∷ all_format_parts which (format_of file) file
-
--- all that the reading of a selection reads
+-- all that it reads of a file
 abbrev pub parts_in : SymbolTable → Option (List ℕ) → List ℕ → List Part
-parts_in which (Some section) file = parts_of which file
-parts_in which None file = all_parts_of which file
+parts_in which section file = head_part file ∷ format_parts which section (format_of file) file
 
--- files of one length that agree in the parts of the first, for a symbol table, have one format, one answer for each section, and the same answers that need memory;
--- those that agree in the parts for all sections have one answer for these
+-- files of one length that agree in the parts of the first for a section, by a symbol table, have one format, one answer for each section, and the same
+-- answers that need memory; those that agree in the parts for all sections have one answer for these
 abbrev pub PartsDecide : List ℕ → List ℕ → Type 0
 PartsDecide file other =
     (which : SymbolTable)
-    → (SameParts (parts_of which file) file other
+    → ((section : List ℕ) → SameParts (parts_in which (Some section) file) file other
     → (format_of other ≡ format_of file)
-    × ((section : List ℕ) → answer_of which other section ≡ answer_of which file section)
+    × ((name : List ℕ) → answer_of which other name ≡ answer_of which file name)
     × ((answer : Result Listed Refusal) → NeedsMemory (format_of other) other answer ↔ NeedsMemory (format_of file) file answer))
-    × (SameParts (all_parts_of which file) file other → all_answer_of which other ≡ all_answer_of which file)
+    × (SameParts (parts_in which None file) file other → all_answer_of which other ≡ all_answer_of which file)

@@ -1,7 +1,7 @@
 -- What a file answers for a selection: for the function symbols of a section, or for those of all sections.
 use Rattle.std.specs.Prelude.{ℕ, Bool, false, List, Option, Some, None, Result, Ok, Err}
 use Rattle.binfarce.specs.Refusal.{Refusal}
-use Rattle.binfarce.specs.SectionEntries.{AllSymbols}
+use Rattle.binfarce.specs.SectionEntries.{SelectedSymbols}
 use Rattle.binfarce.specs.Symbol.{Listed}
 use Rattle.binfarce.specs.declared.SymbolTable.{SymbolTable}
 use Rattle.binfarce_tools.specs.AllAnswer.{all_answer_of, AllNeedsMemory, one_answer}
@@ -18,7 +18,7 @@ MemoryIn file (Some section) answer = FileNeedsMemory file answer
 MemoryIn file None answer = AllNeedsMemory file answer
 
 -- an answer for all sections is that of sections that share addresses
-abbrev pub addresses_are_shared : Option (Result AllSymbols Refusal) → Bool
+abbrev pub addresses_are_shared : Option (Result SelectedSymbols Refusal) → Bool
 addresses_are_shared None = false
 addresses_are_shared (Some (Err refusal)) = false
 addresses_are_shared (Some (Ok all)) = all.shares_addresses

@@ -1,38 +1,32 @@
 //! The function symbols of a file of any format.
 
-ghost use Rattle.std.specs.Prelude.{◌≡◌, map};
+ghost use Rattle.std.specs.Prelude.{◌≡◌, Some, None, map, unwrap_or};
 ghost use Rattle.std.specs.Iterator.{YieldsFirstBy};
 ghost use Rattle.binfarce.specs.Elf.{elf32, elf64};
-ghost use Rattle.binfarce.specs.ElfSymbols.{elf_file_answer};
+ghost use Rattle.binfarce.specs.ElfSymbols.{elf_file_answer, listed_of};
+ghost use Rattle.binfarce.specs.ElfViews.{selected_view};
 ghost use Rattle.binfarce.specs.MachoSymbols.{macho_file_answer, HasAddress};
 ghost use Rattle.binfarce.specs.PeSymbols.{pe_file_answer};
 ghost use Rattle.binfarce.specs.Symbol.{ListsSome, Answers};
-ghost use Rattle.binfarce.specs.SymbolViews.{function_view, section_function_view};
+ghost use Rattle.binfarce.specs.SymbolViews.{section_function_view};
 ghost use Rattle.binfarce.specs.declared.SymbolTable.TheVariants.{Symtab};
 ghost use Rattle.binfarce_tools.specs.Answer.{file_answer, FileNeedsMemory};
-ghost use Rattle.binfarce_tools.specs.Entries.{all_arranged_left, all_left, arranged_left, functions_left, selected_left, size_of, HoldsLeft, IsArranged, Gets};
+ghost use Rattle.binfarce_tools.specs.Entries.{all_left, arranged_left, functions_left, selected_left, size_of, HoldsLeft, IsSelection, Gets};
 
 use crate::list::ListError;
 use binfarce::{
-    ByteOrder, Format, FunctionSymbol, ParseError, SectionFunction, detect_format, elf32, elf64,
-    macho, pe,
+    ByteOrder, Format, FunctionSymbol, ParseError, SectionFunction, SymbolTable, detect_format,
+    elf32, elf64, macho, pe,
 };
+use binfarce_bytes::functions::Selection;
+use binfarce_elf::symbols;
 use std::alloc::Global;
 
 /// An iterator over the function symbols of a file, in the order of its listing.
 #[derive(Drop)]
-pub enum Functions<'a> {
-    Elf32(elf32::Functions<'a>),
-    Elf64(elf64::Functions<'a>),
-    Arranged(Arranged<'a>),
-    All(AllFunctions<'a>),
-}
-
-/// The function symbols of a list, from an index on.
-#[derive(Drop)]
-pub struct Arranged<'a> {
-    functions: Vec<FunctionSymbol<'a>>,
-    next: usize,
+pub struct Functions<'a> {
+    /// The function symbols with their sections.
+    pub all: AllFunctions<'a>,
 }
 
 impl<'a> Iterator for Functions<'a> {
@@ -47,37 +41,20 @@ impl<'a> Iterator for Functions<'a> {
     ghost remaining = { item_count functions_left };
 
     fn next(&mut self) -> Option<FunctionSymbol<'a>> {
-        match self {
-            Functions::Elf32(functions) => functions.next(),
-            Functions::Elf64(functions) => functions.next(),
-            Functions::Arranged(functions) => functions.next(),
-            Functions::All(functions) => Some(functions.next()?.function),
-        }
+        Some(self.all.next()?.function)
     }
 }
 
-impl<'a> Arranged<'a> {
-    // The first of those that are left, which the others follow.
-    fn next(&mut self) -> Option<FunctionSymbol<'a>>
-        ensures { YieldsFirstBy function_view arranged_left self.old result self.new }
-    {
-        let function = *self.functions.get(self.next)?;
-        self.next += 1;
-        Some(function)
-    }
-}
-
-/// An iterator over the function symbols of all sections of a file, in the order of its listing.
+/// An iterator over the function symbols of a file with their sections, in the order of its listing.
 #[derive(Drop)]
 pub enum AllFunctions<'a> {
-    Elf32(elf32::AllFunctions<'a>),
-    Elf64(elf64::AllFunctions<'a>),
-    Arranged(AllArranged<'a>),
+    Elf(symbols::Functions<'a>),
+    Arranged(Arranged<'a>),
 }
 
 /// The function symbols of a list with their sections, from an index on.
 #[derive(Drop)]
-pub struct AllArranged<'a> {
+pub struct Arranged<'a> {
     functions: Vec<SectionFunction<'a>>,
     next: usize,
 }
@@ -95,17 +72,16 @@ impl<'a> Iterator for AllFunctions<'a> {
 
     fn next(&mut self) -> Option<SectionFunction<'a>> {
         match self {
-            AllFunctions::Elf32(functions) => functions.next(),
-            AllFunctions::Elf64(functions) => functions.next(),
+            AllFunctions::Elf(functions) => functions.next(),
             AllFunctions::Arranged(functions) => functions.next(),
         }
     }
 }
 
-impl<'a> AllArranged<'a> {
+impl<'a> Arranged<'a> {
     // The first of those that are left, which the others follow.
     fn next(&mut self) -> Option<SectionFunction<'a>>
-        ensures { YieldsFirstBy section_function_view all_arranged_left self.old result self.new }
+        ensures { YieldsFirstBy section_function_view arranged_left self.old result self.new }
     {
         let function = *self.functions.get(self.next)?;
         self.next += 1;
@@ -130,7 +106,7 @@ impl<'a> Selected<'a> {
     {
         match self {
             Selected::Section(functions, size) => (functions, Some(size)),
-            Selected::All(functions) => (Functions::All(functions), None),
+            Selected::All(all) => (Functions { all }, None),
         }
     }
 }
@@ -150,63 +126,104 @@ pub fn functions_of_file<'a>(
     ensures { Gets (FileNeedsMemory file.entry.now) (file_answer file.entry.now section.now) result }
 {
     match detect_format(file) {
-        Format::Elf32 { byte_order } => Ok(read_elf32(file, byte_order, section)?),
-        Format::Elf64 { byte_order } => Ok(read_elf64(file, byte_order, section)?),
-        Format::Macho => Ok(read_macho(alloc, file)?),
-        Format::PE => Ok(read_pe(alloc, file)?),
+        Format::Elf32 { byte_order } => Ok(functions_of_elf32(file, byte_order, section)?),
+        Format::Elf64 { byte_order } => Ok(functions_of_elf64(file, byte_order, section)?),
+        Format::Macho => Ok(functions_of_macho(alloc, file, section)?),
+        Format::PE => Ok(functions_of_pe(alloc, file, section)?),
         Format::Unknown => Err(ListError::Unknown),
     }
 }
 
-#[tactic(auto, using(crate::proofs::HeaderLengths::of_32_bits))]
-fn read_elf32<'a>(
+// Those of a section of a 32-bit ELF file.
+#[tactic(auto, using(crate::proofs::HeaderLengths::of_32_bits), unfolding(binfarce_elf::specs::ElfSymbols::elf_answer))]
+fn functions_of_elf32<'a>(
     file: &'a [u8],
     byte_order: ByteOrder,
     section: &str,
 ) -> Result<(Functions<'a>, u64), ParseError>
     ensures { Answers HoldsLeft ListsSome (elf_file_answer Symtab elf32 byte_order file.entry.now section.now) result }
 {
-    let (functions, size) = elf32::parse(file, byte_order)?.functions(section)?;
-    Ok((Functions::Elf32(functions), size))
+    let file = elf32::parse(file, byte_order)?;
+    let functions = file.selected_functions(SymbolTable::Symtab, Selection::Section(section))?;
+    Ok(of_section(functions))
 }
 
-#[tactic(auto, using(crate::proofs::HeaderLengths::of_64_bits))]
-fn read_elf64<'a>(
+// Those of a section of a 64-bit ELF file.
+#[tactic(auto, using(crate::proofs::HeaderLengths::of_64_bits), unfolding(binfarce_elf::specs::ElfSymbols::elf_answer))]
+fn functions_of_elf64<'a>(
     file: &'a [u8],
     byte_order: ByteOrder,
     section: &str,
 ) -> Result<(Functions<'a>, u64), ParseError>
     ensures { Answers HoldsLeft ListsSome (elf_file_answer Symtab elf64 byte_order file.entry.now section.now) result }
 {
-    let (functions, size) = elf64::parse(file, byte_order)?.functions(section)?;
-    Ok((Functions::Elf64(functions), size))
+    let file = elf64::parse(file, byte_order)?;
+    let functions = file.selected_functions(SymbolTable::Symtab, Selection::Section(section))?;
+    Ok(of_section(functions))
 }
 
-fn read_macho(alloc: Global, file: &[u8]) -> Result<(Functions<'_>, u64), ParseError>
-    ensures { Answers HoldsLeft (λ _. HasAddress file.now) (macho_file_answer file.now) result }
+// The functions of a section of an ELF file, with its size.
+fn of_section(functions: symbols::Functions<'_>) -> (Functions<'_>, u64)
+    ensures { HoldsLeft (listed_of (selected_view functions.entry)) result }
 {
-    let listed = macho::parse(file)?.functions(alloc)?;
-    Ok(all_of(listed))
+    let size = functions.section_size().unwrap_or(0);
+    let all = AllFunctions::Elf(functions);
+    (Functions { all }, size)
 }
 
-fn read_pe(alloc: Global, file: &[u8]) -> Result<(Functions<'_>, u64), ParseError>
-    ensures { Answers HoldsLeft ListsSome (pe_file_answer file.now) result }
+// Those of the text of a Mach-O file, whichever the section.
+fn functions_of_macho<'a>(
+    alloc: Global,
+    file: &'a [u8],
+    section: &str,
+) -> Result<(Functions<'a>, u64), ParseError>
+    ensures { Answers HoldsLeft (λ _. HasAddress file.entry.now) (macho_file_answer file.entry.now) result }
 {
-    let listed = pe::parse(file)?.functions(alloc)?;
-    Ok(all_of(listed))
+    let (functions, size) = macho::parse(file)?.selected_functions(
+        alloc,
+        Selection::Section(section),
+    )?;
+    Ok(listed(functions, size))
 }
 
-// All functions of a list, with a size.
-pub(crate) fn all_of<'a>(listed: (Vec<FunctionSymbol<'a>>, u64)) -> (Functions<'a>, u64)
-    ensures { IsArranged listed.entry result }
+// Those of `.text` of a PE file, whichever the section.
+fn functions_of_pe<'a>(
+    alloc: Global,
+    file: &'a [u8],
+    section: &str,
+) -> Result<(Functions<'a>, u64), ParseError>
+    ensures { Answers HoldsLeft ListsSome (pe_file_answer file.entry.now) result }
 {
-    let (functions, size) = listed;
-    (Functions::Arranged(Arranged { functions, next: 0 }), size)
+    let (functions, size) = pe::parse(file)?.selected_functions(
+        alloc,
+        Selection::Section(section),
+    )?;
+    Ok(listed(functions, size))
 }
 
-// All functions of a list with their sections.
-pub(crate) fn all_in_sections(functions: Vec<SectionFunction<'_>>) -> AllFunctions<'_>
+// The functions of a list with the size of their section.
+fn listed(functions: Vec<SectionFunction<'_>>, size: Option<u64>) -> (Functions<'_>, u64)
+    ensures functions { functions_left result.0
+        ≡ map (λ e. e.entry) (map section_function_view functions.entry.items) }
+    ensures size { result.1 ≡ unwrap_or size 0 }
+{
+    let all = from_list(functions);
+    (Functions { all }, size.unwrap_or(0))
+}
+
+// All functions of a list.
+pub(crate) fn from_list(functions: Vec<SectionFunction<'_>>) -> AllFunctions<'_>
     ensures { all_left result ≡ map section_function_view functions.entry.items }
 {
-    AllFunctions::Arranged(AllArranged { functions, next: 0 })
+    AllFunctions::Arranged(Arranged { functions, next: 0 })
+}
+
+// The functions as those of a section, where they have its size.
+pub(crate) fn selection(functions: AllFunctions<'_>, size: Option<u64>) -> Selected<'_>
+    ensures { IsSelection (all_left functions.entry) size result }
+{
+    match size {
+        Some(size) => Selected::Section(Functions { all: functions }, size),
+        None => Selected::All(functions),
+    }
 }

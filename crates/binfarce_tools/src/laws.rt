@@ -1,21 +1,21 @@
 //! The law of parts, proved from the definitions. Worked examples, computed from the definitions alone.
 
-ghost use Rattle.std.specs.Prelude.{◌≡◌, ◌++◌, [], ◌∷◌, replicate, Err, List, ℕ};
+ghost use Rattle.std.specs.Prelude.{◌≡◌, ◌++◌, [], ◌∷◌, replicate, Option, Some, None, Err, List, ℕ};
 ghost use Rattle.binfarce.specs.declared.ByteOrder.TheVariants.{LittleEndian};
 ghost use Rattle.binfarce.specs.Refusal.{symbols_section_is_missing, malformed_input, unexpected_eof};
 ghost use Rattle.binfarce.specs.Elf.{elf32, elf64};
-ghost use Rattle.binfarce.specs.ElfAll as elf_all;
+ghost use Rattle.binfarce.specs.ElfSymbols as elf;
 ghost use Rattle.binfarce.specs.ElfSymbols.{elf_file_answer};
-ghost use Rattle.binfarce.specs.MachoAll as macho_all;
+ghost use Rattle.binfarce.specs.MachoSelection as macho;
 ghost use Rattle.binfarce.specs.MachoSymbols.{macho_file_answer};
-ghost use Rattle.binfarce.specs.PeAll as pe_all;
+ghost use Rattle.binfarce.specs.PeSelection as pe;
 ghost use Rattle.binfarce.specs.PeSymbols.{pe_file_answer};
 ghost use Rattle.binfarce.specs.declared.SymbolTable.{SymbolTable};
 ghost use Rattle.binfarce.specs.declared.SymbolTable.TheVariants.{Symtab};
 ghost use Rattle.binfarce_bytes.specs.Part.{SameParts, part};
 ghost use Rattle.binfarce_tables.specs.ElfReads.{elf_parts, headers_size};
 ghost use Rattle.binfarce_tables.specs.MachoReads.{macho_parts};
-ghost use Rattle.binfarce_tables.specs.PeReads.{pe_parts, pe_all_parts};
+ghost use Rattle.binfarce_tables.specs.PeReads.{pe_parts};
 ghost use Rattle.binfarce_tools.specs.Parts.{PartsDecide};
 ghost use Rattle.binfarce.specs.Symbol.{AreSymbolsOf, Listed};
 ghost use Rattle.binfarce_tools.specs.Listing.{IsListingOf};
@@ -46,14 +46,14 @@ pub fn elf_parts_decide(file: &[u8], other: &[u8], byte_order: ByteOrder, sectio
         → SameParts (elf_parts which elf32 byte_order file.now) file.now other.now
         → (elf_file_answer which elf32 byte_order other.now section.now
         ≡ elf_file_answer which elf32 byte_order file.now section.now)
-        × (elf_all.all_file_answer which elf32 byte_order other.now
-        ≡ elf_all.all_file_answer which elf32 byte_order file.now) }
+        × ((selected : Option (List ℕ)) → elf.selected_file_answer which elf32 byte_order other.now selected
+        ≡ elf.selected_file_answer which elf32 byte_order file.now selected) }
     ensures of_64_bits { (which : SymbolTable)
         → SameParts (elf_parts which elf64 byte_order file.now) file.now other.now
         → (elf_file_answer which elf64 byte_order other.now section.now
         ≡ elf_file_answer which elf64 byte_order file.now section.now)
-        × (elf_all.all_file_answer which elf64 byte_order other.now
-        ≡ elf_all.all_file_answer which elf64 byte_order file.now) }
+        × ((selected : Option (List ℕ)) → elf.selected_file_answer which elf64 byte_order other.now selected
+        ≡ elf.selected_file_answer which elf64 byte_order file.now selected) }
 {
     let _ = file;
     let _ = other;
@@ -65,7 +65,8 @@ pub fn elf_parts_decide(file: &[u8], other: &[u8], byte_order: ByteOrder, sectio
 pub fn macho_parts_decide(file: &[u8], other: &[u8])
     ensures { SameParts (macho_parts file.now) file.now other.now
         → (macho_file_answer other.now ≡ macho_file_answer file.now)
-        × (macho_all.all_file_answer other.now ≡ macho_all.all_file_answer file.now) }
+        × ((section : Option (List ℕ)) → macho.selected_file_answer section other.now
+        ≡ macho.selected_file_answer section file.now) }
 {
     let _ = file;
     let _ = other;
@@ -73,10 +74,10 @@ pub fn macho_parts_decide(file: &[u8], other: &[u8])
 
 /// The same for the answers of the PE reader.
 pub fn pe_parts_decide(file: &[u8], other: &[u8])
-    ensures text { SameParts (pe_parts file.now) file.now other.now
+    ensures text { (name : List ℕ) → SameParts (pe_parts (Some name) file.now) file.now other.now
         → pe_file_answer other.now ≡ pe_file_answer file.now }
-    ensures all { SameParts (pe_all_parts file.now) file.now other.now
-        → pe_all.all_file_answer other.now ≡ pe_all.all_file_answer file.now }
+    ensures selected { (section : Option (List ℕ)) → SameParts (pe_parts section file.now) file.now other.now
+        → pe.selected_file_answer section other.now ≡ pe.selected_file_answer section file.now }
 {
     let _ = file;
     let _ = other;
@@ -92,7 +93,7 @@ fn worked_sizes()
 {}
 
 /// Every byte of a part counts: two headers that differ in the last byte of `shoff` alone.
-#[tactic(auto, unfolding(binfarce_elf::specs::Elf::elf32, binfarce_elf::specs::Elf::section_table, binfarce_elf::specs::Elf::header_of, binfarce_elf::specs::Elf::walk, binfarce_elf::specs::ElfSymbols::elf_answer, binfarce_elf::specs::ElfSymbols::needed, binfarce_bytes::proofs::Computing::computing))]
+#[tactic(auto, unfolding(binfarce_elf::specs::Elf::elf32, binfarce_elf::specs::Elf::section_table, binfarce_elf::specs::Elf::header_of, binfarce_elf::specs::Elf::walk, binfarce_elf::specs::ElfSymbols::elf_answer, binfarce_elf::specs::ElfSymbols::elf_selected, binfarce_elf::specs::ElfSymbols::needed, binfarce_elf::specs::ElfSymbols::taken, binfarce_bytes::proofs::Computing::computing))]
 fn worked_answers()
     ensures no_sections { elf_file_answer Symtab elf32 LittleEndian (replicate 52 0) (0x66 ∷ [])
         ≡ Err symbols_section_is_missing }
@@ -102,7 +103,7 @@ fn worked_answers()
 
 /// The same of Mach-O and PE: two counts of load commands, and two headers that differ in the last byte of the size of the
 /// optional header.
-#[tactic(auto, unfolding(binfarce_macho::specs::Macho::header_fields, binfarce_macho::specs::Macho::header_of, binfarce_macho::specs::Macho::commands_from, binfarce_macho::specs::Macho::sections_of, binfarce_macho::specs::Macho::walk, binfarce_macho::specs::MachoSymbols::macho_answer, binfarce_macho::specs::MachoSymbols::located, binfarce_macho::specs::MachoSymbols::needed, binfarce_pe::specs::Pe::header_fields, binfarce_pe::specs::Pe::header_after, binfarce_pe::specs::Pe::walk, binfarce_pe::specs::PeSymbols::pe_answer, binfarce_pe::specs::PeSymbols::located, binfarce_bytes::proofs::Computing::computing))]
+#[tactic(auto, unfolding(binfarce_macho::specs::Macho::header_fields, binfarce_macho::specs::Macho::header_of, binfarce_macho::specs::Macho::commands_from, binfarce_macho::specs::Macho::sections_of, binfarce_macho::specs::Macho::walk, binfarce_macho::specs::MachoSymbols::macho_answer, binfarce_macho::specs::MachoSymbols::located, binfarce_pe::specs::Pe::header_fields, binfarce_pe::specs::Pe::header_after, binfarce_pe::specs::Pe::walk, binfarce_pe::specs::PeSymbols::pe_answer, binfarce_pe::specs::PeSymbols::located, binfarce_bytes::proofs::Computing::computing))]
 fn worked_other_answers()
     ensures no_command { macho_file_answer (replicate 40 0) ≡ Err symbols_section_is_missing }
     ensures refused_command { macho_file_answer (replicate 16 0 ++ 1 ∷ replicate 23 0) ≡ Err malformed_input }
@@ -139,17 +140,17 @@ fn worked_macho_parts()
 
 /// The parts of a file with one section header right after the file header, and a symbol table of one record at 112: that
 /// with a string byte after it, or cut off in it. Last, of a file without sections, with an optional header of 40 bytes.
-#[tactic(auto, unfolding(binfarce_tables::specs::PeReads::pe_parts, binfarce_tables::specs::PeReads::pe_all_parts, binfarce_pe::specs::Pe::header_fields, binfarce_pe::specs::Pe::header_after, binfarce_bytes::proofs::Computing::computing))]
+#[tactic(auto, unfolding(binfarce_tables::specs::PeReads::pe_parts, binfarce_pe::specs::Pe::header_fields, binfarce_pe::specs::Pe::header_after, binfarce_bytes::proofs::Computing::computing))]
 fn worked_pe_parts()
-    ensures whole { pe_parts
+    ensures whole { pe_parts (Some [])
         (replicate 60 0 ++ 64 ∷ replicate 9 0 ++ 1 ∷ replicate 5 0 ++ 112 ∷ 0 ∷ 0 ∷ 0 ∷ 1 ∷ replicate 50 0)
         ≡ part 60 4 ∷ part 64 24 ∷ part 88 40 ∷ part 112 18 ∷ part 130 1 ∷ [] }
-    ensures truncated { pe_parts
+    ensures truncated { pe_parts (Some [])
         (replicate 60 0 ++ 64 ∷ replicate 9 0 ++ 1 ∷ replicate 5 0 ++ 112 ∷ 0 ∷ 0 ∷ 0 ∷ 1 ∷ replicate 48 0)
         ≡ part 60 4 ∷ part 64 24 ∷ part 88 40 ∷ [] }
-    ensures optional_header { pe_all_parts
+    ensures optional_header { pe_parts None
         (replicate 60 0 ++ 64 ∷ replicate 23 0 ++ 40 ∷ replicate 50 0)
-        ≡ part 88 32 ∷ part 60 4 ∷ part 64 24 ∷ part 128 0 ∷ part 0 0 ∷ part 0 135 ∷ [] }
+        ≡ part 60 4 ∷ part 64 24 ∷ part 128 0 ∷ part 88 32 ∷ part 0 0 ∷ part 0 135 ∷ [] }
 {}
 
 /// The lines of the symbols of a file's entries are the file's listing, and the report of their shares is the file's

@@ -3,7 +3,7 @@
 ghost use Rattle.std.specs.Prelude.{◌≡◌, ◌++◌, ◌<◌, ◌≤◌, ℕ, List, Bool, true, false, length, take, Option, Ok, Some, None, IfSome, IfNone, IfOk, OnOk};
 ghost use Rattle.std.specs.String.{string_bytes};
 ghost use Rattle.std.specs.Io.KnownBytes.{Keeps, Appends};
-ghost use Rattle.binfarce.specs.SectionEntries.{AllSymbols};
+ghost use Rattle.binfarce.specs.SectionEntries.{SelectedSymbols};
 ghost use Rattle.binfarce.specs.Symbol.{Listed};
 ghost use Rattle.binfarce.specs.SymbolViews.{function_view, section_function_view};
 ghost use Rattle.binfarce.specs.declared.SymbolTable.{SymbolTable};
@@ -260,7 +260,7 @@ fn sections_listing(
     tables: &Tables<'_>,
 ) -> Result<String, AllocError>
     ensures { IfOk result
-        (λ t. (all : AllSymbols) → all_left functions.entry ≡ all.entries → section_names tables.now ≡ all.section_name
+        (λ t. (all : SelectedSymbols) → all_left functions.entry ≡ all.entries → section_names tables.now ≡ all.section_name
         → IsAllListingOf all (string_bytes t)) }
 {
     let mut text = String::new(alloc);

@@ -3,7 +3,7 @@
 ghost use Rattle.std.specs.Prelude.{◌≡◌, ◌≢◌, ℕ, List, true, Option, Ok, Some, None, IfErr, MatchResult, codes};
 ghost use Rattle.std.specs.Option.{option_map};
 ghost use Rattle.binfarce.specs.Refusal.{refusal_of, section_is_missing};
-ghost use Rattle.binfarce.specs.SectionEntries.{AllSymbols};
+ghost use Rattle.binfarce.specs.SectionEntries.{SelectedSymbols};
 ghost use Rattle.binfarce.specs.Symbol.{Listed};
 ghost use Rattle.binfarce.specs.declared.SymbolTable.{SymbolTable};
 ghost use Rattle.binfarce.specs.declared.SymbolTable.TheVariants.{Symtab, Dynsym};
@@ -13,42 +13,30 @@ ghost use Rattle.binfarce_bytes.specs.Source.{AskedFor};
 ghost use Rattle.binfarce_tables.specs.declared.error.ReadError.TheVariants.{Unreadable};
 ghost use Rattle.binfarce_tools.specs.AllAnswer.{all_answer_of};
 ghost use Rattle.binfarce_tools.specs.Entries.{GetsIn};
-ghost use Rattle.binfarce_tools.specs.Parts.{all_format_parts, format_parts, parts_in};
+ghost use Rattle.binfarce_tools.specs.Parts.{format_parts, parts_in};
 ghost use Rattle.binfarce_bytes.specs.Selection.{section_of};
 ghost use Rattle.binfarce_tools.specs.Selection.{answer_in, share_in};
 ghost use Rattle.binfarce_tools.specs.declared.list.ListError.TheVariants.{Write};
 ghost use Rattle.binfarce_tools.specs.Tables.{AreTablesOf, ReadsTables, section_names, shares_addresses_of};
 
-use crate::functions::{
-    AllFunctions, Functions, Selected, all_in_sections, all_of, functions_of_file,
-};
+use crate::functions::{AllFunctions, Selected, from_list, functions_of_file, selection};
 use crate::list::ListError;
 use binfarce::{Format, ParseError, SymbolTable};
 pub use binfarce_bytes::functions::Selection;
 use binfarce_bytes::source::Source;
 use binfarce_tables::format::read_format;
-use binfarce_tables::{ReadError, elf32, elf64, macho, pe};
+use binfarce_tables::{ReadError, Width, elf, macho, pe};
 use std::alloc::Global;
 
 /// The tables of a file for the function symbols of a selection: those that were read, or a whole file in memory.
 #[derive(Drop)]
 pub enum Tables<'a> {
-    /// The parts of an ELF file of 32 bits.
-    Elf32(elf32::Parts),
-    /// The parts of an ELF file of 64 bits.
-    Elf64(elf64::Parts),
+    /// The parts of an ELF file.
+    Elf(elf::Parts),
     /// The parts of a Mach-O file.
     Macho(macho::Parts),
     /// The parts of a PE file.
     Pe(pe::Parts),
-    /// The parts of an ELF file of 32 bits, for all sections.
-    AllElf32(elf32::AllParts),
-    /// The parts of an ELF file of 64 bits, for all sections.
-    AllElf64(elf64::AllParts),
-    /// The parts of a Mach-O file, for all sections.
-    AllMacho(macho::AllParts),
-    /// The parts of a PE file, for all sections.
-    AllPe(pe::AllParts),
     /// Nothing: the file's first bytes name no supported format.
     Unknown,
     /// All bytes of a file, and the section.
@@ -78,31 +66,18 @@ impl<'a> Tables<'a> {
         ensures unwritten { IfErr result (λ e. e ≢ Write) }
     {
         match self {
-            Tables::Elf32(parts) => {
-                let (functions, size) = parts.functions();
-                Ok(Selected::Section(Functions::Elf32(functions), size))
-            }
-            Tables::Elf64(parts) => {
-                let (functions, size) = parts.functions();
-                Ok(Selected::Section(Functions::Elf64(functions), size))
+            Tables::Elf(parts) => {
+                let functions = parts.functions();
+                let size = functions.section_size();
+                Ok(selection(AllFunctions::Elf(functions), size))
             }
             Tables::Macho(parts) => {
-                let (functions, size) = all_of(parts.functions(alloc)?);
-                Ok(Selected::Section(functions, size))
+                let functions = from_list(parts.functions(alloc)?);
+                Ok(selection(functions, parts.section_size()))
             }
             Tables::Pe(parts) => {
-                let (functions, size) = all_of(parts.functions(alloc)?);
-                Ok(Selected::Section(functions, size))
-            }
-            Tables::AllElf32(parts) => Ok(Selected::All(AllFunctions::Elf32(parts.functions()))),
-            Tables::AllElf64(parts) => Ok(Selected::All(AllFunctions::Elf64(parts.functions()))),
-            Tables::AllMacho(parts) => {
-                let functions = parts.functions(alloc)?;
-                Ok(Selected::All(all_in_sections(functions)))
-            }
-            Tables::AllPe(parts) => {
-                let functions = parts.functions(alloc)?;
-                Ok(Selected::All(all_in_sections(functions)))
+                let functions = from_list(parts.functions(alloc)?);
+                Ok(selection(functions, parts.section_size()))
             }
             Tables::Unknown => Err(ListError::Unknown),
             Tables::Whole { file, section } => {
@@ -113,10 +88,10 @@ impl<'a> Tables<'a> {
     }
 
     /// The name of the section of this number, a slice of the tables. `None` where there is no such section, where it has
-    /// no valid name, and where the tables are those of one section.
+    /// no valid name, and where the tables are those of one section of a Mach-O or PE file, or of a whole file.
     pub fn section_name(&self, number: u32) -> Option<&str>
         ensures read { option_map (λ t. t.now) result ≡ section_names self.entry.now number }
-        ensures file { (which : SymbolTable) (file : List ℕ) (all : AllSymbols)
+        ensures file { (which : SymbolTable) (file : List ℕ) (all : SelectedSymbols)
             → AreTablesOf which file None self.entry.now → all_answer_of which file ≡ Some (Ok all)
             → option_map (λ t. t.now) result ≡ all.section_name number }
     {
@@ -127,10 +102,9 @@ impl<'a> Tables<'a> {
         ensures { option_map (λ t. t.now) result ≡ section_names self.entry.now number }
     {
         match self {
-            Tables::AllElf32(parts) => parts.section_name(number),
-            Tables::AllElf64(parts) => parts.section_name(number),
-            Tables::AllMacho(parts) => parts.section_name(number),
-            Tables::AllPe(parts) => parts.section_name(number),
+            Tables::Elf(parts) => parts.section_name(number),
+            Tables::Macho(parts) => parts.section_name(number),
+            Tables::Pe(parts) => parts.section_name(number),
             _ => None,
         }
     }
@@ -149,10 +123,9 @@ impl<'a> Tables<'a> {
         ensures { result ≡ shares_addresses_of self.now }
     {
         match self {
-            Tables::AllElf32(parts) => parts.shares_addresses(),
-            Tables::AllElf64(parts) => parts.shares_addresses(),
-            Tables::AllMacho(parts) => parts.shares_addresses(),
-            Tables::AllPe(parts) => parts.shares_addresses(),
+            Tables::Elf(parts) => parts.shares_addresses(),
+            Tables::Macho(parts) => parts.shares_addresses(),
+            Tables::Pe(parts) => parts.shares_addresses(),
             _ => false,
         }
     }
@@ -183,86 +156,61 @@ pub fn read<S: Source>(
         → AskedFor (S.logs_only log.old) (S.logs_only log.new) (parts_in which (section_of selection.entry) file) }
 {
     let format = read_format(alloc, source, log)?;
-    match selection {
-        Selection::Section(section) => read_section(alloc, source, log, format, which, section),
-        Selection::All => read_sections(alloc, source, log, format, which),
-    }
+    read_tables(alloc, source, log, format, which, selection)
 }
 
-// The tables of a file of this format for a section.
-#[tactic(auto, unfolding(crate::specs::Tables::AreTablesOf))]
-fn read_section<S: Source>(
+// The tables of a file of this format.
+fn read_tables<S: Source>(
     alloc: Global,
     source: &S,
     log: &mut S::Log,
     format: Format,
     which: SymbolTable,
-    section: &str,
+    selection: Selection<'_>,
 ) -> Result<Tables<'static>, ReadError>
     ensures answer { (file : List ℕ) → S.bytes source.now ≡ Some file → format ≡ format_of file
-        → ReadsTables (S.may_fail source.now ≡ true) which file (Some section.now) result }
+        → ReadsTables (S.may_fail source.now ≡ true) which file (section_of selection.entry) result }
     ensures nothing_else { (file : List ℕ) → S.bytes source.now ≡ Some file
-        → AreSure (S.is_sure source.now) (format_parts which format file) → IfErr result (λ e. e ≢ Unreadable) }
+        → AreSure (S.is_sure source.now) (format_parts which (section_of selection.entry) format file)
+        → IfErr result (λ e. e ≢ Unreadable) }
     ensures asked { (file : List ℕ) → S.bytes source.now ≡ Some file
-        → AskedFor (S.logs_only log.old) (S.logs_only log.new) (format_parts which format file) }
+        → AskedFor (S.logs_only log.old) (S.logs_only log.new)
+        (format_parts which (section_of selection.entry) format file) }
 {
     match format {
         Format::Elf32 { byte_order } => {
-            let parts = elf32::read_by(alloc, source, log, byte_order, which, section)?;
-            Ok(Tables::Elf32(parts))
+            let parts = elf::read(
+                alloc,
+                source,
+                log,
+                Width::Bits32,
+                byte_order,
+                which,
+                selection,
+            )?;
+            Ok(Tables::Elf(parts))
         }
         Format::Elf64 { byte_order } => {
-            let parts = elf64::read_by(alloc, source, log, byte_order, which, section)?;
-            Ok(Tables::Elf64(parts))
+            let parts = elf::read(
+                alloc,
+                source,
+                log,
+                Width::Bits64,
+                byte_order,
+                which,
+                selection,
+            )?;
+            Ok(Tables::Elf(parts))
         }
         Format::Macho => {
             has_table(which)?;
-            let parts = macho::read(alloc, source, log)?;
+            let parts = macho::read(alloc, source, log, selection)?;
             Ok(Tables::Macho(parts))
         }
         Format::PE => {
             has_table(which)?;
-            let parts = pe::read(alloc, source, log)?;
+            let parts = pe::read(alloc, source, log, selection)?;
             Ok(Tables::Pe(parts))
-        }
-        Format::Unknown => Ok(Tables::Unknown),
-    }
-}
-
-// The tables of a file of this format for all sections.
-#[tactic(auto, unfolding(crate::specs::Tables::AreTablesOf))]
-fn read_sections<S: Source>(
-    alloc: Global,
-    source: &S,
-    log: &mut S::Log,
-    format: Format,
-    which: SymbolTable,
-) -> Result<Tables<'static>, ReadError>
-    ensures answer { (file : List ℕ) → S.bytes source.now ≡ Some file → format ≡ format_of file
-        → ReadsTables (S.may_fail source.now ≡ true) which file None result }
-    ensures nothing_else { (file : List ℕ) → S.bytes source.now ≡ Some file
-        → AreSure (S.is_sure source.now) (all_format_parts which format file) → IfErr result (λ e. e ≢ Unreadable) }
-    ensures asked { (file : List ℕ) → S.bytes source.now ≡ Some file
-        → AskedFor (S.logs_only log.old) (S.logs_only log.new) (all_format_parts which format file) }
-{
-    match format {
-        Format::Elf32 { byte_order } => {
-            let parts = elf32::read_all(alloc, source, log, byte_order, which)?;
-            Ok(Tables::AllElf32(parts))
-        }
-        Format::Elf64 { byte_order } => {
-            let parts = elf64::read_all(alloc, source, log, byte_order, which)?;
-            Ok(Tables::AllElf64(parts))
-        }
-        Format::Macho => {
-            has_table(which)?;
-            let parts = macho::read_all(alloc, source, log)?;
-            Ok(Tables::AllMacho(parts))
-        }
-        Format::PE => {
-            has_table(which)?;
-            let parts = pe::read_all(alloc, source, log)?;
-            Ok(Tables::AllPe(parts))
         }
         Format::Unknown => Ok(Tables::Unknown),
     }

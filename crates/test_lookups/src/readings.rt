@@ -6,11 +6,11 @@ use crate::sources::Noted;
 use crate::words::{known, numbers, push_number, push_runs, push_words, words_of};
 use binfarce_bytes::source::Source;
 use binfarce_sections::error::SectionError;
-use binfarce_tables::{elf32, elf64, macho, pe};
+use binfarce_tables::{elf, macho, pe};
 use binfarce_tools::SymbolTable;
 use binfarce_tools::tables::{Selection, read as read_tables};
 use std::io::{self, ErrorKind, Write};
-use test_reading::{Asked, parts, whole};
+use test_reading::{Asked, parts, whole, width_of};
 use test_samples::files::File;
 use test_samples::{first_bytes, patched};
 
@@ -62,7 +62,11 @@ pub(crate) fn answer(of: &Asking<'_>, verb: &str, text: &mut Vec<u8>) -> io::Res
     }
 }
 
-fn read<S: Source<Log = ()>>(of: &Asking<'_>, source: &S, reading: Reading<'_>) -> Result<(), SectionError> {
+fn read<S: Source<Log = ()>>(
+    of: &Asking<'_>,
+    source: &S,
+    reading: Reading<'_>,
+) -> Result<(), SectionError> {
     match reading {
         Reading::Sections => read_sections(of, source)?,
         Reading::Asked(asked) => return parts(of.alloc, of.kind, source, asked).ended,
@@ -78,11 +82,9 @@ fn read<S: Source<Log = ()>>(of: &Asking<'_>, source: &S, reading: Reading<'_>) 
 
 fn read_sections<S: Source<Log = ()>>(of: &Asking<'_>, source: &S) -> Result<(), SectionError> {
     match of.kind {
-        File::Elf(layout) if layout.is_64() => {
-            let _ = elf64::read_sections(of.alloc, source, &mut (), layout.order())?;
-        }
         File::Elf(layout) => {
-            let _ = elf32::read_sections(of.alloc, source, &mut (), layout.order())?;
+            let width = width_of(layout);
+            let _ = elf::read_sections(of.alloc, source, &mut (), width, layout.order())?;
         }
         File::Macho => {
             let _ = macho::read_sections(of.alloc, source, &mut ())?;

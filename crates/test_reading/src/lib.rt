@@ -5,13 +5,15 @@ ghost use Rattle.std.specs.Iterator.{IsFinite};
 
 use binfarce::{FunctionSymbol, SectionFunction, SymbolTable, elf32, elf64, macho, pe};
 use binfarce_bytes::ParseError;
+use binfarce_bytes::functions::Selection;
 use binfarce_bytes::source::Source;
 use binfarce_sections::bytes::{write_section, write_section_of};
 use binfarce_sections::error::SectionError;
 use binfarce_sections::list::{list_sections, list_source};
-use binfarce_tables::ReadError;
+use binfarce_tables::{self as tables, ReadError, Width};
 use binfarce_tools::list::Out;
 use std::alloc::{AllocError, Global};
+use test_samples::elf::Layout;
 use test_samples::files::File;
 
 /// What is asked of a file.
@@ -57,7 +59,12 @@ pub fn whole(alloc: Global, kind: File, file: &[u8], asked: Asked<'_>) -> Answer
 }
 
 /// The answer to a source.
-pub fn parts<S: Source<Log = ()>>(alloc: Global, kind: File, source: &S, asked: Asked<'_>) -> Answer {
+pub fn parts<S: Source<Log = ()>>(
+    alloc: Global,
+    kind: File,
+    source: &S,
+    asked: Asked<'_>,
+) -> Answer {
     let mut out = Out::new(Vec::new(alloc));
     let ended = match asked {
         Asked::Functions(name) => return answer_of(alloc, functions_of(alloc, kind, source, name)),
@@ -83,114 +90,92 @@ type Text = Result<Vec<u8>, ReadError>;
 const SYMTAB: SymbolTable = SymbolTable::Symtab;
 
 fn functions(alloc: Global, kind: File, file: &[u8], name: Option<&str>) -> Text {
+    let selection = selection_of(name);
     match kind {
         File::Elf(layout) if layout.is_64() => {
             let elf = elf64::parse(file, layout.order())?;
-            let Some(name) = name else {
-                return Ok(text_of_all(alloc, elf.all_functions(SYMTAB)?)?);
-            };
-            let (functions, size) = elf.functions(name)?;
+            let functions = elf.selected_functions(SYMTAB, selection)?;
+            let size = functions.section_size();
             Ok(text_of(alloc, functions, size)?)
         }
         File::Elf(layout) => {
             let elf = elf32::parse(file, layout.order())?;
-            let Some(name) = name else {
-                return Ok(text_of_all(alloc, elf.all_functions(SYMTAB)?)?);
-            };
-            let (functions, size) = elf.functions(name)?;
+            let functions = elf.selected_functions(SYMTAB, selection)?;
+            let size = functions.section_size();
             Ok(text_of(alloc, functions, size)?)
         }
         File::Macho => {
-            let macho = macho::parse(file)?;
-            if name.is_none() {
-                return Ok(text_of_all(alloc, macho.all_functions(alloc)?.into_iter())?);
-            }
-            let (functions, size) = macho.functions(alloc)?;
+            let (functions, size) = macho::parse(file)?.selected_functions(alloc, selection)?;
             Ok(text_of(alloc, functions.into_iter(), size)?)
         }
         File::Pe => {
-            let pe = pe::parse(file)?;
-            if name.is_none() {
-                return Ok(text_of_all(alloc, pe.all_functions(alloc)?.into_iter())?);
-            }
-            let (functions, size) = pe.functions(alloc)?;
+            let (functions, size) = pe::parse(file)?.selected_functions(alloc, selection)?;
             Ok(text_of(alloc, functions.into_iter(), size)?)
         }
     }
 }
 
-fn functions_of<S: Source<Log = ()>>(alloc: Global, kind: File, source: &S, name: Option<&str>) -> Text {
+fn functions_of<S: Source<Log = ()>>(
+    alloc: Global,
+    kind: File,
+    source: &S,
+    name: Option<&str>,
+) -> Text {
+    let selection = selection_of(name);
     match kind {
-        File::Elf(layout) if layout.is_64() => {
-            let order = layout.order();
-            let Some(name) = name else {
-                let parts = binfarce_tables::elf64::read_all(alloc, source, &mut (), order, SYMTAB)?;
-                return Ok(text_of_all(alloc, parts.functions())?);
-            };
-            let parts = binfarce_tables::elf64::read_by(alloc, source, &mut (), order, SYMTAB, name)?;
-            let (functions, size) = parts.functions();
-            Ok(text_of(alloc, functions, size)?)
-        }
         File::Elf(layout) => {
+            let width = width_of(layout);
             let order = layout.order();
-            let Some(name) = name else {
-                let parts = binfarce_tables::elf32::read_all(alloc, source, &mut (), order, SYMTAB)?;
-                return Ok(text_of_all(alloc, parts.functions())?);
-            };
-            let parts = binfarce_tables::elf32::read(alloc, source, &mut (), order, name)?;
-            let (functions, size) = parts.functions();
+            let parts = tables::elf::read(alloc, source, &mut (), width, order, SYMTAB, selection)?;
+            let functions = parts.functions();
+            let size = functions.section_size();
             Ok(text_of(alloc, functions, size)?)
         }
         File::Macho => {
-            if name.is_none() {
-                let parts = binfarce_tables::macho::read_all(alloc, source, &mut ())?;
-                return Ok(text_of_all(alloc, parts.functions(alloc)?.into_iter())?);
-            }
-            let parts = binfarce_tables::macho::read(alloc, source, &mut ())?;
-            let (functions, size) = parts.functions(alloc)?;
-            Ok(text_of(alloc, functions.into_iter(), size)?)
+            let parts = tables::macho::read(alloc, source, &mut (), selection)?;
+            let functions = parts.functions(alloc)?;
+            Ok(text_of(alloc, functions.into_iter(), parts.section_size())?)
         }
         File::Pe => {
-            if name.is_none() {
-                let parts = binfarce_tables::pe::read_all(alloc, source, &mut ())?;
-                return Ok(text_of_all(alloc, parts.functions(alloc)?.into_iter())?);
-            }
-            let parts = binfarce_tables::pe::read(alloc, source, &mut ())?;
-            let (functions, size) = parts.functions(alloc)?;
-            Ok(text_of(alloc, functions.into_iter(), size)?)
+            let parts = tables::pe::read(alloc, source, &mut (), selection)?;
+            let functions = parts.functions(alloc)?;
+            Ok(text_of(alloc, functions.into_iter(), parts.section_size())?)
         }
+    }
+}
+
+fn selection_of(name: Option<&str>) -> Selection<'_> {
+    match name {
+        Some(name) => Selection::Section(name),
+        None => Selection::All,
+    }
+}
+
+/// The class of a sample.
+pub fn width_of(layout: Layout) -> Width {
+    if layout.is_64() {
+        Width::Bits64
+    } else {
+        Width::Bits32
     }
 }
 
 // The samples' functions take no more bytes, so that a text is one allocation.
 const CAPACITY: usize = 512;
 
-// The size of a section, and its function symbols.
-fn text_of<'a, I: Iterator<Item = FunctionSymbol<'a>> + Drop>(
+// The size of a section, if there is one, and function symbols, each after the number of its section.
+fn text_of<'a, I: Iterator<Item = SectionFunction<'a>> + Drop>(
     alloc: Global,
     functions: I,
-    size: u64,
+    size: Option<u64>,
 ) -> Result<Vec<u8>, AllocError>
     requires can { I.can_next functions }
     requires ends { IsFinite (I.remaining functions) }
 {
     let mut text = Vec::with_capacity(alloc, CAPACITY)?;
-    text.extend_from_slice(&size.to_be_bytes())?;
-    for function in functions {
-        push(&mut text, function)?;
+    if let Some(size) = size {
+        text.extend_from_slice(&size.to_be_bytes())?;
     }
-    Ok(text)
-}
-
-// Function symbols, each after the number of its section.
-fn text_of_all<'a, I: Iterator<Item = SectionFunction<'a>> + Drop>(
-    alloc: Global,
-    functions: I,
-) -> Result<Vec<u8>, AllocError>
-    requires can { I.can_next functions }
-    requires ends { IsFinite (I.remaining functions) }
-{
-    let mut text = Vec::with_capacity(alloc, CAPACITY)?;
     for function in functions {
         text.extend_from_slice(&function.section.to_be_bytes())?;
         push(&mut text, function.function)?;

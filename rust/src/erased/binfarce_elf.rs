@@ -3,7 +3,6 @@
 //! ELF files of both classes and both byte orders (System V gABI).
 
 mod accessors;
-pub mod all;
 pub mod class;
 pub mod header;
 pub mod parts;

@@ -3,8 +3,8 @@
 //! 64-bit Mach-O files (Apple's `<mach-o/loader.h>` and `<mach-o/nlist.h>`).
 
 mod accessors;
-pub mod all;
 mod commands;
+pub mod functions;
 pub mod header;
 pub mod numbered;
 pub mod parts;

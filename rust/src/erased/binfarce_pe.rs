@@ -3,7 +3,7 @@
 //! PE files with COFF symbols (Microsoft PE Format).
 
 mod accessors;
-pub mod all;
+pub mod functions;
 pub mod header;
 pub mod parts;
 pub mod sections;

@@ -4,17 +4,13 @@
 
 mod beginning;
 pub mod elf;
-pub mod elf32;
-pub mod elf64;
-mod elf_all;
 mod error;
 pub mod format;
 pub mod macho;
-mod macho_all;
 pub mod pe;
-mod pe_all;
 mod sections;
 
 pub use crate::erased::binfarce_tables::beginning::Beginning;
 pub use crate::erased::binfarce_tables::elf::part;
 pub use crate::erased::binfarce_tables::error::ReadError;
+pub use crate::erased::binfarce_elf::class::Width;

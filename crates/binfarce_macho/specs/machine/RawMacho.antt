@@ -1,5 +1,5 @@
 -- What private clauses see of the values that `macho` reads.
-use Rattle.std.specs.Prelude.{◌≡◌, ℕ, ◌+◌, ◌-◌, ◌*◌, ◌<◌, ◌≤◌, List, length, min, nat_le, Option, Some, None, Result, Ok, Err, if◌then◌else◌}
+use Rattle.std.specs.Prelude.{◌≡◌, ℕ, ◌+◌, ◌-◌, ◌*◌, ◌/◌, ◌<◌, ◌≤◌, ◌^◌, ◌++◌, Bool, List, length, min, nat_eq, nat_le, not, is_some, Option, Some, None, Result, Ok, Err, if◌then◌else◌}
 use Rattle.std.specs.List.{range_with_len, filter_map}
 use Rattle.binfarce_macho.specs.declared.commands.Command.{Command}
 use Rattle.binfarce_macho.specs.declared.commands.Damage.{Damage}
@@ -8,13 +8,20 @@ use Rattle.binfarce_macho.specs.declared.commands.MachoCommandsIterator.{MachoCo
 use Rattle.binfarce_macho.specs.declared.sections.Segment.{Segment}
 use Rattle.binfarce_macho.specs.declared.sections.Left.{Left}
 use Rattle.binfarce_macho.specs.declared.symbols.SymbolRow.{SymbolRow}
-use Rattle.binfarce_macho.specs.declared.all.Extent.{Extent}
-use Rattle.binfarce_macho.specs.declared.all.SymbolBytes.{SymbolBytes}
-use Rattle.binfarce_bytes.specs.declared.sizes.RowAddress.{RowAddress}
-use Rattle.binfarce_bytes.specs.Refusal.{Refusal, malformed_input, unexpected_eof}
+use Rattle.binfarce_macho.specs.declared.functions.Group.{Group}
+use Rattle.binfarce_macho.specs.declared.functions.Rule.{Rule}
+use Rattle.binfarce_macho.specs.declared.functions.Rule.TheVariants.{Text, Section}
+use Rattle.binfarce_bytes.specs.declared.sizes.RowAddress as code
+use Rattle.binfarce_bytes.specs.Entries.{Entry}
+use Rattle.binfarce_bytes.specs.Refusal.{◌>>=◌, Refusal, malformed_input, unexpected_eof}
+use Rattle.binfarce_bytes.specs.SectionEntries.{SectionEntry, in_section}
+use Rattle.binfarce_bytes.specs.Sizes.{RowAddress, arranged}
 use Rattle.binfarce_bytes.specs.Walk.{Walk, ended, and_then, YieldsNext}
 use Rattle.binfarce_macho.specs.Macho as macho
+use Rattle.binfarce_macho.specs.MachoSections.{function_name, kept_row, section_entry}
+use Rattle.binfarce_macho.specs.MachoSelection.{extent_view, symbols_view}
 use Rattle.binfarce_macho.specs.MachoSymbols as symbols
+use Rattle.binfarce_macho.specs.MachoSymbols.{Extent, Symbols, Located, symbol_length, address_of, entry_of, kept}
 
 abbrev pub command_view : Command → macho.Command
 command_view c = record { offset = c.offset; kind = c.kind; size = c.size }
@@ -65,6 +72,61 @@ IsWithin left = (left.segment.body ≤ length left.commands.bytes.now) × (left.
 abbrev pub symbol_view : SymbolRow → symbols.SymbolRow ℕ
 symbol_view s = record { name = s.name; kind = s.kind; section = s.section; value = s.value }
 
--- the row is whole, and its address lies in the section
-abbrev pub IsInside : SymbolBytes → Extent → RowAddress → Type 0
-IsInside symbols section r = (r.index * 16 + 16 ≤ length symbols.rows.now) × (section.address ≤ r.address) × (r.address < section.address + section.size)
+-- the number of the section whose rows are listed
+abbrev pub number_by : Rule → ℕ
+number_by Text = 1
+number_by (Section number) = number
+
+-- whether a row's address ends a size: that of any row with an address, or that of a row that is kept
+abbrev pub counts_by : Rule → Extent → Symbols → symbols.SymbolRow ℕ → Bool
+counts_by Text extent symbols row = not (nat_eq row.value 0)
+counts_by (Section number) extent symbols row = is_some (function_name symbols.strings extent number row)
+
+abbrev pub counted : Group → symbols.SymbolRow ℕ → Bool
+counted group row = counts_by group.rule (extent_view group.extent) (symbols_view group.symbols) row
+
+-- the address and the number of such a row
+abbrev pub row_by : Rule → Extent → Symbols → ℕ → Option RowAddress
+row_by Text extent symbols k = address_of symbols.rows k
+row_by (Section number) extent symbols k = kept_row symbols extent number k
+
+-- all of these, in table order
+abbrev pub group_rows : Group → List RowAddress
+group_rows group =
+    filter_map (λ k. row_by group.rule (extent_view group.extent) (symbols_view group.symbols) k) (range_with_len 0 (length group.symbols.rows.now / symbol_length))
+
+-- the symbols of a text whose end is below 2^64
+abbrev pub text_at_end : Extent → Symbols → Located
+text_at_end text symbols = record { text_end = text.address + text.size; text_size = text.size; strings = symbols.strings; rows = symbols.rows }
+
+-- what is made of such a row
+abbrev pub entry_by : Rule → Extent → Symbols → RowAddress → Result (Option Entry) Refusal
+entry_by Text extent symbols at = entry_of (text_at_end extent symbols) at
+entry_by (Section number) extent symbols at = Ok (section_entry symbols extent number at)
+
+abbrev pub group_entry : Group → RowAddress → Result (Option Entry) Refusal
+group_entry group at = entry_by group.rule (extent_view group.extent) (symbols_view group.symbols) at
+
+-- the entries with those of these rows
+abbrev pub rows_added : List SectionEntry → Group → List RowAddress → Result (List SectionEntry) Refusal
+rows_added before group rows = kept (λ at. group_entry group at) rows >>= λ entries. Ok (before ++ in_section (number_by group.rule) entries)
+
+-- with those of a group
+abbrev pub group_added : List SectionEntry → Group → Result (List SectionEntry) Refusal
+group_added before group = rows_added before group (arranged (group_rows group))
+
+-- the row is whole, and one of a section lies in it; a text's end is below 2^64
+abbrev pub LiesBy : Rule → Extent → ℕ → Type 0
+LiesBy Text extent address = extent.address + extent.size < 2 ^ 64
+LiesBy (Section number) extent address = (extent.address ≤ address) × (address < extent.address + extent.size)
+
+abbrev pub IsInside : Group → code.RowAddress → Type 0
+IsInside group r = (r.index * 16 + 16 ≤ length group.symbols.rows.now) × LiesBy group.rule (extent_view group.extent) r.address
+
+-- such an end
+abbrev pub FitsBy : Rule → Extent → Type 0
+FitsBy Text extent = extent.address + extent.size < 2 ^ 64
+FitsBy (Section number) extent = Unit {0}
+
+abbrev pub Fits : Group → Type 0
+Fits group = FitsBy group.rule (extent_view group.extent)

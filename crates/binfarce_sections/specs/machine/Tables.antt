@@ -1,7 +1,6 @@
 -- The tables of a file's sections.
 use Rattle.std.specs.Prelude.{◌≡◌, ℕ, Bool, true, List, length, Some, Result, Ok, Err}
 use Rattle.binfarce.specs.declared.Format.TheVariants as formats
-use Rattle.binfarce.specs.Elf.{elf32, elf64}
 use Rattle.binfarce.specs.Format.{format_of}
 use Rattle.binfarce.specs.Refusal.{refusal_of}
 use Rattle.binfarce.specs.Walk.{Walk, ended}
@@ -10,8 +9,9 @@ use Rattle.binfarce_tables.specs.SectionReading.{sections_view}
 use Rattle.binfarce_tables.specs.declared.error.ReadError.{ReadError}
 use Rattle.binfarce_tables.specs.declared.error.ReadError.TheVariants.{Refused, Unreadable, OutOfMemory}
 use Rattle.binfarce_sections.specs.Section.{Section, elf_named, mapped, sections_of, macho_sections, pe_sections}
+use Rattle.binfarce_sections.specs.Views.{named_by}
 use Rattle.binfarce_sections.specs.declared.tables.Tables.{Tables}
-use Rattle.binfarce_sections.specs.declared.tables.Tables.TheVariants.{Elf32, Elf64, Macho, Pe, Unknown}
+use Rattle.binfarce_sections.specs.declared.tables.Tables.TheVariants.{Elf, Macho, Pe, Unknown}
 
 -- the file's sections are these
 abbrev pub Has : List ℕ → Walk Section → Type 0
@@ -19,16 +19,14 @@ Has file walk = sections_of (format_of file) file ≡ Some walk
 
 -- the tables have the file's sections, and its length
 abbrev pub AreTablesOf : List ℕ → Tables → Type 0
-AreTablesOf file (Elf32 parts) = let seen = sections_view elf32 parts in Has file (mapped (elf_named seen.name) seen.sections) × (seen.file_length ≡ length file)
-AreTablesOf file (Elf64 parts) = let seen = sections_view elf64 parts in Has file (mapped (elf_named seen.name) seen.sections) × (seen.file_length ≡ length file)
+AreTablesOf file (Elf parts) = let seen = sections_view parts in Has file (mapped (elf_named (named_by seen.names)) seen.sections) × (seen.file_length ≡ length file)
 AreTablesOf file (Macho beginning) = Has file (macho_sections (bytes_of beginning)) × (file_length_of beginning ≡ length file)
 AreTablesOf file (Pe beginning) = Has file (pe_sections (bytes_of beginning)) × (file_length_of beginning ≡ length file)
 AreTablesOf file Unknown = format_of file ≡ formats.Unknown
 
 -- such a length
 abbrev pub HasLength : Tables → ℕ → Type 0
-HasLength (Elf32 parts) n = n ≡ (sections_view elf32 parts).file_length
-HasLength (Elf64 parts) n = n ≡ (sections_view elf64 parts).file_length
+HasLength (Elf parts) n = n ≡ (sections_view parts).file_length
 HasLength (Macho beginning) n = n ≡ file_length_of beginning
 HasLength (Pe beginning) n = n ≡ file_length_of beginning
 HasLength Unknown n = n ≡ 0

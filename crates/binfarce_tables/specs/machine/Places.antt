@@ -7,7 +7,7 @@ use Rattle.binfarce_elf.specs.Elf.{ElfClass, SectionTable}
 use Rattle.binfarce_elf.specs.ElfSymbols.{TableRows}
 use Rattle.binfarce_tables.specs.ElfReads.{table_of, headers_size}
 use Rattle.binfarce_tables.specs.declared.elf.TableParts.{TableParts}
-use Rattle.binfarce_tables.specs.declared.elf.Place.{Place}
+use Rattle.binfarce_elf.specs.declared.parts.Place.{Place}
 
 -- the table at this place of a file
 abbrev pub table_at : List ℕ → Place → SectionTable

@@ -1,8 +1,7 @@
-ghost use Rattle.std.specs.Prelude.{◌≡◌, Ok, Err, List, option_map, slice_get, IsOkAnd, IsErrAnd};
+ghost use Rattle.std.specs.Prelude.{◌≡◌, Ok, Err, None, option_map, slice_get, IsOkAnd, IsErrAnd};
 ghost use Rattle.binfarce.specs.Elf.{elf64, section_table};
-ghost use Rattle.binfarce.specs.ElfAll.{all_answer};
+ghost use Rattle.binfarce.specs.ElfSymbols.{elf_selected, Selected};
 ghost use Rattle.binfarce.specs.Refusal.{Refusal, refusal_of};
-ghost use Rattle.binfarce.specs.SectionEntries.{SectionEntry};
 ghost use Rattle.binfarce.specs.SymbolViews.{section_function_view};
 ghost use Rattle.binfarce.specs.declared.SymbolTable.TheVariants.{Dynsym};
 
@@ -11,9 +10,9 @@ use binfarce::{ParseError, SectionFunction, SymbolTable};
 
 /// The first function of any section that the dynamic symbol table has.
 pub fn first_of_all<'a>(elf: &Elf64<'a>) -> Result<Option<SectionFunction<'a>>, ParseError>
-    ensures found { (entries : List SectionEntry) → all_answer Dynsym elf64 (section_table elf64 elf.now) ≡ Ok entries
-        → IsOkAnd result (λ f. option_map section_function_view f ≡ slice_get entries 0) }
-    ensures refused { (why : Refusal) → all_answer Dynsym elf64 (section_table elf64 elf.now) ≡ Err why
+    ensures found { (selected : Selected) → elf_selected Dynsym elf64 (section_table elf64 elf.now) None ≡ Ok selected
+        → IsOkAnd result (λ f. option_map section_function_view f ≡ slice_get selected.entries 0) }
+    ensures refused { (why : Refusal) → elf_selected Dynsym elf64 (section_table elf64 elf.now) None ≡ Err why
         → IsErrAnd result (λ e. refusal_of e ≡ why) }
 {
     let mut functions = elf.all_functions(SymbolTable::Dynsym)?;

@@ -1,20 +1,16 @@
-ghost use Rattle.std.specs.Prelude.{◌⊎◌};
-ghost use Rattle.binfarce.specs.MachoParts.{SomeAddress};
-ghost use Rattle.binfarce.specs.MachoSymbols.{answer_of};
-ghost use Rattle.binfarce.specs.Symbol.{Answers, HoldsSymbols, ListsSome};
+ghost use Rattle.binfarce.specs.MachoSelection.{NeedsMemory, symbols_of};
+ghost use Rattle.binfarce.specs.Symbol.{Answers};
+ghost use Rattle.binfarce.specs.SymbolViews.{HoldsSelected};
 ghost use Rattle.binfarce_tables.specs.MachoReading.{parts_view};
 
-use binfarce::ParseError;
-use binfarce::demangle::SymbolData;
-use binfarce::symbols::symbols_of_list;
+use binfarce::{ParseError, SectionFunction};
 use binfarce_tables::macho::Parts;
 use std::alloc::Global;
 
-/// The function symbols, with readable names, and the text's size in bytes.
-pub fn macho_symbols(alloc: Global, parts: &Parts) -> Result<(Vec<SymbolData>, u64), ParseError>
-    ensures { let found = parts_view parts.now in
-        Answers HoldsSymbols (λ answer. ListsSome answer ⊎ SomeAddress found) (answer_of found) result }
+/// The function symbols with the numbers of their sections.
+pub fn macho_symbols(alloc: Global, parts: &Parts) -> Result<Vec<SectionFunction<'_>>, ParseError>
+    ensures { let tables = parts_view parts.entry.now in
+        Answers HoldsSelected (λ _. NeedsMemory tables.sections tables.symbols) (symbols_of tables) result }
 {
-    let (functions, size) = parts.functions(alloc)?;
-    Ok((symbols_of_list(alloc, &functions)?, size))
+    parts.functions(alloc)
 }

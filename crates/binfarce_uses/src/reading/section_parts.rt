@@ -6,8 +6,8 @@ ghost use Rattle.binfarce_tables.specs.SectionReading.{file_sections, sections_v
 
 use binfarce::ByteOrder;
 use binfarce_bytes::source::Source;
-use binfarce_tables::ReadError;
-use binfarce_tables::elf64::{SectionParts, read_sections};
+use binfarce_tables::elf::{SectionParts, read_sections};
+use binfarce_tables::{ReadError, Width};
 use std::alloc::Global;
 
 /// The parts of a file that have its sections and their names.
@@ -16,7 +16,13 @@ pub fn section_parts<S: Source<Log = ()>>(
     source: &S,
 ) -> Result<SectionParts, ReadError>
     ensures { (file : List ℕ) → S.bytes source.now ≡ Some file
-        → Reads (S.may_fail source.now) (sections_view elf64) (file_sections elf64 LittleEndian file) result }
+        → Reads (S.may_fail source.now) sections_view (file_sections elf64 LittleEndian file) result }
 {
-    read_sections(alloc, source, &mut (), ByteOrder::LittleEndian)
+    read_sections(
+        alloc,
+        source,
+        &mut (),
+        Width::Bits64,
+        ByteOrder::LittleEndian,
+    )
 }

@@ -4,13 +4,13 @@
 
 use crate::shim::Vec;
 use crate::erased::binfarce::symbols::symbols_of_elf;
+use crate::erased::binfarce_bytes::functions::{FunctionSymbol, Selection};
 use crate::erased::binfarce_bytes::{ByteOrder, ParseError};
-use crate::erased::binfarce_elf::all::{self, AllFunctions};
 use crate::erased::binfarce_elf::class::Class;
 use crate::erased::binfarce_elf::header::{Header, parse_header};
 use crate::erased::binfarce_elf::sections::{self, HasSections, Section, Sections, Table};
 use crate::erased::binfarce_elf::symbol_table::SymbolTable;
-use crate::erased::binfarce_elf::symbols::{self, Functions};
+use crate::erased::binfarce_elf::symbols::{self, Functions as AllFunctions};
 use crate::erased::binfarce_names::demangle::SymbolData;
 use crate::shim::alloc::Global;
 
@@ -100,8 +100,10 @@ impl<'a, C: Class> Elf<'a, C> {
     /// section of type 2, `SHT_SYMTAB`) and of `.strtab` (the section that it links to); `UnexpectedSectionType` where
     /// that isn't of type 3 (`SHT_STRTAB`); `MalformedInput` where the string table's bytes end past `usize`, and
     /// `UnexpectedEof` past the file; the same for the symbol table's bytes; `UnexpectedEof` for a truncated last row.
-    pub fn functions(&self, section_name: &str) -> Result<(Functions<'a, C>, u64), ParseError> {
-        symbols::section_functions::<C>(self.section_table(), SymbolTable::Symtab, section_name)
+    pub fn functions(&self, section_name: &str) -> Result<(Functions<'a>, u64), ParseError> {
+        let section = Selection::Section(section_name);
+        let functions = self.selected_functions(SymbolTable::Symtab, section)?;
+        Ok(of_section(functions))
     }
 
     /// The same functions from the dynamic symbol table, which a stripped file still has; and indirect functions
@@ -111,11 +113,10 @@ impl<'a, C: Class> Elf<'a, C> {
     ///
     /// Those of `functions`, but `SectionIsMissing` is of `.dynsym` (the first section of type 11, `SHT_DYNSYM`) and of
     /// `.dynstr` (the section that it links to).
-    pub fn dynamic_functions(
-        &self,
-        section_name: &str,
-    ) -> Result<(Functions<'a, C>, u64), ParseError> {
-        symbols::section_functions::<C>(self.section_table(), SymbolTable::Dynsym, section_name)
+    pub fn dynamic_functions(&self, section_name: &str) -> Result<(Functions<'a>, u64), ParseError> {
+        let section = Selection::Section(section_name);
+        let functions = self.selected_functions(SymbolTable::Dynsym, section)?;
+        Ok(of_section(functions))
     }
 
     /// The function symbols of all sections as the file stores them, each with the index of its section, in the order of
@@ -128,8 +129,22 @@ impl<'a, C: Class> Elf<'a, C> {
     ///
     /// In this order: `UnexpectedEof` where the section header table doesn't begin in the file, or a section header is
     /// truncated; those of `functions`, or `dynamic_functions`, from the missing symbol table on.
-    pub fn all_functions(&self, which: SymbolTable) -> Result<AllFunctions<'a, C>, ParseError> {
-        all::all_functions::<C>(self.section_table(), which)
+    pub fn all_functions(&self, which: SymbolTable) -> Result<AllFunctions<'a>, ParseError> {
+        self.selected_functions(which, Selection::All)
+    }
+
+    /// The function symbols of a section as `functions` or `dynamic_functions` gives them, or those of all sections as
+    /// `all_functions` does, by this symbol table: each with the index of its section.
+    ///
+    /// # Errors
+    ///
+    /// Those of these calls.
+    pub fn selected_functions(
+        &self,
+        which: SymbolTable,
+        selection: Selection<'_>,
+    ) -> Result<AllFunctions<'a>, ParseError> {
+        symbols::selected_functions::<C>(self.section_table(), which, selection)
     }
 
     /// The functions of the symbol table as symbols with readable names, and the section's size in bytes.
@@ -143,7 +158,7 @@ impl<'a, C: Class> Elf<'a, C> {
         section_name: &str,
     ) -> Result<(Vec<SymbolData>, u64), ParseError> {
         let (functions, size) = self.functions(section_name)?;
-        Ok((symbols_of_elf(alloc, functions)?, size))
+        Ok((symbols_of_elf(alloc, functions.all)?, size))
     }
 
     /// The functions of the dynamic symbol table as symbols with readable names, and the section's size in bytes.
@@ -157,7 +172,7 @@ impl<'a, C: Class> Elf<'a, C> {
         section_name: &str,
     ) -> Result<(Vec<SymbolData>, u64), ParseError> {
         let (functions, size) = self.dynamic_functions(section_name)?;
-        let symbols = symbols_of_elf(alloc, functions)?;
+        let symbols = symbols_of_elf(alloc, functions.all)?;
         Ok((symbols, size))
     }
 
@@ -170,5 +185,39 @@ impl<'a, C: Class> Elf<'a, C> {
 impl<'a, C: Class> HasSections<'a, C> for Elf<'a, C> {
     fn section_table(&self) -> Table<'a> {
         sections::section_table(self.data, self.byte_order, &self.header)
+    }
+}
+
+// The functions of one section, and its size.
+fn of_section(all: AllFunctions<'_>) -> (Functions<'_>, u64) {
+    let size = all.section_size().unwrap_or(0);
+    (Functions { all }, size)
+}
+
+/// An iterator over the function symbols of a section, in the order of the symbol table.
+///
+/// Rows are read on demand, and names stay in the file: nothing is allocated or copied.
+#[must_use = "iterators are lazy and do nothing unless consumed"]
+pub struct Functions<'a> {
+    pub(crate) all: AllFunctions<'a>,
+}
+
+impl<'a> Functions<'a> {
+    /// The function symbol that an address symbolizes to, among those that are left: of those whose range holds it the
+    /// one of greatest address, and of several the first. `None` where no range holds it.
+    ///
+    /// A range begins at the symbol's address (`st_value`) and has its size in bytes. Each row that is left is read once;
+    /// nothing is allocated or copied.
+    pub fn symbol_at(self, address: u64) -> Option<FunctionSymbol<'a>> {
+        self.all.symbol_at(address)
+    }
+}
+
+impl<'a> Iterator for Functions<'a> {
+    type Item = FunctionSymbol<'a>;
+
+    #[cfg_attr(not(debug_assertions), inline(always))]
+    fn next(&mut self) -> Option<FunctionSymbol<'a>> {
+        Some(self.all.next()?.function)
     }
 }

@@ -4,7 +4,7 @@
 
 use crate::erased::binfarce::elf;
 use crate::erased::binfarce_bytes::{ByteOrder, ParseError};
-use crate::erased::binfarce_elf::{all, header, sections, symbols};
+use crate::erased::binfarce_elf::{header, sections, symbols};
 
 // The word of this class (gABI, "Data Representation"), which names the class.
 type Address = u64;
@@ -24,11 +24,11 @@ pub type Section = sections::Section<Offset>;
 pub type Sections<'a> = sections::Sections<'a, Offset>;
 
 /// An iterator over the function symbols of a section: the result of [`Elf64::functions`](elf::Elf::functions).
-pub type Functions<'a> = symbols::Functions<'a, Address>;
+pub type Functions<'a> = elf::Functions<'a>;
 
 /// An iterator over the function symbols of all sections: the result of
 /// [`Elf64::all_functions`](elf::Elf::all_functions).
-pub type AllFunctions<'a> = all::AllFunctions<'a, Address>;
+pub type AllFunctions<'a> = symbols::Functions<'a>;
 
 /// Reads the file header in the given order. The magic number isn't checked. Nothing is copied.
 ///

@@ -3,15 +3,14 @@
 //! 64-bit Mach-O files, which are little endian (Apple's `<mach-o/loader.h>` and `<mach-o/nlist.h>`).
 
 use crate::shim::Vec;
-use crate::erased::binfarce::symbols::symbols_of_list;
+use crate::erased::binfarce::symbols::{symbols_of_list, without_sections};
 use crate::erased::binfarce_bytes::ParseError;
-use crate::erased::binfarce_bytes::functions::{FunctionSymbol, SectionFunction};
-use crate::erased::binfarce_macho::all::functions_of_sections;
+use crate::erased::binfarce_bytes::functions::{FunctionSymbol, SectionFunction, Selection};
+use crate::erased::binfarce_macho::functions::functions_of_file;
 pub use crate::erased::binfarce_macho::header::MachoHeader;
 use crate::erased::binfarce_macho::header::parse_header;
 use crate::erased::binfarce_macho::sections;
 pub use crate::erased::binfarce_macho::sections::{Section, Sections};
-use crate::erased::binfarce_macho::symbols::functions_of_file;
 use crate::erased::binfarce_names::demangle::SymbolData;
 use crate::shim::alloc::Global;
 
@@ -117,7 +116,9 @@ impl<'a> Macho<'a> {
     ///
     /// Those of `symbols`.
     pub fn functions(&self, alloc: Global) -> Result<(Vec<FunctionSymbol<'a>>, u64), ParseError> {
-        functions_of_file(alloc, self.data, self.header)
+        let section = Selection::Section("__text");
+        let (functions, size) = self.selected_functions(alloc, section)?;
+        Ok((without_sections(alloc, &functions)?, size.unwrap_or(0)))
     }
 
     /// The function symbols of all sections that hold instructions, each with its section's number: by section, and in
@@ -136,6 +137,21 @@ impl<'a> Macho<'a> {
     /// table's command, the string table or the rows are truncated. `OutOfMemory` only where the file has a section; it
     /// may replace another error.
     pub fn all_functions(&self, alloc: Global) -> Result<Vec<SectionFunction<'a>>, ParseError> {
-        functions_of_sections(alloc, self.data, self.header)
+        let (functions, _) = self.selected_functions(alloc, Selection::All)?;
+        Ok(functions)
+    }
+
+    /// The function symbols of `functions` with their section's number, and the text's size in bytes; or those of
+    /// `all_functions`, without a size.
+    ///
+    /// # Errors
+    ///
+    /// Those of these calls; `OutOfMemory` as they say.
+    pub fn selected_functions(
+        &self,
+        alloc: Global,
+        selection: Selection<'_>,
+    ) -> Result<(Vec<SectionFunction<'a>>, Option<u64>), ParseError> {
+        functions_of_file(alloc, self.data, self.header, selection)
     }
 }

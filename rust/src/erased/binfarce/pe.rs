@@ -3,17 +3,16 @@
 //! PE files with COFF symbols (Microsoft PE Format), which are little endian.
 
 use crate::shim::Vec;
-use crate::erased::binfarce::symbols::symbols_of_list;
+use crate::erased::binfarce::symbols::{symbols_of_list, without_sections};
 use crate::erased::binfarce_bytes::ParseError;
-use crate::erased::binfarce_bytes::functions::{FunctionSymbol, SectionFunction};
+use crate::erased::binfarce_bytes::functions::{FunctionSymbol, SectionFunction, Selection};
 use crate::erased::binfarce_names::demangle::SymbolData;
-use crate::erased::binfarce_pe::all::functions_of_sections;
+use crate::erased::binfarce_pe::functions::functions_of_file;
 pub use crate::erased::binfarce_pe::header::PeHeader;
 use crate::erased::binfarce_pe::header::parse_header;
 use crate::erased::binfarce_pe::parts::{Places, places_after};
 pub use crate::erased::binfarce_pe::sections::{Section, Sections};
 use crate::erased::binfarce_pe::sections::{self, first_of_file};
-use crate::erased::binfarce_pe::symbols::functions_of_file;
 use crate::shim::alloc::Global;
 
 /// A PE file. It borrows the file's bytes.
@@ -105,7 +104,9 @@ impl<'a> Pe<'a> {
     /// In this order: those of `find_section`; `SymbolsSectionIsMissing`; `UnexpectedEof` where the symbol table, even
     /// an empty one, doesn't begin in the file, or ends past it. `OutOfMemory` only instead of a list that isn't empty.
     pub fn functions(&self, alloc: Global) -> Result<(Vec<FunctionSymbol<'a>>, u64), ParseError> {
-        functions_of_file(alloc, self.data, self.places())
+        let section = Selection::Section(".text");
+        let (functions, size) = self.selected_functions(alloc, section)?;
+        Ok((without_sections(alloc, &functions)?, size.unwrap_or(0)))
     }
 
     /// The function symbols of `functions` with readable names, and the size of `.text` in bytes in the file.
@@ -134,7 +135,22 @@ impl<'a> Pe<'a> {
     /// for `find_section` with a callback that accepts no section; `UnexpectedEof` where the symbol table, even an
     /// empty one, doesn't begin in the file, or ends past it. `OutOfMemory` only where the file has a section.
     pub fn all_functions(&self, alloc: Global) -> Result<Vec<SectionFunction<'a>>, ParseError> {
-        functions_of_sections(alloc, self.data, self.places())
+        let (functions, _) = self.selected_functions(alloc, Selection::All)?;
+        Ok(functions)
+    }
+
+    /// The function symbols of `functions` with their section's number, and the size of `.text` in bytes in the file; or
+    /// those of `all_functions`, without a size.
+    ///
+    /// # Errors
+    ///
+    /// Those of these calls; `OutOfMemory` only instead of a list that isn't empty.
+    pub fn selected_functions(
+        &self,
+        alloc: Global,
+        selection: Selection<'_>,
+    ) -> Result<(Vec<SectionFunction<'a>>, Option<u64>), ParseError> {
+        functions_of_file(alloc, self.data, self.places(), selection)
     }
 
     // The places of the tables.

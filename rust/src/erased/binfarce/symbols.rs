@@ -3,9 +3,9 @@
 //! Function symbols as symbols with readable names.
 
 use crate::shim::Vec;
-use crate::erased::binfarce_bytes::functions::FunctionSymbol;
-use crate::erased::binfarce_elf::class::Class;
-use crate::erased::binfarce_elf::symbols::Functions;
+use crate::erased::binfarce::elf::Functions;
+use crate::erased::binfarce_bytes::functions::{FunctionSymbol, SectionFunction};
+use crate::erased::binfarce_elf::symbols::Functions as AllFunctions;
 use crate::erased::binfarce_names::demangle::{Demangler, SymbolData};
 use crate::shim::alloc::{AllocError, Global};
 
@@ -15,11 +15,11 @@ use crate::shim::alloc::{AllocError, Global};
 /// # Errors
 ///
 /// A failed allocation, only where a function symbol is left.
-pub fn symbols_of_elf<C: Class>(
+pub fn symbols_of_elf(
     alloc: Global,
-    functions: Functions<'_, C>,
+    functions: AllFunctions<'_>,
 ) -> Result<Vec<SymbolData>, AllocError> {
-    symbols_of(alloc, functions)
+    symbols_of(alloc, Functions { all: functions })
 }
 
 /// One symbol for each function symbol of a list, in order, with its name in readable form. Names are copied; nothing
@@ -28,11 +28,27 @@ pub fn symbols_of_elf<C: Class>(
 /// # Errors
 ///
 /// A failed allocation, only where the list isn't empty.
-pub fn symbols_of_list(
+pub(crate) fn symbols_of_list(
     alloc: Global,
     functions: &[FunctionSymbol<'_>],
 ) -> Result<Vec<SymbolData>, AllocError> {
     symbols_of(alloc, functions.iter().copied())
+}
+
+/// The function symbols of a list, in order, without their sections.
+///
+/// # Errors
+///
+/// A failed allocation, only where the list isn't empty.
+pub(crate) fn without_sections<'a>(
+    alloc: Global,
+    functions: &[SectionFunction<'a>],
+) -> Result<Vec<FunctionSymbol<'a>>, AllocError> {
+    let mut alone = Vec::new(alloc);
+    for function in functions {
+        alone.push(function.function)?;
+    }
+    Ok(alone)
 }
 
 // One symbol for each function symbol that comes, in order.

@@ -53,7 +53,13 @@ pub fn show<S: Source<Log = ()>, K: Sink>(
     source: &S,
     out: &mut K,
 ) -> Result<(), Fault> {
-    let tables = read(alloc, source, &mut (), asked.symbols.which, asked.symbols.selection)?;
+    let tables = read(
+        alloc,
+        source,
+        &mut (),
+        asked.symbols.which,
+        asked.symbols.selection,
+    )?;
     show_tables(alloc, asked.kind, &tables, out)
 }
 

@@ -12,6 +12,41 @@ pub type Word = u32;
 
 pub type XWord = u64;
 
+/// The class of a file (`EI_CLASS`), by the width of its words.
+#[derive(Debug, Clone, Copy, PartialEq)]
+pub enum Width {
+    /// `ELFCLASS32`
+    Bits32,
+    /// `ELFCLASS64`
+    Bits64,
+}
+
+impl Width {
+    /// The length of the file header in bytes.
+    pub fn header_length(self) -> usize {
+        match self {
+            Width::Bits32 => 52,
+            Width::Bits64 => 64,
+        }
+    }
+
+    /// The length of a section header in bytes.
+    pub fn section_length(self) -> usize {
+        match self {
+            Width::Bits32 => 40,
+            Width::Bits64 => 64,
+        }
+    }
+
+    /// The length of a symbol table entry in bytes.
+    pub fn symbol_length(self) -> usize {
+        match self {
+            Width::Bits32 => 16,
+            Width::Bits64 => 24,
+        }
+    }
+}
+
 /// A row of a symbol table, with values of the wider class's widths.
 #[derive(Clone, Copy)]
 pub struct SymbolRow {
@@ -33,17 +68,14 @@ pub trait Class: RawNumber + Copy {
     /// The length of a section header in bytes.
     const SECTION_LENGTH: usize;
 
-    /// The length of a symbol table entry in bytes.
-    const SYMBOL_LENGTH: usize;
+    /// The class as a value.
+    fn width() -> Width;
 
     /// The word in the wider class's type.
     fn widened(self) -> u64;
 
     /// How many entries of a size there are in this size; 0 where the entry size is 0.
     fn entries_of(self, entry_size: Self) -> Self;
-
-    /// The row at `start`; refused where it is truncated.
-    fn symbol(bytes: &[u8], start: usize, byte_order: ByteOrder) -> Result<SymbolRow, UnexpectedEof>;
 }
 
 impl Class for u32 {
@@ -51,7 +83,9 @@ impl Class for u32 {
 
     const SECTION_LENGTH: usize = 40;
 
-    const SYMBOL_LENGTH: usize = 16;
+    fn width() -> Width {
+        Width::Bits32
+    }
 
     fn widened(self) -> u64 {
         u64::from(self)
@@ -60,16 +94,6 @@ impl Class for u32 {
     fn entries_of(self, entry_size: u32) -> u32 {
         self.checked_div(entry_size).unwrap_or(0)
     }
-
-    #[inline]
-    fn symbol(
-        bytes: &[u8],
-        start: usize,
-        byte_order: ByteOrder,
-    ) -> Result<SymbolRow, UnexpectedEof> {
-        let row = slice_at(bytes, start, 16)?;
-        row_of_32(row, byte_order)
-    }
 }
 
 impl Class for u64 {
@@ -77,7 +101,9 @@ impl Class for u64 {
 
     const SECTION_LENGTH: usize = 64;
 
-    const SYMBOL_LENGTH: usize = 24;
+    fn width() -> Width {
+        Width::Bits64
+    }
 
     fn widened(self) -> u64 {
         self
@@ -86,16 +112,32 @@ impl Class for u64 {
     fn entries_of(self, entry_size: u64) -> u64 {
         self.checked_div(entry_size).unwrap_or(0)
     }
+}
 
-    #[inline]
-    fn symbol(
-        bytes: &[u8],
-        start: usize,
-        byte_order: ByteOrder,
-    ) -> Result<SymbolRow, UnexpectedEof> {
-        let row = slice_at(bytes, start, 24)?;
-        row_of_64(row, byte_order)
+/// The row at `start` of a symbol table of this class; refused where it is truncated.
+#[cfg_attr(not(debug_assertions), inline(always))]
+pub fn row_at(
+    width: Width,
+    bytes: &[u8],
+    start: usize,
+    byte_order: ByteOrder,
+) -> Result<SymbolRow, UnexpectedEof> {
+    match width {
+        Width::Bits32 => row_at_32(bytes, start, byte_order),
+        Width::Bits64 => row_at_64(bytes, start, byte_order),
     }
+}
+
+#[inline]
+fn row_at_32(bytes: &[u8], start: usize, byte_order: ByteOrder) -> Result<SymbolRow, UnexpectedEof> {
+    let row = slice_at(bytes, start, 16)?;
+    row_of_32(row, byte_order)
+}
+
+#[inline]
+fn row_at_64(bytes: &[u8], start: usize, byte_order: ByteOrder) -> Result<SymbolRow, UnexpectedEof> {
+    let row = slice_at(bytes, start, 24)?;
+    row_of_64(row, byte_order)
 }
 
 // The row of a 32-bit file at the front of these bytes; refused where it is truncated. For a slice of one row, whose

@@ -1,66 +1,160 @@
 // From crates/binfarce_elf/src/parts.rt, by tools/erase.
 
-//! The sections that the symbols of one section, or of all sections, need, found in the section headers alone.
+//! What is read of files of either class: where the section headers are, and what is found in these alone.
 
-use crate::erased::binfarce_elf::all::{AllFunctions, needed_of_all};
-use crate::erased::binfarce_elf::class::{Class, Half, Word};
+use crate::erased::binfarce_elf::class::{Class, Half, Width, Word};
+use crate::erased::binfarce_elf::header::parse_header;
 use crate::erased::binfarce_elf::sections::{
-    Section, Sections, Table, is_named, name_at, section_at, sections_of,
+    self, Section, Sections, Table, is_named, name_at, names_bytes, section_table, sections_of,
 };
 use crate::erased::binfarce_elf::symbol_table::SymbolTable;
-use crate::erased::binfarce_elf::symbols::{Needed, TableSections, needed_of};
+use crate::erased::binfarce_elf::symbols::{Needed, needed_of};
+use crate::erased::binfarce_bytes::functions::Selection;
+use crate::erased::binfarce_bytes::parser::UnexpectedEof;
 use crate::erased::binfarce_bytes::{ByteOrder, ParseError};
 
-/// The sections that the symbols of a section need, found in `count` section headers, whose names are in `names`.
-/// Refused as `functions` and `dynamic_functions` of a reader are, up to the string table's type.
-pub fn needed_sections<C: Class>(
-    headers: &[u8],
-    byte_order: ByteOrder,
-    count: Half,
-    names: Option<&[u8]>,
-    which: SymbolTable,
-    section_name: &str,
-) -> Result<Needed<C>, ParseError> {
-    needed_of::<C>(
-        headers_alone(headers, byte_order, count),
-        names,
-        which,
-        section_name,
-    )
+/// Where the section headers of a file are, and the file's type, as its header states.
+#[derive(Clone, Copy)]
+pub struct Place {
+    pub byte_order: ByteOrder,
+    pub shoff: usize,
+    pub shnum: Half,
+    pub shstrndx: Half,
+    pub elf_type: Half,
 }
 
-/// The sections of this symbol table, found in `count` section headers. Refused as `all_functions` of a reader is, up to
-/// the string table's type.
-pub fn needed_table<C: Class>(
-    headers: &[u8],
+/// The place that the header of a file of this class states. `UnexpectedEof` where the header is truncated.
+pub fn place_in(file: &[u8], width: Width, byte_order: ByteOrder) -> Result<Place, ParseError> {
+    match width {
+        Width::Bits32 => place_of::<u32>(file, byte_order),
+        Width::Bits64 => place_of::<u64>(file, byte_order),
+    }
+}
+
+fn place_of<C: Class>(file: &[u8], byte_order: ByteOrder) -> Result<Place, ParseError> {
+    let header = parse_header::<C>(file, byte_order)?;
+    Ok(Place {
+        byte_order,
+        shoff: header.shoff.widened() as usize,
+        shnum: header.shnum,
+        shstrndx: header.shstrndx,
+        elf_type: header.elf_type,
+    })
+}
+
+/// The section header at `start` in a file of this class; refused where it is truncated.
+#[cfg_attr(not(debug_assertions), inline(always))]
+pub fn section_at(
+    bytes: &[u8],
+    start: usize,
+    width: Width,
     byte_order: ByteOrder,
-    count: Half,
+    index: Half,
+) -> Result<Section<u64>, UnexpectedEof> {
+    match width {
+        Width::Bits32 => Ok(sections::section_at::<u32>(
+            bytes, start, byte_order, index,
+        )?.widened()),
+        Width::Bits64 => sections::section_at::<u64>(bytes, start, byte_order, index),
+    }
+}
+
+/// What the symbols of a selection need, found in the section headers of a file, whose names are in `names`. Refused as
+/// `functions` of a reader is, up to the string table's type.
+pub fn needed_in(
+    headers: &[u8],
+    width: Width,
+    place: Place,
+    names: Option<&[u8]>,
     which: SymbolTable,
-) -> Result<TableSections<C>, ParseError> {
-    let table = headers_alone(headers, byte_order, count);
-    needed_of_all::<C>(table, which)
+    selection: Selection<'_>,
+) -> Result<Needed, ParseError> {
+    let table = headers_alone(headers, place.byte_order, place.shnum);
+    match width {
+        Width::Bits32 => needed_of::<u32>(table, names, which, selection),
+        Width::Bits64 => needed_of::<u64>(table, names, which, selection),
+    }
+}
+
+/// An iterator over the sections of a file of either class, in file order, with values of the wider class's types.
+#[must_use = "iterators are lazy and do nothing unless consumed"]
+pub enum AnySections<'a> {
+    Narrow(Sections<'a, u32>),
+    Wide(Sections<'a, u64>),
+}
+
+impl<'a> Iterator for AnySections<'a> {
+    type Item = Result<Section<u64>, ParseError>;
+
+    fn next(&mut self) -> Option<Result<Section<u64>, ParseError>> {
+        match self {
+            AnySections::Narrow(sections) => match sections.next() {
+                Some(Ok(section)) => Some(Ok(section.widened())),
+                Some(Err(e)) => Some(Err(e)),
+                None => None,
+            },
+            AnySections::Wide(sections) => sections.next(),
+        }
+    }
 }
 
 /// The sections of `count` section headers, in order; `UnexpectedEof` where a header is truncated, or there are no
 /// bytes.
-pub fn sections_in<C: Class>(headers: &[u8], byte_order: ByteOrder, count: Half) -> Sections<'_, C> {
-    sections_of::<C>(headers_alone(headers, byte_order, count))
+pub fn sections_in(
+    headers: &[u8],
+    width: Width,
+    byte_order: ByteOrder,
+    count: Half,
+) -> AnySections<'_> {
+    let table = headers_alone(headers, byte_order, count);
+    match width {
+        Width::Bits32 => AnySections::Narrow(sections_of::<u32>(table)),
+        Width::Bits64 => AnySections::Wide(sections_of::<u64>(table)),
+    }
+}
+
+/// The sections of a file of this class, in order, and the section names, where the file has them. Nothing is copied.
+/// `UnexpectedEof` where the file header is truncated.
+pub fn sections_of_file(
+    file: &[u8],
+    width: Width,
+    byte_order: ByteOrder,
+) -> Result<(AnySections<'_>, Option<&[u8]>), ParseError> {
+    match width {
+        Width::Bits32 => {
+            let table = table_in::<u32>(file, byte_order)?;
+            let left = AnySections::Narrow(sections_of::<u32>(table));
+            Ok((left, names_bytes::<u32>(table)))
+        }
+        Width::Bits64 => {
+            let table = table_in::<u64>(file, byte_order)?;
+            let left = AnySections::Wide(sections_of::<u64>(table));
+            Ok((left, names_bytes::<u64>(table)))
+        }
+    }
+}
+
+fn table_in<C: Class>(file: &[u8], byte_order: ByteOrder) -> Result<Table<'_>, ParseError> {
+    let header = parse_header::<C>(file, byte_order)?;
+    Ok(section_table(file, byte_order, &header))
 }
 
 /// The section's name in these section names.
-pub fn name_in<'a, C: Class>(names: Option<&'a [u8]>, section: &Section<C>) -> Option<&'a str> {
+pub fn name_in<'a>(names: Option<&'a [u8]>, section: &Section<u64>) -> Option<&'a str> {
     name_at(names, section.name_offset)
 }
 
 /// Whether this is the section's name in these section names.
-pub fn is_named_in<C: Class>(names: Option<&[u8]>, section: &Section<C>, name: &str) -> bool {
+pub fn is_named_in(names: Option<&[u8]>, section: &Section<u64>, name: &str) -> bool {
     is_named(names, section.name_offset, name)
 }
 
 /// The name among these section names of the section of this index, one of `count` section headers.
-pub fn name_of_index<'a, C: Class>(
+#[cfg_attr(not(debug_assertions), inline(always))]
+pub fn name_of_index<'a>(
     headers: &[u8],
     names: Option<&'a [u8]>,
+    width: Width,
     byte_order: ByteOrder,
     count: Half,
     index: Word,
@@ -68,8 +162,8 @@ pub fn name_of_index<'a, C: Class>(
     if index >= u32::from(count) {
         return None;
     }
-    let start = index as usize * C::SECTION_LENGTH;
-    match section_at::<C>(headers, start, byte_order, index as Half) {
+    let start = index as usize * width.section_length();
+    match section_at(headers, start, width, byte_order, index as Half) {
         Ok(section) => name_at(names, section.name_offset),
         Err(_) => None,
     }
@@ -84,14 +178,4 @@ fn headers_alone(headers: &[u8], byte_order: ByteOrder, count: Half) -> Table<'_
         shnum: count,
         shstrndx: 0,
     }
-}
-
-/// The function symbols of so many sections in whole rows, whose names are in these strings.
-pub fn all_functions_in<'a, C: Class>(
-    rows: &'a [u8],
-    strings: &'a [u8],
-    byte_order: ByteOrder,
-    count: Half,
-) -> AllFunctions<'a, C> {
-    AllFunctions::new(rows, strings, byte_order, count)
 }

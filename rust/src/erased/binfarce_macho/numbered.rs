@@ -1,11 +1,13 @@
 // From crates/binfarce_macho/src/numbered.rt, by tools/erase.
 
-//! The sections of a file by their numbers: where their structures begin, and their names.
+//! The sections of a file by their numbers, and those that a selection takes.
 
 use crate::shim::{String, Vec};
 use crate::erased::binfarce_macho::commands::{LC_SEGMENT_64, commands};
 use crate::erased::binfarce_macho::header::MachoHeader;
 use crate::erased::binfarce_macho::sections::{SECTION_LENGTH, Section, section_at};
+use crate::erased::binfarce_macho::symbols::{Extent, text_extent};
+use crate::erased::binfarce_bytes::functions::Selection;
 use crate::erased::binfarce_bytes::parser::number_at;
 use crate::erased::binfarce_bytes::{ByteOrder, ParseError};
 use crate::shim::alloc::{AllocError, Global};
@@ -13,13 +15,78 @@ use crate::shim::alloc::{AllocError, Global};
 // The greatest number of a section that a row can state (`MAX_SECT`).
 pub(crate) const MAX_SECT: u8 = 255;
 
-/// Where the structures of a file's sections begin, in the order of the sections' numbers, up to number 255. Refused as
-/// `find_section` of a reader is with a callback that accepts none; `OutOfMemory` comes only where the file has a section.
-pub fn section_starts(
+// `S_ATTR_PURE_INSTRUCTIONS` and `S_ATTR_SOME_INSTRUCTIONS`.
+const S_ATTR_INSTRUCTIONS: u32 = 0x8000_0400;
+
+/// A section: where it is in memory, whether it holds instructions, and its name as `SEGMENT,SECTION`, `None` where one of
+/// the two isn't valid.
+pub struct NumberedSection {
+    pub extent: Extent,
+    pub has_instructions: bool,
+    pub name: Option<String>,
+}
+
+/// The selected sections of a file.
+pub enum SelectedSections {
+    /// The text.
+    Text(Extent),
+    /// All, in the order of their numbers.
+    All(Vec<NumberedSection>),
+}
+
+impl SelectedSections {
+    /// The text's size in bytes, and 0 in a file without a symbol table; `None` for all sections.
+    pub fn size(&self, has_symbols: bool) -> Option<u64> {
+        match self {
+            SelectedSections::Text(text) => Some(if has_symbols { text.size } else { 0 }),
+            SelectedSections::All(_) => None,
+        }
+    }
+
+    /// The name of the section of this number, `SEGMENT,SECTION`; nothing is copied. `None` where there is no such section,
+    /// where one of its two names isn't valid, and for the text alone.
+    pub fn name(&self, number: u32) -> Option<&str> {
+        match self {
+            SelectedSections::Text(_) => None,
+            SelectedSections::All(sections) => name_of(sections, number),
+        }
+    }
+
+    /// Whether the sections share addresses: all those of an object file may.
+    pub fn share_addresses(&self, is_object: bool) -> bool {
+        match self {
+            SelectedSections::Text(_) => false,
+            SelectedSections::All(_) => is_object,
+        }
+    }
+}
+
+fn name_of(sections: &[NumberedSection], number: u32) -> Option<&str> {
+    let index = (number as usize).checked_sub(1)?;
+    match &sections.get(index)?.name {
+        None => None,
+        Some(name) => Some(name.as_str()),
+    }
+}
+
+/// The selected sections of a file with this header. A text is refused where it is missing or empty, and sections are as
+/// `find_section` of a reader is with a callback that accepts none. `OutOfMemory` comes only where all are selected and
+/// there is one.
+pub fn selected_sections(
     alloc: Global,
     file: &[u8],
     header: MachoHeader,
-) -> Result<Vec<usize>, ParseError> {
+    selection: Selection<'_>,
+) -> Result<SelectedSections, ParseError> {
+    match selection {
+        Selection::Section(_) => Ok(SelectedSections::Text(text_extent(file, header)?)),
+        Selection::All => Ok(SelectedSections::All(numbered_sections(alloc, file, header)?)),
+    }
+}
+
+// Where the structures of a file's sections begin, in the order of the sections' numbers, up to number 255. Refused as
+// `find_section` of a reader is with a callback that accepts none; `OutOfMemory` comes only where the file has a section.
+fn section_starts(alloc: Global, file: &[u8], header: MachoHeader) -> Result<Vec<usize>, ParseError> {
     let mut starts = Vec::new(alloc);
     for item in commands(file, header) {
         let command = item?;
@@ -58,18 +125,49 @@ fn push_starts(starts: &mut Vec<usize>, body: usize, count: usize) -> Result<(),
     Ok(())
 }
 
-/// The names of the sections whose structures begin there, as `SEGMENT,SECTION`; `None` for a section of which one of the two
-/// isn't valid.
-pub fn section_names(
+// The sections of a file with this header, in the order of their numbers.
+fn numbered_sections(
+    alloc: Global,
+    file: &[u8],
+    header: MachoHeader,
+) -> Result<Vec<NumberedSection>, ParseError> {
+    let starts = section_starts(alloc, file, header)?;
+    Ok(sections_at(alloc, file, &starts)?)
+}
+
+// The sections whose structures begin there.
+fn sections_at(
     alloc: Global,
     file: &[u8],
     starts: &[usize],
-) -> Result<Vec<Option<String>>, AllocError> {
-    let mut names = Vec::new(alloc);
+) -> Result<Vec<NumberedSection>, AllocError> {
+    let mut sections = Vec::new(alloc);
     for start in starts {
-        names.push(name_at(alloc, file, *start)?)?;
+        sections.push(numbered_at(alloc, file, *start)?)?;
     }
-    Ok(names)
+    Ok(sections)
+}
+
+fn numbered_at(alloc: Global, file: &[u8], start: usize) -> Result<NumberedSection, AllocError> {
+    Ok(NumberedSection {
+        extent: extent_at(file, start),
+        has_instructions: has_instructions(file, start),
+        name: name_at(alloc, file, start)?,
+    })
+}
+
+fn extent_at(file: &[u8], start: usize) -> Extent {
+    Extent {
+        address: number_at(file, start + 32, ByteOrder::LittleEndian).unwrap(),
+        size: number_at(file, start + 40, ByteOrder::LittleEndian).unwrap(),
+    }
+}
+
+fn has_instructions(file: &[u8], start: usize) -> bool {
+    match number_at::<u32>(file, start + 64, ByteOrder::LittleEndian) {
+        Ok(flags) => flags & S_ATTR_INSTRUCTIONS != 0,
+        Err(_) => false,
+    }
 }
 
 fn name_at(alloc: Global, file: &[u8], start: usize) -> Result<Option<String>, AllocError> {

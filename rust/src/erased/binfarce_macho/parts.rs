@@ -1,54 +1,14 @@
 // From crates/binfarce_macho/src/parts.rt, by tools/erase.
 
-//! The tables that the function symbols of a file need, found in its header and its load commands alone.
+//! Where the load commands of a file lie, and whether they are held by its first bytes.
 
 use crate::erased::binfarce_macho::commands::{
     COMMAND_HEAD, Command, LC_SEGMENT_64, LC_SYMTAB, command_at,
 };
 use crate::erased::binfarce_macho::header::{HEADER_LENGTH, MachoHeader};
-use crate::erased::binfarce_macho::sections::{SECTION_LENGTH, Section};
-pub use crate::erased::binfarce_macho::symbols::{
-    Located, SYMBOL_LENGTH, SymbolTable, functions_of, text_end,
-};
-use crate::erased::binfarce_macho::symbols::{
-    some_size, symbol_command, symbol_table_at, text_section,
-};
+use crate::erased::binfarce_macho::sections::SECTION_LENGTH;
+use crate::erased::binfarce_bytes::ByteOrder;
 use crate::erased::binfarce_bytes::parser::number_at;
-use crate::erased::binfarce_bytes::{ByteOrder, ParseError};
-
-/// The text section, and the symbol table's command, if any. The section's names are slices of the file.
-#[derive(Clone, Copy)]
-pub struct Needed<'a> {
-    pub text: Section<'a>,
-    pub table: Option<SymbolTable>,
-}
-
-/// The tables that the function symbols of a file with this header need. Refused as `functions` of a reader is, up to
-/// the symbol table's command.
-pub fn needed_tables(file: &[u8], header: MachoHeader) -> Result<Needed<'_>, ParseError> {
-    let found = text_section(file, header)?;
-    let text = some_size(found)?;
-    let command = symbol_command(file, header)?;
-    let table = named_table(file, command)?;
-    Ok(Needed { text, table })
-}
-
-/// What the command of the symbol table names, of a file that has this header; `None` without such a command. Refused as
-/// `functions` of a reader is, up to there.
-pub fn symbol_table(file: &[u8], header: MachoHeader) -> Result<Option<SymbolTable>, ParseError> {
-    let command = symbol_command(file, header)?;
-    named_table(file, command)
-}
-
-pub(crate) fn named_table(
-    bytes: &[u8],
-    command: Option<Command>,
-) -> Result<Option<SymbolTable>, ParseError> {
-    match command {
-        None => Ok(None),
-        Some(command) => Ok(Some(symbol_table_at(bytes, command)?)),
-    }
-}
 
 /// Where the load commands end, as the header states (`sizeofcmds`).
 pub fn commands_end(header: MachoHeader) -> usize {

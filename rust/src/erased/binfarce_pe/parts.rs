@@ -2,14 +2,11 @@
 
 //! The tables that the symbols of a file need, found in the file header and the section headers alone.
 
-use crate::shim::Vec;
 use crate::erased::binfarce_pe::header::{PeHeader, header_after};
-use crate::erased::binfarce_pe::sections::Table;
-use crate::erased::binfarce_pe::symbols::{SYMBOL_LENGTH, SymbolTable, functions_of, text_among};
-use crate::erased::binfarce_bytes::functions::FunctionSymbol;
+use crate::erased::binfarce_pe::sections::{Table, section_named};
+use crate::erased::binfarce_pe::symbols::SYMBOL_LENGTH;
 use crate::erased::binfarce_bytes::parser::number_at;
 use crate::erased::binfarce_bytes::{ByteOrder, ParseError};
-use crate::shim::alloc::{AllocError, Global};
 
 /// The position in the MS-DOS stub of the signature's offset.
 pub const SIGNATURE_POINTER: usize = 0x3c;
@@ -73,28 +70,11 @@ pub fn places_after(signature: u32, header: PeHeader) -> Places {
     }
 }
 
-/// The first section `.text`, found in `count` section headers. Refused as `functions` of a reader is, up to
-/// `SymbolsSectionIsMissing`.
-pub fn text_in(headers: &[u8], count: u16) -> Result<Text, ParseError> {
-    let table = Table {
-        bytes: headers,
-        offset: 0,
-        count,
-    };
-    let text = text_among(table)?;
+/// The first section `.text` of a table. Refused as `functions` of a reader is, up to `SymbolsSectionIsMissing`.
+pub fn text_in(table: Table<'_>) -> Result<Text, ParseError> {
+    let text = section_named(table, ".text")?.ok_or(ParseError::SymbolsSectionIsMissing)?;
     Ok(Text {
         index: text.index,
         size: text.size_of_raw_data,
     })
-}
-
-/// The function symbols of this section in these records, whose long names are in these strings. `OutOfMemory` only
-/// instead of a list that isn't empty.
-pub fn functions_in<'a>(
-    alloc: Global,
-    rows: &'a [u8],
-    strings: &'a [u8],
-    text: Text,
-) -> Result<Vec<FunctionSymbol<'a>>, AllocError> {
-    functions_of(alloc, SymbolTable { rows, strings }, text.index, text.size)
 }

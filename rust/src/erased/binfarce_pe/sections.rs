@@ -52,12 +52,12 @@ pub struct Sections<'a> {
     next: Option<u16>,
 }
 
-// Section headers: the bytes that hold them, their offset in these bytes, and their number.
+/// Section headers: the bytes that hold them, their offset in these bytes, and their number.
 #[derive(Clone, Copy)]
-pub(crate) struct Table<'a> {
-    pub(crate) bytes: &'a [u8],
-    pub(crate) offset: usize,
-    pub(crate) count: u16,
+pub struct Table<'a> {
+    pub bytes: &'a [u8],
+    pub offset: usize,
+    pub count: u16,
 }
 
 /// All sections of a file whose tables are at these places.

@@ -75,8 +75,7 @@ pub(crate) fn first_in<'a>(
     name: &str,
 ) -> Result<Option<Section<'a>>, ParseError> {
     match sections {
-        Sections::Elf32(sections) => sections.first_named(name),
-        Sections::Elf64(sections) => sections.first_named(name),
+        Sections::Elf(sections) => sections.first_named(name),
         sections => first_of(sections, name),
     }
 }

@@ -3,9 +3,11 @@
 //! The sections of a file of any format, one after the other.
 
 use crate::erased::binfarce_sections::error::SectionError;
-use crate::erased::binfarce::{
-    ByteOrder, Format, ParseError, detect_format, elf32, elf64, macho, pe,
-};
+use crate::erased::binfarce::{ByteOrder, Format, ParseError, detect_format, macho, pe};
+use crate::erased::binfarce_elf::parts::{AnySections, is_named_in, name_in, sections_of_file};
+use crate::erased::binfarce_elf::sections as elf_sections;
+use crate::erased::binfarce_tables::Width;
+use crate::erased::binfarce_tables::elf::SectionParts;
 
 /// A section of a file of any format. Its names are slices of the file; nothing is copied.
 #[derive(Debug, Clone, Copy)]
@@ -32,34 +34,15 @@ pub struct Section<'a> {
 /// A section is read on demand. An error is given for one that can't be read; nothing follows it.
 #[must_use = "iterators are lazy and do nothing unless consumed"]
 pub enum Sections<'a> {
-    Elf32(Elf32Sections<'a>),
-    Elf64(Elf64Sections<'a>),
+    Elf(ElfSections<'a>),
     Macho(macho::Sections<'a>),
     Pe(pe::Sections<'a>),
 }
 
-/// The sections of a 32-bit ELF file that are left, with the source of their names.
-pub struct Elf32Sections<'a> {
-    names: Elf32Names<'a>,
-    left: elf32::Sections<'a>,
-}
-
-// The source of the names of a 32-bit ELF file's sections: the whole file, or its parts that were read.
-enum Elf32Names<'a> {
-    File(elf32::Elf32<'a>),
-    Parts(&'a crate::erased::binfarce_tables::elf32::SectionParts),
-}
-
-/// The sections of a 64-bit ELF file that are left, with the source of their names.
-pub struct Elf64Sections<'a> {
-    names: Elf64Names<'a>,
-    left: elf64::Sections<'a>,
-}
-
-// The source of the names of a 64-bit ELF file's sections: the whole file, or its parts that were read.
-enum Elf64Names<'a> {
-    File(elf64::Elf64<'a>),
-    Parts(&'a crate::erased::binfarce_tables::elf64::SectionParts),
+/// The sections of an ELF file that are left, and the bytes of the section names, where the file has them.
+pub struct ElfSections<'a> {
+    names: Option<&'a [u8]>,
+    left: AnySections<'a>,
 }
 
 impl<'a> Iterator for Sections<'a> {
@@ -67,8 +50,7 @@ impl<'a> Iterator for Sections<'a> {
 
     fn next(&mut self) -> Option<Result<Section<'a>, ParseError>> {
         match self {
-            Sections::Elf32(sections) => sections.next(),
-            Sections::Elf64(sections) => sections.next(),
+            Sections::Elf(sections) => sections.next(),
             Sections::Macho(left) => next_macho(left),
             Sections::Pe(left) => next_pe(left),
         }
@@ -82,40 +64,24 @@ impl<'a> Iterator for Sections<'a> {
 /// `Unknown` where the format isn't supported; `Parse` where the file is too short for its header.
 pub fn sections_of(file: &[u8]) -> Result<Sections<'_>, SectionError> {
     match detect_format(file) {
-        Format::Elf32 { byte_order } => Ok(open_elf32(file, byte_order)?),
-        Format::Elf64 { byte_order } => Ok(open_elf64(file, byte_order)?),
+        Format::Elf32 { byte_order } => Ok(open_elf(file, Width::Bits32, byte_order)?),
+        Format::Elf64 { byte_order } => Ok(open_elf(file, Width::Bits64, byte_order)?),
         Format::Macho => Ok(open_macho(file)?),
         Format::PE => Ok(open_pe(file)?),
         Format::Unknown => Err(SectionError::Unknown),
     }
 }
 
-fn open_elf32(bytes: &[u8], byte_order: ByteOrder) -> Result<Sections<'_>, ParseError> {
-    let file = elf32::parse(bytes, byte_order)?;
-    let left = file.sections();
-    let names = Elf32Names::File(file);
-    Ok(Sections::Elf32(Elf32Sections { names, left }))
+fn open_elf(bytes: &[u8], width: Width, byte_order: ByteOrder) -> Result<Sections<'_>, ParseError> {
+    let (left, names) = sections_of_file(bytes, width, byte_order)?;
+    Ok(Sections::Elf(ElfSections { names, left }))
 }
 
 // The sections of a file, from its parts that were read.
-pub(crate) fn elf32_sections(parts: &crate::erased::binfarce_tables::elf32::SectionParts) -> Sections<'_> {
+pub(crate) fn elf_sections_of(parts: &SectionParts) -> Sections<'_> {
+    let names = parts.names();
     let left = parts.sections();
-    let names = Elf32Names::Parts(parts);
-    Sections::Elf32(Elf32Sections { names, left })
-}
-
-fn open_elf64(bytes: &[u8], byte_order: ByteOrder) -> Result<Sections<'_>, ParseError> {
-    let file = elf64::parse(bytes, byte_order)?;
-    let left = file.sections();
-    let names = Elf64Names::File(file);
-    Ok(Sections::Elf64(Elf64Sections { names, left }))
-}
-
-// The sections of a file, from its parts that were read.
-pub(crate) fn elf64_sections(parts: &crate::erased::binfarce_tables::elf64::SectionParts) -> Sections<'_> {
-    let left = parts.sections();
-    let names = Elf64Names::Parts(parts);
-    Sections::Elf64(Elf64Sections { names, left })
+    Sections::Elf(ElfSections { names, left })
 }
 
 pub(crate) fn open_macho(bytes: &[u8]) -> Result<Sections<'_>, ParseError> {
@@ -128,11 +94,11 @@ pub(crate) fn open_pe(bytes: &[u8]) -> Result<Sections<'_>, ParseError> {
     Ok(Sections::Pe(file.sections()))
 }
 
-impl<'a> Elf32Sections<'a> {
+impl<'a> ElfSections<'a> {
     // The first section that is left, or why it can't be read.
     fn next(&mut self) -> Option<Result<Section<'a>, ParseError>> {
         match self.left.next() {
-            Some(Ok(section)) => Some(Ok(elf32_section(&self.names, section))),
+            Some(Ok(section)) => Some(Ok(elf_section(self.names, section))),
             Some(Err(e)) => Some(Err(e)),
             None => None,
         }
@@ -141,35 +107,11 @@ impl<'a> Elf32Sections<'a> {
     // The first section with this name, of those that are left. Names are compared and not read whole, since many long
     // ones can share their bytes.
     pub(crate) fn first_named(self, name: &str) -> Result<Option<Section<'a>>, ParseError> {
-        let Elf32Sections { names, left } = self;
+        let ElfSections { names, left } = self;
         for section in left {
             let section = section?;
-            if is_elf32_named(&names, &section, name) {
-                return Ok(Some(elf32_section(&names, section)));
-            }
-        }
-        Ok(None)
-    }
-}
-
-impl<'a> Elf64Sections<'a> {
-    // The first section that is left, or why it can't be read.
-    fn next(&mut self) -> Option<Result<Section<'a>, ParseError>> {
-        match self.left.next() {
-            Some(Ok(section)) => Some(Ok(elf64_section(&self.names, section))),
-            Some(Err(e)) => Some(Err(e)),
-            None => None,
-        }
-    }
-
-    // The first section with this name, of those that are left. Names are compared and not read whole, since many long
-    // ones can share their bytes.
-    pub(crate) fn first_named(self, name: &str) -> Result<Option<Section<'a>>, ParseError> {
-        let Elf64Sections { names, left } = self;
-        for section in left {
-            let section = section?;
-            if is_elf64_named(&names, &section, name) {
-                return Ok(Some(elf64_section(&names, section)));
+            if is_elf_named(names, &section, name) {
+                return Ok(Some(elf_section(names, section)));
             }
         }
         Ok(None)
@@ -192,35 +134,10 @@ fn next_pe<'a>(left: &mut pe::Sections<'a>) -> Option<Result<Section<'a>, ParseE
     }
 }
 
-fn elf32_section<'a>(names: &Elf32Names<'a>, section: elf32::Section) -> Section<'a> {
+fn elf_section<'a>(names: Option<&'a [u8]>, section: elf_sections::Section<u64>) -> Section<'a> {
     Section {
         segment: None,
-        name: elf32_name(names, &section),
-        address: u64::from(section.address()),
-        offset: u64::from(section.offset()),
-        size: u64::from(section.size()),
-        has_bytes: section.section_type() != SHT_NOBITS,
-    }
-}
-
-fn elf32_name<'a>(names: &Elf32Names<'a>, section: &elf32::Section) -> Option<&'a str> {
-    match names {
-        Elf32Names::File(file) => section.name(file),
-        Elf32Names::Parts(parts) => parts.name(section),
-    }
-}
-
-fn is_elf32_named(names: &Elf32Names<'_>, section: &elf32::Section, name: &str) -> bool {
-    match names {
-        Elf32Names::File(file) => section.is_named(file, name),
-        Elf32Names::Parts(parts) => parts.is_named(section, name),
-    }
-}
-
-fn elf64_section<'a>(names: &Elf64Names<'a>, section: elf64::Section) -> Section<'a> {
-    Section {
-        segment: None,
-        name: elf64_name(names, &section),
+        name: name_in(names, &section),
         address: section.address(),
         offset: section.offset(),
         size: section.size(),
@@ -228,18 +145,8 @@ fn elf64_section<'a>(names: &Elf64Names<'a>, section: elf64::Section) -> Section
     }
 }
 
-fn elf64_name<'a>(names: &Elf64Names<'a>, section: &elf64::Section) -> Option<&'a str> {
-    match names {
-        Elf64Names::File(file) => section.name(file),
-        Elf64Names::Parts(parts) => parts.name(section),
-    }
-}
-
-fn is_elf64_named(names: &Elf64Names<'_>, section: &elf64::Section, name: &str) -> bool {
-    match names {
-        Elf64Names::File(file) => section.is_named(file, name),
-        Elf64Names::Parts(parts) => parts.is_named(section, name),
-    }
+fn is_elf_named(names: Option<&[u8]>, section: &elf_sections::Section<u64>, name: &str) -> bool {
+    is_named_in(names, section, name)
 }
 
 fn macho_section(section: macho::Section<'_>) -> Section<'_> {

@@ -6,18 +6,17 @@ use crate::shim::Vec;
 use crate::erased::binfarce_sections::bytes::first_in;
 use crate::erased::binfarce_sections::error::SectionError;
 use crate::erased::binfarce_sections::sections::{
-    Section, Sections, elf32_sections, elf64_sections, open_macho, open_pe,
+    Section, Sections, elf_sections_of, open_macho, open_pe,
 };
 use crate::erased::binfarce::Format;
 use crate::erased::binfarce_bytes::source::Source;
 use crate::erased::binfarce_tables::format::read_format;
-use crate::erased::binfarce_tables::{Beginning, ReadError, elf32, elf64, macho, part, pe};
+use crate::erased::binfarce_tables::{Beginning, ReadError, Width, elf, macho, part, pe};
 use crate::shim::alloc::Global;
 
 // The tables of a file's sections.
 pub(crate) enum Tables {
-    Elf32(elf32::SectionParts),
-    Elf64(elf64::SectionParts),
+    Elf(elf::SectionParts),
     Macho(Beginning),
     Pe(Beginning),
     Unknown,
@@ -27,8 +26,7 @@ impl Tables {
     // The sections of the file.
     pub(crate) fn sections(&self) -> Result<Sections<'_>, SectionError> {
         match self {
-            Tables::Elf32(parts) => Ok(elf32_sections(parts)),
-            Tables::Elf64(parts) => Ok(elf64_sections(parts)),
+            Tables::Elf(parts) => Ok(elf_sections_of(parts)),
             Tables::Macho(beginning) => Ok(open_macho(beginning.bytes())?),
             Tables::Pe(beginning) => Ok(open_pe(beginning.bytes())?),
             Tables::Unknown => Err(SectionError::Unknown),
@@ -38,8 +36,7 @@ impl Tables {
     // How many bytes the file had.
     pub(crate) fn file_length(&self) -> u64 {
         match self {
-            Tables::Elf32(parts) => parts.file_length(),
-            Tables::Elf64(parts) => parts.file_length(),
+            Tables::Elf(parts) => parts.file_length(),
             Tables::Macho(beginning) => beginning.file_length(),
             Tables::Pe(beginning) => beginning.file_length(),
             Tables::Unknown => 0,
@@ -67,12 +64,12 @@ fn read_as<S: Source>(
 ) -> Result<Tables, ReadError> {
     match format {
         Format::Elf32 { byte_order } => {
-            let parts = elf32::read_sections(alloc, source, log, byte_order)?;
-            Ok(Tables::Elf32(parts))
+            let parts = elf::read_sections(alloc, source, log, Width::Bits32, byte_order)?;
+            Ok(Tables::Elf(parts))
         }
         Format::Elf64 { byte_order } => {
-            let parts = elf64::read_sections(alloc, source, log, byte_order)?;
-            Ok(Tables::Elf64(parts))
+            let parts = elf::read_sections(alloc, source, log, Width::Bits64, byte_order)?;
+            Ok(Tables::Elf(parts))
         }
         Format::Macho => {
             let beginning = macho::read_sections(alloc, source, log)?;

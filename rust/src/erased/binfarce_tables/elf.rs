@@ -1,141 +1,120 @@
 // From crates/binfarce_tables/src/elf.rt, by tools/erase.
 
-//! The parts of an ELF file of either class that have the function symbols of a section.
+//! The parts of an ELF file that have the function symbols of a selection.
 
 use crate::shim::Vec;
 use crate::erased::binfarce_tables::error::ReadError;
+pub use crate::erased::binfarce_tables::sections::{SectionParts, read_sections};
+use crate::erased::binfarce_bytes::functions::Selection;
 use crate::erased::binfarce_bytes::source::{Source, read_part};
 use crate::erased::binfarce_bytes::{ByteOrder, ParseError};
-use crate::erased::binfarce_elf::class::{Class, Half};
-use crate::erased::binfarce_elf::header::{Header, parse_header};
-use crate::erased::binfarce_elf::parts::needed_sections;
-use crate::erased::binfarce_elf::sections::{Section, section_at};
+use crate::erased::binfarce_elf::class::{Half, Width};
+use crate::erased::binfarce_elf::parts::{Place, needed_in, place_in, section_at};
+use crate::erased::binfarce_elf::sections::Section;
 use crate::erased::binfarce_elf::symbol_table::SymbolTable;
 use crate::erased::binfarce_elf::symbols::{
-    Functions, Needed, TableSections, functions_in, whole_rows,
+    Functions, Needed, TableSections, Taken, functions_in, whole_rows,
 };
 use crate::shim::alloc::Global;
 
-/// The parts of a file that have the function symbols of a section, in memory.
-pub struct Parts<C> {
+/// `ET_REL`, the type of an object file.
+const RELOCATABLE: Half = 1;
+
+/// The parts of a file that have the function symbols of a selection, and the sections' names, in memory.
+pub struct Parts {
+    sections: SectionParts,
     rows: Vec<u8>,
     strings: Vec<u8>,
-    byte_order: ByteOrder,
-    which: SymbolTable,
-    section: Section<C>,
+    taken: Taken,
 }
 
-impl<C: Class> Parts<C> {
-    /// The function symbols of the section as the file stores them, in the order of the symbol table, and the section's
-    /// size in bytes. Nothing is read or allocated: names are slices of the parts.
-    pub fn functions(&self) -> (Functions<'_, C>, u64) {
-        functions_in::<C>(
+impl Parts {
+    /// The function symbols of the selection as the file stores them, each with the index of its section, in the order
+    /// of the symbol table. Nothing is read or allocated: names are slices of the parts.
+    pub fn functions(&self) -> Functions<'_> {
+        functions_in(
             &self.rows,
             &self.strings,
-            self.byte_order,
-            self.which,
-            self.section,
+            self.sections.width,
+            self.sections.place.byte_order,
+            self.taken,
         )
+    }
+
+    /// The name of the section of this index, a slice of the parts; nothing is copied. `None` where there is no such
+    /// section, and where `name` of the section gives none.
+    pub fn section_name(&self, number: u32) -> Option<&str> {
+        self.sections.name_of(number)
+    }
+
+    /// Whether the selected sections share addresses: all those of an object file (`ET_REL`) do.
+    pub fn shares_addresses(&self) -> bool {
+        self.taken.size.is_none() && self.sections.place.elf_type == RELOCATABLE
     }
 }
 
-// Where the section headers of a file are, and the file's type, as its header states, and its byte order.
-#[derive(Clone, Copy)]
-pub(crate) struct Place {
-    pub(crate) byte_order: ByteOrder,
-    pub(crate) shoff: usize,
-    pub(crate) shnum: Half,
-    pub(crate) shstrndx: Half,
-    pub(crate) elf_type: Half,
-}
-
-/// The parts of the section with this name, by this symbol table. Refused as `functions` and `dynamic_functions` of a
-/// reader are.
-pub(crate) fn read_parts<C: Class, S: Source>(
+/// Reads the parts of a file of this class that have the function symbols of a selection, by this symbol table, and the
+/// section names, numbers in the given order. These are the file header of 52 or 64 bytes, the header of the section
+/// names' own section, the section names, all section headers, the symbol table and its strings. Each is read once, into
+/// memory of its size, which is never more than the file has of it. No other byte is read, except the first byte of a
+/// section header table without headers. The magic number isn't checked.
+///
+/// # Errors
+///
+/// `Refused` with the error of `parse` or `functions` of a reader of the whole file; `Unreadable` where the source can't
+/// be read at offsets, or a read of it fails, and never for a source that can't fail, such as bytes in memory;
+/// `OutOfMemory` where an allocation fails.
+pub fn read<S: Source>(
     alloc: Global,
     source: &S,
     log: &mut S::Log,
+    width: Width,
     byte_order: ByteOrder,
     which: SymbolTable,
-    section_name: &str,
-) -> Result<Parts<C>, ReadError> {
-    let len = source.length()? as usize;
-    let place = read_place::<C, S>(alloc, source, log, len, byte_order)?;
-    let needed = read_needed::<C, S>(alloc, source, log, len, place, which, section_name)?;
-    let table = read_rows::<C, S>(alloc, source, log, len, needed.table)?;
+    selection: Selection<'_>,
+) -> Result<Parts, ReadError> {
+    let sections = read_sections(alloc, source, log, width, byte_order)?;
+    let needed = needed_of(&sections, which, selection)?;
+    let len = sections.file_length as usize;
+    let table = read_rows(alloc, source, log, len, sections.width, needed.table)?;
     Ok(Parts {
+        sections,
         rows: table.rows,
         strings: table.strings,
-        byte_order: place.byte_order,
-        which,
-        section: needed.section,
+        taken: needed.taken,
     })
 }
 
-pub(crate) fn read_place<C: Class, S: Source>(
+// What a selection needs of these sections.
+fn needed_of(
+    sections: &SectionParts,
+    which: SymbolTable,
+    selection: Selection<'_>,
+) -> Result<Needed, ParseError> {
+    needed_in(
+        &sections.headers,
+        sections.width,
+        sections.place,
+        slice_of(&sections.names),
+        which,
+        selection,
+    )
+}
+
+pub(crate) fn read_place<S: Source>(
     alloc: Global,
     source: &S,
     log: &mut S::Log,
     len: usize,
+    width: Width,
     byte_order: ByteOrder,
 ) -> Result<Place, ReadError> {
-    let size = 40 + 3 * C::SIZE;
+    let size = width.header_length();
     if len < size {
         return Err(ReadError::Refused(ParseError::UnexpectedEof));
     }
     let bytes = part(alloc, source, log, 0, size)?;
-    let header = header_in::<C>(&bytes, byte_order)?;
-    Ok(Place {
-        byte_order,
-        shoff: header.shoff.widened() as usize,
-        shnum: header.shnum,
-        shstrndx: header.shstrndx,
-        elf_type: header.elf_type,
-    })
-}
-
-// The file header in a file's first bytes; refused where it is truncated.
-fn header_in<C: Class>(bytes: &[u8], byte_order: ByteOrder) -> Result<Header<C>, ParseError> {
-    Ok(parse_header(bytes, byte_order)?)
-}
-
-fn read_needed<C: Class, S: Source>(
-    alloc: Global,
-    source: &S,
-    log: &mut S::Log,
-    len: usize,
-    place: Place,
-    which: SymbolTable,
-    section_name: &str,
-) -> Result<Needed<C>, ReadError> {
-    if place.shoff >= len {
-        return Err(ReadError::Refused(ParseError::UnexpectedEof));
-    }
-    if place.shnum == 0 {
-        return Err(ReadError::Refused(ParseError::SymbolsSectionIsMissing));
-    }
-    let names = read_names::<C, S>(alloc, source, log, len, place)?;
-    let headers = read_headers::<C, S>(alloc, source, log, len, place)?;
-    Ok(needed_in::<C>(&headers, &names, place, which, section_name)?)
-}
-
-// The sections that are needed, among these section headers and section names.
-fn needed_in<C: Class>(
-    headers: &[u8],
-    names: &Option<Vec<u8>>,
-    place: Place,
-    which: SymbolTable,
-    section_name: &str,
-) -> Result<Needed<C>, ParseError> {
-    let names = slice_of(names);
-    needed_sections::<C>(
-        headers,
-        place.byte_order,
-        place.shnum,
-        names,
-        which,
-        section_name,
-    )
+    Ok(place_in(&bytes, width, byte_order)?)
 }
 
 pub(crate) fn slice_of(bytes: &Option<Vec<u8>>) -> Option<&[u8]> {
@@ -146,68 +125,72 @@ pub(crate) fn slice_of(bytes: &Option<Vec<u8>>) -> Option<&[u8]> {
 }
 
 // The section headers that are whole, up to the count.
-pub(crate) fn read_headers<C: Class, S: Source>(
+pub(crate) fn read_headers<S: Source>(
     alloc: Global,
     source: &S,
     log: &mut S::Log,
     len: usize,
+    width: Width,
     place: Place,
 ) -> Result<Vec<u8>, ReadError> {
-    let whole = len.saturating_sub(place.shoff) / C::SECTION_LENGTH;
+    let size = width.section_length();
+    let whole = len.saturating_sub(place.shoff) / size;
     let count = whole.min(place.shnum as usize);
-    part(alloc, source, log, place.shoff, count * C::SECTION_LENGTH)
+    part(alloc, source, log, place.shoff, count * size)
 }
 
 // The section names, where the file has them.
-pub(crate) fn read_names<C: Class, S: Source>(
+pub(crate) fn read_names<S: Source>(
     alloc: Global,
     source: &S,
     log: &mut S::Log,
     len: usize,
+    width: Width,
     place: Place,
 ) -> Result<Option<Vec<u8>>, ReadError> {
-    let size = C::SECTION_LENGTH;
+    let size = width.section_length();
     let whole = len.saturating_sub(place.shoff) / size;
     if place.shstrndx as usize >= whole {
         return Ok(None);
     }
     let start = place.shoff + place.shstrndx as usize * size;
     let header = part(alloc, source, log, start, size)?;
-    match section_at::<C>(&header, 0, place.byte_order, place.shstrndx) {
-        Ok(section) => read_contents::<C, S>(alloc, source, log, len, section),
+    match section_at(&header, 0, width, place.byte_order, place.shstrndx) {
+        Ok(section) => read_contents(alloc, source, log, len, section),
         Err(_) => Ok(None),
     }
 }
 
 // The strings and the rows of a symbol table.
-pub(crate) struct TableParts {
-    pub(crate) strings: Vec<u8>,
-    pub(crate) rows: Vec<u8>,
+struct TableParts {
+    strings: Vec<u8>,
+    rows: Vec<u8>,
 }
 
 // The bytes of a symbol table's sections; refused as those of a file in memory.
-pub(crate) fn read_rows<C: Class, S: Source>(
+fn read_rows<S: Source>(
     alloc: Global,
     source: &S,
     log: &mut S::Log,
     len: usize,
-    sections: TableSections<C>,
+    width: Width,
+    sections: TableSections,
 ) -> Result<TableParts, ReadError> {
-    let strings = read_section::<C, S>(alloc, source, log, len, sections.strings)?;
-    let rows = read_section::<C, S>(alloc, source, log, len, sections.symbols)?;
-    let _ = whole_rows::<C>(&rows)?;
+    let strings = read_section(alloc, source, log, len, sections.strings)?;
+    let rows = read_section(alloc, source, log, len, sections.symbols)?;
+    let _ = whole_rows(width, &rows)?;
     Ok(TableParts { strings, rows })
 }
 
 // The section's bytes, where they lie in the file.
-fn read_contents<C: Class, S: Source>(
+fn read_contents<S: Source>(
     alloc: Global,
     source: &S,
     log: &mut S::Log,
     len: usize,
-    section: Section<C>,
+    section: Section<u64>,
 ) -> Result<Option<Vec<u8>>, ReadError> {
-    match read_section::<C, S>(alloc, source, log, len, section) {
+    match read_section(alloc, source, log, len, section) {
         Ok(bytes) => Ok(Some(bytes)),
         Err(ReadError::Refused(_)) => Ok(None),
         Err(e) => Err(e),
@@ -215,12 +198,12 @@ fn read_contents<C: Class, S: Source>(
 }
 
 // The section's bytes; refused as those of a file in memory.
-pub(crate) fn read_section<C: Class, S: Source>(
+fn read_section<S: Source>(
     alloc: Global,
     source: &S,
     log: &mut S::Log,
     len: usize,
-    section: Section<C>,
+    section: Section<u64>,
 ) -> Result<Vec<u8>, ReadError> {
     let range = section.range()?;
     if range.end > len {

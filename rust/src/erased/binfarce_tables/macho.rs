@@ -6,76 +6,165 @@ use crate::shim::Vec;
 use crate::erased::binfarce_tables::beginning::Beginning;
 use crate::erased::binfarce_tables::elf::part;
 use crate::erased::binfarce_tables::error::ReadError;
-pub use crate::erased::binfarce_tables::macho_all::{AllParts, read_all};
 use crate::erased::binfarce_bytes::ParseError;
-use crate::erased::binfarce_bytes::functions::FunctionSymbol;
+use crate::erased::binfarce_bytes::functions::{SectionFunction, Selection};
 use crate::erased::binfarce_bytes::source::Source;
+use crate::erased::binfarce_macho::functions::functions_of;
 use crate::erased::binfarce_macho::header::{MachoHeader, parse_header};
-use crate::erased::binfarce_macho::parts::{self, Located, Needed, SYMBOL_LENGTH, SymbolTable};
-use crate::erased::binfarce_macho::sections::Section;
+use crate::erased::binfarce_macho::numbered::{SelectedSections, is_object, selected_sections};
+use crate::erased::binfarce_macho::parts::{commands_end, holds_commands};
+use crate::erased::binfarce_macho::symbols::{SYMBOL_LENGTH, SymbolBytes, SymbolTable, symbol_table};
 use crate::shim::alloc::Global;
 
 // The number of the header's bytes that are read.
-pub(crate) const HEADER: usize = 28;
+const HEADER: usize = 28;
 
-/// The parts of a file that have its function symbols, in memory.
+/// The parts of a file that have the function symbols of a selection, in memory.
 pub struct Parts {
-    tables: Option<Tables>,
+    sections: SelectedSections,
+    symbols: Option<SymbolParts>,
+    is_object: bool,
 }
 
-// Where the text ends, how long it is, the string table and the symbol table.
-struct Tables {
-    text_end: u64,
-    text_size: u64,
+// The string table and the symbol table.
+struct SymbolParts {
     strings: Vec<u8>,
     rows: Vec<u8>,
 }
 
 impl Parts {
-    /// The function symbols that `functions` of a reader of the whole file gives, in its order, and the text's size in
-    /// bytes. Nothing is read: names are slices of the parts.
+    /// The function symbols that a reader of the whole file gives for the selection, in its order. Nothing is read: names
+    /// are slices of the parts.
     ///
     /// # Errors
     ///
-    /// `MalformedInput` where a row that would be kept lies past the text's end with no address above it. `OutOfMemory`
-    /// only where the table has a value that isn't 0; it may replace that error.
-    pub fn functions(&self, alloc: Global) -> Result<(Vec<FunctionSymbol<'_>>, u64), ParseError> {
-        match &self.tables {
-            None => Ok((Vec::new(alloc), 0)),
-            Some(tables) => listed(alloc, tables),
-        }
+    /// `MalformedInput` where the text's end exceeds 64 bits, or a row that would be kept lies past it with no address
+    /// above it. `OutOfMemory` only where the text's table has a value that isn't 0, or where all sections are selected
+    /// and there is one; it may replace the second of these errors.
+    pub fn functions(&self, alloc: Global) -> Result<Vec<SectionFunction<'_>>, ParseError> {
+        functions_of(alloc, &self.sections, symbols_in(&self.symbols))
+    }
+
+    /// The text's size in bytes, 0 in a file without a symbol table; `None` where all sections are selected.
+    pub fn section_size(&self) -> Option<u64> {
+        self.sections.size(self.symbols.is_some())
+    }
+
+    /// The name of the section of this number, `SEGMENT,SECTION`; nothing is copied. `None` where there is no such section,
+    /// where one of its two names isn't valid, and where the text alone is selected.
+    pub fn section_name(&self, number: u32) -> Option<&str> {
+        self.sections.name(number)
+    }
+
+    /// Whether the selected sections share addresses: all those of an object file (`MH_OBJECT`) may.
+    pub fn shares_addresses(&self) -> bool {
+        self.sections.share_addresses(self.is_object)
     }
 }
 
-fn listed(alloc: Global, tables: &Tables) -> Result<(Vec<FunctionSymbol<'_>>, u64), ParseError> {
-    let found = Located {
-        text_end: tables.text_end,
-        text_size: tables.text_size,
-        strings: &tables.strings,
-        rows: &tables.rows,
-    };
-    parts::functions_of(alloc, found)
+fn symbols_in(symbols: &Option<SymbolParts>) -> Option<SymbolBytes<'_>> {
+    symbols.as_ref().map(bytes_of)
 }
 
-/// Reads the parts of a file that have its function symbols: the header of 28 bytes, the file's first bytes up to the
-/// end of the load commands that the header states (`sizeofcmds`), the string table and the symbol table. Each is read
-/// into memory of its size, which is never more than the file has of it. No other byte is read, unless the commands, or
-/// the sections of a segment command, extend past that end: then the whole file is read for them. The magic number
-/// isn't checked.
+fn bytes_of(symbols: &SymbolParts) -> SymbolBytes<'_> {
+    SymbolBytes {
+        strings: &symbols.strings,
+        rows: &symbols.rows,
+    }
+}
+
+/// Reads the parts of a file that have the function symbols of a selection: the header of 28 bytes, the file's first
+/// bytes up to the end of the load commands that the header states (`sizeofcmds`), the string table and the symbol
+/// table. Each is read into memory of its size, which is never more than the file has of it. No other byte is read,
+/// unless the commands, or the sections of a segment command, extend past that end: then the whole file is read for
+/// them. The magic number isn't checked.
 ///
 /// # Errors
 ///
-/// `Refused` with the error of `parse` or `functions` of a reader of the whole file, if it comes before they read the
-/// symbol table's rows; `Unreadable` where the source can't be read at offsets, or a read of it fails, and never for a
-/// source that can't fail, such as bytes in memory; `OutOfMemory` where an allocation fails.
-pub fn read<S: Source>(alloc: Global, source: &S, log: &mut S::Log) -> Result<Parts, ReadError> {
+/// `Refused` with the error of `parse`, or of a reader of the whole file for the selection, if it comes before they look
+/// at the text's end and the symbol table's rows; `Unreadable` where the source can't be read at offsets, or a read of
+/// it fails, and never for a source that can't fail, such as bytes in memory; `OutOfMemory` where an allocation fails.
+pub fn read<S: Source>(
+    alloc: Global,
+    source: &S,
+    log: &mut S::Log,
+    selection: Selection<'_>,
+) -> Result<Parts, ReadError> {
     let len = source.length()? as usize;
     if len < HEADER {
         return Err(ReadError::Refused(ParseError::UnexpectedEof));
     }
     let commands = read_commands(alloc, source, log, len)?;
-    let needed = needed_in(&commands)?;
-    read_tables(alloc, source, log, len, needed)
+    let found = found_in(alloc, &commands, selection)?;
+    let symbols = read_symbols(alloc, source, log, len, found.table)?;
+    Ok(Parts {
+        sections: found.sections,
+        symbols,
+        is_object: found.is_object,
+    })
+}
+
+// The content of the load commands: the selected sections, and where the symbol table is.
+struct Found {
+    sections: SelectedSections,
+    table: Option<SymbolTable>,
+    is_object: bool,
+}
+
+// What the load commands say, which these bytes of the file hold.
+fn found_in(alloc: Global, commands: &[u8], selection: Selection<'_>) -> Result<Found, ReadError> {
+    let header = header_in(commands)?;
+    let sections = match selected_sections(alloc, commands, header, selection) {
+        Ok(sections) => sections,
+        Err(e) => return Err(error_of(e)),
+    };
+    let table = symbol_table(commands, header)?;
+    Ok(Found {
+        sections,
+        table,
+        is_object: is_object(header),
+    })
+}
+
+// A failed allocation is returned as such, and any other error as a refusal.
+fn error_of(e: ParseError) -> ReadError {
+    match e {
+        ParseError::OutOfMemory => ReadError::OutOfMemory,
+        e => ReadError::Refused(e),
+    }
+}
+
+// The string table and the symbol table, where there is one.
+fn read_symbols<S: Source>(
+    alloc: Global,
+    source: &S,
+    log: &mut S::Log,
+    len: usize,
+    table: Option<SymbolTable>,
+) -> Result<Option<SymbolParts>, ReadError> {
+    let table = match table {
+        None => return Ok(None),
+        Some(table) => table,
+    };
+    let strings_at = table.strings_offset as usize;
+    let strings = read_table(
+        alloc,
+        source,
+        log,
+        len,
+        strings_at,
+        table.strings_size as usize,
+    )?;
+    let rows_size = SYMBOL_LENGTH * table.row_count as usize;
+    let rows = read_table(
+        alloc,
+        source,
+        log,
+        len,
+        table.symbol_offset as usize,
+        rows_size,
+    )?;
+    Ok(Some(SymbolParts { strings, rows }))
 }
 
 /// Reads the prefix of a file that has its sections: the header of 28 bytes, and the bytes up to the end of the load
@@ -103,7 +192,7 @@ pub fn read_sections<S: Source>(
 }
 
 // The prefix of the file that has the load commands.
-pub(crate) fn read_commands<S: Source>(
+fn read_commands<S: Source>(
     alloc: Global,
     source: &S,
     log: &mut S::Log,
@@ -127,81 +216,23 @@ fn read_end<S: Source>(
 ) -> Result<usize, ReadError> {
     let bytes = part(alloc, source, log, 0, HEADER)?;
     let header = header_in(&bytes)?;
-    Ok(parts::commands_end(header).min(len))
+    Ok(commands_end(header).min(len))
 }
 
 // The header in a file's first bytes; refused where it is truncated.
-pub(crate) fn header_in(bytes: &[u8]) -> Result<MachoHeader, ParseError> {
+fn header_in(bytes: &[u8]) -> Result<MachoHeader, ParseError> {
     Ok(parse_header(bytes)?)
 }
 
 fn are_held(commands: &[u8]) -> bool {
     match parse_header(commands) {
-        Ok(header) => parts::holds_commands(commands, header),
+        Ok(header) => holds_commands(commands, header),
         Err(_) => false,
     }
 }
 
-fn needed_in(commands: &[u8]) -> Result<Needed<'_>, ParseError> {
-    let header = parse_header(commands)?;
-    parts::needed_tables(commands, header)
-}
-
-fn read_tables<S: Source>(
-    alloc: Global,
-    source: &S,
-    log: &mut S::Log,
-    len: usize,
-    needed: Needed<'_>,
-) -> Result<Parts, ReadError> {
-    match needed.table {
-        None => Ok(Parts { tables: None }),
-        Some(table) => {
-            let tables = read_located(alloc, source, log, len, needed.text, table)?;
-            Ok(Parts {
-                tables: Some(tables),
-            })
-        }
-    }
-}
-
-fn read_located<S: Source>(
-    alloc: Global,
-    source: &S,
-    log: &mut S::Log,
-    len: usize,
-    text: Section<'_>,
-    table: SymbolTable,
-) -> Result<Tables, ReadError> {
-    let strings_at = table.strings_offset as usize;
-    let strings = read_table(
-        alloc,
-        source,
-        log,
-        len,
-        strings_at,
-        table.strings_size as usize,
-    )?;
-    let rows_size = SYMBOL_LENGTH * table.row_count as usize;
-    let rows = read_table(
-        alloc,
-        source,
-        log,
-        len,
-        table.symbol_offset as usize,
-        rows_size,
-    )?;
-    let text_end = parts::text_end(text)?;
-    Ok(Tables {
-        text_end,
-        text_size: text.size(),
-        strings,
-        rows,
-    })
-}
-
 // The bytes of a table; refused where they don't lie in the file.
-pub(crate) fn read_table<S: Source>(
+fn read_table<S: Source>(
     alloc: Global,
     source: &S,
     log: &mut S::Log,

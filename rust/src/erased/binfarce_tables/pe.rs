@@ -6,60 +6,149 @@ use crate::shim::Vec;
 use crate::erased::binfarce_tables::beginning::Beginning;
 use crate::erased::binfarce_tables::elf::part;
 use crate::erased::binfarce_tables::error::ReadError;
-pub use crate::erased::binfarce_tables::pe_all::{AllParts, read_all};
 use crate::erased::binfarce_bytes::ParseError;
-use crate::erased::binfarce_bytes::functions::FunctionSymbol;
+use crate::erased::binfarce_bytes::functions::{SectionFunction, Selection};
 use crate::erased::binfarce_bytes::source::Source;
+use crate::erased::binfarce_pe::functions::{SelectedSections, functions_of, section_name};
+use crate::erased::binfarce_pe::header::image_base;
 use crate::erased::binfarce_pe::parts::{
-    HEADERS_LENGTH, Places, SECTION_LENGTH, SIGNATURE_POINTER, Text, functions_in, places_in,
-    signature_in, text_in,
+    HEADERS_LENGTH, Places, SECTION_LENGTH, SIGNATURE_POINTER, Text, places_in, signature_in,
+    text_in,
 };
+use crate::erased::binfarce_pe::sections::Table;
+use crate::erased::binfarce_pe::symbols::SymbolTable;
 use crate::shim::alloc::Global;
 
 // The length of the MS-DOS stub in bytes.
 const STUB_LENGTH: usize = 64;
 
-/// The parts of a file that have the function symbols of `.text`, in memory.
+// How many bytes at the end of the last section header may be missing.
+const SECTION_UNREAD: usize = 16;
+
+/// The parts of a file that have the function symbols of a selection, in memory.
 pub struct Parts {
-    rows: Vec<u8>,
-    strings: Vec<u8>,
-    text: Text,
+    sections: Sections,
+    records: Records,
+}
+
+// The selected sections: the text; or all, with the image base, and with their headers, of which none is truncated.
+enum Sections {
+    Text(Text),
+    All(Option<u64>, Vec<u8>, u16),
 }
 
 impl Parts {
-    /// The function symbols of the section `.text`, by address and at equal addresses in table order, and the section's
-    /// size in bytes in the file: the answer of `functions` of a reader of the whole file. Nothing is read: names are
-    /// slices of the parts.
+    /// The function symbols of the selection: those that `functions` of a reader of the whole file gives, in its order.
+    /// Nothing is read: names are slices of the parts.
     ///
     /// # Errors
     ///
     /// `OutOfMemory`, only instead of a list that isn't empty.
-    pub fn functions(&self, alloc: Global) -> Result<(Vec<FunctionSymbol<'_>>, u64), ParseError> {
-        let functions = functions_in(alloc, &self.rows, &self.strings, self.text)?;
-        Ok((functions, u64::from(self.text.size)))
+    pub fn functions(&self, alloc: Global) -> Result<Vec<SectionFunction<'_>>, ParseError> {
+        let symbols = SymbolTable {
+            rows: &self.records.rows,
+            strings: &self.records.strings,
+        };
+        Ok(functions_of(alloc, self.sections.chosen(), symbols)?)
+    }
+
+    /// How many bytes the section `.text` has in the file; `None` where all sections are selected.
+    pub fn section_size(&self) -> Option<u64> {
+        self.sections.chosen().section_size()
+    }
+
+    /// The name of the section of this number, which is one more than its index, as its header has it: as `/4` for a
+    /// name of more than 8 bytes, which is in the string table. It is a slice of the parts; nothing is copied. `None`
+    /// where there is no such section, where its name isn't UTF-8, and where not all sections are selected.
+    pub fn section_name(&self, number: u32) -> Option<&str> {
+        match self.sections.chosen() {
+            SelectedSections::Text(_) => None,
+            SelectedSections::All(_, headers) => section_name(headers, number),
+        }
+    }
+
+    /// Whether the selected sections share addresses: all sections of a file without an image base, as an object file.
+    pub fn shares_addresses(&self) -> bool {
+        match self.sections.chosen() {
+            SelectedSections::Text(_) => false,
+            SelectedSections::All(base, _) => base.is_none(),
+        }
     }
 }
 
-/// Reads the parts of a file that have the function symbols of the section `.text`: the offset of the signature, the
-/// signature and the file header, which are 24 bytes, the section headers, the symbol table, and the strings, which are
-/// all that follows it. Each is read once, into memory of its size, which is never more than the file has of it. No
-/// other byte is read. The signature isn't checked.
+impl Sections {
+    fn chosen(&self) -> SelectedSections<'_> {
+        match self {
+            Sections::Text(text) => SelectedSections::Text(*text),
+            Sections::All(base, headers, count) => SelectedSections::All(
+                *base,
+                Table {
+                    bytes: headers,
+                    offset: 0,
+                    count: *count,
+                },
+            ),
+        }
+    }
+}
+
+/// Reads the parts of a file that have the function symbols of a selection: the offset of the signature, the signature
+/// and the file header, which are 24 bytes, the section headers, the symbol table, and the strings, which are all that
+/// follows it; for all sections up to 32 bytes of the optional header. Each is read once, into memory of its size, which
+/// is never more than the file has of it. No other byte is read. The signature isn't checked.
 ///
 /// # Errors
 ///
 /// `Refused` with the error of `parse` or `functions` of a reader of the whole file; `Unreadable` where the source
 /// can't be read at offsets, or a read of it fails, and never for a source that can't fail, such as bytes in memory;
 /// `OutOfMemory` where an allocation fails.
-pub fn read<S: Source>(alloc: Global, source: &S, log: &mut S::Log) -> Result<Parts, ReadError> {
+pub fn read<S: Source>(
+    alloc: Global,
+    source: &S,
+    log: &mut S::Log,
+    selection: Selection<'_>,
+) -> Result<Parts, ReadError> {
     let len = source.length()? as usize;
     let places = read_places(alloc, source, log, len)?;
-    let text = read_text(alloc, source, log, len, places)?;
+    let sections = read_selected(alloc, source, log, len, places, selection)?;
     let records = read_records(alloc, source, log, len, places)?;
-    Ok(Parts {
-        rows: records.rows,
-        strings: records.strings,
-        text,
-    })
+    Ok(Parts { sections, records })
+}
+
+// The selected sections of a file whose tables are at these places.
+fn read_selected<S: Source>(
+    alloc: Global,
+    source: &S,
+    log: &mut S::Log,
+    len: usize,
+    places: Places,
+    selection: Selection<'_>,
+) -> Result<Sections, ReadError> {
+    match selection {
+        Selection::Section(_) => {
+            let text = read_text(alloc, source, log, len, places)?;
+            Ok(Sections::Text(text))
+        }
+        Selection::All => read_all_sections(alloc, source, log, len, places),
+    }
+}
+
+fn read_all_sections<S: Source>(
+    alloc: Global,
+    source: &S,
+    log: &mut S::Log,
+    len: usize,
+    places: Places,
+) -> Result<Sections, ReadError> {
+    let headers = read_headers(alloc, source, log, len, places)?;
+    let header = part(
+        alloc,
+        source,
+        log,
+        places.optional_header,
+        places.optional_header_size,
+    )?;
+    Ok(Sections::All(image_base(&header), headers, places.section_count))
 }
 
 /// Reads the prefix of a file that has its sections: up to the end of the section headers, or where there are none up
@@ -88,7 +177,8 @@ pub fn read_sections<S: Source>(
     Ok(Beginning { bytes, file_length })
 }
 
-pub(crate) fn read_places<S: Source>(
+// The places that the file header states.
+fn read_places<S: Source>(
     alloc: Global,
     source: &S,
     log: &mut S::Log,
@@ -133,17 +223,42 @@ fn read_text<S: Source>(
     }
     let size = places.section_count as usize * SECTION_LENGTH;
     let headers = part(alloc, source, log, offset, size.min(len - offset))?;
-    Ok(text_in(&headers, places.section_count)?)
+    let table = Table {
+        bytes: &headers,
+        offset: 0,
+        count: places.section_count,
+    };
+    Ok(text_in(table)?)
+}
+
+// The section headers, of which none is truncated.
+fn read_headers<S: Source>(
+    alloc: Global,
+    source: &S,
+    log: &mut S::Log,
+    len: usize,
+    places: Places,
+) -> Result<Vec<u8>, ReadError> {
+    let offset = places.sections;
+    if offset >= len {
+        return Err(ReadError::Refused(ParseError::UnexpectedEof));
+    }
+    let rest = len - offset;
+    let size = places.section_count as usize * SECTION_LENGTH;
+    if size.saturating_sub(SECTION_UNREAD) > rest {
+        return Err(ReadError::Refused(ParseError::UnexpectedEof));
+    }
+    part(alloc, source, log, offset, size.min(rest))
 }
 
 // The records of the symbol table, and the strings, which follow them.
-pub(crate) struct Records {
-    pub(crate) rows: Vec<u8>,
-    pub(crate) strings: Vec<u8>,
+struct Records {
+    rows: Vec<u8>,
+    strings: Vec<u8>,
 }
 
 // The symbol table and its strings.
-pub(crate) fn read_records<S: Source>(
+fn read_records<S: Source>(
     alloc: Global,
     source: &S,
     log: &mut S::Log,

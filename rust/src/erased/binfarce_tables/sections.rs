@@ -1,45 +1,48 @@
 // From crates/binfarce_tables/src/sections.rt, by tools/erase.
 
-//! The section headers and the section names of an ELF file of either class, read at their offsets.
+//! The section headers and the section names of an ELF file, read at their offsets.
 
 use crate::shim::Vec;
-use crate::erased::binfarce_tables::elf::{
-    Place, part, read_headers, read_names, read_place, slice_of,
-};
+use crate::erased::binfarce_tables::elf::{part, read_headers, read_names, read_place, slice_of};
 use crate::erased::binfarce_tables::error::ReadError;
 use crate::erased::binfarce_bytes::ByteOrder;
 use crate::erased::binfarce_bytes::source::Source;
-use crate::erased::binfarce_elf::class::{Class, Half};
-use crate::erased::binfarce_elf::parts::{is_named_in, name_in, sections_in};
-use crate::erased::binfarce_elf::sections::{Section, Sections};
+use crate::erased::binfarce_elf::class::Width;
+use crate::erased::binfarce_elf::parts::{AnySections, Place, name_of_index, sections_in};
 use crate::shim::alloc::Global;
-use std::marker::PhantomData;
 
 /// The section headers of a file and the section names, in memory, and the file's length.
-pub struct SectionParts<C> {
-    headers: Vec<u8>,
-    names: Option<Vec<u8>>,
-    byte_order: ByteOrder,
-    count: Half,
-    file_length: u64,
-    class: PhantomData<C>,
+pub struct SectionParts {
+    pub(crate) headers: Vec<u8>,
+    pub(crate) names: Option<Vec<u8>>,
+    pub(crate) width: Width,
+    pub(crate) place: Place,
+    pub(crate) file_length: u64,
 }
 
-impl<C: Class> SectionParts<C> {
+impl SectionParts {
     /// The sections in file order, as `sections` of a reader of the whole file gives them. Nothing is read.
-    pub fn sections(&self) -> Sections<'_, C> {
-        sections_in::<C>(&self.headers, self.byte_order, self.count)
+    pub fn sections(&self) -> AnySections<'_> {
+        let count = self.place.shnum;
+        sections_in(&self.headers, self.width, self.place.byte_order, count)
     }
 
-    /// The name of one of them, as `name` of a section gives it: a slice of the section names that were read. Nothing
-    /// is copied.
-    pub fn name(&self, section: &Section<C>) -> Option<&str> {
-        name_in(slice_of(&self.names), section)
+    /// The bytes of the section names, where the file has them. Nothing is copied.
+    pub fn names(&self) -> Option<&[u8]> {
+        let names = &self.names;
+        slice_of(names)
     }
 
-    /// Whether this is the name of one of them, as `is_named` of a section says.
-    pub fn is_named(&self, section: &Section<C>, name: &str) -> bool {
-        is_named_in(slice_of(&self.names), section, name)
+    // The name of the section of this index, where there is one and it has a name.
+    pub(crate) fn name_of(&self, number: u32) -> Option<&str> {
+        name_of_index(
+            &self.headers,
+            slice_of(&self.names),
+            self.width,
+            self.place.byte_order,
+            self.place.shnum,
+            number,
+        )
     }
 
     /// How many bytes the file had when its parts were read.
@@ -48,34 +51,44 @@ impl<C: Class> SectionParts<C> {
     }
 }
 
-/// The section headers and the section names. Refused where the file is too short for its header.
-pub(crate) fn read_sections<C: Class, S: Source>(
+/// Reads the section headers and the section names of a file of this class, numbers in the given order: the file header
+/// of 52 or 64 bytes, the header of the section names' own section, the section names and all section headers. Each is
+/// read once, into memory of its size, which is never more than the file has of it. No other byte is read, except the
+/// first byte of a section header table without headers. The magic number isn't checked.
+///
+/// # Errors
+///
+/// `Refused` with `UnexpectedEof` where the file is too short for its header; `Unreadable` where the source can't be
+/// read at offsets, or a read of it fails, and never for a source that can't fail, such as bytes in memory;
+/// `OutOfMemory` where an allocation fails.
+pub fn read_sections<S: Source>(
     alloc: Global,
     source: &S,
     log: &mut S::Log,
+    width: Width,
     byte_order: ByteOrder,
-) -> Result<SectionParts<C>, ReadError> {
+) -> Result<SectionParts, ReadError> {
     let len = source.length()? as usize;
-    let place = read_place::<C, S>(alloc, source, log, len, byte_order)?;
-    let names = read_names::<C, S>(alloc, source, log, len, place)?;
-    let headers = read_table::<C, S>(alloc, source, log, len, place)?;
+    let place = read_place(alloc, source, log, len, width, byte_order)?;
+    let names = read_names(alloc, source, log, len, width, place)?;
+    let headers = read_table(alloc, source, log, len, width, place)?;
     Ok(SectionParts {
         headers,
         names,
-        byte_order: place.byte_order,
-        count: place.shnum,
+        width,
+        place,
         file_length: len as u64,
-        class: PhantomData,
     })
 }
 
 // The section headers that are whole, up to the count. For a table without headers, its first byte if the file has it;
 // for a table that begins past the file's end, nothing.
-pub(crate) fn read_table<C: Class, S: Source>(
+fn read_table<S: Source>(
     alloc: Global,
     source: &S,
     log: &mut S::Log,
     len: usize,
+    width: Width,
     place: Place,
 ) -> Result<Vec<u8>, ReadError> {
     if place.shoff >= len {
@@ -84,5 +97,5 @@ pub(crate) fn read_table<C: Class, S: Source>(
     if place.shnum == 0 {
         return part(alloc, source, log, place.shoff, 1);
     }
-    read_headers::<C, S>(alloc, source, log, len, place)
+    read_headers(alloc, source, log, len, width, place)
 }

@@ -5,56 +5,35 @@
 use crate::shim::Vec;
 use crate::erased::binfarce_tools::list::ListError;
 use crate::erased::binfarce::{
-    ByteOrder, Format, FunctionSymbol, ParseError, SectionFunction, detect_format, elf32, elf64,
-    macho, pe,
+    ByteOrder, Format, FunctionSymbol, ParseError, SectionFunction, SymbolTable, detect_format,
+    elf32, elf64, macho, pe,
 };
+use crate::erased::binfarce_bytes::functions::Selection;
+use crate::erased::binfarce_elf::symbols;
 use crate::shim::alloc::Global;
 
 /// An iterator over the function symbols of a file, in the order of its listing.
-pub enum Functions<'a> {
-    Elf32(elf32::Functions<'a>),
-    Elf64(elf64::Functions<'a>),
-    Arranged(Arranged<'a>),
-    All(AllFunctions<'a>),
-}
-
-/// The function symbols of a list, from an index on.
-pub struct Arranged<'a> {
-    functions: Vec<FunctionSymbol<'a>>,
-    next: usize,
+pub struct Functions<'a> {
+    /// The function symbols with their sections.
+    pub all: AllFunctions<'a>,
 }
 
 impl<'a> Iterator for Functions<'a> {
     type Item = FunctionSymbol<'a>;
 
     fn next(&mut self) -> Option<FunctionSymbol<'a>> {
-        match self {
-            Functions::Elf32(functions) => functions.next(),
-            Functions::Elf64(functions) => functions.next(),
-            Functions::Arranged(functions) => functions.next(),
-            Functions::All(functions) => Some(functions.next()?.function),
-        }
+        Some(self.all.next()?.function)
     }
 }
 
-impl<'a> Arranged<'a> {
-    // The first of those that are left, which the others follow.
-    fn next(&mut self) -> Option<FunctionSymbol<'a>> {
-        let function = *self.functions.get(self.next)?;
-        self.next += 1;
-        Some(function)
-    }
-}
-
-/// An iterator over the function symbols of all sections of a file, in the order of its listing.
+/// An iterator over the function symbols of a file with their sections, in the order of its listing.
 pub enum AllFunctions<'a> {
-    Elf32(elf32::AllFunctions<'a>),
-    Elf64(elf64::AllFunctions<'a>),
-    Arranged(AllArranged<'a>),
+    Elf(symbols::Functions<'a>),
+    Arranged(Arranged<'a>),
 }
 
 /// The function symbols of a list with their sections, from an index on.
-pub struct AllArranged<'a> {
+pub struct Arranged<'a> {
     functions: Vec<SectionFunction<'a>>,
     next: usize,
 }
@@ -64,14 +43,13 @@ impl<'a> Iterator for AllFunctions<'a> {
 
     fn next(&mut self) -> Option<SectionFunction<'a>> {
         match self {
-            AllFunctions::Elf32(functions) => functions.next(),
-            AllFunctions::Elf64(functions) => functions.next(),
+            AllFunctions::Elf(functions) => functions.next(),
             AllFunctions::Arranged(functions) => functions.next(),
         }
     }
 }
 
-impl<'a> AllArranged<'a> {
+impl<'a> Arranged<'a> {
     // The first of those that are left, which the others follow.
     fn next(&mut self) -> Option<SectionFunction<'a>> {
         let function = *self.functions.get(self.next)?;
@@ -93,7 +71,7 @@ impl<'a> Selected<'a> {
     pub fn into_list(self) -> (Functions<'a>, Option<u64>) {
         match self {
             Selected::Section(functions, size) => (functions, Some(size)),
-            Selected::All(functions) => (Functions::All(functions), None),
+            Selected::All(all) => (Functions { all }, None),
         }
     }
 }
@@ -110,49 +88,84 @@ pub fn functions_of_file<'a>(
     section: &str,
 ) -> Result<(Functions<'a>, u64), ListError> {
     match detect_format(file) {
-        Format::Elf32 { byte_order } => Ok(read_elf32(file, byte_order, section)?),
-        Format::Elf64 { byte_order } => Ok(read_elf64(file, byte_order, section)?),
-        Format::Macho => Ok(read_macho(alloc, file)?),
-        Format::PE => Ok(read_pe(alloc, file)?),
+        Format::Elf32 { byte_order } => Ok(functions_of_elf32(file, byte_order, section)?),
+        Format::Elf64 { byte_order } => Ok(functions_of_elf64(file, byte_order, section)?),
+        Format::Macho => Ok(functions_of_macho(alloc, file, section)?),
+        Format::PE => Ok(functions_of_pe(alloc, file, section)?),
         Format::Unknown => Err(ListError::Unknown),
     }
 }
 
-fn read_elf32<'a>(
+// Those of a section of a 32-bit ELF file.
+fn functions_of_elf32<'a>(
     file: &'a [u8],
     byte_order: ByteOrder,
     section: &str,
 ) -> Result<(Functions<'a>, u64), ParseError> {
-    let (functions, size) = elf32::parse(file, byte_order)?.functions(section)?;
-    Ok((Functions::Elf32(functions), size))
+    let file = elf32::parse(file, byte_order)?;
+    let functions = file.selected_functions(SymbolTable::Symtab, Selection::Section(section))?;
+    Ok(of_section(functions))
 }
 
-fn read_elf64<'a>(
+// Those of a section of a 64-bit ELF file.
+fn functions_of_elf64<'a>(
     file: &'a [u8],
     byte_order: ByteOrder,
     section: &str,
 ) -> Result<(Functions<'a>, u64), ParseError> {
-    let (functions, size) = elf64::parse(file, byte_order)?.functions(section)?;
-    Ok((Functions::Elf64(functions), size))
+    let file = elf64::parse(file, byte_order)?;
+    let functions = file.selected_functions(SymbolTable::Symtab, Selection::Section(section))?;
+    Ok(of_section(functions))
 }
 
-fn read_macho(alloc: Global, file: &[u8]) -> Result<(Functions<'_>, u64), ParseError> {
-    let listed = macho::parse(file)?.functions(alloc)?;
-    Ok(all_of(listed))
+// The functions of a section of an ELF file, with its size.
+fn of_section(functions: symbols::Functions<'_>) -> (Functions<'_>, u64) {
+    let size = functions.section_size().unwrap_or(0);
+    let all = AllFunctions::Elf(functions);
+    (Functions { all }, size)
 }
 
-fn read_pe(alloc: Global, file: &[u8]) -> Result<(Functions<'_>, u64), ParseError> {
-    let listed = pe::parse(file)?.functions(alloc)?;
-    Ok(all_of(listed))
+// Those of the text of a Mach-O file, whichever the section.
+fn functions_of_macho<'a>(
+    alloc: Global,
+    file: &'a [u8],
+    section: &str,
+) -> Result<(Functions<'a>, u64), ParseError> {
+    let (functions, size) = macho::parse(file)?.selected_functions(
+        alloc,
+        Selection::Section(section),
+    )?;
+    Ok(listed(functions, size))
 }
 
-// All functions of a list, with a size.
-pub(crate) fn all_of<'a>(listed: (Vec<FunctionSymbol<'a>>, u64)) -> (Functions<'a>, u64) {
-    let (functions, size) = listed;
-    (Functions::Arranged(Arranged { functions, next: 0 }), size)
+// Those of `.text` of a PE file, whichever the section.
+fn functions_of_pe<'a>(
+    alloc: Global,
+    file: &'a [u8],
+    section: &str,
+) -> Result<(Functions<'a>, u64), ParseError> {
+    let (functions, size) = pe::parse(file)?.selected_functions(
+        alloc,
+        Selection::Section(section),
+    )?;
+    Ok(listed(functions, size))
 }
 
-// All functions of a list with their sections.
-pub(crate) fn all_in_sections(functions: Vec<SectionFunction<'_>>) -> AllFunctions<'_> {
-    AllFunctions::Arranged(AllArranged { functions, next: 0 })
+// The functions of a list with the size of their section.
+fn listed(functions: Vec<SectionFunction<'_>>, size: Option<u64>) -> (Functions<'_>, u64) {
+    let all = from_list(functions);
+    (Functions { all }, size.unwrap_or(0))
+}
+
+// All functions of a list.
+pub(crate) fn from_list(functions: Vec<SectionFunction<'_>>) -> AllFunctions<'_> {
+    AllFunctions::Arranged(Arranged { functions, next: 0 })
+}
+
+// The functions as those of a section, where they have its size.
+pub(crate) fn selection(functions: AllFunctions<'_>, size: Option<u64>) -> Selected<'_> {
+    match size {
+        Some(size) => Selected::Section(Functions { all: functions }, size),
+        None => Selected::All(functions),
+    }
 }

@@ -3,34 +3,24 @@
 //! The tables of a file's function symbols, read from a source.
 
 use crate::erased::binfarce_tools::functions::{
-    AllFunctions, Functions, Selected, all_in_sections, all_of, functions_of_file,
+    AllFunctions, Selected, from_list, functions_of_file, selection,
 };
 use crate::erased::binfarce_tools::list::ListError;
 use crate::erased::binfarce::{Format, ParseError, SymbolTable};
 pub use crate::erased::binfarce_bytes::functions::Selection;
 use crate::erased::binfarce_bytes::source::Source;
 use crate::erased::binfarce_tables::format::read_format;
-use crate::erased::binfarce_tables::{ReadError, elf32, elf64, macho, pe};
+use crate::erased::binfarce_tables::{ReadError, Width, elf, macho, pe};
 use crate::shim::alloc::Global;
 
 /// The tables of a file for the function symbols of a selection: those that were read, or a whole file in memory.
 pub enum Tables<'a> {
-    /// The parts of an ELF file of 32 bits.
-    Elf32(elf32::Parts),
-    /// The parts of an ELF file of 64 bits.
-    Elf64(elf64::Parts),
+    /// The parts of an ELF file.
+    Elf(elf::Parts),
     /// The parts of a Mach-O file.
     Macho(macho::Parts),
     /// The parts of a PE file.
     Pe(pe::Parts),
-    /// The parts of an ELF file of 32 bits, for all sections.
-    AllElf32(elf32::AllParts),
-    /// The parts of an ELF file of 64 bits, for all sections.
-    AllElf64(elf64::AllParts),
-    /// The parts of a Mach-O file, for all sections.
-    AllMacho(macho::AllParts),
-    /// The parts of a PE file, for all sections.
-    AllPe(pe::AllParts),
     /// Nothing: the file's first bytes name no supported format.
     Unknown,
     /// All bytes of a file, and the section.
@@ -52,31 +42,18 @@ impl<'a> Tables<'a> {
     /// As `functions_of_file`: for all sections, `Parse` where a Mach-O file's rows are refused.
     pub fn functions(&self, alloc: Global) -> Result<Selected<'_>, ListError> {
         match self {
-            Tables::Elf32(parts) => {
-                let (functions, size) = parts.functions();
-                Ok(Selected::Section(Functions::Elf32(functions), size))
-            }
-            Tables::Elf64(parts) => {
-                let (functions, size) = parts.functions();
-                Ok(Selected::Section(Functions::Elf64(functions), size))
+            Tables::Elf(parts) => {
+                let functions = parts.functions();
+                let size = functions.section_size();
+                Ok(selection(AllFunctions::Elf(functions), size))
             }
             Tables::Macho(parts) => {
-                let (functions, size) = all_of(parts.functions(alloc)?);
-                Ok(Selected::Section(functions, size))
+                let functions = from_list(parts.functions(alloc)?);
+                Ok(selection(functions, parts.section_size()))
             }
             Tables::Pe(parts) => {
-                let (functions, size) = all_of(parts.functions(alloc)?);
-                Ok(Selected::Section(functions, size))
-            }
-            Tables::AllElf32(parts) => Ok(Selected::All(AllFunctions::Elf32(parts.functions()))),
-            Tables::AllElf64(parts) => Ok(Selected::All(AllFunctions::Elf64(parts.functions()))),
-            Tables::AllMacho(parts) => {
-                let functions = parts.functions(alloc)?;
-                Ok(Selected::All(all_in_sections(functions)))
-            }
-            Tables::AllPe(parts) => {
-                let functions = parts.functions(alloc)?;
-                Ok(Selected::All(all_in_sections(functions)))
+                let functions = from_list(parts.functions(alloc)?);
+                Ok(selection(functions, parts.section_size()))
             }
             Tables::Unknown => Err(ListError::Unknown),
             Tables::Whole { file, section } => {
@@ -87,17 +64,16 @@ impl<'a> Tables<'a> {
     }
 
     /// The name of the section of this number, a slice of the tables. `None` where there is no such section, where it has
-    /// no valid name, and where the tables are those of one section.
+    /// no valid name, and where the tables are those of one section of a Mach-O or PE file, or of a whole file.
     pub fn section_name(&self, number: u32) -> Option<&str> {
         self.name_read(number)
     }
 
     fn name_read(&self, number: u32) -> Option<&str> {
         match self {
-            Tables::AllElf32(parts) => parts.section_name(number),
-            Tables::AllElf64(parts) => parts.section_name(number),
-            Tables::AllMacho(parts) => parts.section_name(number),
-            Tables::AllPe(parts) => parts.section_name(number),
+            Tables::Elf(parts) => parts.section_name(number),
+            Tables::Macho(parts) => parts.section_name(number),
+            Tables::Pe(parts) => parts.section_name(number),
             _ => None,
         }
     }
@@ -110,10 +86,9 @@ impl<'a> Tables<'a> {
 
     fn sharing_read(&self) -> bool {
         match self {
-            Tables::AllElf32(parts) => parts.shares_addresses(),
-            Tables::AllElf64(parts) => parts.shares_addresses(),
-            Tables::AllMacho(parts) => parts.shares_addresses(),
-            Tables::AllPe(parts) => parts.shares_addresses(),
+            Tables::Elf(parts) => parts.shares_addresses(),
+            Tables::Macho(parts) => parts.shares_addresses(),
+            Tables::Pe(parts) => parts.shares_addresses(),
             _ => false,
         }
     }
@@ -136,70 +111,52 @@ pub fn read<S: Source>(
     selection: Selection<'_>,
 ) -> Result<Tables<'static>, ReadError> {
     let format = read_format(alloc, source, log)?;
-    match selection {
-        Selection::Section(section) => read_section(alloc, source, log, format, which, section),
-        Selection::All => read_sections(alloc, source, log, format, which),
-    }
+    read_tables(alloc, source, log, format, which, selection)
 }
 
-// The tables of a file of this format for a section.
-fn read_section<S: Source>(
+// The tables of a file of this format.
+fn read_tables<S: Source>(
     alloc: Global,
     source: &S,
     log: &mut S::Log,
     format: Format,
     which: SymbolTable,
-    section: &str,
+    selection: Selection<'_>,
 ) -> Result<Tables<'static>, ReadError> {
     match format {
         Format::Elf32 { byte_order } => {
-            let parts = elf32::read_by(alloc, source, log, byte_order, which, section)?;
-            Ok(Tables::Elf32(parts))
+            let parts = elf::read(
+                alloc,
+                source,
+                log,
+                Width::Bits32,
+                byte_order,
+                which,
+                selection,
+            )?;
+            Ok(Tables::Elf(parts))
         }
         Format::Elf64 { byte_order } => {
-            let parts = elf64::read_by(alloc, source, log, byte_order, which, section)?;
-            Ok(Tables::Elf64(parts))
+            let parts = elf::read(
+                alloc,
+                source,
+                log,
+                Width::Bits64,
+                byte_order,
+                which,
+                selection,
+            )?;
+            Ok(Tables::Elf(parts))
         }
         Format::Macho => {
             has_table(which)?;
-            let parts = macho::read(alloc, source, log)?;
+            let parts = macho::read(alloc, source, log, selection)?;
             Ok(Tables::Macho(parts))
         }
         Format::PE => {
             has_table(which)?;
-            let parts = pe::read(alloc, source, log)?;
+            let parts = pe::read(alloc, source, log, selection)?;
             Ok(Tables::Pe(parts))
-        }
-        Format::Unknown => Ok(Tables::Unknown),
-    }
-}
-
-// The tables of a file of this format for all sections.
-fn read_sections<S: Source>(
-    alloc: Global,
-    source: &S,
-    log: &mut S::Log,
-    format: Format,
-    which: SymbolTable,
-) -> Result<Tables<'static>, ReadError> {
-    match format {
-        Format::Elf32 { byte_order } => {
-            let parts = elf32::read_all(alloc, source, log, byte_order, which)?;
-            Ok(Tables::AllElf32(parts))
-        }
-        Format::Elf64 { byte_order } => {
-            let parts = elf64::read_all(alloc, source, log, byte_order, which)?;
-            Ok(Tables::AllElf64(parts))
-        }
-        Format::Macho => {
-            has_table(which)?;
-            let parts = macho::read_all(alloc, source, log)?;
-            Ok(Tables::AllMacho(parts))
-        }
-        Format::PE => {
-            has_table(which)?;
-            let parts = pe::read_all(alloc, source, log)?;
-            Ok(Tables::AllPe(parts))
         }
         Format::Unknown => Ok(Tables::Unknown),
     }

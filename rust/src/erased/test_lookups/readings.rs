@@ -11,11 +11,11 @@ use crate::erased::test_lookups::words::{
 };
 use crate::erased::binfarce_bytes::source::Source;
 use crate::erased::binfarce_sections::error::SectionError;
-use crate::erased::binfarce_tables::{elf32, elf64, macho, pe};
+use crate::erased::binfarce_tables::{elf, macho, pe};
 use crate::erased::binfarce_tools::SymbolTable;
 use crate::erased::binfarce_tools::tables::{Selection, read as read_tables};
 use crate::shim::io::{self, ErrorKind, Write};
-use crate::erased::test_reading::{Asked, parts, whole};
+use crate::erased::test_reading::{Asked, parts, whole, width_of};
 use crate::erased::test_samples::files::File;
 use crate::erased::test_samples::{first_bytes, patched};
 
@@ -67,7 +67,11 @@ pub(crate) fn answer(of: &Asking<'_>, verb: &str, text: &mut Vec<u8>) -> io::Res
     }
 }
 
-fn read<S: Source<Log = ()>>(of: &Asking<'_>, source: &S, reading: Reading<'_>) -> Result<(), SectionError> {
+fn read<S: Source<Log = ()>>(
+    of: &Asking<'_>,
+    source: &S,
+    reading: Reading<'_>,
+) -> Result<(), SectionError> {
     match reading {
         Reading::Sections => read_sections(of, source)?,
         Reading::Asked(asked) => return parts(of.alloc, of.kind, source, asked).ended,
@@ -83,11 +87,9 @@ fn read<S: Source<Log = ()>>(of: &Asking<'_>, source: &S, reading: Reading<'_>) 
 
 fn read_sections<S: Source<Log = ()>>(of: &Asking<'_>, source: &S) -> Result<(), SectionError> {
     match of.kind {
-        File::Elf(layout) if layout.is_64() => {
-            let _ = elf64::read_sections(of.alloc, source, &mut (), layout.order())?;
-        }
         File::Elf(layout) => {
-            let _ = elf32::read_sections(of.alloc, source, &mut (), layout.order())?;
+            let width = width_of(layout);
+            let _ = elf::read_sections(of.alloc, source, &mut (), width, layout.order())?;
         }
         File::Macho => {
             let _ = macho::read_sections(of.alloc, source, &mut ())?;

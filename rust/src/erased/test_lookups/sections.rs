@@ -42,7 +42,13 @@ pub(crate) fn push_shown(
 
 /// Adds the names of sections 0, 1, 2 and of the greatest number, and whether they share addresses.
 pub(crate) fn push_names(of: &Asking<'_>, text: &mut Vec<u8>) -> io::Result<()> {
-    let Ok(tables) = read(of.alloc, &of.file, &mut (), SymbolTable::Symtab, Selection::All) else {
+    let Ok(tables) = read(
+        of.alloc,
+        &of.file,
+        &mut (),
+        SymbolTable::Symtab,
+        Selection::All,
+    ) else {
         return push_words(text, "refused");
     };
     for number in [0, 1, 2, u32::MAX] {

@@ -1,5 +1,5 @@
 use Rattle.std.proofs.Common.{◌≡◌, ◌++◌}
-use Rattle.binfarce_macho.specs.MachoAll.{first_starts}
+use Rattle.binfarce_macho.specs.MachoSections.{first_starts}
 use Rattle.binfarce_macho.proofs.numbered.push_starts.Given as goal
 
 -- the starts so far are added

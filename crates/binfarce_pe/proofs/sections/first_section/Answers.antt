@@ -2,7 +2,7 @@ use Rattle.std.proofs.Common.{◌≡◌, ◌<◌, ◌≤◌, length, Some, None,
 use Rattle.std.specs.Option.{option_map}
 use Rattle.binfarce_pe.specs.PeParts.{section_in, whole_in}
 use Rattle.binfarce_pe.specs.PeViews.{section_view}
-use Rattle.binfarce_pe.specs.machine.RawPe.{headers_view}
+use Rattle.binfarce_pe.specs.PeParts.{headers_view}
 use Rattle.binfarce_pe.proofs.Numbered.{held_refused, held_none}
 use Rattle.binfarce_pe.proofs.Walks.{is_readable, is_truncated, outside, may_be_asked, accepted_at, truncated_at, none_left, refused_by, header_is}
 use Rattle.binfarce_pe.proofs.sections.first_section.Goals as goal

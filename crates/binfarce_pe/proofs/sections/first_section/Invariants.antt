@@ -1,7 +1,7 @@
 use Rattle.std.proofs.Common.{◌≡◌, ◌+◌, ◌*◌, ◌≤◌, All, false}
 use Rattle.binfarce_bytes.specs.Walk.{Answered}
 use Rattle.binfarce_pe.specs.PeParts.{section_in, whole_in}
-use Rattle.binfarce_pe.specs.machine.RawPe.{headers_view}
+use Rattle.binfarce_pe.specs.PeParts.{headers_view}
 use Rattle.binfarce_pe.specs.PeViews.{section_view}
 use Rattle.binfarce_pe.proofs.Numbered.{held_below}
 use Rattle.binfarce_pe.proofs.sections.first_section.Given as goal

@@ -4,7 +4,8 @@ use Rattle.std.proofs.lemmas.Nat.{div_below}
 use Rattle.binfarce_bytes.specs.Refusal.{unexpected_eof}
 use Rattle.binfarce_pe.specs.PeParts.{section_in, whole_in}
 use Rattle.binfarce_pe.specs.PeViews.{section_view}
-use Rattle.binfarce_pe.specs.machine.RawPe.{headers_view, header_count}
+use Rattle.binfarce_pe.specs.machine.RawPe.{header_count}
+use Rattle.binfarce_pe.specs.PeParts.{headers_view}
 use Rattle.binfarce_pe.proofs.SectionsLeft.{next_is, passed, end_is}
 use Rattle.binfarce_pe.proofs.Walks.{is_readable, is_truncated, done_is, truncated_is, outside_is, header_is}
 use Rattle.binfarce_pe.proofs.sections.section_left.Goals as goal

@@ -1,5 +1,6 @@
 use Rattle.std.proofs.Common.{◌≡◌, ◌≤◌, Some}
-use Rattle.binfarce_pe.specs.machine.RawPe.{headers_view, header_count, walk_from}
+use Rattle.binfarce_pe.specs.machine.RawPe.{header_count, walk_from}
+use Rattle.binfarce_pe.specs.PeParts.{headers_view}
 use Rattle.binfarce_pe.proofs.sections.section_left.Given as goal
 
 -- so far each header was whole, and had no section

@@ -3,7 +3,7 @@ use Rattle.std.specs.Str.{bytes_eq}
 use Rattle.binfarce_bytes.specs.Refusal.{unexpected_eof}
 use Rattle.binfarce_pe.specs.PeParts.{table_walk}
 use Rattle.binfarce_pe.specs.PeViews.{section_view}
-use Rattle.binfarce_pe.specs.machine.RawPe.{headers_view}
+use Rattle.binfarce_pe.specs.PeParts.{headers_view}
 use Rattle.binfarce_bytes.proofs.Firsts.{first_is}
 use Rattle.binfarce_pe.proofs.sections.section_named.Goals as goal
 

@@ -15,25 +15,25 @@ use Rattle.binfarce_sections.proofs.tables.read_as.Goals as goal
 pub returns-in_ok-parts-in-Elf32-clause-reads : goal.returns-in_ok-parts-in-Elf32-clause-reads
 returns-in_ok-parts-in-Elf32-clause-reads g c = λ file known format_is.
     let format : format_of file ≡ Elf32 c.in-Elf32.byte_order = sym format_is ∙ c.in-Elf32.is in
-    elf_has elf32 c.in-Elf32.byte_order file (sections_view elf32 c.in_ok-parts-in-Elf32.parts) (of_elf32 c.in-Elf32.byte_order file format) (c.in_ok-parts-in-Elf32.ensures.answer file known)
+    elf_has elf32 c.in-Elf32.byte_order file (sections_view c.in_ok-parts-in-Elf32.parts) (of_elf32 c.in-Elf32.byte_order file format) (c.in_ok-parts-in-Elf32.ensures.answer file known)
 
 pub returns-in_ok-parts-in-Elf64-clause-reads : goal.returns-in_ok-parts-in-Elf64-clause-reads
 returns-in_ok-parts-in-Elf64-clause-reads g c = λ file known format_is.
     let format : format_of file ≡ Elf64 c.in-Elf64.byte_order = sym format_is ∙ c.in-Elf64.is in
-    elf_has elf64 c.in-Elf64.byte_order file (sections_view elf64 c.in_ok-parts-in-Elf64.parts) (of_elf64 c.in-Elf64.byte_order file format) (c.in_ok-parts-in-Elf64.ensures.answer file known)
+    elf_has elf64 c.in-Elf64.byte_order file (sections_view c.in_ok-parts-in-Elf64.parts) (of_elf64 c.in-Elf64.byte_order file format) (c.in_ok-parts-in-Elf64.ensures.answer file known)
 
 pub returns-in_err-parts-in-Elf32-clause-reads : goal.returns-in_err-parts-in-Elf32-clause-reads
 returns-in_err-parts-in-Elf32-clause-reads g c = λ file known format_is.
     let order = c.in-Elf32.byte_order in
     let format : format_of file ≡ Elf32 order = sym format_is ∙ c.in-Elf32.is in
-    unread (g.S.Source.may_fail c.args.source.now) (sections_view {C = ℕ} elf32) elf_walk (file_sections elf32 order file) file c.in_err-parts-in-Elf32.field-0.0 c.from_residual.result
+    unread (g.S.Source.may_fail c.args.source.now) sections_view elf_walk (file_sections elf32 order file) file c.in_err-parts-in-Elf32.field-0.0 c.from_residual.result
     (of_elf32 order file format ∙ ap Some (elf_is elf32 order file)) (c.in_err-parts-in-Elf32.ensures.answer file known) c.from_residual.ensures
 
 pub returns-in_err-parts-in-Elf64-clause-reads : goal.returns-in_err-parts-in-Elf64-clause-reads
 returns-in_err-parts-in-Elf64-clause-reads g c = λ file known format_is.
     let order = c.in-Elf64.byte_order in
     let format : format_of file ≡ Elf64 order = sym format_is ∙ c.in-Elf64.is in
-    unread (g.S.Source.may_fail c.args.source.now) (sections_view {C = ℕ} elf64) elf_walk (file_sections elf64 order file) file c.in_err-parts-in-Elf64.field-0.0 c.from_residual-in_err-parts-in-Elf64.result
+    unread (g.S.Source.may_fail c.args.source.now) sections_view elf_walk (file_sections elf64 order file) file c.in_err-parts-in-Elf64.field-0.0 c.from_residual-in_err-parts-in-Elf64.result
     (of_elf64 order file format ∙ ap Some (elf_is elf64 order file)) (c.in_err-parts-in-Elf64.ensures.answer file known) c.from_residual-in_err-parts-in-Elf64.ensures
 
 pub returns-in_ok-beginning-in-Macho-clause-reads : goal.returns-in_ok-beginning-in-Macho-clause-reads

@@ -2,6 +2,7 @@ use Rattle.std.proofs.Common.{◌≡◌, ℕ, true, Vec, Global, List, Result, O
 use Rattle.binfarce_bytes.specs.Refusal.{◌>>=◌, Refusal, refusal_of}
 use Rattle.binfarce_elf.specs.ElfParts.{table_sections_view}
 use Rattle.binfarce_elf.specs.ElfSymbols.{rows_at, section_data, whole_rows}
+use Rattle.binfarce_elf.specs.Classes.{class_of}
 use Rattle.binfarce_tables.specs.ElfReads.{section_parts}
 use Rattle.binfarce_tables.specs.machine.Places.{rows_view}
 use Rattle.binfarce_tables.proofs.Located.{after_strings, after_rows, from_sections, from_strings, from_rows, rows_read}
@@ -12,9 +13,9 @@ use Rattle.binfarce_tables.proofs.elf.read_rows.Goals as goal
 
 pub returns-in_err-strings-clause-answer : goal.returns-in_err-strings-clause-answer
 returns-in_err-strings-clause-answer g c = λ file known.
-    let class = g.C.Class.table in
+    let class = class_of c.args.width in
     let fails = g.S.Source.may_fail c.args.source.now in
-    let n = table_sections_view g.C.Class.number_of c.args.sections in
+    let n = table_sections_view c.args.sections in
     let e = c.in_err-strings.field-0.0 in
     passed fails rows_view _ e c.from_residual.result c.from_residual.ensures
     (instead fails rows_view (rows_at class file n) _ (Err e) (from_sections class file n)
@@ -22,9 +23,9 @@ returns-in_err-strings-clause-answer g c = λ file known.
 
 pub returns-in_err-rows-clause-answer : goal.returns-in_err-rows-clause-answer
 returns-in_err-rows-clause-answer g c = λ file known.
-    let class = g.C.Class.table in
+    let class = class_of c.args.width in
     let fails = g.S.Source.may_fail c.args.source.now in
-    let n = table_sections_view g.C.Class.number_of c.args.sections in
+    let n = table_sections_view c.args.sections in
     let strings = c.in_ok-strings.strings.items in
     let e = c.in_err-rows.field-0.0 in
     passed fails rows_view _ e c.from_residual-in_err-rows.result c.from_residual-in_err-rows.ensures
@@ -33,8 +34,8 @@ returns-in_err-rows-clause-answer g c = λ file known.
 
 pub returns-in_err-whole_rows-clause-answer : goal.returns-in_err-whole_rows-clause-answer
 returns-in_err-whole_rows-clause-answer g c = λ file known.
-    let class = g.C.Class.table in
-    let n = table_sections_view g.C.Class.number_of c.args.sections in
+    let class = class_of c.args.width in
+    let n = table_sections_view c.args.sections in
     let strings = c.in_ok-strings.strings.items in
     let p = c.in_err-whole_rows.field-0.0 in
     let truncated : whole_rows class c.in_ok-rows.rows.items ≡ Err (refusal_of p) = ap (whole_rows class) (sym c.deref.ensures.value) ∙ c.in_err-whole_rows.ensures in
@@ -44,20 +45,20 @@ returns-in_err-whole_rows-clause-answer g c = λ file known.
 
 pub returns-clause-answer : goal.returns-clause-answer
 returns-clause-answer g c = λ file known.
-    let class = g.C.Class.table in
-    let n = table_sections_view g.C.Class.number_of c.args.sections in
+    let class = class_of c.args.width in
+    let n = table_sections_view c.args.sections in
     rows_read class file n c.in_ok-strings.strings.items (c.in_ok-strings.ensures.answer file known) c.in_ok-rows.rows.items (c.in_ok-rows.ensures.answer file known)
     c.in_ok-whole_rows.field-0.now (ap (whole_rows class) (sym c.deref.ensures.value) ∙ c.in_ok-whole_rows.ensures)
 
 pub returns-in_err-strings-clause-nothing_else : goal.returns-in_err-strings-clause-nothing_else
 returns-in_err-strings-clause-nothing_else g c = λ file known sure.
-    let n = table_sections_view g.C.Class.number_of c.args.sections in
+    let n = table_sections_view c.args.sections in
     passed_surely c.in_err-strings.field-0.0 c.from_residual.result
     (c.in_err-strings.ensures.nothing_else file known (front (λ p. g.S.Source.is_sure c.args.source.now p ≡ true) (section_parts file n.strings) (section_parts file n.symbols) sure)) c.from_residual.ensures
 
 pub returns-in_err-rows-clause-nothing_else : goal.returns-in_err-rows-clause-nothing_else
 returns-in_err-rows-clause-nothing_else g c = λ file known sure.
-    let n = table_sections_view g.C.Class.number_of c.args.sections in
+    let n = table_sections_view c.args.sections in
     passed_surely c.in_err-rows.field-0.0 c.from_residual-in_err-rows.result
     (c.in_err-rows.ensures.nothing_else file known (back (λ p. g.S.Source.is_sure c.args.source.now p ≡ true) (section_parts file n.strings) (section_parts file n.symbols) sure)) c.from_residual-in_err-rows.ensures
 
@@ -66,21 +67,21 @@ returns-in_err-whole_rows-clause-nothing_else g c = λ file known sure. converte
 
 pub returns-in_err-rows-clause-asked : goal.returns-in_err-rows-clause-asked
 returns-in_err-rows-clause-asked g c = λ file known allowed are before.
-    let n = table_sections_view g.C.Class.number_of c.args.sections in
+    let n = table_sections_view c.args.sections in
     let P : Part → Type 0 = λ p. allowed p ≡ true in
     let strings = c.read_section.ensures.asked file known allowed (front P (section_parts file n.strings) (section_parts file n.symbols) are) before in
     c.read_section-2.ensures.asked file known allowed (back P (section_parts file n.strings) (section_parts file n.symbols) are) strings
 
 pub returns-in_err-whole_rows-clause-asked : goal.returns-in_err-whole_rows-clause-asked
 returns-in_err-whole_rows-clause-asked g c = λ file known allowed are before.
-    let n = table_sections_view g.C.Class.number_of c.args.sections in
+    let n = table_sections_view c.args.sections in
     let P : Part → Type 0 = λ p. allowed p ≡ true in
     let strings = c.read_section.ensures.asked file known allowed (front P (section_parts file n.strings) (section_parts file n.symbols) are) before in
     c.read_section-2.ensures.asked file known allowed (back P (section_parts file n.strings) (section_parts file n.symbols) are) strings
 
 pub returns-clause-asked : goal.returns-clause-asked
 returns-clause-asked g c = λ file known allowed are before.
-    let n = table_sections_view g.C.Class.number_of c.args.sections in
+    let n = table_sections_view c.args.sections in
     let P : Part → Type 0 = λ p. allowed p ≡ true in
     let strings = c.read_section.ensures.asked file known allowed (front P (section_parts file n.strings) (section_parts file n.symbols) are) before in
     c.read_section-2.ensures.asked file known allowed (back P (section_parts file n.strings) (section_parts file n.symbols) are) strings

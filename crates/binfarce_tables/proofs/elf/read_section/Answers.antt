@@ -1,27 +1,27 @@
 use Rattle.std.proofs.Common.{◌≡◌, ℕ, true, ◌+◌, ◌-◌, ◌<◌, ◌≤◌, ◌^◌, Ok, Err, ap, ap₂, sym, ◌∙◌, arith, length}
 use Rattle.binfarce_bytes.specs.Number.{bytes_at}
-use Rattle.binfarce_bytes.specs.Part.{part}
+use Rattle.binfarce_bytes.specs.Part.{Part, part}
 use Rattle.binfarce_elf.specs.ElfViews.{section_view}
 use Rattle.binfarce_tables.proofs.Contents.{data_malformed, data_past, data_inside}
 use Rattle.binfarce_tables.proofs.Readings.{instead, converted}
-use Rattle.binfarce_tables.proofs.Sure.{in_file, converted_surely}
+use Rattle.binfarce_tables.proofs.Sure.{alone, in_file, converted_surely}
 use Rattle.binfarce_tables.proofs.elf.read_section.Goals as goal
 
 pub returns-in_err-range-clause-answer : goal.returns-in_err-range-clause-answer
 returns-in_err-range-clause-answer g c = λ file known.
     converted _ _ _ c.in_err-range.field-0.0 c.from_residual.result c.from_residual.ensures
-    (data_malformed file (section_view g.C.Class.number_of c.args.section) c.in_err-range.ensures.0 ∙ ap Err (sym c.in_err-range.ensures.1))
+    (data_malformed file (section_view (λ n. n) c.args.section) c.in_err-range.ensures.0 ∙ ap Err (sym c.in_err-range.ensures.1))
 
 pub returns-then-range-len-clause-answer : goal.returns-then-range-len-clause-answer
 returns-then-range-len-clause-answer g c = λ file known.
-    let s = section_view g.C.Class.number_of c.args.section in
+    let s = section_view (λ n. n) c.args.section in
     let t = rw c.in_ok-range.was at c.range.type_inv in
     let end : c.in_ok-range.range.end < 2 ^ 64 = omega (arith, t) in
     data_past file s (omega (arith, c.in_ok-range.ensures.1, end)) (omega (arith, known.1, c.in_ok-range.ensures.1, c.if-range-len.true))
 
 pub returns-clause-answer : goal.returns-clause-answer
 returns-clause-answer g c = λ file known.
-    let s = section_view g.C.Class.number_of c.args.section in
+    let s = section_view (λ n. n) c.args.section in
     let inside : s.offset + s.size ≤ length file = omega (arith, known.1, c.in_ok-range.ensures.1, c.if-range-len.false) in
     let size : c.in_ok-range.range.end - c.in_ok-range.range.start ≡ s.size = omega (arith, c.in_ok-range.ensures.0, c.in_ok-range.ensures.1) in
     let is = data_inside file s (omega (arith, inside, known.1, c.ranges.len.fits)) inside in
@@ -32,8 +32,17 @@ returns-in_err-range-clause-nothing_else g c = λ file known sure. converted_sur
 
 pub returns-clause-nothing_else : goal.returns-clause-nothing_else
 returns-clause-nothing_else g c = λ file known sure.
-    let s = section_view g.C.Class.number_of c.args.section in
+    let s = section_view (λ n. n) c.args.section in
     let is_sure = g.S.Source.is_sure c.args.source.now in
     let inside : s.offset + s.size ≤ length file = omega (arith, known.1, c.in_ok-range.ensures.1, c.if-range-len.false) in
     let size : c.in_ok-range.range.end - c.in_ok-range.range.start ≡ s.size = omega (arith, c.in_ok-range.ensures.0, c.in_ok-range.ensures.1) in
     c.part.ensures.nothing_else (ap₂ (λ (a b : ℕ). is_sure (part a b)) c.in_ok-range.ensures.0 size ∙ in_file (λ p. is_sure p ≡ true) file s.offset s.size inside sure)
+
+pub returns-clause-asked : goal.returns-clause-asked
+returns-clause-asked g c = λ file known allowed are before.
+    let s = section_view (λ n. n) c.args.section in
+    let range = c.in_ok-range.range in
+    let inside : s.offset + s.size ≤ length file = omega (arith, known.1, c.in_ok-range.ensures.1, c.if-range-len.false) in
+    let size : range.end - range.start ≡ s.size = omega (arith, c.in_ok-range.ensures.0, c.in_ok-range.ensures.1) in
+    let P : Part → Type 0 = λ p. allowed p ≡ true in
+    c.part.ensures.asked allowed (alone P (part range.start (range.end - range.start)) (ap₂ (λ (a b : ℕ). allowed (part a b)) c.in_ok-range.ensures.0 size ∙ in_file P file s.offset s.size inside are)) before

@@ -3,6 +3,7 @@ use Rattle.std.specs.Option.{option_map}
 use Rattle.binfarce_bytes.specs.Part.{Part, part}
 use Rattle.binfarce_elf.specs.Elf.{walk}
 use Rattle.binfarce_elf.specs.ElfParts.{headers_alone}
+use Rattle.binfarce_elf.specs.Classes.{class_of}
 use Rattle.binfarce_tables.specs.ElfReads.{names_parts, headers_parts}
 use Rattle.binfarce_tables.specs.Reading.{Known}
 use Rattle.binfarce_tables.specs.machine.Places.{table_at}
@@ -14,26 +15,26 @@ use Rattle.binfarce_tables.proofs.sections.read_sections.Goals as goal
 
 pub returns-clause-answer : goal.returns-clause-answer
 returns-clause-answer g c = λ file known.
-    let class = g.C.Class.table in
+    let class = class_of c.args.width in
     let place = c.in_ok-place.place in
     let is_known : Known (g.S.Source.bytes c.args.source.now) c.in_ok-len.len file = (known, length_known _ file c.in_ok-len.len known c.in_ok-len.ensures.length) in
-    sections_read class c.args.byte_order file (table_at file place) (walk class (headers_alone place.byte_order c.in_ok-headers.headers.items place.shnum)) (option_map (λ v. v.items) c.in_ok-names.names) c.in_ok-len.len
-    (c.in_ok-place.ensures.table file is_known) (taken (c.in_ok-headers.ensures.answer file is_known)) (taken (c.in_ok-names.ensures.answer file is_known)) is_known.1
+    sections_read class c.args.byte_order file (table_at file place) place.elf_type (walk class (headers_alone place.byte_order c.in_ok-headers.headers.items place.shnum)) (option_map (λ v. v.items) c.in_ok-names.names) c.in_ok-len.len
+    (c.in_ok-place.ensures.table file is_known) (c.in_ok-place.ensures.type_is file is_known) (taken (c.in_ok-headers.ensures.answer file is_known)) (taken (c.in_ok-names.ensures.answer file is_known)) is_known.1
 
 pub returns-in_err-len-clause-nothing_else : goal.returns-in_err-len-clause-nothing_else
 returns-in_err-len-clause-nothing_else g c = λ file known sure.
-    let class = g.C.Class.table in
+    let class = class_of c.args.width in
     let IsSure : Part → Type 0 = λ p. g.S.Source.is_sure c.args.source.now p ≡ true in
     long (g.S.Source.is_sure c.args.source.now) (part 0 class.header_length) c.from_residual.result (of_file_header IsSure class c.args.byte_order file sure) c.in_err-len.ensures.unsure
 
 pub returns-in_err-place-clause-nothing_else : goal.returns-in_err-place-clause-nothing_else
 returns-in_err-place-clause-nothing_else g c = λ file known sure.
     let IsSure : Part → Type 0 = λ p. g.S.Source.is_sure c.args.source.now p ≡ true in
-    passed_surely c.in_err-place.field-0.0 c.from_residual-in_err-place.result (c.in_err-place.ensures.nothing_else (of_file_header IsSure g.C.Class.table c.args.byte_order file sure)) c.from_residual-in_err-place.ensures
+    passed_surely c.in_err-place.field-0.0 c.from_residual-in_err-place.result (c.in_err-place.ensures.nothing_else (of_file_header IsSure (class_of c.args.width) c.args.byte_order file sure)) c.from_residual-in_err-place.ensures
 
 pub returns-in_err-names-clause-nothing_else : goal.returns-in_err-names-clause-nothing_else
 returns-in_err-names-clause-nothing_else g c = λ file known sure.
-    let class = g.C.Class.table in
+    let class = class_of c.args.width in
     let IsSure : Part → Type 0 = λ p. g.S.Source.is_sure c.args.source.now p ≡ true in
     let is_known : Known (g.S.Source.bytes c.args.source.now) c.in_ok-len.len file = (known, length_known _ file c.in_ok-len.len known c.in_ok-len.ensures.length) in
     let table = table_at file c.in_ok-place.place in
@@ -43,7 +44,7 @@ returns-in_err-names-clause-nothing_else g c = λ file known sure.
 
 pub returns-in_err-headers-clause-nothing_else : goal.returns-in_err-headers-clause-nothing_else
 returns-in_err-headers-clause-nothing_else g c = λ file known sure.
-    let class = g.C.Class.table in
+    let class = class_of c.args.width in
     let IsSure : Part → Type 0 = λ p. g.S.Source.is_sure c.args.source.now p ≡ true in
     let is_known : Known (g.S.Source.bytes c.args.source.now) c.in_ok-len.len file = (known, length_known _ file c.in_ok-len.len known c.in_ok-len.ensures.length) in
     let table = table_at file c.in_ok-place.place in
@@ -53,13 +54,13 @@ returns-in_err-headers-clause-nothing_else g c = λ file known sure.
 
 pub returns-in_err-place-clause-asked : goal.returns-in_err-place-clause-asked
 returns-in_err-place-clause-asked g c = λ file known allowed are before.
-    let class = g.C.Class.table in
+    let class = class_of c.args.width in
     let P : Part → Type 0 = λ p. allowed p ≡ true in
     c.read_place.ensures.asked allowed (alone P (part 0 class.header_length) (of_file_header P class c.args.byte_order file are)) before
 
 pub returns-in_err-names-clause-asked : goal.returns-in_err-names-clause-asked
 returns-in_err-names-clause-asked g c = λ file known allowed are before.
-    let class = g.C.Class.table in
+    let class = class_of c.args.width in
     let P : Part → Type 0 = λ p. allowed p ≡ true in
     let is_known : Known (g.S.Source.bytes c.args.source.now) c.in_ok-len.len file = (known, length_known _ file c.in_ok-len.len known c.in_ok-len.ensures.length) in
     let place = c.read_place.ensures.asked allowed (alone P (part 0 class.header_length) (of_file_header P class c.args.byte_order file are)) before in
@@ -69,7 +70,7 @@ returns-in_err-names-clause-asked g c = λ file known allowed are before.
 
 pub returns-in_err-headers-clause-asked : goal.returns-in_err-headers-clause-asked
 returns-in_err-headers-clause-asked g c = λ file known allowed are before.
-    let class = g.C.Class.table in
+    let class = class_of c.args.width in
     let P : Part → Type 0 = λ p. allowed p ≡ true in
     let is_known : Known (g.S.Source.bytes c.args.source.now) c.in_ok-len.len file = (known, length_known _ file c.in_ok-len.len known c.in_ok-len.ensures.length) in
     let place = c.read_place.ensures.asked allowed (alone P (part 0 class.header_length) (of_file_header P class c.args.byte_order file are)) before in
@@ -80,7 +81,7 @@ returns-in_err-headers-clause-asked g c = λ file known allowed are before.
 
 pub returns-clause-asked : goal.returns-clause-asked
 returns-clause-asked g c = λ file known allowed are before.
-    let class = g.C.Class.table in
+    let class = class_of c.args.width in
     let P : Part → Type 0 = λ p. allowed p ≡ true in
     let is_known : Known (g.S.Source.bytes c.args.source.now) c.in_ok-len.len file = (known, length_known _ file c.in_ok-len.len known c.in_ok-len.ensures.length) in
     let place = c.read_place.ensures.asked allowed (alone P (part 0 class.header_length) (of_file_header P class c.args.byte_order file are)) before in

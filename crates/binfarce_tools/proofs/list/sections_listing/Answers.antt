@@ -3,7 +3,7 @@ use Rattle.binfarce.specs.SymbolViews.{section_function_view}
 use Rattle.binfarce_tools.specs.AllListing.{IsLineIn}
 use Rattle.binfarce_tools.specs.Tables.{section_names}
 use Rattle.binfarce_tools.specs.Entries.{all_left}
-use Rattle.binfarce_tools.proofs.AllGiven.{is_all_listing}
+use Rattle.binfarce_tools.proofs.Selections.{is_all_listing}
 use Rattle.binfarce_tools.proofs.Lines.{one_line, whole}
 use Rattle.binfarce_tools.proofs.list.sections_listing.Goals as goal
 

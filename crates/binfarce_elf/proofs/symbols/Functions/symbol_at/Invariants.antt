@@ -6,4 +6,4 @@ use Rattle.binfarce_elf.proofs.symbols.Functions.symbol_at.Given as goal
 
 -- what is found among those that came
 abbrev pub invariant-loop-function : goal.invariant-loop-function
-invariant-loop-function g l = option_map function_view l.found ≡ entry_at (map function_view l.yielded) l.address
+invariant-loop-function l = option_map function_view l.found ≡ entry_at (map (λ f. function_view f.function) l.yielded) l.address

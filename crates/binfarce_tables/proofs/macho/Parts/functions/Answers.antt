@@ -1,9 +1,9 @@
-use Rattle.std.proofs.Common.{ap}
-use Rattle.std.specs.Option.{option_map}
-use Rattle.binfarce_macho.specs.MachoParts.{SomeAddress}
-use Rattle.binfarce_tables.specs.MachoReading.{parts_view, tables_view}
-use Rattle.binfarce_tables.proofs.MachoLocated.{nothing_listed}
+use Rattle.binfarce_macho.specs.MachoSelection.{NeedsMemory}
+use Rattle.binfarce_tables.specs.MachoReading.{parts_view}
+use Rattle.binfarce_tables.proofs.MachoLocated.{entries_selected}
 use Rattle.binfarce_tables.proofs.macho.Parts.functions.Goals as goal
 
-pub returns-in-None : goal.returns-in-None
-returns-in-None c = nothing_listed (λ _. SomeAddress (parts_view c.args.self.now)) (parts_view c.args.self.now) c.new.result (ap (option_map tables_view) c.in-None.is) c.new.ensures.items
+pub returns : goal.returns
+returns c =
+    let tables = parts_view c.args.self.now in
+    entries_selected tables (NeedsMemory tables.sections tables.symbols) c.functions_of.result (rw c.symbols_in.ensures at c.functions_of.ensures)

@@ -1,0 +1,148 @@
+-- The function symbols of the selected sections of a PE file: of the text, or of all sections at their addresses in memory.
+use Rattle.std.specs.Prelude.{◌≢◌, ℕ, ◌+◌, ◌-◌, ◌*◌, ◌%◌, ◌^◌, ◌≤◌, Bool, false, ◌&&◌, ◌||◌, List, map, Option, Some, None, is_none, Result, Ok, nat_eq, nat_le, if◌then◌else◌}
+use Rattle.std.specs.Option.{option_map}
+use Rattle.std.specs.List.{range_with_len, flat_map}
+use Rattle.binfarce_bytes.specs.Number.{bytes_at}
+use Rattle.binfarce_bytes.specs.Refusal.{◌>>=◌, Refusal, if_as_long_as}
+use Rattle.binfarce_bytes.specs.Field.{Field, number_in}
+use Rattle.binfarce_bytes.specs.Entries.{Entry}
+use Rattle.binfarce_bytes.specs.SectionEntries.{SectionEntry, SelectedSymbols, in_section, unless}
+use Rattle.binfarce_pe.specs.declared.functions.SelectedSections as code
+use Rattle.binfarce_pe.specs.declared.functions.SelectedSections.TheVariants.{Text, All}
+use Rattle.binfarce_pe.specs.Pe.{header_of, image_base, least_length, section_fields, section_length}
+use Rattle.binfarce_pe.specs.PeParts.{TablePlaces, TextPlace, SectionTable, headers_view, places_of, section_table, section_in, table_walk, text_place, text_view, whole_in}
+use Rattle.binfarce_pe.specs.PeSymbols.{SymbolRow, SymbolTable, symbol_table, is_function, is_function_of, entries_of}
+
+-- the image base of a file with tables at these places
+abbrev pub base_at : List ℕ → TablePlaces → Option ℕ
+base_at file places = image_base (bytes_at file places.optional_header places.optional_header_size)
+
+-- a function that is external (class 2) or static (class 3), in the section of this index
+abbrev pub is_external_or_static : ℕ → SymbolRow ℕ → Bool
+is_external_or_static index row = is_function row && (nat_eq row.storage_class 2 || nat_eq row.storage_class 3) && nat_eq row.section_number (index + 1)
+
+-- a number of the section header of this index
+abbrev pub number_of : SectionTable → ℕ → Field → ℕ
+number_of sections index field = number_in sections.bytes (sections.offset + index * section_length) field
+
+-- how many bytes the section of this index has in memory: `VirtualSize`, which is 0 in an object; there `SizeOfRawData`
+unfoldable pub memory_size : SectionTable → ℕ → ℕ
+memory_size sections index =
+    let size = number_of sections index section_fields.virtual_size in
+    if nat_eq size 0 then number_of sections index section_fields.size_of_raw_data else size
+
+-- where the section of this index begins in memory, modulo 2 ^ 64: at the image base and its `VirtualAddress`. In an object, which has no image base,
+-- addresses are counted from the section
+unfoldable pub memory_address : Option ℕ → SectionTable → ℕ → ℕ
+memory_address None sections index = 0
+memory_address (Some base) sections index = (base + number_of sections index section_fields.virtual_address) % 2 ^ 64
+
+-- the sections that are chosen: the text, or all of a table in a file with this image base
+pub data SelectedSections : Type 0 where
+  the_text : TextPlace → SelectedSections
+  all_sections : Option ℕ → SectionTable → SelectedSections
+
+-- how the function symbols of chosen sections are listed: the index of the first section, and how many follow from it on; and for each section, by its
+-- index, which rows are kept, the size that sizes end at, and the address for a row's value
+pub record Rules : Type 0 where
+  pub first : ℕ
+  pub count : ℕ
+  pub accepts : ℕ → SymbolRow ℕ → Bool
+  pub size : ℕ → ℕ
+  pub address : ℕ → ℕ → ℕ
+
+-- of the text external functions, at their offsets, up to its size in the file; of all sections external and static ones, at their addresses in memory, up
+-- to the end of each section there
+abbrev pub rules_of : SelectedSections → Rules
+rules_of (the_text text) = record {
+  first = text.index;
+  count = 1;
+  accepts = is_function_of;
+  size = λ index. text.size;
+  address = λ index value. value;
+}
+rules_of (all_sections base sections) = record {
+  first = 0;
+  count = sections.count;
+  accepts = is_external_or_static;
+  size = λ index. memory_size sections index;
+  address = λ index value. (memory_address base sections index + value) % 2 ^ 64;
+}
+
+-- an entry at the address that this gives for its own
+abbrev pub moved : (ℕ → ℕ) → Entry → Entry
+moved address entry = record { name = entry.name; address = address entry.address; size = entry.size }
+
+-- the entries of the section of this index, whose number is one more
+abbrev pub section_entries : Rules → SymbolTable → ℕ → List SectionEntry
+section_entries rules symbols index =
+    in_section (index + 1) (map (moved (rules.address index)) (entries_of symbols (rules.accepts index) (rules.size index)))
+
+-- the entries of the chosen sections, in the order of their numbers; also of a section whose name isn't UTF-8
+abbrev pub entries_by : Rules → SymbolTable → List SectionEntry
+entries_by rules symbols = flat_map (section_entries rules symbols) (range_with_len rules.first rules.count)
+
+-- the name of the section of this number, where there is one and its name is UTF-8
+abbrev pub name_of : SectionTable → ℕ → Option (List ℕ)
+name_of sections number =
+    if nat_eq number 0 then None
+    else if nat_le number sections.count then option_map (λ section. section.name) (section_in sections (number - 1))
+    else None
+
+-- of the text its size in the file
+abbrev pub section_size : SelectedSections → Option ℕ
+section_size (the_text text) = Some text.size
+section_size (all_sections base sections) = None
+
+-- of all sections their names
+abbrev pub section_name : SelectedSections → ℕ → Option (List ℕ)
+section_name (the_text text) = λ number. None
+section_name (all_sections base sections) = name_of sections
+
+-- sections without an image base share addresses
+abbrev pub shares_addresses : SelectedSections → Bool
+shares_addresses (the_text text) = false
+shares_addresses (all_sections base sections) = is_none base
+
+-- the function symbols of chosen sections
+abbrev pub symbols_of : SelectedSections → SymbolTable → SelectedSymbols
+symbols_of chosen symbols =
+    record { entries = entries_by (rules_of chosen) symbols; section_size = section_size chosen; section_name = section_name chosen; shares_addresses = shares_addresses chosen }
+
+-- the section headers, of which none is truncated: else refused as the walk over the sections is
+abbrev pub whole_sections : SectionTable → Result SectionTable Refusal
+whole_sections sections = unless (table_walk sections).refusal sections
+
+-- what a selection chooses of a file, or the refusal: by a name, whichever it is, the text
+abbrev pub sections_in : Option (List ℕ) → List ℕ → Result SelectedSections Refusal
+sections_in (Some name) file = text_place (section_table file) >>= λ text. Ok (the_text text)
+sections_in None file = whole_sections (section_table file) >>= λ sections. Ok (all_sections (base_at file (places_of file)) sections)
+
+-- the refusals in order: those of the selection and of the symbol table; else the function symbols
+unfoldable pub selected_answer : Option (List ℕ) → List ℕ → Result SelectedSymbols Refusal
+selected_answer section file = do
+  chosen ← sections_in section file
+  symbols ← symbol_table file
+  Ok (symbols_of chosen symbols)
+
+-- the entries of all sections
+abbrev pub all_answer : List ℕ → Result (List SectionEntry) Refusal
+all_answer file = selected_answer None file >>= λ selected. Ok selected.entries
+
+-- the file has a section
+abbrev pub HasSection : List ℕ → Type 0
+HasSection file = (header_of file).number_of_sections ≢ 0
+
+-- the answer of a file that has a header
+abbrev pub selected_file_answer : Option (List ℕ) → List ℕ → Result SelectedSymbols Refusal
+selected_file_answer section file = if_as_long_as (least_length file) file (selected_answer section file)
+
+-- a `SelectedSections`
+abbrev pub sections_view : code.SelectedSections → SelectedSections
+sections_view (Text text) = the_text (text_view text)
+sections_view (All base headers) = all_sections base (headers_view headers)
+
+-- none of the section headers that are chosen is truncated
+abbrev pub IsWhole : SelectedSections → Type 0
+IsWhole (the_text text) = Unit {0}
+IsWhole (all_sections base sections) = sections.count ≤ whole_in sections

@@ -1,0 +1,302 @@
+-- What a file of each format answers for a selection: of a section as one list with its size, of all sections without one.
+use Rattle.std.proofs.Common.{◌≡◌, ◌≢◌, ℕ, Bool, true, false, cond, ltb, List, [], ◌∷◌, map, length, Option, Some, None, is_some, unwrap_or, Result, Ok, Err, refl, sym, ap, subst, ◌∙◌}
+use Rattle.std.specs.Prelude.{is_none, ◌&&◌, nat_eq}
+use Rattle.binfarce.specs.declared.ByteOrder.{ByteOrder}
+use Rattle.binfarce.specs.declared.Format.{Format}
+use Rattle.binfarce.specs.declared.Format.TheVariants as formats
+use Rattle.binfarce.specs.declared.SymbolTable.{SymbolTable}
+use Rattle.binfarce.specs.declared.SymbolTable.TheVariants.{Symtab, Dynsym}
+use Rattle.binfarce.specs.Format.{format_of}
+use Rattle.binfarce.specs.Refusal.{◌>>=◌, Refusal, unexpected_eof, symbols_section_is_missing}
+use Rattle.binfarce.specs.SectionEntries.{SectionEntry, SelectedSymbols, as_listed, in_section, unless}
+use Rattle.binfarce.specs.Symbol.{Entry, Listed}
+use Rattle.binfarce.specs.Elf.{ElfClass, SectionTable, Section, elf32, elf64, header_of, section_table, walk, names_bytes, name_among}
+use Rattle.binfarce.specs.ElfSymbols as elf
+use Rattle.binfarce.specs.ElfSymbols.{TableSections, TableRows, NeededSections, Taken, sought, is_named, table_sections, taken, needed, rows_at, taken_from, is_of_section, elf_selected, elf_answer, elf_file_answer}
+use Rattle.binfarce.specs.SymbolTables.{has_indirect}
+use Rattle.binfarce.specs.Macho.{least_length}
+use Rattle.binfarce.specs.MachoSections.{NumberedSection, numbered_sections}
+use Rattle.binfarce.specs.MachoSelection as macho
+use Rattle.binfarce.specs.MachoSymbols.{SymbolTable as MachoTable, Extent, Symbols, text_extent, table_of, symbols_by, macho_answer, macho_file_answer}
+use Rattle.binfarce.specs.Pe as pe_file
+use Rattle.binfarce.specs.PeSelection as pe
+use Rattle.binfarce.specs.PeSymbols.{pe_answer, pe_file_answer}
+use Rattle.binfarce_macho.proofs.Selected.{as_selected, text_selected, needs}
+use Rattle.binfarce_pe.specs.PeParts.{TextPlace, SectionTable as PeSections, places_of, section_table as pe_sections, text_place}
+use Rattle.binfarce_pe.specs.PeSymbols as pe_symbols
+use Rattle.binfarce_pe.proofs.Selected.{listed_with, listed_is, has_section}
+use Rattle.binfarce_tools.specs.Answer.{symbols_answer, by_symbol_table}
+use Rattle.binfarce_tools.specs.AllAnswer.{selected_symbols, selected_answer, one_answer}
+use Rattle.binfarce_tools.specs.Selection.{answer_in}
+
+-- a section has a size, and shares no addresses; all sections have none
+abbrev pub IsSized : Option (List ℕ) → SelectedSymbols → Type 0
+IsSized section seen = (is_some seen.section_size ≡ is_some section) × (is_some section ≡ true → seen.shares_addresses ≡ false)
+
+-- as one list, with another size where there is none
+abbrev pub listed_by : (SelectedSymbols → ℕ) → Result SelectedSymbols Refusal → Result Listed Refusal
+listed_by other r = r >>= λ s. Ok (listed_with other s)
+
+ok_is : {A : Type 0} {a b : A} → Path (Result A Refusal) (Ok a) (Ok b) → a ≡ b
+ok_is e = cc
+
+-- ELF
+module _ (which : SymbolTable) (class : ElfClass) (order : ByteOrder) (file : List ℕ) where
+  abbrev table : SectionTable
+  table = section_table class (record { order = order; bytes = file })
+
+  abbrev sections_of : Option (List ℕ) → Result Taken Refusal
+  sections_of section = taken which (walk class table) (names_bytes class table) table.shnum section
+
+  taken_size : (section : Option (List ℕ)) (t : Taken) → sections_of section ≡ Ok t → is_some t.size ≡ is_some section
+  unfolding taken
+  taken_size (Some name) t is = by_found (sought symbols_section_is_missing (λ s. is_named name (name_among (names_bytes class table) s.name_offset)) (walk class table)) is
+    where
+      by_found : (r : Result Section Refusal) → (r >>= λ section. Ok (record { accepts = λ index. nat_eq index section.index; indirect = has_indirect which; size = Some section.size })) ≡ Ok t → is_some t.size ≡ true
+      by_found (Err why) e = absurd cc
+      by_found (Ok s) e = ap (λ (t : Taken). is_some t.size) (sym (ok_is e))
+  taken_size None t is = by_end (walk class table).refusal is
+    where
+      by_end : (end : Option Refusal) → unless end (record { accepts = is_of_section table.shnum; indirect = true; size = None }) ≡ Ok t → is_some t.size ≡ false
+      by_end (Some why) e = absurd cc
+      by_end None e = ap (λ (t : Taken). is_some t.size) (sym (ok_is e))
+
+  with_table : Taken → TableSections → Result NeededSections Refusal
+  with_table t sections = Ok (record { taken = t; table = sections })
+
+  with_rows : Taken → TableRows → Result elf.Selected Refusal
+  with_rows t found = Ok (record { entries = taken_from class table.order t found; size = t.size })
+
+  of_needed : NeededSections → Result elf.Selected Refusal
+  of_needed sections = rows_at class table.file sections.table >>= with_rows sections.taken
+
+  elf_size : (section : Option (List ℕ)) (s : elf.Selected) → elf_selected which class table section ≡ Ok s → is_some s.size ≡ is_some section
+  unfolding elf_selected needed with_table with_rows of_needed
+  elf_size section s is = by_taken (sections_of section) refl is
+    where
+      by_rows : (t : Taken) (r : Result TableRows Refusal) → (r >>= with_rows t) ≡ Ok s → s.size ≡ t.size
+      by_rows t (Err why) e = absurd cc
+      by_rows t (Ok found) e = ap (λ (s : elf.Selected). s.size) (sym (ok_is e))
+
+      by_table : (t : Taken) (r : Result TableSections Refusal) → ((r >>= with_table t) >>= of_needed) ≡ Ok s → s.size ≡ t.size
+      by_table t (Err why) e = absurd cc
+      by_table t (Ok sections) e = by_rows t (rows_at class table.file sections) e
+
+      by_taken : (r : Result Taken Refusal) → sections_of section ≡ r → ((r >>= λ t. table_sections which (walk class table) >>= with_table t) >>= of_needed) ≡ Ok s → is_some s.size ≡ is_some section
+      by_taken (Err why) at e = absurd cc
+      by_taken (Ok t) at e = ap is_some (by_table t (table_sections which (walk class table)) e) ∙ taken_size section t at
+
+  shown : elf.Selected → SelectedSymbols
+  shown s = elf.symbols_of s (names_bytes class table) (walk class table) (header_of class order file).elf_type
+
+  shares_none : (size : Option ℕ) (elf_type : ℕ) → is_some size ≡ true → elf.share_addresses size elf_type ≡ false
+  shares_none (Some n) elf_type is = refl
+  shares_none None elf_type is = absurd cc
+
+  elf_sized : (section : Option (List ℕ)) (seen : SelectedSymbols) → elf.selected_file_answer which class order file section ≡ Ok seen → IsSized section seen
+  unfolding elf.selected_file_answer shown
+  elf_sized section seen is = by_test (ltb (length file) class.header_length) is
+    where
+      by_selected : (r : Result elf.Selected Refusal) → elf_selected which class table section ≡ r → (r >>= λ s. Ok (shown s)) ≡ Ok seen → IsSized section seen
+      by_selected (Err why) at e = absurd cc
+      by_selected (Ok s) at e =
+          let size = elf_size section s at in
+          subst (IsSized section) (ok_is e) (size, λ one. shares_none s.size (header_of class order file).elf_type (size ∙ one))
+
+      by_test : (short : Bool) → cond short (Err unexpected_eof) (elf_selected which class table section >>= λ s. Ok (shown s)) ≡ Ok seen → IsSized section seen
+      by_test true e = absurd cc
+      by_test false e = by_selected (elf_selected which class table section) refl e
+
+  elf_listed : (other : SelectedSymbols → ℕ) (name : List ℕ) → elf_file_answer which class order file name ≡ listed_by other (elf.selected_file_answer which class order file (Some name))
+  unfolding elf_answer elf.selected_file_answer shown
+  elf_listed other name = by_test (ltb (length file) class.header_length)
+    where
+      by_size : (s : elf.Selected) (size : Option ℕ) → is_some size ≡ true
+          → Path (Result Listed Refusal) (Ok (record { entries = map (λ e. e.entry) s.entries; section_size = unwrap_or size 0 })) (Ok (record { entries = map (λ e. e.entry) s.entries; section_size = unwrap_or size (other (shown s)) }))
+      by_size s (Some n) is = refl
+      by_size s None is = absurd cc
+
+      by_selected : (r : Result elf.Selected Refusal) → elf_selected which class table (Some name) ≡ r → (r >>= λ s. Ok (elf.listed_of s)) ≡ listed_by other (r >>= λ s. Ok (shown s))
+      by_selected (Err why) at = refl
+      by_selected (Ok s) at = by_size s s.size (elf_size (Some name) s at)
+
+      by_test : (short : Bool) → cond short (Err unexpected_eof) (elf_selected which class table (Some name) >>= λ s. Ok (elf.listed_of s)) ≡ listed_by other (cond short (Err unexpected_eof) (elf_selected which class table (Some name) >>= λ s. Ok (shown s)))
+      by_test true = refl
+      by_test false = by_selected (elf_selected which class table (Some name)) refl
+
+-- Mach-O
+module _ (file : List ℕ) where
+  macho_selected : (name : List ℕ) → macho.selected_file_answer (Some name) file ≡ (macho_file_answer file >>= as_selected)
+  macho_selected name = by_test (ltb (length file) least_length)
+    where
+      by_test : (short : Bool) → (cond short (Err unexpected_eof) (macho.selected_tables (Some name) file) >>= macho.symbols_of) ≡ (cond short (Err unexpected_eof) (macho_answer file) >>= as_selected)
+      by_test true = refl
+      by_test false = text_selected name file
+
+  entries_alone : (entries : List Entry) → map (λ e. e.entry) (in_section 1 entries) ≡ entries
+  entries_alone [] = refl
+  entries_alone (e ∷ entries) = ap (λ (es : List Entry). e ∷ es) (entries_alone entries)
+
+  pub macho_listed : (other : SelectedSymbols → ℕ) (name : List ℕ) → macho_file_answer file ≡ listed_by other (macho.selected_file_answer (Some name) file)
+  macho_listed other name = by_answer (macho_file_answer file) ∙ sym (ap (listed_by other) (macho_selected name))
+    where
+      by_answer : (a : Result Listed Refusal) → a ≡ listed_by other (a >>= as_selected)
+      by_answer (Err why) = refl
+      by_answer (Ok listed) = ap (λ (es : List Entry). Ok (record { entries = es; section_size = listed.section_size })) (sym (entries_alone listed.entries))
+
+  -- what the tables of a selection are made of
+  abbrev Made : Option (List ℕ) → macho.SelectedTables → Type 0
+  Made section t = (macho.sections_in section file ≡ Ok t.sections) × ((table : Option (MachoTable ℕ)) × (table_of file ≡ Ok table) × (symbols_by file table ≡ Ok t.symbols))
+
+  made : (section : Option (List ℕ)) (t : macho.SelectedTables) → macho.selected_file_tables section file ≡ Ok t → Made section t
+  unfolding macho.selected_tables
+  made section t is = by_test (ltb (length file) least_length) is
+    where
+      by_symbols : (sections : macho.SelectedSections) (table : Option (MachoTable ℕ)) (r : Result (Option Symbols) Refusal) → symbols_by file table ≡ r
+          → (r >>= λ symbols. Ok (record { sections = sections; symbols = symbols; is_object = macho.is_object file })) ≡ Ok t → (sections ≡ t.sections) × (symbols_by file table ≡ Ok t.symbols)
+      by_symbols sections table (Err why) at e = absurd cc
+      by_symbols sections table (Ok symbols) at e =
+          (ap (λ (t : macho.SelectedTables). t.sections) (ok_is e), at ∙ ap (λ (t : macho.SelectedTables). Ok t.symbols) (ok_is e))
+
+      by_table : (sections : macho.SelectedSections) (r : Result (Option (MachoTable ℕ)) Refusal) → table_of file ≡ r
+          → (r >>= λ table. symbols_by file table >>= λ symbols. Ok (record { sections = sections; symbols = symbols; is_object = macho.is_object file })) ≡ Ok t
+          → (sections ≡ t.sections) × ((table : Option (MachoTable ℕ)) × (table_of file ≡ Ok table) × (symbols_by file table ≡ Ok t.symbols))
+      by_table sections (Err why) at e = absurd cc
+      by_table sections (Ok table) at e = let both = by_symbols sections table (symbols_by file table) refl e in (both.0, (table, at, both.1))
+
+      by_sections : (r : Result macho.SelectedSections Refusal) → macho.sections_in section file ≡ r
+          → (r >>= λ sections. table_of file >>= λ table. symbols_by file table >>= λ symbols. Ok (record { sections = sections; symbols = symbols; is_object = macho.is_object file })) ≡ Ok t → Made section t
+      by_sections (Err why) at e = absurd cc
+      by_sections (Ok sections) at e =
+          let both = by_table sections (table_of file) refl e in (at ∙ ap (λ (s : macho.SelectedSections). Ok s) both.0, both.1)
+
+      by_test : (short : Bool) → cond short (Err unexpected_eof) (macho.selected_tables section file) ≡ Ok t → Made section t
+      by_test true e = absurd cc
+      by_test false e = by_sections (macho.sections_in section file) refl e
+
+  -- so those that need memory are of a file that needs it
+  pub macho_needs : (section : Option (List ℕ)) (t : macho.SelectedTables) → macho.selected_file_tables section file ≡ Ok t → macho.NeedsMemory t.sections t.symbols → macho.FileNeedsMemory section file
+  macho_needs section t is = let m = made section t is in needs section file t.sections m.0 m.1.0 m.1.1 t.symbols m.1.2
+
+  abbrev pub IsMadeOf : macho.SelectedTables → SelectedSymbols → Type 0
+  IsMadeOf t seen =
+      (seen.section_size ≡ macho.section_size t.sections t.symbols) × (macho.section_name t.sections ≡ seen.section_name) × (macho.shares_addresses t.sections t.is_object ≡ seen.shares_addresses)
+
+  pub macho_made : (t : macho.SelectedTables) (seen : SelectedSymbols) → macho.symbols_of t ≡ Ok seen → IsMadeOf t seen
+  unfolding macho.symbols_of
+  macho_made t seen is = by_entries (macho.entries_in t.sections t.symbols) is
+    where
+      by_entries : (r : Result _ Refusal) → (r >>= λ entries. Ok (record { entries = entries; section_size = macho.section_size t.sections t.symbols; section_name = macho.section_name t.sections; shares_addresses = macho.shares_addresses t.sections t.is_object })) ≡ Ok seen → IsMadeOf t seen
+      by_entries (Err why) e = absurd cc
+      by_entries (Ok entries) e =
+          let same = ok_is e in (ap (λ (s : SelectedSymbols). s.section_size) (sym same), ap (λ (s : SelectedSymbols). s.section_name) same, ap (λ (s : SelectedSymbols). s.shares_addresses) same)
+
+  macho_sized : (section : Option (List ℕ)) (seen : SelectedSymbols) → macho.selected_file_answer section file ≡ Ok seen → IsSized section seen
+  unfolding macho.sections_in
+  macho_sized (Some name) seen is = by_answer (macho_file_answer file) (sym (macho_selected name) ∙ is)
+    where
+      by_answer : (a : Result Listed Refusal) → (a >>= as_selected) ≡ Ok seen → IsSized (Some name) seen
+      by_answer (Err why) e = absurd cc
+      by_answer (Ok listed) e = subst (IsSized (Some name)) (ok_is e) (refl, λ one. refl)
+  macho_sized None seen is = by_tables (macho.selected_file_tables None file) refl is
+    where
+      by_kind : (sections : macho.SelectedSections) (symbols : Option Symbols) (r : Result (List NumberedSection) Refusal) → (r >>= λ sections. Ok (macho.all_sections sections)) ≡ Ok sections → macho.section_size sections symbols ≡ None
+      by_kind sections symbols (Err why) e = absurd cc
+      by_kind sections symbols (Ok list) e = ap (λ (s : macho.SelectedSections). macho.section_size s symbols) (sym (ok_is e))
+
+      no_size : (t : macho.SelectedTables) → macho.sections_in None file ≡ Ok t.sections → macho.section_size t.sections t.symbols ≡ None
+      no_size t e = by_kind t.sections t.symbols (numbered_sections file) e
+
+      by_tables : (r : Result macho.SelectedTables Refusal) → macho.selected_file_tables None file ≡ r → (r >>= macho.symbols_of) ≡ Ok seen → IsSized None seen
+      by_tables (Err why) at e = absurd cc
+      by_tables (Ok t) at e = (ap is_some ((macho_made t seen e).0 ∙ no_size t (made None t at).0), λ one. absurd cc)
+
+-- PE
+module _ (file : List ℕ) where
+  pub pe_listed : (other : SelectedSymbols → ℕ) (name : List ℕ) → pe_file_answer file ≡ listed_by other (pe.selected_file_answer (Some name) file)
+  pe_listed other name = by_test (ltb (length file) (pe_file.least_length file))
+    where
+      by_test : (short : Bool) → cond short (Err unexpected_eof) (pe_answer file) ≡ listed_by other (cond short (Err unexpected_eof) (pe.selected_answer (Some name) file))
+      by_test true = refl
+      by_test false = listed_is other name file
+
+  by_table : (chosen : pe.SelectedSections) (seen : SelectedSymbols) (table : Result pe_symbols.SymbolTable Refusal) → (table >>= λ symbols. Ok (pe.symbols_of chosen symbols)) ≡ Ok seen
+      → (seen.section_size ≡ pe.section_size chosen) × (seen.shares_addresses ≡ pe.shares_addresses chosen)
+  by_table chosen seen (Err why) e = absurd cc
+  by_table chosen seen (Ok symbols) e = (ap (λ (s : SelectedSymbols). s.section_size) (sym (ok_is e)), ap (λ (s : SelectedSymbols). s.shares_addresses) (sym (ok_is e)))
+
+  pe_sized : (section : Option (List ℕ)) (seen : SelectedSymbols) → pe.selected_file_answer section file ≡ Ok seen → IsSized section seen
+  unfolding pe.selected_answer
+  pe_sized section seen is = by_test section (ltb (length file) (pe_file.least_length file)) is
+    where
+      by_text : (text : Result TextPlace Refusal)
+          → ((text >>= λ text. Ok (pe.the_text text)) >>= λ chosen. pe_symbols.symbol_table file >>= λ symbols. Ok (pe.symbols_of chosen symbols)) ≡ Ok seen → (is_some seen.section_size ≡ true) × (true ≡ true → seen.shares_addresses ≡ false)
+      by_text (Err why) e = absurd cc
+      by_text (Ok text) e = let both = by_table (pe.the_text text) seen (pe_symbols.symbol_table file) e in (ap is_some both.0, λ one. both.1)
+
+      by_all : (base : Option ℕ) (sections : Result PeSections Refusal)
+          → ((sections >>= λ sections. Ok (pe.all_sections base sections)) >>= λ chosen. pe_symbols.symbol_table file >>= λ symbols. Ok (pe.symbols_of chosen symbols)) ≡ Ok seen → is_some seen.section_size ≡ false
+      by_all base (Err why) e = absurd cc
+      by_all base (Ok sections) e = ap is_some (by_table (pe.all_sections base sections) seen (pe_symbols.symbol_table file) e).0
+
+      by_test : (section : Option (List ℕ)) (short : Bool) → cond short (Err unexpected_eof) (pe.selected_answer section file) ≡ Ok seen → IsSized section seen
+      by_test section true e = absurd cc
+      by_test (Some name) false e = by_text (text_place (pe_sections file)) e
+      by_test None false e = (by_all (pe.base_at file (places_of file)) (pe.whole_sections (pe_sections file)) e, λ one. absurd cc)
+
+  -- a file with an entry has a section
+  pub pe_has_section : (seen : SelectedSymbols) → pe.selected_file_answer None file ≡ Ok seen → seen.entries ≢ [] → pe.HasSection file
+  pe_has_section seen is = by_test (ltb (length file) (pe_file.least_length file)) is
+    where
+      by_test : (short : Bool) → cond short (Err unexpected_eof) (pe.selected_answer None file) ≡ Ok seen → seen.entries ≢ [] → pe.HasSection file
+      by_test true e = absurd cc
+      by_test false e = has_section file seen e
+
+-- entries without their sections, where there are some
+pub some_of : (entries : List SectionEntry) → entries ≢ [] → map (λ e. e.entry) entries ≢ []
+some_of [] some none = some refl
+some_of (e ∷ es) some none = absurd cc
+
+-- a file of any format
+some_is : {A : Type 0} {a b : A} → Path (Option A) (Some a) (Some b) → a ≡ b
+some_is e = cc
+
+pub by_symtab : {A : Type 0} (which : SymbolTable) (answer : Result A Refusal) (x : A) → Path (Option (Result A Refusal)) (Some (by_symbol_table which answer)) (Some (Ok x)) → answer ≡ Ok x
+by_symtab Symtab answer x e = some_is e
+by_symtab Dynsym answer x e = absurd cc
+
+module _ (which : SymbolTable) (file : List ℕ) where
+  pub sized_in : (section : Option (List ℕ)) (seen : SelectedSymbols) → selected_answer which section file ≡ Some (Ok seen) → IsSized section seen
+  unfolding selected_symbols
+  sized_in section seen is = by_format (format_of file) is
+    where
+      by_format : (format : Format) → selected_symbols which section format file ≡ Some (Ok seen) → IsSized section seen
+      by_format (formats.Elf32 order) e = elf_sized which elf32 order file section seen (some_is e)
+      by_format (formats.Elf64 order) e = elf_sized which elf64 order file section seen (some_is e)
+      by_format formats.Macho e = macho_sized file section seen (by_symtab which (macho.selected_file_answer section file) seen e)
+      by_format formats.PE e = pe_sized file section seen (by_symtab which (pe.selected_file_answer section file) seen e)
+      by_format formats.Unknown e = absurd cc
+
+  abbrev other : SelectedSymbols → ℕ
+  other s = (as_listed (record { entries = s.entries; section_size = None; section_name = s.section_name; shares_addresses = s.shares_addresses })).section_size
+
+  as_one : (r : Result SelectedSymbols Refusal) → Some (listed_by other r) ≡ one_answer (Some r)
+  as_one (Ok s) = refl
+  as_one (Err why) = refl
+
+  by_table_of : (w : SymbolTable) (listed : Result Listed Refusal) (r : Result SelectedSymbols Refusal) → listed ≡ listed_by other r → Some (by_symbol_table w listed) ≡ one_answer (Some (by_symbol_table w r))
+  by_table_of Symtab listed r is = ap Some is ∙ as_one r
+  by_table_of Dynsym listed r is = refl
+
+  -- the answer for a selection is that of its function symbols as one list
+  pub in_is : (section : Option (List ℕ)) → answer_in which file section ≡ one_answer (selected_answer which section file)
+  unfolding answer_in symbols_answer selected_symbols
+  in_is None = refl
+  in_is (Some name) = by_format (format_of file)
+    where
+      by_format : (format : Format) → symbols_answer which format file name ≡ one_answer (selected_symbols which (Some name) format file)
+      by_format (formats.Elf32 order) = ap Some (elf_listed which elf32 order file other name) ∙ as_one (elf.selected_file_answer which elf32 order file (Some name))
+      by_format (formats.Elf64 order) = ap Some (elf_listed which elf64 order file other name) ∙ as_one (elf.selected_file_answer which elf64 order file (Some name))
+      by_format formats.Macho = by_table_of which (macho_file_answer file) (macho.selected_file_answer (Some name) file) (macho_listed file other name)
+      by_format formats.PE = by_table_of which (pe_file_answer file) (pe.selected_file_answer (Some name) file) (pe_listed file other name)
+      by_format formats.Unknown = refl

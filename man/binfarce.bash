@@ -6,7 +6,8 @@ _binfarce() {
         return
     fi
     case ${COMP_WORDS[1]} in
-        list | size | map) options="--dynamic --section --all --help" ;;
+        list) options="--sort --first --no-total --full --raw --dynamic --section --all --help" ;;
+        size | map) options="--dynamic --section --all --help" ;;
         filter) options="--full --help" ;;
         at) options="--return --annotate --base --dynamic --section --all --help" ;;
         section) options="--help" ;;

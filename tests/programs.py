@@ -124,7 +124,7 @@ for command, output in outputs.items():
     for path, line in ((scratch, is_folder), (missing, not_there), (of_sys, unknown), ("/dev/null", unknown), ("/dev/zero", unknown)):
         ends(1, "", f"binfarce: {path}: {line}", *call, path)
     ends(2, "", f"binfarce: no file; {shows} how it is called", *call)
-    ends(2, "", f"binfarce: no option --frob of {command}; {shows} them", *call, "--frob", sample)
+    ends(2, "", f"binfarce: no option --other of {command}; {shows} them", *call, "--other", sample)
     usage = printed(folder / "binfarce", command, "--help")
     ends(0, usage, "", "binfarce", "help", command)
     assert re.search(f"^usage: binfarce {command} ", usage, re.M), usage
@@ -214,6 +214,19 @@ for option, starts in (((), [it[0] for it in rows if it[1] == code] + ["text"]),
     assert [it.split()[0] for it in lines] == starts, "other dynamic symbols than those of readelf"
 ends(1, "", f"binfarce: {stripped}: no symbol table (.symtab); --dynamic lists its dynamic symbols", "binfarce", "list", stripped)
 
+# Listings in an order, of the first lines, and with stored names, as nm has the symbols.
+rows = [(address, int(size, 16), name) for address, size, name in re.findall(r"(?m)^(\w+) (\w+) [TtWwi] ([^@\s]+)", printed("nm", "-D", "-S", library))]
+for order, key in (("address", lambda row: row[0]), ("size", lambda row: (-row[1], row[0])), ("name", lambda row: (row[2], row[0]))):
+    lines = printed(folder / "binfarce", "list", "--dynamic", "--all", "--raw", f"--sort={order}", library).splitlines(True)
+    listed = [(it[0], int(it[1]), it[3]) for it in map(str.split, lines) if it[1] != "0"]
+    assert sorted(listed) == sorted(rows) and [*map(key, listed)] == sorted(map(key, rows)), f"another order by {order} than that of nm"
+    ends(0, "".join(lines[:9]), "", "binfarce", "list", "--dynamic", "--all", "--raw", f"--sort={order}", "-n", "9", library)
+for name, *words in (("foo", "--no-total"), ("foo", "-n", "1"), ("_ZN3foo3barE", "--first=9", "--raw"), ("foo::bar", "--sort", "name", "--full")):
+    ends(0, f"{0x1000:016x} {16:10} {name}\n", "", "binfarce", "list", *words, sample)
+ends(0, "", "", "binfarce", "list", "-n", "0", sample)
+for line, *words in (("--sort does not take foo", "--sort=foo"), ("--first does not take x", "-n", "x"), ("--raw and --full exclude each other", "--raw", "--full")):
+    ends(2, "", f"binfarce: {line}", "binfarce", "list", *words, sample)
+
 # The symbols of all sections, in an object file with a section for each function, as nm has them.
 file, functions = f"{scratch}/functions.o", "int f(int x) { return x; } int g(int x) { return x * x; } int h(int x) { return f(x) - g(x); }"
 printed("gcc", "-ffunction-sections", "-c", "-o", file, "-x", "c", "-", given=functions.encode())
@@ -227,6 +240,13 @@ shared = f"binfarce: {file}: its sections share addresses; --section=NAME takes 
 for option in ((), ("--all",)):
     ends(1, "", shared, "binfarce", "at", *option, file, "2")
     ends(1, "", shared, "binfarce", "at", *option, file, given=b"2\n")
+
+# What follows a mangling, such as `.cold`, is shown at an address and in a text, and isn't listed.
+file, name = f"{scratch}/cold.o", "_RNvC1a1b.cold"
+printed("gcc", "-c", "-o", file, "-x", "assembler", "-", given=f'.type "{name}",@function\n"{name}": nop\n.size "{name}", 1\n'.encode())
+ends(0, f"{0:016x} {1:10} a::b\ntext 1\n", "", "binfarce", "list", file)
+ends(0, f"{0:016x} a::b.cold+0x0\n", "", "binfarce", "at", "--section=.text", file, "0")
+ends(0, "at 0x0000 <a::b.cold+0x0>\n", "", "binfarce", "at", "--section=.text", "--annotate", file, given=b"at 0x0000\n")
 
 # A PE image, of PE32+ at 0x140000000 with `.text` at 0x1000: an external and a static function, at their addresses in memory.
 image = "rust/samples/pe-image.bin"

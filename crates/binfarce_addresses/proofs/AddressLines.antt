@@ -2,11 +2,11 @@
 use Rattle.std.proofs.Common.{◌≡◌, inl, inr, ℕ, ◌+◌, ◌-◌, false, ◌<◌, ◌≤◌, List, [], ◌∷◌, ◌++◌, length, get_or, take, Option, Some, None, Result, Ok, Err, refl, sym, ap, subst, ◌∙◌, append-nil, append_assoc}
 use Rattle.std.specs.List.{AllZip, concat}
 use Rattle.std.proofs.lemmas.List.{take_more, take_all}
-use Rattle.std.specs.Result.{IsErrAnd}
+use Rattle.std.specs.Bool.{if◌then◌else◌}
+use Rattle.std.specs.Result.{IsErrAnd, OnOk, is_ok}
 use Rattle.std.specs.Fmt.{digits}
 use Rattle.std.specs.Prelude.{codes}
-use Rattle.binfarce.specs.Name.{Name}
-use Rattle.binfarce.specs.Named.{IsNamed}
+use Rattle.binfarce.specs.Named.{IsShown}
 use Rattle.binfarce.specs.Refusal.{Refusal}
 use Rattle.binfarce_tools.specs.Listing.{address_text, ListingFits}
 use Rattle.binfarce.specs.Symbol.{Entry, Listed}
@@ -100,17 +100,17 @@ regroup_unknown : (t a b u : List ℕ) → (t ++ (a ++ b)) ++ u ≡ t ++ (a ++ (
 regroup_unknown t a b u = simp append_assoc
 
 -- the line of an address that an entry holds
-pub shown_line : (entries : List Entry) (lookup : Lookup) (address offset : ℕ) (entry : Entry) (name : Name) (text addressed named new : List ℕ) → found_at entries (looked_up lookup address) ≡ Some entry → offset ≡ address - lookup.base - entry.address → IsNamed entry.name name
-    → addressed ≡ text ++ (address_text address ++ codes " ") → named ≡ addressed ++ name.trimmed → new ≡ named ++ (codes "+0x" ++ (digits 16 false offset ++ codes "\n"))
+pub shown_line : (entries : List Entry) (lookup : Lookup) (address offset : ℕ) (entry : Entry) (name : List ℕ) (text addressed named new : List ℕ) → found_at entries (looked_up lookup address) ≡ Some entry → offset ≡ address - lookup.base - entry.address → IsShown entry.name name
+    → addressed ≡ text ++ (address_text address ++ codes " ") → named ≡ addressed ++ name → new ≡ named ++ (codes "+0x" ++ (digits 16 false offset ++ codes "\n"))
     → (line : List ℕ) × IsLineAt entries lookup address line × (new ≡ text ++ line)
 shown_line entries lookup address offset entry name text addressed named new found is names a b c =
-    let shown = name.trimmed ++ (codes "+0x" ++ digits 16 false (address - lookup.base - entry.address)) in
+    let shown = name ++ (codes "+0x" ++ digits 16 false (address - lookup.base - entry.address)) in
     let P : Option Entry → Type 0 = λ o. IsTextOf o (address - lookup.base) shown in (
       address_line address shown,
       (shown, subst P (sym found) (name, names, refl), refl),
-      c ∙ ap (λ (xs : List ℕ). xs ++ (codes "+0x" ++ (digits 16 false offset ++ codes "\n"))) (b ∙ ap (λ (xs : List ℕ). xs ++ name.trimmed) a)
-          ∙ ap (λ (n : ℕ). ((text ++ (address_text address ++ codes " ")) ++ name.trimmed) ++ (codes "+0x" ++ (digits 16 false n ++ codes "\n"))) is
-          ∙ regroup text (address_text address) (codes " ") name.trimmed (codes "+0x") (digits 16 false (address - lookup.base - entry.address)) (codes "\n"),
+      c ∙ ap (λ (xs : List ℕ). xs ++ (codes "+0x" ++ (digits 16 false offset ++ codes "\n"))) (b ∙ ap (λ (xs : List ℕ). xs ++ name) a)
+          ∙ ap (λ (n : ℕ). ((text ++ (address_text address ++ codes " ")) ++ name) ++ (codes "+0x" ++ (digits 16 false n ++ codes "\n"))) is
+          ∙ regroup text (address_text address) (codes " ") name (codes "+0x") (digits 16 false (address - lookup.base - entry.address)) (codes "\n"),
     )
 
 -- and of one that none holds
@@ -122,3 +122,8 @@ unknown_line entries lookup address text addressed new found a b =
       (codes "??", subst P (sym found) refl, refl),
       b ∙ ap (λ (xs : List ℕ). xs ++ codes "??\n") a ∙ regroup_unknown text (address_text address) (codes " ") (codes "??\n"),
     )
+
+-- what was added, if memory sufficed
+pub added : {E : Type 0} (r : Result (Unit {0}) E) (new more old : List ℕ) → new ≡ (if is_ok r then more else old) → OnOk r (new ≡ more)
+added (Ok x) new more old is = is
+added (Err e) new more old is = tt

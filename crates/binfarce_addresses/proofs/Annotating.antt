@@ -1,31 +1,27 @@
 -- A text in which addresses are annotated, one step after the other.
-use Rattle.std.proofs.Common.{◌≡◌, ◌≢◌, false, true, Bool, ℕ, zero, suc, ◌+◌, ◌-◌, ◌<◌, ◌≤◌, List, [], ◌∷◌, ◌++◌, length, take, drop, get_or, Option, Some, None, Result, Ok, Err, IsErrAnd, refl, sym, ◌∙◌, ap, subst, append_assoc, append-nil, arith, length-drop}
+use Rattle.std.proofs.Common.{◌≡◌, ◌≢◌, false, true, Bool, ℕ, zero, suc, ◌+◌, ◌-◌, ◌<◌, ◌≤◌, List, [], ◌∷◌, ◌++◌, length, take, drop, get_or, Option, Some, refl, sym, ◌∙◌, ap, subst, append_assoc, append-nil, arith, length-drop, length-take}
 use Rattle.std.specs.Prelude.{◌&&◌, ◌==◌, codes, nat_eq, nat_lt, if◌then◌else◌}
 use Rattle.std.specs.Fmt.{digits}
 use Rattle.std.specs.Int.{is_in_range}
-use Rattle.std.specs.List.{prefix_len, starts_with}
+use Rattle.std.specs.List.{starts_with}
 use Rattle.std.specs.Char.{is_ascii_hexdigit}
-use Rattle.std.specs.Io.KnownBytes.{Appends, Consumes, Keeps}
 use Rattle.std.proofs.Math.Dec.{eqb}
 use Rattle.std.proofs.lemmas.Bool.{eqb-true, ltb-true}
 use Rattle.std.proofs.lemmas.Bool.Decides.{nat_tests}
 use Rattle.std.proofs.lemmas.List.{drop-append-le, drop-drop, take-append-drop, take-append-le}
 use Rattle.std.proofs.lemmas.List.Folds.{prefix_len-append}
-use Rattle.binfarce.specs.Name.{Name}
-use Rattle.binfarce.specs.Named.{IsNamed}
+use Rattle.binfarce.specs.Named.{IsShown}
 use Rattle.binfarce.specs.Symbol.{Entry}
-use Rattle.binfarce_tools.specs.Writing.{AppendsBeginning}
 use Rattle.binfarce_addresses.specs.Address.{address_of}
-use Rattle.binfarce_addresses.specs.Annotated.{address_len, digits_len, Annotates, AnnotatesAll, AnnotatesPart, IsAddedAfter, IsAddedFor, IsAnnotated, IsBeginning}
+use Rattle.binfarce_addresses.specs.Annotated.{address_len, digits_len, IsAddedAfter, IsAddedFor, IsAnnotated}
 use Rattle.binfarce_addresses.specs.Annotated.IsAnnotated.{nothing, other_then, address_then}
 use Rattle.binfarce_addresses.specs.Lines.{found_at}
 use Rattle.binfarce_addresses.specs.Lookup.{looked_up}
-use Rattle.binfarce_addresses.specs.machine.Annotating.{HasPassed, IsDecided, Leaves, MayFollow, Passes, PassesAll, ShowsFirst, ShowsTo}
-use Rattle.binfarce_addresses.proofs.Answering.{appends_more, appends_none, consumes_kept, consumes_more, consumes_none, not_read, not_read_either}
+use Rattle.binfarce_addresses.specs.machine.Annotating.{Annotates, AreAlike, HasShown, Holds, IsDecided, Leaves, ShowsFirst, ShowsTo}
 use Rattle.binfarce_addresses.proofs.Streams.{left_of}
 use Rattle.binfarce_addresses.specs.declared.lookup.Lookup.{Lookup}
-use Rattle.binfarce_addresses.specs.declared.stream.LinesError.{LinesError}
-use Rattle.binfarce_addresses.specs.declared.stream.LinesError.TheVariants.{Read, OutOfMemory, Write}
+use Rattle.binfarce_addresses.specs.declared.annotate.Annotating.{Annotating}
+use Rattle.binfarce_text.specs.Streams.{IsBeginningOf}
 
 pub annotated_same : (entries : List Entry) (lookup : Lookup) (text other annotated shown : List ℕ) → text ≡ other → annotated ≡ shown → IsAnnotated entries lookup text annotated → IsAnnotated entries lookup other shown
 annotated_same entries lookup text other annotated shown same is annotates = subst (λ x. IsAnnotated entries lookup x shown) same (subst (λ x. IsAnnotated entries lookup text x) is annotates)
@@ -112,19 +108,19 @@ shows_address entries lookup text added len old mid new is some le adds first se
 
 -- what is added after the address of a symbol
 pub adds_place : (entries : List Entry) (lookup : Lookup) (given : Option ℕ) (address offset : ℕ) (entry : Entry) (old new : List ℕ) → given ≡ Some address → found_at entries (looked_up lookup address) ≡ Some entry → offset ≡ address - lookup.base - entry.address
-    → (name : Name) × IsNamed entry.name name × (new ≡ old ++ (codes " <" ++ (name.trimmed ++ (codes "+0x" ++ (digits 16 false offset ++ codes ">")))))
+    → (name : List ℕ) × IsShown entry.name name × (new ≡ old ++ (codes " <" ++ (name ++ (codes "+0x" ++ (digits 16 false offset ++ codes ">")))))
     → (added : List ℕ) × IsAddedAfter entries lookup given added × (new ≡ old ++ added)
 adds_place entries lookup given address offset entry old new is found into written =
     let name = written.0 in
     let shown = digits 16 false (address - lookup.base - entry.address) in
-    let place = name.trimmed ++ (codes "+0x" ++ shown) in
+    let place = name ++ (codes "+0x" ++ shown) in
     let added = codes " <" ++ (place ++ codes ">") in
-    let same : name.trimmed ++ (codes "+0x" ++ (shown ++ codes ">")) ≡ place ++ codes ">" = sym (append_assoc name.trimmed (codes "+0x" ++ shown) (codes ">") ∙ ap (λ (x : List ℕ). name.trimmed ++ x) (append_assoc (codes "+0x") shown (codes ">"))) in
+    let same : name ++ (codes "+0x" ++ (shown ++ codes ">")) ≡ place ++ codes ">" = sym (append_assoc name (codes "+0x" ++ shown) (codes ">") ∙ ap (λ (x : List ℕ). name ++ x) (append_assoc (codes "+0x") shown (codes ">"))) in
     let P : Option Entry → Type 0 = λ e. IsAddedFor e (address - lookup.base) added in
     let Q : Option ℕ → Type 0 = λ a. IsAddedAfter entries lookup a added in (
       added,
       subst Q (sym is) (subst P (sym found) (place, (name, written.1, refl), refl)),
-      written.2 ∙ ap (λ (n : ℕ). old ++ (codes " <" ++ (name.trimmed ++ (codes "+0x" ++ (digits 16 false n ++ codes ">"))))) into ∙ ap (λ (x : List ℕ). old ++ (codes " <" ++ x)) same,
+      written.2 ∙ ap (λ (n : ℕ). old ++ (codes " <" ++ (name ++ (codes "+0x" ++ (digits 16 false n ++ codes ">"))))) into ∙ ap (λ (x : List ℕ). old ++ (codes " <" ++ x)) same,
     )
 
 -- a name, and what comes after it, are written behind others
@@ -167,150 +163,91 @@ shows_all entries lookup text at old new shows end =
     nil [] none = refl
     nil (b ∷ x) none = absurd (omega (arith, none))
 
-beginning : (entries : List Entry) (lookup : Lookup) (is_last : Bool) (text bytes shown : List ℕ) (at : ℕ) → bytes ≡ text → Leaves entries lookup is_last bytes (drop at bytes) shown → IsBeginning entries lookup text shown
-beginning entries lookup is_last text bytes shown at same leaves = subst (λ (x : List ℕ). IsBeginning entries lookup x shown) same (
-  take at bytes,
-  drop at bytes,
-  sym (take-append-drop at bytes),
-  λ annotated is. annotated_same entries lookup _ _ _ _ (append-nil bytes) refl (leaves [] annotated (λ last. refl) (annotated_same entries lookup _ _ _ _ (sym (append-nil (drop at bytes))) refl is)),
-)
+-- nothing is annotated to nothing
+none_annotated : (entries : List Entry) (lookup : Lookup) (text annotated : List ℕ) → IsAnnotated entries lookup text annotated → text ≡ [] → annotated ≡ []
+none_annotated entries lookup _ _ nothing none = refl
+none_annotated entries lookup _ _ (other_then b text annotated other is) none = absurd cc
+none_annotated entries lookup _ _ (address_then text added annotated some adds is) none = absurd (omega (arith, some, ap address_len none))
 
--- an allocation failed before anything was written
-pub passes_none : (entries : List Entry) (lookup : Lookup) (is_last : Bool) (text kept : List ℕ) (old : Option (List ℕ)) (result : Result (Unit {0}) LinesError) → IsErrAnd result (λ e. e ≡ OutOfMemory) → Passes entries lookup is_last text kept old old result
-passes_none entries lookup is_last text kept old (Ok x) is = absurd is
-passes_none entries lookup is_last text kept old (Err e) is = (not_read e is, ([], ([], text, refl, λ annotated a. a), ([], [], refl, appends_none old)))
-
--- what of a text is shown by a push into an empty text
-shown_of : (none out shown out_is : List ℕ) → none ≡ [] → out ≡ none ++ shown → out_is ≡ out → out_is ≡ shown
-shown_of none out shown out_is empty is same = same ∙ is ∙ ap (λ (x : List ℕ). x ++ shown) empty
-
--- a beginning of what is shown was written
-pub passes_less : (entries : List Entry) (lookup : Lookup) (is_last : Bool) (text bytes kept none out written : List ℕ) (at : ℕ) (old new : Option (List ℕ)) (e : LinesError) (result : Result (Unit {0}) LinesError) → bytes ≡ text → none ≡ [] → written ≡ out
-    → ShowsTo entries lookup is_last bytes at none out → (e ≡ Write) × AppendsBeginning old new written → IsErrAnd result (λ x. x ≡ e) → Passes entries lookup is_last text kept old new result
-passes_less entries lookup is_last text bytes kept none out written at old new e (Ok x) same empty is shows wrote err = absurd err
-passes_less entries lookup is_last text bytes kept none out written at old new e (Err x) same empty is shows wrote err =
-    (not_read_either x (err ∙ wrote.0), (shows.0, beginning entries lookup is_last text bytes shows.0 at same shows.1, subst (λ (x : List ℕ). AppendsBeginning old new x) (shown_of none out shows.0 written empty shows.2 is) wrote.1))
-
--- all of it was written, and then an allocation failed
-pub passes_kept : (entries : List Entry) (lookup : Lookup) (is_last : Bool) (text bytes kept none out written : List ℕ) (at : ℕ) (old new : Option (List ℕ)) (result : Result (Unit {0}) LinesError) → bytes ≡ text → none ≡ [] → written ≡ out
-    → ShowsTo entries lookup is_last bytes at none out → Appends old new written → IsErrAnd result (λ e. e ≡ OutOfMemory) → Passes entries lookup is_last text kept old new result
-passes_kept entries lookup is_last text bytes kept none out written at old new (Ok x) same empty is shows wrote err = absurd err
-passes_kept entries lookup is_last text bytes kept none out written at old new (Err x) same empty is shows wrote err = (
-  not_read x err,
-  (
-    shows.0,
-    beginning entries lookup is_last text bytes shows.0 at same shows.1,
-    (shows.0, [], sym (append-nil shows.0), subst (λ (x : List ℕ). Appends old new x) (shown_of none out shows.0 written empty shows.2 is) wrote),
-  ),
-)
-
-pub passes_all : (entries : List Entry) (lookup : Lookup) (is_last : Bool) (text bytes kept none out written : List ℕ) (at : ℕ) (old new : Option (List ℕ)) → bytes ≡ text → none ≡ [] → written ≡ out
-    → ShowsTo entries lookup is_last bytes at none out → Appends old new written → kept ≡ take (length bytes - at) (drop at bytes) → Passes entries lookup is_last text kept old new (Ok tt)
-passes_all entries lookup is_last text bytes kept none out written at old new same empty is shows wrote rest =
+-- all of the kept text and the next part is shown up to what is kept then
+pub shows_part : (entries : List Entry) (lookup : Lookup) (is_last : Bool) (text bytes kept old new : List ℕ) (at : ℕ) → bytes ≡ text → ShowsTo entries lookup is_last bytes at old new → kept ≡ take (length bytes - at) (drop at bytes)
+    → (more : List ℕ) × HasShown entries lookup is_last text kept more × (new ≡ old ++ more)
+shows_part entries lookup is_last text bytes kept old new at same shows rest =
     let left : drop at bytes ≡ kept = sym (rest ∙ left_of bytes at) in (
-      take at bytes,
       shows.0,
-      sym same ∙ sym (take-append-drop at bytes) ∙ ap (λ (x : List ℕ). take at bytes ++ x) left,
-      λ more annotated follows a.
-          annotated_same entries lookup _ _ _ _ (ap (λ (x : List ℕ). x ++ more) same) refl
-          (shows.1 more annotated follows (annotated_same entries lookup _ _ _ _ (ap (λ (x : List ℕ). x ++ more) (sym left)) refl a)),
-      subst (λ (x : List ℕ). Appends old new x) (shown_of none out shows.0 written empty shows.2 is) wrote,
+      (
+        take at bytes,
+        sym same ∙ sym (take-append-drop at bytes) ∙ ap (λ (x : List ℕ). take at bytes ++ x) left,
+        λ more annotated follows a.
+            annotated_same entries lookup _ _ _ _ (ap (λ (x : List ℕ). x ++ more) same) refl
+            (shows.1 more annotated follows (annotated_same entries lookup _ _ _ _ (ap (λ (x : List ℕ). x ++ more) (sym left)) refl a)),
+      ),
+      shows.2,
     )
 
--- nothing was read yet
-pub nothing_passed : (entries : List Entry) (lookup : Lookup) (kept : List ℕ) (given old : Option (List ℕ)) → kept ≡ [] → HasPassed entries lookup kept given given old old
-nothing_passed entries lookup kept given old none =
-    ([], [], [], consumes_none given, sym none, (λ more annotated follows a. annotated_same entries lookup _ _ _ _ (ap (λ (x : List ℕ). x ++ more) none) refl a), appends_none old)
+-- nothing is left behind the text's end
+pub kept_none : (bytes kept : List ℕ) (at : ℕ) → kept ≡ take (length bytes - at) (drop at bytes) → at ≡ length bytes → kept ≡ []
+kept_none bytes kept at rest end = nil kept (omega (arith, ap (length {A = ℕ}) rest, length-take (length bytes - at) (drop at bytes), length-drop at bytes, end))
+  where
+    nil : (x : List ℕ) → length x ≡ 0 → x ≡ []
+    nil [] none = refl
+    nil (b ∷ x) none = absurd (omega (arith, none))
 
 -- what is kept, and a part after it
-with_part : (entries : List Entry) (lookup : Lookup) (came kept part shown annotated : List ℕ) → Leaves entries lookup false came kept shown → IsAnnotated entries lookup (kept ++ part) annotated → IsAnnotated entries lookup (came ++ part) (shown ++ annotated)
-with_part entries lookup came kept part shown annotated leaves is = leaves part annotated (λ last. absurd cc) is
+with_part : (entries : List Entry) (lookup : Lookup) (text kept part made annotated : List ℕ) → Leaves entries lookup false text kept made → IsAnnotated entries lookup (kept ++ part) annotated → IsAnnotated entries lookup (text ++ part) (made ++ annotated)
+with_part entries lookup text kept part made annotated leaves is = leaves part annotated (λ last. absurd cc) is
 
--- one part more
-pub more_passed : (entries : List Entry) (lookup : Lookup) (kept next part : List ℕ) (given left rest old mid new : Option (List ℕ)) → HasPassed entries lookup kept given left old mid → Consumes left rest part
-    → Passes entries lookup false (kept ++ part) next mid new (Ok tt) → HasPassed entries lookup next given rest old new
-more_passed entries lookup kept next part given left rest old mid new has reads is = (
-  has.0 ++ part,
-  has.1 ++ is.0,
-  has.2 ++ is.1,
-  consumes_more given left rest has.0 part has.3 reads,
-  ap (λ (x : List ℕ). x ++ part) has.4 ∙ append_assoc has.1 kept part ∙ ap (λ (x : List ℕ). has.1 ++ x) is.2 ∙ sym (append_assoc has.1 is.0 next),
-  λ more annotated follows a.
-      annotated_same entries lookup _ _ _ _ (sym (append_assoc has.0 part more)) (sym (append_assoc has.2 is.1 annotated))
-      (with_part entries lookup has.0 kept (part ++ more) has.2 (is.1 ++ annotated) has.5 (annotated_same entries lookup _ _ _ _ (append_assoc kept part more) refl (is.3 more annotated follows a))),
-  appends_more old mid new has.2 is.1 has.6 is.4,
-)
+module _ (first old new : Annotating) (part more : List ℕ) where
+  here : AreAlike first old → (is_last : Bool) → HasShown old.places.now old.lookup is_last (old.kept.items ++ part) new.kept.items more → HasShown first.places.now first.lookup is_last (old.kept.items ++ part) new.kept.items more
+  here alike is_last is =
+      let P : List Entry → Lookup → Type 0 = λ entries lookup. HasShown entries lookup is_last (old.kept.items ++ part) new.kept.items more in
+      subst (λ entries. P entries first.lookup) alike.0 (subst (P old.places.now) alike.1 is)
 
--- a part after which a write or an allocation failed
-broke_off : (entries : List Entry) (lookup : Lookup) (kept part : List ℕ) (given left rest old mid new : Option (List ℕ)) → HasPassed entries lookup kept given left old mid → Consumes left rest part
-    → (shown : List ℕ) × IsBeginning entries lookup (kept ++ part) shown × AppendsBeginning mid new shown → AnnotatesPart entries lookup given rest old new
-broke_off entries lookup kept part given left rest old mid new has reads is = (
-  has.0 ++ part,
-  has.2 ++ is.0,
-  consumes_more given left rest has.0 part has.3 reads,
-  (
-    has.1 ++ is.1.0,
-    is.1.1,
-    ap (λ (x : List ℕ). x ++ part) has.4 ∙ append_assoc has.1 kept part ∙ ap (λ (x : List ℕ). has.1 ++ x) is.1.2 ∙ sym (append_assoc has.1 is.1.0 is.1.1),
-    λ annotated a. annotated_same entries lookup _ _ _ _ refl (sym (append_assoc has.2 is.0 annotated)) (with_part entries lookup has.0 kept part has.2 (is.0 ++ annotated) has.5 (is.1.3 annotated a)),
-  ),
-  (
-    has.2 ++ is.2.0,
-    is.2.1,
-    ap (λ (x : List ℕ). has.2 ++ x) is.2.2 ∙ sym (append_assoc has.2 is.2.0 is.2.1),
-    appends_more old mid new has.2 is.2.0 has.6 is.2.3,
-  ),
-)
+  -- the next part is annotated
+  pub goes_on : Annotates old new false part more → (text made : List ℕ) → Holds first old text made → Holds first new (text ++ part) (made ++ more)
+  goes_on pushed text made holds =
+      let entries = first.places.now in
+      let lookup = first.lookup in
+      let kept = old.kept.items in
+      let has = holds.1 in
+      let is = here holds.0 false pushed.1 in (
+        (pushed.0.0 ∙ holds.0.0, pushed.0.1 ∙ holds.0.1),
+        (
+          has.0 ++ is.0,
+          ap (λ (x : List ℕ). x ++ part) has.1 ∙ append_assoc has.0 kept part ∙ ap (λ (x : List ℕ). has.0 ++ x) is.1 ∙ sym (append_assoc has.0 is.0 new.kept.items),
+          λ others annotated follows a.
+              annotated_same entries lookup _ _ _ _ (sym (append_assoc text part others)) (sym (append_assoc made more annotated))
+              (with_part entries lookup text kept (part ++ others) made (more ++ annotated) has.2 (annotated_same entries lookup _ _ _ _ (append_assoc kept part others) refl (is.2 others annotated follows a))),
+        ),
+      )
 
-pub all_broken : (entries : List Entry) (lookup : Lookup) (kept next after part : List ℕ) (given left rest old mid new : Option (List ℕ)) (e : LinesError) (result : Result Bool LinesError) → HasPassed entries lookup kept given left old mid → Consumes left rest part
-    → Passes entries lookup false (kept ++ part) next mid new (Err e) → IsErrAnd result (λ x. x ≡ e) → PassesAll entries lookup after given rest old new result
-all_broken entries lookup kept next after part given left rest old mid new e (Ok x) has reads is err = absurd err
-all_broken entries lookup kept next after part given left rest old mid new e (Err x) has reads is err = ((λ read. is.0 (sym err ∙ read)), broke_off entries lookup kept part given left rest old mid new has reads is.1)
+  -- all that came is annotated
+  pub ends : part ≡ [] → Annotates old new true part more → (text made : List ℕ) → Holds first old text made → IsAnnotated first.places.now first.lookup text (made ++ more)
+  ends none pushed text made holds =
+      let entries = first.places.now in
+      let lookup = first.lookup in
+      let kept = old.kept.items in
+      let is = here holds.0 true pushed.1 in
+      let rest : IsAnnotated entries lookup (kept ++ part) more =
+      annotated_same entries lookup _ _ _ _ (append-nil (kept ++ part)) (append-nil more) (is.2 [] [] (λ last. refl) (annotated_same entries lookup _ _ _ _ (sym (append-nil new.kept.items ∙ pushed.2 refl)) refl nothing)) in
+      annotated_same entries lookup _ _ _ _ (ap (λ (x : List ℕ). text ++ x) none ∙ append-nil text) refl (with_part entries lookup text kept part made more holds.1.2 rest)
 
--- a read that failed
-pub kept_passed : (entries : List Entry) (lookup : Lookup) (kept : List ℕ) (given left rest old new : Option (List ℕ)) → HasPassed entries lookup kept given left old new → Keeps left rest → HasPassed entries lookup kept given rest old new
-kept_passed entries lookup kept given left rest old new has same = (has.0, has.1, has.2, consumes_kept given left rest has.0 has.3 same, has.4, has.5, has.6)
+-- the output may break off after what was made
+pub breaks_off : (first now : Annotating) (text part made others : List ℕ) → Holds first now text (made ++ others) → IsBeginningOf (IsAnnotated first.places.now first.lookup) (text ++ part) made
+breaks_off first now text part made others holds =
+    let has = holds.1 in (
+      has.0,
+      now.kept.items ++ part,
+      others,
+      ap (λ (x : List ℕ). x ++ part) has.1 ∙ append_assoc has.0 now.kept.items part,
+      λ annotated is. with_part first.places.now first.lookup text now.kept.items part (made ++ others) annotated has.2 is,
+    )
 
--- a read that gave nothing
-pub ended_passed : (entries : List Entry) (lookup : Lookup) (kept : List ℕ) (given left rest old new : Option (List ℕ)) (n : ℕ) (chunk : List ℕ) → HasPassed entries lookup kept given left old new → Consumes left rest (take n chunk) → n ≡ 0
-    → HasPassed entries lookup kept given rest old new
-ended_passed entries lookup kept given left rest old new n chunk has reads none =
-    let P : ℕ → Type 0 = λ x. Consumes left rest (take x chunk) in
-    (has.0, has.1, has.2, subst (λ (x : List ℕ). Consumes given rest x) (append-nil has.0) (consumes_more given left rest has.0 [] has.3 (subst P none reads)), has.4, has.5, has.6)
-
--- an allocation failed before the first read
-pub all_none : (entries : List Entry) (lookup : Lookup) (given old : Option (List ℕ)) (result : Result (Unit {0}) LinesError) → IsErrAnd result (λ e. e ≡ OutOfMemory) → AnnotatesAll entries lookup given given old old result
-all_none entries lookup given old (Ok x) is = absurd is
-all_none entries lookup given old (Err e) is =
-    subst (λ (x : LinesError). AnnotatesAll entries lookup given given old old (Err x)) (sym is) ([], [], consumes_none given, ([], [], refl, λ annotated a. a), ([], [], refl, appends_none old))
-
-part_of : (entries : List Entry) (lookup : Lookup) (given left old new : Option (List ℕ)) (e : LinesError) → e ≢ Read → AnnotatesPart entries lookup given left old new → AnnotatesAll entries lookup given left old new (Err e)
-part_of entries lookup given left old new Read ne is = absurd (ne refl)
-part_of entries lookup given left old new Write ne is = is
-part_of entries lookup given left old new OutOfMemory ne is = is
-
--- a write or an allocation failed before the reader's end
-pub stream_broken : (entries : List Entry) (lookup : Lookup) (kept : List ℕ) (given left old new : Option (List ℕ)) (e : LinesError) (result : Result (Unit {0}) LinesError) → PassesAll entries lookup kept given left old new (Err e) → IsErrAnd result (λ x. x ≡ e)
-    → AnnotatesAll entries lookup given left old new result
-stream_broken entries lookup kept given left old new e (Ok x) is err = absurd err
-stream_broken entries lookup kept given left old new e (Err x) is err = part_of entries lookup given left old new x (λ read. is.0 (sym err ∙ read)) is.1
-
--- or at its end
-pub end_broken : (entries : List Entry) (lookup : Lookup) (kept after : List ℕ) (given left old mid new : Option (List ℕ)) (e : LinesError) (result : Result (Unit {0}) LinesError) → HasPassed entries lookup kept given left old mid → Passes entries lookup true (kept ++ []) after mid new (Err e)
-    → IsErrAnd result (λ x. x ≡ e) → AnnotatesAll entries lookup given left old new result
-end_broken entries lookup kept after given left old mid new e (Ok x) has is err = absurd err
-end_broken entries lookup kept after given left old mid new e (Err x) has is err =
-    part_of entries lookup given left old new x (λ read. is.0 (sym err ∙ read)) (broke_off entries lookup kept [] given left left old mid new has (consumes_none left) is.1)
-
--- all that came was annotated
-pub all_annotated : (entries : List Entry) (lookup : Lookup) (kept after : List ℕ) (given left old mid new : Option (List ℕ)) → HasPassed entries lookup kept given left old mid → Passes entries lookup true (kept ++ []) after mid new (Ok tt) → after ≡ []
-    → Annotates entries lookup given left old new
-all_annotated entries lookup kept after given left old mid new has is none = (
-  has.0,
-  has.2 ++ is.1,
-  has.3,
-  annotated_same entries lookup _ _ _ _ (append-nil has.0) refl
-      (with_part entries lookup has.0 kept [] has.2 is.1 has.5
-      (annotated_same entries lookup _ _ _ _ (append-nil (kept ++ [])) (append-nil is.1) (is.3 [] [] (λ last. refl) (annotated_same entries lookup _ _ _ _ (sym (append-nil after ∙ none)) refl nothing)))),
-  appends_more old mid new has.2 is.1 has.6 is.4,
+pub breaks_off_done : (first : Annotating) (text made others : List ℕ) → IsAnnotated first.places.now first.lookup text (made ++ others) → IsBeginningOf (IsAnnotated first.places.now first.lookup) text made
+breaks_off_done first text made others is = (
+  text,
+  [],
+  others,
+  sym (append-nil text),
+  λ rest none. annotated_same first.places.now first.lookup _ _ _ _ refl (sym (append-nil (made ++ others)) ∙ ap (λ (x : List ℕ). (made ++ others) ++ x) (sym (none_annotated first.places.now first.lookup [] rest none refl))) is,
 )

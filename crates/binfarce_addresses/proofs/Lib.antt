@@ -1,16 +1,12 @@
 pub mod Numbers
-pub mod KeptNames
 pub mod Shown
 pub mod AddressLines
 pub mod Trimmed
 pub mod Streams
 pub mod Answering
 pub mod Annotating
-pub mod NameCells
-pub mod Links
 pub mod Rows
-pub mod Found
 pub mod HexNumbers
-pub mod Values
 pub mod HexLines
+pub mod Sweep
 pub mod Spans

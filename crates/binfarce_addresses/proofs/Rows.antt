@@ -1,8 +1,8 @@
 -- Rows in the order of a sort.
-use Rattle.std.proofs.Common.{◌≡◌, ℕ, ◌+◌, ◌<◌, ◌≤◌, Bool, true, false, leb, ◌&&◌, ◌||◌, List, [], ◌∷◌, ◌++◌, length, length-append, ◌⊎◌, inl, inr, sym, ap, ◌∙◌, arith, nat_lt, nat_eq, nat_cmp, is_lt, IsPermutation}
+use Rattle.std.proofs.Common.{◌≡◌, ℕ, ◌+◌, ◌<◌, ◌≤◌, Bool, true, false, ◌&&◌, ◌||◌, List, [], ◌∷◌, ◌++◌, length, length-append, ◌⊎◌, inl, inr, sym, ap, ◌∙◌, arith, nat_lt, nat_eq, nat_cmp, is_lt, IsPermutation}
 use Rattle.std.specs.Cmp.{IsStrictWeakOrder}
 use Rattle.std.specs.List.{Contains}
-use Rattle.std.specs.List.Sorted.{IsNonDecreasingBy, IsPartitionPoint, IsSortedBy}
+use Rattle.std.specs.List.Sorted.{IsSortedBy}
 use Rattle.std.specs.Ordering.{ordering_then}
 use Rattle.std.proofs.lemmas.Bool.Decides.{nat_tests}
 use Rattle.std.proofs.Math.ListN.{get_or-append}
@@ -13,7 +13,7 @@ use Rattle.std.proofs.lemmas.List.Elements.{All-get_or, All-from_get_or, Contain
 use Rattle.std.proofs.lemmas.List.Sorted.{sorted_far, All-permutation, Contains-permutation, length_permutation}
 use Rattle.binfarce_addresses.specs.declared.ranges.AddressRange.{AddressRange}
 use Rattle.binfarce_addresses.specs.declared.ranges.Row.{Row}
-use Rattle.binfarce_addresses.specs.machine.Index.{AreRowsOf, DoRise, IsBound, NotBehind, last_of, range_at, row_at, no_row}
+use Rattle.binfarce_addresses.specs.machine.Sweep.{AreRowsOf, NotBehind, last_of, range_at, row_at, no_row}
 
 -- by address, at equal addresses from the last place to the first, and at equal places by the last address
 abbrev pub comes_before : Row → Row → Bool
@@ -70,31 +70,32 @@ is_order = record { one_way = one_way; chain = chain }
 -- rows as they are made, one for each range before a place
 pub record AreMade (ranges : List AddressRange) (rows : List Row) (place : ℕ) : Type 0 where
   pub count : length rows ≡ place
-  pub each : (k : ℕ) → k < place → ((row_at rows k).address ≡ (range_at ranges k).address) × ((row_at rows k).place.0 ≡ k) × ((row_at rows k).last ≡ last_of (range_at ranges k))
+  pub each : (k : ℕ) → k < place → ((row_at rows k).address ≡ (range_at ranges k).address) × ((row_at rows k).place.0 ≡ k) × ((row_at rows k).last ≡ last_of (range_at ranges k)) × ((row_at rows k).address ≤ (row_at rows k).last)
 
 -- one row more
 pub made_more : (ranges : List AddressRange) (rows new : List Row) (place : ℕ) (row : Row) → AreMade ranges rows place → new ≡ rows ++ row ∷ [] → row.address ≡ (range_at ranges place).address → row.place.0 ≡ place
-    → row.last ≡ last_of (range_at ranges place) → AreMade ranges new (place + 1)
-made_more ranges rows new place row made is address at last_is = record {
+    → row.last ≡ last_of (range_at ranges place) → row.address ≤ row.last → AreMade ranges new (place + 1)
+made_more ranges rows new place row made is address at last_is holds = record {
   count = omega (arith, ap (length {A = Row}) is, length-append rows (row ∷ []), made.count);
   each = λ k lt. elim (cases_lt k place) [
     | inl old ↦
         let here : row_at new k ≡ row_at rows k = ap (λ (xs : List Row). row_at xs k) is ∙ get_or-append rows (row ∷ []) no_row k (omega (arith, made.count)) in
         let was = made.each k old in
-        (ap (λ (r : Row). r.address) here ∙ was.0, ap (λ (r : Row). r.place.0) here ∙ was.1, ap (λ (r : Row). r.last) here ∙ was.2)
+        (ap (λ (r : Row). r.address) here ∙ was.0, ap (λ (r : Row). r.place.0) here ∙ was.1, ap (λ (r : Row). r.last) here ∙ was.2, omega (arith, ap (λ (r : Row). r.address) here, ap (λ (r : Row). r.last) here, was.3))
     | inr ge ↦
         let last : k ≡ place = omega arith in
         let here : row_at new k ≡ row = ap (λ (xs : List Row). row_at xs k) is ∙ ap (λ (n : ℕ). row_at (rows ++ row ∷ []) n) (last ∙ sym made.count) ∙ get_or-append_seam rows row [] no_row in (
           ap (λ (r : Row). r.address) here ∙ address ∙ ap (λ (n : ℕ). (range_at ranges n).address) (sym last),
           ap (λ (r : Row). r.place.0) here ∙ at ∙ sym last,
           ap (λ (r : Row). r.last) here ∙ last_is ∙ ap (λ (n : ℕ). last_of (range_at ranges n)) (sym last),
+          omega (arith, ap (λ (r : Row). r.address) here, ap (λ (r : Row). r.last) here, holds),
         )
   ];
 }
 
 -- the row is that of a range
 abbrev IsRow : List AddressRange → Row → Type 0
-IsRow ranges row = (row.place.0 < length ranges) × (row.address ≡ (range_at ranges row.place.0).address) × (row.last ≡ last_of (range_at ranges row.place.0))
+IsRow ranges row = (row.place.0 < length ranges) × (row.address ≡ (range_at ranges row.place.0).address) × (row.last ≡ last_of (range_at ranges row.place.0)) × (row.address ≤ row.last)
 
 made_row : (ranges : List AddressRange) (rows : List Row) (k : ℕ) → AreMade ranges rows (length ranges) → k < length rows → IsRow ranges (row_at rows k)
 made_row ranges rows k made lt =
@@ -102,13 +103,15 @@ made_row ranges rows k made lt =
       omega (arith, here.1, made.count),
       here.0 ∙ ap (λ (n : ℕ). (range_at ranges n).address) (sym here.1),
       here.2 ∙ ap (λ (n : ℕ). last_of (range_at ranges n)) (sym here.1),
+      here.3,
     )
 
 -- the same rows in the order of a sort
 pub arranged_rows : (ranges : List AddressRange) (rows sorted : List Row) → AreMade ranges rows (length ranges) → IsPermutation rows sorted → IsSortedBy comes_before sorted → AreRowsOf ranges sorted
 arranged_rows ranges rows sorted made same up = record {
   count = length_permutation rows sorted same ∙ made.count;
-  row_is = λ k lt. All-get_or (IsRow ranges) sorted k no_row lt (All-permutation (IsRow ranges) rows sorted same (All-from_get_or (IsRow ranges) rows no_row (λ i within. made_row ranges rows i made within)));
+  row_is = λ k lt. let row = sorted_row k lt in (row.0, row.1, row.2);
+  hold = λ k lt. (sorted_row k lt).3;
   has_row = λ place lt.
       let row = row_at rows place in
       let found : Contains sorted row = Contains-permutation rows sorted row same (Contains-get_or rows place no_row (omega (arith, made.count))) in
@@ -116,6 +119,9 @@ arranged_rows ranges rows sorted made same up = record {
   rise = λ i j le lt. not_behind (row_at sorted i) (row_at sorted j) (sorted_far comes_before is_order sorted up i j no_row le lt);
 }
   where
+    sorted_row : (k : ℕ) → k < length sorted → IsRow ranges (row_at sorted k)
+    sorted_row k lt = All-get_or (IsRow ranges) sorted k no_row lt (All-permutation (IsRow ranges) rows sorted same (All-from_get_or (IsRow ranges) rows no_row (λ i within. made_row ranges rows i made within)))
+
     not_behind : (x y : Row) → comes_before y x ≡ false → NotBehind x y
     not_behind x y e = turned (not_before_means y.address x.address x.place.0 y.place.0 y.last x.last e)
       where
@@ -123,27 +129,3 @@ arranged_rows ranges rows sorted made same up = record {
         turned (inl lt) = inl lt
         turned (inr (same, inl lt)) = inr (sym same, omega arith)
         turned (inr (same, inr (at, le))) = inr (sym same, omega (arith, at))
-
--- the addresses of rows in order don't fall
-pub addresses_rise : (ranges : List AddressRange) (rows : List Row) → AreRowsOf ranges rows → DoRise rows
-addresses_rise ranges rows are i j le lt = elim (are.rise i j le lt) [ inl lower ↦ omega arith | inr same ↦ omega (arith, same.0) ]
-
--- where a search among rows ends
-abbrev pub EndsAmong : List Row → ℕ → ℕ → Type 0
-EndsAmong rows address place = IsPartitionPoint (λ (r : Row). leb r.address address ≡ true) (λ (r : Row). leb r.address address ≡ false) rows place
-
-pub bound : (rows : List Row) (address place : ℕ) → place ≤ length rows → EndsAmong rows address place → IsBound rows address place
-bound rows address place within among = record {
-  within = within;
-  before = λ k lt. at_most (row_at rows k).address address (among.0 k no_row (omega arith) lt);
-  behind = λ k low high. above (row_at rows k).address address (among.1 k no_row low high);
-}
-  where
-    at_most : (a b : ℕ) → leb a b ≡ true → a ≤ b
-    at_most a b e = grind (arith, nat_tests)
-
-    above : (a b : ℕ) → leb a b ≡ false → b < a
-    above a b e = grind (arith, nat_tests)
-
-pub do_not_fall : (rows : List Row) → DoRise rows → IsNonDecreasingBy (λ (r : Row). r.address) rows
-do_not_fall rows rise i j d le lt = omega (arith, rise i j le lt, ap (λ (r : Row). r.address) (get_or_default rows i no_row d (omega arith)), ap (λ (r : Row). r.address) (get_or_default rows j no_row d lt))

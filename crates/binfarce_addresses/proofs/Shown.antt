@@ -1,20 +1,19 @@
 -- The range that is found at an address is that of the entry that the address symbolizes to.
-use Rattle.std.proofs.Common.{◌≡◌, ℕ, zero, suc, ◌+◌, ◌-◌, ◌<◌, ◌≤◌, ◌⊎◌, inl, inr, Bool, true, false, cond, ◌&&◌, max, List, [], ◌∷◌, map, filter, length, get_or, Option, Some, None, SomeIff, MatchOption, refl, sym, ap, subst, ◌∙◌, arith, nat_lt, nat_le}
+use Rattle.std.proofs.Common.{◌≡◌, ℕ, zero, suc, ◌+◌, ◌^◌, ◌<◌, ◌≤◌, ◌⊎◌, inl, inr, Bool, true, false, cond, ◌&&◌, max, List, [], ◌∷◌, map, filter, length, get_or, Option, Some, None, MatchOption, refl, sym, ap, subst, ◌∙◌, arith, nat_lt, nat_le}
 use Rattle.std.proofs.lemmas.Bool.Decides.{nat_tests}
-use Rattle.std.proofs.lemmas.List.{get_or-map, get_or_default, length-map}
+use Rattle.std.proofs.lemmas.List.{get_or-map, length-map}
 use Rattle.std.proofs.lemmas.List.Elements.{All-head, All-tail}
 use Rattle.binfarce.specs.Symbol.{Entry}
 use Rattle.binfarce.specs.SymbolViews.{function_view}
 use Rattle.binfarce.specs.declared.FunctionSymbol.{FunctionSymbol}
 use Rattle.binfarce_addresses.specs.declared.ranges.AddressRange.{AddressRange}
-use Rattle.binfarce_addresses.specs.Range.{Holds, NoneHolds, IsFoundAt}
+use Rattle.binfarce_addresses.specs.Range.{AreSpansOf, Holds, IsSpanAt, NoneHolds, IsFoundAt, span_at}
 use Rattle.binfarce.specs.Found.{holds, higher_of, highest, entry_at}
 use Rattle.binfarce_addresses.specs.Lines.{found_at}
 use Rattle.binfarce_addresses.specs.Lookup.{looked_up}
 use Rattle.binfarce_addresses.specs.declared.lookup.Lookup.{Lookup}
-use Rattle.binfarce_addresses.specs.declared.ranges.Found.{Found}
-use Rattle.binfarce_addresses.specs.Range.{Finds}
-use Rattle.binfarce_addresses.specs.machine.Places.{range_of, ranges_of, IsShownAt, IsAtPlace}
+use Rattle.binfarce_addresses.specs.declared.ranges.Span.{Span}
+use Rattle.binfarce_addresses.specs.machine.Places.{range_of, ranges_of, IsAtPlace}
 
 lies_in : (low high address : ℕ) → low ≤ address → address < high → (nat_le low address && nat_lt address high) ≡ true
 lies_in low high address a b = grind (arith, nat_tests)
@@ -182,23 +181,19 @@ module _ (functions : List FunctionSymbol) (ranges : List AddressRange) (entries
         ap (λ (es : List Entry). get_or es place (function_view f)) (sym seen) ∙ get_or-map function_view functions place f (function_view f) lt ∙ ap function_view (sym is),
       )
 
-  -- the address symbolizes to the entry at the place that is found
-  pub shown_by : (place : ℕ) → IsFoundAt ranges x place → (entry : Entry) × (found_at entries (looked_up lookup address) ≡ Some entry) × ((d : AddressRange) → (get_or ranges place d).address ≡ entry.address) × IsAtPlace entries place entry
-  shown_by place found =
-      let d : Entry = record { name = []; address = 0; size = 0 } in
-      let entry : Entry = get_or entries place d in
-      let P : List AddressRange → Type 0 = λ rs. IsFoundAt rs x place in
-      let lt : place < length entries = omega (arith, found.within, ap (length {A = AddressRange}) same, length_ranges entries) in (
-        entry,
-        ap (found_at entries) inside ∙ shown entries x place d (subst P same found),
-        λ e. ap (λ (rs : List AddressRange). (get_or rs place e).address) same ∙ ap (λ (r : AddressRange). r.address) (get_or-map range_of entries place d e lt),
-        (lt, get_or_default entries place entry d lt),
-      )
+-- what the search among the spans gives
+by_spans : (ranges : List AddressRange) (spans : List Span) → AreSpansOf ranges spans → (x : ℕ) (place : Option ℕ) → x < 2 ^ 64 → (k : ℕ) × IsSpanAt spans x k × (place ≡ (span_at spans k).place)
+    → MatchOption place (NoneHolds ranges x) (IsFoundAt ranges x)
+by_spans ranges spans are x place fits at = let P : Option ℕ → Type 0 = λ o. MatchOption o (NoneHolds ranges x) (IsFoundAt ranges x) in subst P (sym at.2) (are at.0 x fits at.1)
 
--- what holds where something is found, and where nothing is
-pub where_found : (entries : List Entry) (lookup : Lookup) (address : ℕ) (shown : Option Found) (f : Found) → IsShownAt entries lookup address shown → shown ≡ Some f
-    → (entry : Entry) × (found_at entries (looked_up lookup address) ≡ Some entry) × (f.offset ≡ address - lookup.base - entry.address) × IsAtPlace entries f.place entry
-where_found entries lookup address shown f is found = let P : Option Found → Type 0 = λ o. IsShownAt entries lookup address o in subst P found is
+pub none_by_spans : (ranges : List AddressRange) (spans : List Span) → AreSpansOf ranges spans → (x : ℕ) (place : Option ℕ) → x < 2 ^ 64 → (k : ℕ) × IsSpanAt spans x k × (place ≡ (span_at spans k).place) → place ≡ None → NoneHolds ranges x
+none_by_spans ranges spans are x place fits at is = let P : Option ℕ → Type 0 = λ o. MatchOption o (NoneHolds ranges x) (IsFoundAt ranges x) in subst P is (by_spans ranges spans are x place fits at)
 
-pub where_none : (entries : List Entry) (lookup : Lookup) (address : ℕ) (shown : Option Found) → IsShownAt entries lookup address shown → shown ≡ None → found_at entries (looked_up lookup address) ≡ None
-where_none entries lookup address shown is found = let P : Option Found → Type 0 = λ o. IsShownAt entries lookup address o in subst P found is
+pub found_by_spans : (ranges : List AddressRange) (spans : List Span) → AreSpansOf ranges spans → (x : ℕ) (place : Option ℕ) (p : ℕ) → x < 2 ^ 64 → (k : ℕ) × IsSpanAt spans x k × (place ≡ (span_at spans k).place) → place ≡ Some p → IsFoundAt ranges x p
+found_by_spans ranges spans are x place p fits at is = let P : Option ℕ → Type 0 = λ o. MatchOption o (NoneHolds ranges x) (IsFoundAt ranges x) in subst P is (by_spans ranges spans are x place fits at)
+
+-- the function symbol at the place of an entry
+pub entry_is : (functions : List FunctionSymbol) (entries : List Entry) (place : ℕ) (entry : Entry) (f : FunctionSymbol) → map function_view functions ≡ entries → IsAtPlace entries place entry → f ≡ get_or functions place f → function_view f ≡ entry
+entry_is functions entries place entry f seen at is =
+    let lt : place < length functions = omega (arith, at.0, ap (length {A = Entry}) seen, length-map functions function_view) in
+    ap function_view is ∙ sym (get_or-map function_view functions place f entry lt) ∙ ap (λ (es : List Entry). get_or es place entry) seen ∙ at.1

@@ -1,18 +1,16 @@
 -- A text in which each address is followed by its symbol.
-use Rattle.std.specs.Prelude.{◌≡◌, ◌<◌, ℕ, ◌+◌, ◌-◌, List, [], ◌∷◌, ◌++◌, ◌&&◌, codes, drop, take, nat_eq, Option, Some, None, Result, Ok, Err, if◌then◌else◌}
+use Rattle.std.specs.Prelude.{◌≡◌, ◌<◌, ℕ, ◌+◌, ◌-◌, List, [], ◌∷◌, ◌++◌, ◌&&◌, codes, drop, take, nat_eq, Option, Some, None, Result, if◌then◌else◌}
 use Rattle.std.proofs.Common.{refl}
 use Rattle.std.specs.Char.{is_ascii_hexdigit}
 use Rattle.std.specs.Int.{is_in_range}
-use Rattle.std.specs.Io.KnownBytes.{Appends, Consumes, IsAtEnd}
 use Rattle.std.specs.List.{prefix_len, starts_with}
 use Rattle.binfarce.specs.Symbol.{Entry}
-use Rattle.binfarce_tools.specs.Writing.{AppendsBeginning}
 use Rattle.binfarce_addresses.specs.Address.{address_of}
 use Rattle.binfarce_addresses.specs.Lines.{found_at, IsPlaceOf}
 use Rattle.binfarce_addresses.specs.Lookup.{looked_up}
 use Rattle.binfarce_addresses.specs.declared.lookup.Lookup.{Lookup}
-use Rattle.binfarce_addresses.specs.declared.stream.LinesError.{LinesError}
-use Rattle.binfarce_addresses.specs.declared.stream.LinesError.TheVariants.{Read, OutOfMemory, Write}
+use Rattle.binfarce_text.specs.Streams.{IsBeginningOf, Streams}
+use Rattle.binfarce_text.specs.declared.streams.StreamError.{StreamError}
 
 -- how many hexadecimal digits the text begins with, in upper or lower case
 abbrev pub digits_len : (text : List ℕ) → ℕ
@@ -22,7 +20,7 @@ digits_len text = prefix_len is_ascii_hexdigit text
 abbrev pub address_len : (text : List ℕ) → ℕ
 address_len text = if starts_with nat_eq text (codes "0x") && is_in_range 4 16 (digits_len (drop 2 text)) then 2 + digits_len (drop 2 text) else 0
 
--- what is added after an address in the file: ` <{trimmed}+0x{offset:x}>` of the entry that it symbolizes to, or nothing
+-- what is added after an address in the file: ` <{name}+0x{offset:x}>` of the entry that it symbolizes to, or nothing
 abbrev pub IsAddedFor : (found : Option Entry) (address : ℕ) (added : List ℕ) → Type 0
 IsAddedFor None address added = added ≡ []
 IsAddedFor (Some entry) address added = (place : List ℕ) × IsPlaceOf entry address place × (added ≡ codes " <" ++ (place ++ codes ">"))
@@ -39,29 +37,11 @@ pub data IsAnnotated (entries : List Entry) (lookup : Lookup) : (text annotated 
   address_then : (text added annotated : List ℕ) → 0 < address_len text → IsAddedAfter entries lookup (address_of (take (address_len text) text)) added
       → IsAnnotated entries lookup (drop (address_len text) text) annotated → IsAnnotated entries lookup text (take (address_len text) text ++ (added ++ annotated))
 
--- shown is a beginning of the annotated text: the text has two parts, and for any annotated text of the second, shown and that are the text's
-abbrev pub IsBeginning : (entries : List Entry) (lookup : Lookup) (text shown : List ℕ) → Type 0
-IsBeginning entries lookup text shown =
-    (before : List ℕ) × (after : List ℕ) × (text ≡ before ++ after)
-    × ((annotated : List ℕ) → IsAnnotated entries lookup after annotated → IsAnnotated entries lookup text (shown ++ annotated))
-
--- came was read, and its annotated text was written
-abbrev pub Annotates : (entries : List Entry) (lookup : Lookup) (given left old new : Option (List ℕ)) → Type 0
-Annotates entries lookup given left old new =
-    (came : List ℕ) × (annotated : List ℕ) × Consumes given left came × IsAnnotated entries lookup came annotated × Appends old new annotated
-
--- came was read, and a beginning of its annotated text was written
-abbrev pub AnnotatesPart : (entries : List Entry) (lookup : Lookup) (given left old new : Option (List ℕ)) → Type 0
-AnnotatesPart entries lookup given left old new =
-    (came : List ℕ) × (shown : List ℕ) × Consumes given left came × IsBeginning entries lookup came shown × AppendsBeginning old new shown
-
--- what was read and written. The reader had the bytes `given`, and now has `left`; the sink had `old`, and now has `new`; each may be unknown. Either
--- all was annotated, or the reader failed and all before was annotated, or a write or an allocation failed
-abbrev pub AnnotatesAll : (entries : List Entry) (lookup : Lookup) (given left old new : Option (List ℕ)) (result : Result (Unit {0}) LinesError) → Type 0
-AnnotatesAll entries lookup given left old new (Ok x) = IsAtEnd left × Annotates entries lookup given left old new
-AnnotatesAll entries lookup given left old new (Err Read) = Annotates entries lookup given left old new
-AnnotatesAll entries lookup given left old new (Err Write) = AnnotatesPart entries lookup given left old new
-AnnotatesAll entries lookup given left old new (Err OutOfMemory) = AnnotatesPart entries lookup given left old new
+-- what was read and written: all was annotated; or the reader failed, and all before was annotated; or a write or an allocation failed, and a
+-- beginning was written
+abbrev pub AnnotatesAll : (entries : List Entry) (lookup : Lookup) (given left old new : Option (List ℕ)) (result : Result (Unit {0}) StreamError) → Type 0
+AnnotatesAll entries lookup given left old new result =
+    let IsOutput : List ℕ → List ℕ → Type 0 = IsAnnotated entries lookup in Streams (λ x. IsOutput) IsOutput (IsBeginningOf IsOutput) given left old new result
 
 -- the digits end before any other byte; 17 of them, or 3, are no address
 worked_digits : address_len (codes "0x7Fff9 (") ≡ 7

@@ -2,8 +2,7 @@
 use Rattle.std.specs.Prelude.{◌≡◌, ℕ, ◌-◌, List, [], ◌∷◌, ◌++◌, codes, false, Option, Some, None}
 use Rattle.std.specs.Fmt.{digits}
 use Rattle.std.specs.List.{AllZip, concat}
-use Rattle.binfarce.specs.Name.{Name}
-use Rattle.binfarce.specs.Named.{IsNamed}
+use Rattle.binfarce.specs.Named.{IsShown}
 use Rattle.binfarce.specs.Symbol.{Entry, Listed}
 use Rattle.binfarce_tools.specs.Listing.{address_text}
 use Rattle.binfarce.specs.Found.{entry_at}
@@ -15,9 +14,9 @@ abbrev pub found_at : List Entry → Option ℕ → Option Entry
 found_at entries None = None
 found_at entries (Some address) = entry_at entries address
 
--- `{trimmed}+0x{offset:x}`, with the answer of the entry's name and the offset into the entry
+-- `{name}+0x{offset:x}`, with the answer of the entry's name and the offset into the entry
 abbrev pub IsPlaceOf : Entry → ℕ → List ℕ → Type 0
-IsPlaceOf entry address text = (name : Name) × IsNamed entry.name name × (text ≡ name.trimmed ++ (codes "+0x" ++ digits 16 false (address - entry.address)))
+IsPlaceOf entry address text = (name : List ℕ) × IsShown entry.name name × (text ≡ name ++ (codes "+0x" ++ digits 16 false (address - entry.address)))
 
 -- the text for an address in the file: that of its entry, or `??`
 abbrev pub IsTextOf : Option Entry → ℕ → List ℕ → Type 0

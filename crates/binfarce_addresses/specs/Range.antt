@@ -1,7 +1,6 @@
 -- Ranges of addresses, and the one that is found at an address.
-use Rattle.std.specs.Prelude.{◌≡◌, ℕ, ◌+◌, ◌-◌, ◌^◌, ◌<◌, ◌≤◌, ◌⊎◌, min, max, List, All, Contains, length, slice_index, slice_index_or, Option, MatchOption}
+use Rattle.std.specs.Prelude.{◌≡◌, ℕ, ◌+◌, ◌^◌, ◌<◌, ◌≤◌, ◌⊎◌, max, List, All, length, slice_index_or, None, MatchOption}
 use Rattle.binfarce_addresses.specs.declared.ranges.AddressRange.{AddressRange}
-use Rattle.binfarce_addresses.specs.declared.ranges.Found.{Found}
 use Rattle.binfarce_addresses.specs.declared.ranges.Span.{Span}
 
 -- the address lies in the range: from the range's address on, and before its end, which may lie past 64 bits. A range of size 0 holds its own address
@@ -21,40 +20,24 @@ pub record IsFoundAt (ranges : List AddressRange) (address place : ℕ) : Type 0
       → ((slice_index_or ranges other d).address < (slice_index_or ranges place d).address)
       ⊎ (((slice_index_or ranges other d).address ≡ (slice_index_or ranges place d).address) × (place ≤ other))
 
--- the answer for the address: the place of a range, and the offset into it; or nothing, where none holds it
-abbrev pub Finds : List AddressRange → ℕ → Option Found → Type 0
-Finds ranges address found =
-    MatchOption found (NoneHolds ranges address) (λ f. IsFoundAt ranges address f.place × ((d : AddressRange) → f.offset ≡ address - (slice_index_or ranges f.place d).address))
+-- the span that is read past the end
+abbrev pub no_span : Span
+no_span = record { start = 0; place = None }
 
--- from the range's address up to the span's end the range is found, and from there up to `until` nothing
-pub record IsSpanOf (ranges : List AddressRange) (span : Span) : Type 0 where
-  pub within : span.place < length ranges
-  pub address : (d : AddressRange) → (slice_index_or ranges span.place d).address ≡ span.address
-  pub found : (address : ℕ) → span.address ≤ address → address < span.end → IsFoundAt ranges address span.place
-  pub none : (address : ℕ) → span.end ≤ address → address < span.until → NoneHolds ranges address
+abbrev pub span_at : List Span → ℕ → Span
+span_at spans k = slice_index_or spans k no_span
 
--- of the ranges at two places, the first has the lower address, or the same address and the later place
-abbrev pub ComesFirst : List AddressRange → ℕ → ℕ → Type 0
-ComesFirst ranges place other =
-    (d : AddressRange) → ((slice_index_or ranges place d).address < (slice_index_or ranges other d).address)
-    ⊎ (((slice_index_or ranges place d).address ≡ (slice_index_or ranges other d).address) × (other ≤ place))
+-- the spans begin at 0, and none begins before an earlier one
+pub record AreSpans (spans : List Span) : Type 0 where
+  pub some : 0 < length spans
+  pub first : (span_at spans 0).start ≡ 0
+  pub rise : (i j : ℕ) → i ≤ j → j < length spans → (span_at spans i).start ≤ (span_at spans j).start
 
--- the places of all ranges in the order of addresses, those of one address from the last to the first
-pub record IsOrderOf (ranges : List AddressRange) (places : List ℕ) : Type 0 where
-  pub count : length places ≡ length ranges
-  pub each : (place : ℕ) → place < length ranges → Contains places place
-  pub rises : (i j : ℕ) → i ≤ j → j < length places → ComesFirst ranges (slice_index places i) (slice_index places j)
+-- the span is that at the address: it begins there or before, and the next one behind it
+abbrev pub IsSpanAt : List Span → ℕ → ℕ → Type 0
+IsSpanAt spans address k = (k < length spans) × ((span_at spans k).start ≤ address) × (k + 1 < length spans → address < (span_at spans (k + 1)).start)
 
--- where the range ends, and at most the last address
-abbrev pub end_of : AddressRange → ℕ
-end_of range = min (range.address + max range.size 1) (2 ^ 64 - 1)
-
--- the span is that of the range with this place in the order: it ends where that range ends, or where the next one begins; `until` is not below that end
-pub record IsSpanAt (ranges : List AddressRange) (row : ℕ) (span : Span) : Type 0 where
-  pub places : List ℕ
-  pub order : IsOrderOf ranges places
-  pub within : row < length places
-  pub place : slice_index places row ≡ span.place
-  pub last : (d : AddressRange) → row + 1 ≡ length places → span.end ≡ end_of (slice_index_or ranges span.place d)
-  pub next : (d : AddressRange) → row + 1 < length places → span.end ≡ min (slice_index_or ranges (slice_index places (row + 1)) d).address (end_of (slice_index_or ranges span.place d))
-  pub free : span.end ≤ span.until
+-- the spans are a view of the ranges: at each address of 64 bits the span there has the place of the range that is found, or none where no range holds it
+abbrev pub AreSpansOf : List AddressRange → List Span → Type 0
+AreSpansOf ranges spans =
+    (k address : ℕ) → address < 2 ^ 64 → IsSpanAt spans address k → MatchOption (span_at spans k).place (NoneHolds ranges address) (IsFoundAt ranges address)

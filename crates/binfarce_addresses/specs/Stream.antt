@@ -1,21 +1,13 @@
 -- The lines of a text, their addresses, and the answers to them.
-use Rattle.std.specs.Prelude.{◌≡◌, ◌≢◌, ◌⊎◌, ℕ, ◌-◌, ◌^◌, min, Bool, true, List, [], ◌∷◌, ◌++◌, All, codes, length, take, drop, Option, Some, None, is_none, Result, Ok, Err}
+use Rattle.std.specs.Prelude.{◌≡◌, ◌≢◌, ◌⊎◌, ℕ, ◌-◌, ◌^◌, min, List, [], ◌∷◌, ◌++◌, All, codes, length, take, drop, Option, Some, None, is_none, Result}
 use Rattle.std.specs.Char.{is_ascii_whitespace}
-use Rattle.std.specs.Io.KnownBytes.{Appends, Consumes, IsAtEnd}
 use Rattle.std.specs.List.{AllZip, concat, count_by, flat_map, prefix_len, suffix_len}
 use Rattle.binfarce.specs.Symbol.{Entry}
-use Rattle.binfarce_tools.specs.Writing.{AppendsBeginning}
 use Rattle.binfarce_addresses.specs.declared.lookup.Lookup.{Lookup}
 use Rattle.binfarce_addresses.specs.Address.{address_of}
 use Rattle.binfarce_addresses.specs.Lines.{IsLineAt}
-use Rattle.binfarce_addresses.specs.declared.stream.LinesError.{LinesError}
-use Rattle.binfarce_addresses.specs.declared.stream.LinesError.TheVariants.{Read, OutOfMemory, Write}
-
--- the words of an error
-abbrev pub lines_words : LinesError → List ℕ
-lines_words Read = codes "read failed"
-lines_words OutOfMemory = codes "out of memory"
-lines_words Write = codes "write failed"
+use Rattle.binfarce_text.specs.Streams as streams
+use Rattle.binfarce_text.specs.declared.streams.StreamError.{StreamError}
 
 -- a text without the white space that it begins with
 abbrev pub trim_start : List ℕ → List ℕ
@@ -69,31 +61,22 @@ AreAnswersOf entries lookup addresses text = (answers : List (List ℕ)) × AllZ
 abbrev pub missing : List (Option ℕ) → ℕ
 missing addresses = count_by is_none addresses
 
--- all lines were answered
-abbrev pub AreAnswered : List Entry → Lookup → List (Option ℕ) → Option (List ℕ) → Option (List ℕ) → Type 0
-AreAnswered entries lookup addresses old new = (answers : List ℕ) × AreAnswersOf entries lookup addresses answers × Appends old new answers
+-- all lines of a text are answered, and so many of them have no address, at most 2^64 - 1
+abbrev pub AnswersAll : List Entry → Lookup → (count : ℕ) (text answers : List ℕ) → Type 0
+AnswersAll entries lookup count text answers =
+    (addresses : List (Option ℕ)) × Reads text addresses [] × AreAnswersOf entries lookup addresses answers × (count ≡ min (missing addresses) (2 ^ 64 - 1))
 
--- a beginning of the answers was written
-abbrev pub BreaksOff : List Entry → Lookup → List (Option ℕ) → Option (List ℕ) → Option (List ℕ) → Type 0
-BreaksOff entries lookup addresses old new = (answers : List ℕ) × AreAnswersOf entries lookup addresses answers × AppendsBeginning old new answers
+-- the whole lines of a text are answered
+abbrev pub AnswersWhole : List Entry → Lookup → (text answers : List ℕ) → Type 0
+AnswersWhole entries lookup text answers =
+    (addresses : List (Option ℕ)) × (rest : List ℕ) × Begins text addresses rest × HasNoLineFeed rest × AreAnswersOf entries lookup addresses answers
 
--- a beginning of the answers to some lines of the input was written
-abbrev pub StopsWithin : List Entry → Lookup → Option (List ℕ) → Option (List ℕ) → Option (List ℕ) → Option (List ℕ) → Type 0
-StopsWithin entries lookup given left old new =
-    (came : List ℕ) × (addresses : List (Option ℕ)) × (rest : List ℕ) × Consumes given left came × Reads came addresses rest × BreaksOff entries lookup addresses old new
+-- written is a beginning of the answers to some lines of a text
+abbrev pub AnswersSome : List Entry → Lookup → (text written : List ℕ) → Type 0
+AnswersSome entries lookup text written =
+    (addresses : List (Option ℕ)) × (rest : List ℕ) × (others : List ℕ) × Reads text addresses rest × AreAnswersOf entries lookup addresses (written ++ others)
 
--- what was read and written. The reader had the bytes `given`, and now has `left`; the sink had `old`, and now has `new`; each may be unknown. Either
--- all lines were answered, and the count is that of those without an address, at most 2^64 - 1; or the reader failed, and the whole lines before were
--- answered; or a write or an allocation failed, and a beginning was written
-abbrev pub Streams : List Entry → Lookup → Option (List ℕ) → Option (List ℕ) → Option (List ℕ) → Option (List ℕ) → Result ℕ LinesError → Type 0
-Streams entries lookup given left old new (Ok count) =
-    IsAtEnd left × ((came : List ℕ) × (addresses : List (Option ℕ)) × Consumes given left came × Reads came addresses [] × AreAnswered entries lookup addresses old new × (count ≡ min (missing addresses) (2 ^ 64 - 1)))
-Streams entries lookup given left old new (Err Read) =
-    (came : List ℕ) × (addresses : List (Option ℕ)) × (rest : List ℕ) × Consumes given left came × Begins came addresses rest × HasNoLineFeed rest × AreAnswered entries lookup addresses old new
-Streams entries lookup given left old new (Err OutOfMemory) = StopsWithin entries lookup given left old new
-Streams entries lookup given left old new (Err Write) = StopsWithin entries lookup given left old new
-
--- whether the sink has failed afterwards: where a write failed; anything else leaves it as it was
-abbrev pub Fails : {X : Type 0} → Bool → Bool → Result X LinesError → Type 0
-Fails old new (Err Write) = new ≡ true
-Fails old new result = new ≡ old
+-- what was read and written: all lines were answered; or the reader failed, and the whole lines before were answered; or a write or an allocation
+-- failed, and a beginning was written
+abbrev pub Streams : List Entry → Lookup → (given left old new : Option (List ℕ)) → Result ℕ StreamError → Type 0
+Streams entries lookup given left old new result = streams.Streams (AnswersAll entries lookup) (AnswersWhole entries lookup) (AnswersSome entries lookup) given left old new result

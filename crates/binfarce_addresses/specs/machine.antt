@@ -1,7 +1,6 @@
 -- Definitions that only private contracts cite.
 pub mod Places
-pub mod Cells
 pub mod Answering
 pub mod Annotating
-pub mod Index
+pub mod Sweep
 pub mod Digits

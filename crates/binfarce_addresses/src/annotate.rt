@@ -3,23 +3,23 @@
 ghost use Rattle.std.specs.Prelude.{◌≡◌, ◌++◌, ◌+◌, ◌<◌, ◌≤◌, ◌≢◌, [], ℕ, List, Some, true, false, codes, length, slice_index, IfOk, OnOk};
 ghost use Rattle.std.specs.Fmt.{digits};
 ghost use Rattle.std.specs.String.{string_bytes};
-ghost use Rattle.binfarce.specs.Name.{Name};
-ghost use Rattle.binfarce.specs.Named.{IsNamed};
+ghost use Rattle.binfarce.specs.Named.{IsShown};
 ghost use Rattle.binfarce.specs.SymbolViews.{function_view};
 ghost use Rattle.binfarce_addresses.specs.Annotated.{address_len, digits_len, AnnotatesAll, IsAddedAfter, IsAnnotated};
-ghost use Rattle.binfarce_addresses.specs.Stream.{Fails};
-ghost use Rattle.binfarce_addresses.specs.machine.Annotating.{IsDecided, Passes, PassesAll, ShowsFirst, ShowsTo};
+ghost use Rattle.binfarce_text.specs.Streams.{Fails};
+ghost use Rattle.binfarce_addresses.specs.machine.Annotating.{Annotates, IsDecided, ShowsFirst, ShowsTo};
 
 use crate::address::parse_address;
 use crate::at::Places;
 use crate::lookup::Lookup;
 use crate::names::name_of;
-use crate::stream::{LinesError, new_chunk, write_all};
+use crate::stream::{CHUNK, write_all};
 use binfarce::FunctionSymbol;
+use binfarce_text::streams::{Pass, StreamError, pass_stream};
 use binfarce_tools::list::Sink;
 use std::alloc::{AllocError, Global};
 use std::fmt::Write;
-use std::io::{ErrorKind, Read};
+use std::io::Read;
 
 // The fewest and the most digits of an address.
 const FEWEST: usize = 4;
@@ -29,7 +29,7 @@ const MOST: usize = 16;
 // The most bytes of one: `0x` and 16 digits.
 const LONGEST: usize = 18;
 
-/// Appends the text with ` <name+0x1f>` after each address that a function symbol holds: its trimmed name, and the offset
+/// Appends the text with ` <name+0x1f>` after each address that a function symbol holds: its readable name, and the offset
 /// of the address into it, by this lookup. An address is `0x` and 4 to 16 hexadecimal digits, in upper or lower case,
 /// up to the next other byte. All other bytes stay as they are, and need not be UTF-8.
 ///
@@ -65,79 +65,75 @@ pub fn annotate_stream<R: Read, S: Sink>(
     lookup: Lookup,
     input: &mut R,
     out: &mut S,
-) -> Result<(), LinesError>
+) -> Result<(), StreamError>
     ensures annotates { AnnotatesAll places.now lookup (R.remaining input.old) (R.remaining input.new) (S.taken out.old)
         (S.taken out.new) result }
     ensures fails { Fails (S.has_failed out.old) (S.has_failed out.new) result }
 {
-    let mut chunk = new_chunk(alloc)?;
-    let mut kept = Vec::new(alloc);
-    let ended = pass_all(
+    let mut pass = Annotating {
         alloc,
         places,
         lookup,
-        &mut kept,
-        chunk.as_mut_slice(),
-        input,
-        out,
-    )?;
-    pass(alloc, places, lookup, true, &mut kept, &[], out)?;
-    if ended { Ok(()) } else { Err(LinesError::Read) }
+        kept: Vec::new(alloc),
+    };
+    pass_stream(alloc, &mut pass, CHUNK, input, out)
 }
 
-// Annotates all that the reader gives, but for what is kept of it. Returns `false` where the reader failed.
-fn pass_all<R: Read, S: Sink>(
+// What annotates a text that comes in parts.
+#[derive(Drop)]
+struct Annotating<'b, 'a> {
     alloc: Global,
-    places: &Places<'_>,
+    places: &'b Places<'a>,
     lookup: Lookup,
-    kept: &mut Vec<u8>,
-    chunk: &mut [u8],
-    input: &mut R,
-    out: &mut S,
-) -> Result<bool, LinesError>
-    requires empty { kept.old.items ≡ [] }
-    requires room { 0 < length chunk.now }
-    ensures passes { PassesAll places.now lookup kept.new.items (R.remaining input.old) (R.remaining input.new)
-        (S.taken out.old) (S.taken out.new) result }
-    ensures fails { Fails (S.has_failed out.old) (S.has_failed out.new) result }
-{
-    for _ in 0..u64::MAX {
-        match input.read(chunk) {
-            Ok(0) => return Ok(true),
-            Ok(n) => pass(alloc, places, lookup, false, kept, &chunk[..n], out)?,
-            Err(e) => {
-                if e.kind() != ErrorKind::Interrupted {
-                    return Ok(false);
-                }
-            }
-        }
+    // The address at the text's end that may go on.
+    kept: Vec<u8>,
+}
+
+impl Annotating<'_, '_> {
+    // Annotates the kept text and the next part, and keeps an address at its end that may go on, unless the text ends.
+    fn push(&mut self, is_last: bool, part: &[u8], out: &mut Vec<u8>) -> Result<(), AllocError>
+        ensures shows { OnOk result ((more : List ℕ) × Annotates self.old self.new is_last part.now more
+            × (out.new.items ≡ out.old.items ++ more)) }
+        ensures short { OnOk result (length self.new.kept.items ≤ 18) }
+    {
+        self.kept.extend_from_slice(part)?;
+        let at = push_decided(
+            self.alloc,
+            self.places,
+            self.lookup,
+            is_last,
+            &self.kept,
+            out,
+        )?;
+        self.kept = Vec::from_slice(self.alloc, &self.kept[at..])?;
+        Ok(())
     }
-    Ok(false)
 }
 
-// Annotates the kept text and the next part, and keeps an address at its end that may go on.
-fn pass<S: Sink>(
-    alloc: Global,
-    places: &Places<'_>,
-    lookup: Lookup,
-    is_last: bool,
-    kept: &mut Vec<u8>,
-    part: &[u8],
-    out: &mut S,
-) -> Result<(), LinesError>
-    ensures passes { Passes places.now lookup is_last (kept.old.items ++ part.now) kept.new.items (S.taken out.old)
-        (S.taken out.new) result }
-    ensures short { OnOk result (length kept.new.items ≤ 18) }
-    ensures none { is_last ≡ true → OnOk result (kept.new.items ≡ []) }
-    ensures fails { Fails (S.has_failed out.old) (S.has_failed out.new) result }
-{
-    kept.extend_from_slice(part)?;
-    let mut text = Vec::new(alloc);
-    let at = push_decided(alloc, places, lookup, is_last, kept.as_slice(), &mut text)?;
-    write_all(out, text.as_slice())?;
-    let rest = Vec::from_slice(alloc, &kept[at..])?;
-    *kept = rest;
-    Ok(())
+impl<S: Sink> Pass<S> for Annotating<'_, '_> {
+    ghost use Rattle.binfarce_addresses.specs.machine.Annotating.{Holds, IsDone, MayBreakOff};
+
+    ghost Holds = { Holds };
+
+    ghost IsDone = { IsDone };
+
+    ghost MayBreakOff = { MayBreakOff };
+
+    ghost taken = { S.taken };
+
+    ghost has_failed = { S.has_failed };
+
+    fn take(&mut self, part: &[u8], out: &mut Vec<u8>) -> Result<(), AllocError> {
+        self.push(false, part, out)
+    }
+
+    fn end(&mut self, _ended: bool, out: &mut Vec<u8>) -> Result<(), AllocError> {
+        self.push(true, &[], out)
+    }
+
+    fn write(out: &mut S, bytes: &[u8]) -> Result<(), StreamError> {
+        write_all(out, bytes)
+    }
 }
 
 // Appends the annotated text before an address at its end that may go on, and returns where that begins. With nothing
@@ -230,7 +226,7 @@ fn push_added(
     Ok(())
 }
 
-// Appends a function symbol's trimmed name and an offset in angle brackets.
+// Appends a function symbol's readable name and an offset in angle brackets.
 fn push_place(
     alloc: Global,
     function: FunctionSymbol<'_>,
@@ -238,8 +234,8 @@ fn push_place(
     out: &mut Vec<u8>,
 ) -> Result<(), AllocError>
     ensures { OnOk result
-        ((name : Name) × IsNamed (function_view function.entry).name name
-        × (out.new.items ≡ out.old.items ++ (codes " <" ++ (name.trimmed
+        ((name : List ℕ) × IsShown (function_view function.entry).name name
+        × (out.new.items ≡ out.old.items ++ (codes " <" ++ (name
         ++ (codes "+0x" ++ (digits 16 false offset ++ codes ">")))))) }
 {
     let mut place = name_of(alloc, function)?;

@@ -4,12 +4,11 @@
 pub mod address;
 pub mod annotate;
 pub mod at;
-mod cells;
 mod digits;
 pub mod lookup;
-pub mod marks;
 mod names;
 pub mod ranges;
+mod slices;
 pub mod stream;
 
 pub use crate::address::parse_address;

@@ -1,10 +1,11 @@
 //! Lookup of the range that holds an address.
 
-ghost use Rattle.std.specs.Prelude.{◌≡◌, ◌+◌, ◌-◌, ◌<◌, ◌≤◌, ◌^◌, ◌⊎◌, List, length, true, MatchOption, IfOk, IfSome};
-ghost use Rattle.binfarce_addresses.specs.Range.{Finds, IsFoundAt, IsSpanAt, IsSpanOf, NoneHolds};
-ghost use Rattle.binfarce_addresses.specs.declared.ranges.AddressRange.{AddressRange};
-ghost use Rattle.binfarce_addresses.specs.machine.Index.{AreRowsOf, AreLinked, AreLinksOf, AreNodesOf, ArePast, DoReachFurther, DoRise, IsBound, IsIndexed, IsOuter, JumpsOver, Follows, last_of, node_at, row_at};
+ghost use Rattle.std.specs.Prelude.{◌≡◌, ◌+◌, ◌-◌, ◌<◌, ◌≤◌, ◌^◌, ℕ, List, length, IfOk, OnOk};
+ghost use Rattle.binfarce_addresses.specs.Range.{AreSpans, AreSpansOf, IsSpanAt, span_at};
+ghost use Rattle.binfarce_addresses.specs.declared.ranges.Span.{Span};
+ghost use Rattle.binfarce_addresses.specs.machine.Sweep.{AreInOrder, AreRowsOf, AreSwept, DoReach, IsAround, IsInnermost, IsSweep, here, last_of, stack_at, row_at};
 
+use crate::slices::Slices;
 use std::alloc::{AllocError, Global};
 use std::cmp::Reverse;
 use std::marker::Model;
@@ -16,35 +17,24 @@ pub struct AddressRange {
     pub size: u64,
 }
 
-/// A span of addresses from a range's own on: from `address` up to `end` this range is found, and from there up to
-/// `until` none.
+/// From its start up to that of the next span, the range at this place is found, or none.
 #[derive(Debug, Clone, Copy, PartialEq)]
 pub struct Span {
-    pub place: usize,
-    pub address: u64,
-    pub end: u64,
-    pub until: u64,
+    pub start: u64,
+    pub place: Option<usize>,
 }
 
-/// The answer for an address: the place of a range, and the offset of the address into it.
-#[derive(Debug, Clone, Copy, PartialEq)]
-pub struct Found {
-    pub place: usize,
-    pub offset: u64,
-}
-
-/// Ranges, arranged for lookups by address.
+/// Ranges, as disjoint spans in the order of their addresses: for n ranges at most 2n + 1.
 ///
-/// Clauses see the ranges in the order in which they were given.
+/// Clauses see the spans.
 #[derive(Drop)]
 pub struct Ranges {
-    ranges: Vec<AddressRange>,
-    rows: Vec<Row>,
-    nodes: Vec<Node>,
+    spans: Vec<Span>,
+    slices: Slices,
 }
 
 // A range's address, its place, and the last address that it holds. Rows are in the order of their addresses, those of
-// one address from the last place to the first.
+// one address from the last place to the first: of those that hold an address, the last one is found there.
 #[derive(Clone, Copy, PartialEq, Eq, PartialOrd, Ord)]
 struct Row {
     address: u64,
@@ -52,96 +42,48 @@ struct Row {
     last: u64,
 }
 
-// Which earlier rows reach further than one. Node 0 comes before all rows; node k + 1 is that of row k. Where each row
-// reaches as far as the one before it, there are no nodes: no row that ends before an address has an earlier one that
-// holds it.
-#[derive(Clone, Copy)]
-struct Node {
-    // The last address that the range holds; of node 0 the last of all.
-    last: u64,
-    // The nearest earlier node whose `last` isn't less.
-    outer: usize,
-    // A node that is reached from here by `outer` again and again, such that jumps halve a way.
-    jump: usize,
-    // How many steps by `outer` lead to node 0.
-    depth: usize,
-}
-
-const ROOT: Node = Node {
-    last: u64::MAX,
-    outer: 0,
-    jump: 0,
-    depth: 0,
-};
-
 impl Model for Ranges {
-    ghost Value = { List AddressRange };
+    ghost Value = { List Span };
 
-    ghost view = { λ s. s.ranges.items };
+    ghost view = { λ s. s.spans.items };
 
-    ghost invariant = { λ s. IsIndexed s.ranges.items s.rows.items s.nodes.items };
+    ghost invariant = { λ s. AreSpans s.spans.items };
 }
 
 impl Ranges {
     /// Arranges the ranges. The only error is a failed allocation.
-    pub fn new(alloc: Global, ranges: Vec<AddressRange>) -> Result<Ranges, AllocError>
-        ensures { IfOk result (λ r. r ≡ ranges.items) }
+    pub fn new(alloc: Global, ranges: &[AddressRange]) -> Result<Ranges, AllocError>
+        ensures { IfOk result (AreSpansOf ranges.now) }
     {
-        let rows = rows_of(alloc, &ranges)?;
-        let nodes = nodes_of(alloc, &rows)?;
-        Ok(Ranges {
-            ranges,
-            rows,
-            nodes,
-        })
+        let rows = rows_of(alloc, ranges)?;
+        let spans = spans_of(alloc, &rows)?;
+        let slices = Slices::new(alloc, &spans)?;
+        Ok(Ranges { spans, slices })
     }
 
-    /// The place of the range that is found at the address: of those that hold it the one of greatest address, and of
-    /// these the first. It takes a number of steps that grows with the logarithm of the number of ranges, however they lie.
+    /// The place of the span at an address.
     pub fn find(&self, address: u64) -> Option<usize>
-        ensures { MatchOption result (NoneHolds self.now address) (IsFoundAt self.now address) }
+        ensures { (k : ℕ) × IsSpanAt self.now address k × (result ≡ (span_at self.now k).place) }
     {
-        let found = self.find_from(address)?;
-        Some(found.place)
+        let (from, to) = self.around(address);
+        let next = self.spans[from..to].partition_point(|span| span.start <= address);
+        self.spans[from + next - 1].place
     }
 
-    /// The span of the range with this place in the order of addresses, in which ranges of one address come from the
-    /// last to the first. `None` past the end.
-    pub fn span(&self, row: usize) -> Option<Span>
-        ensures span { MatchOption result (length self.now ≤ row) (IsSpanOf self.now) }
-        ensures at { IfSome result (IsSpanAt self.now row) }
+    // Spans among which that of the address is: from one that begins there or before, up to one that begins behind it.
+    #[inline(always)]
+    fn around(&self, address: u64) -> (usize, usize)
+        ensures { IsAround self.now address result.0 result.1 }
     {
-        if row >= self.rows.len() {
-            return None;
+        let (from, to) = self.slices.near(address);
+        if from < to
+            && to < self.spans.len()
+            && self.spans[from].start <= address
+            && address < self.spans[to].start
+        {
+            return (from, to);
         }
-        let here = self.rows[row];
-        let behind = address_behind(&self.rows, row);
-        let end = behind.min(here.last.saturating_add(1));
-        let until = free_until(outer_at(&self.nodes, row + 1), behind, end);
-        Some(Span {
-            place: here.place.0,
-            address: here.address,
-            end,
-            until,
-        })
-    }
-
-    // The answer for an address.
-    fn find_from(&self, address: u64) -> Option<Found>
-        ensures { Finds self.now address result }
-    {
-        let mut node = rows_up_to(&self.rows, address);
-        while last_at(&self.rows, node) < address {
-            node = node_before(&self.rows, &self.nodes, node, address);
-        }
-        if node == 0 {
-            return None;
-        }
-        let row = self.rows[node - 1];
-        Some(Found {
-            place: row.place.0,
-            offset: address - row.address,
-        })
+        (0, self.spans.len())
     }
 }
 
@@ -161,159 +103,116 @@ fn rows_of(alloc: Global, ranges: &[AddressRange]) -> Result<Vec<Row>, AllocErro
     Ok(rows)
 }
 
-// How many rows have an address that isn't greater.
-fn rows_up_to(rows: &[Row], address: u64) -> usize
-    requires { DoRise rows.now }
-    ensures { IsBound rows.now address result }
-{
-    rows.partition_point(|row| row.address <= address)
-}
-
-// The address of the row after this one, or the last of all.
-fn address_behind(rows: &[Row], row: usize) -> u64
-    requires { row < length rows.now }
-    ensures next { row + 1 < length rows.now → result ≡ (row_at rows.now (row + 1)).address }
-    ensures last { length rows.now ≤ row + 1 → result ≡ 2 ^ 64 - 1 }
-{
-    match rows.get(row + 1) {
-        Some(next) => next.address,
-        None => u64::MAX,
-    }
-}
-
-// The end of the gap after a range: the next row's address, if no earlier row reaches as far as this one.
-fn free_until(outer: usize, behind: u64, end: u64) -> u64
-    ensures { (result ≡ end) ⊎ ((outer ≡ 0) × (result ≡ behind)) }
-{
-    if outer == 0 { behind } else { end }
-}
-
-// The last address that a node reaches, which its row has too: so the nodes of most addresses aren't read.
-#[inline(always)]
-fn last_at(rows: &[Row], node: usize) -> u64
-    requires { node ≤ length rows.now }
-    ensures root { node ≡ 0 → result ≡ 2 ^ 64 - 1 }
-    ensures row { 0 < node → result ≡ (row_at rows.now (node - 1)).last }
-{
-    if node == 0 {
-        return u64::MAX;
-    }
-    rows[node - 1].last
-}
-
-// The nodes of the rows, if they are needed.
-fn nodes_of(alloc: Global, rows: &[Row]) -> Result<Vec<Node>, AllocError>
-    ensures { IfOk result (λ v. AreNodesOf rows.now v.items) }
-{
-    if do_reach_further(rows) {
-        return Ok(Vec::new(alloc));
-    }
-    linked_nodes(alloc, rows)
-}
-
-// Whether each row reaches as far as the one before it.
-fn do_reach_further(rows: &[Row]) -> bool
-    ensures { result ≡ true → DoReachFurther rows.now }
-{
-    let mut furthest = 0;
-    for row in rows {
-        if row.last < furthest {
-            return false;
-        }
-        furthest = row.last;
-    }
-    true
-}
-
-// A node before the rows, and one for each.
-fn linked_nodes(alloc: Global, rows: &[Row]) -> Result<Vec<Node>, AllocError>
-    ensures { IfOk result (λ v. AreLinksOf rows.now v.items) }
-{
-    let mut nodes = Vec::with_capacity(alloc, rows.len())?;
-    nodes.push(ROOT)?;
-    for row in rows {
-        let node = next_node(&nodes, row.last);
-        nodes.push(node)?;
-    }
-    Ok(nodes)
-}
-
-// The node to look at next, where this one doesn't reach the address: none between them does.
-fn node_before(rows: &[Row], nodes: &[Node], node: usize, address: u64) -> usize
-    requires nodes { AreNodesOf rows.now nodes.now }
-    requires some { 0 < node }
-    requires within { node ≤ length rows.now }
-    requires past { (row_at rows.now (node - 1)).last < address }
-    ensures below { result < node }
-    ensures passed { ArePast rows.now address result node }
-{
-    if nodes.is_empty() {
-        return 0;
-    }
-    let jump = nodes[node].jump;
-    if last_at(rows, jump) < address {
-        jump
-    } else {
-        nodes[node].outer
-    }
-}
-
-// The nearest earlier node that reaches as far as this one: 0 where there are no nodes.
-fn outer_at(nodes: &[Node], node: usize) -> usize
-    ensures { result ≡ (node_at nodes.now node).outer }
-{
-    match nodes.get(node) {
-        Some(node) => node.outer,
-        None => 0,
-    }
-}
-
 // The last address that a range holds, and at most the last of all.
 fn last_address(range: AddressRange) -> u64
-    ensures { result ≡ last_of range }
+    ensures last { result ≡ last_of range }
+    ensures holds { range.address ≤ result }
 {
     range.address.saturating_add(range.size.max(1) - 1)
 }
 
-// The node that follows these.
-fn next_node(nodes: &[Node], last: u64) -> Node
-    requires { AreLinked nodes.now }
-    ensures last { result.last ≡ last }
-    ensures linked { Follows nodes.now result }
+// The spans of the rows, by one sweep. A row is open from its address on, until it ends or a later row does that reaches as
+// far: the open rows end one after the other, from the last one to the first.
+fn spans_of(alloc: Global, rows: &[Row]) -> Result<Vec<Span>, AllocError>
+    requires { AreInOrder rows.now }
+    ensures { IfOk result (λ v. AreSwept rows.now v.items) }
 {
-    let outer = outer_of(nodes, last);
-    Node {
-        last,
-        outer,
-        jump: jump_over(nodes, outer),
-        depth: nodes[outer].depth.wrapping_add(1),
+    let mut stack = Vec::new(alloc);
+    let mut spans = Vec::with_capacity(alloc, rows.len())?;
+    spans.push(Span {
+        start: 0,
+        place: None,
+    })?;
+    for row in 0..rows.len() {
+        close_before(rows, row, &mut stack, &mut spans)?;
+        open_row(rows, row, &mut stack, &mut spans)?;
+    }
+    close_before(rows, rows.len(), &mut stack, &mut spans)?;
+    Ok(spans)
+}
+
+// Closes the open rows that end before this row begins, or before the last address where there is no such row: from the end
+// of each on, the next open one is found, or none.
+fn close_before(
+    rows: &[Row],
+    row: usize,
+    stack: &mut Vec<usize>,
+    spans: &mut Vec<Span>,
+) -> Result<(), AllocError>
+    requires swept { IsSweep rows.now row spans.old.items stack.old.items }
+    requires within { row ≤ length rows.now }
+    requires behind { row < length rows.now → here spans.old.items ≤ (row_at rows.now row).address }
+    ensures swept { OnOk result (IsSweep rows.now row spans.new.items stack.new.items) }
+    ensures behind { OnOk result (row < length rows.now → here spans.new.items ≤ (row_at rows.now row).address) }
+    ensures next { OnOk result
+        (row < length rows.now → DoReach rows.now stack.new.items (row_at rows.now row).address) }
+    ensures last { OnOk result (length rows.now ≤ row → DoReach rows.now stack.new.items (2 ^ 64 - 1)) }
+{
+    let address = begin_of(rows, row);
+    while !stack.is_empty() {
+        let top = stack.len() - 1;
+        let last = rows[stack[top]].last;
+        if last >= address {
+            break;
+        }
+        stack.truncate(top);
+        spans.push(Span {
+            start: last + 1,
+            place: innermost(rows, stack),
+        })?;
+    }
+    Ok(())
+}
+
+// The address of a row, or the last of all where there is no such row.
+fn begin_of(rows: &[Row], row: usize) -> u64
+    ensures next { row < length rows.now → result ≡ (row_at rows.now row).address }
+    ensures last { length rows.now ≤ row → result ≡ 2 ^ 64 - 1 }
+{
+    match rows.get(row) {
+        Some(row) => row.address,
+        None => u64::MAX,
     }
 }
 
-// The nearest node whose `last` isn't less.
-fn outer_of(nodes: &[Node], last: u64) -> usize
-    requires { AreLinked nodes.now }
-    ensures { IsOuter nodes.now last result }
+// The place of the last open row.
+fn innermost(rows: &[Row], stack: &[usize]) -> Option<usize>
+    requires { (m : ℕ) → m < length stack.now → stack_at stack.now m < length rows.now }
+    ensures { IsInnermost rows.now stack.now result }
 {
-    let mut outer = nodes.len() - 1;
-    while nodes[outer].last < last {
-        outer = nodes[outer].outer;
+    if stack.is_empty() {
+        return None;
     }
-    outer
+    Some(rows[stack[stack.len() - 1]].place.0)
 }
 
-// The jump of the node after this one: to this one, or as far as the two jumps from it if these are equally long.
-fn jump_over(nodes: &[Node], outer: usize) -> usize
-    requires linked { AreLinked nodes.now }
-    requires within { outer < length nodes.now }
-    ensures { JumpsOver nodes.now outer result }
+// Opens the next row. Open rows that it outlives are dropped: none of their addresses from here on finds them.
+fn open_row(
+    rows: &[Row],
+    row: usize,
+    stack: &mut Vec<usize>,
+    spans: &mut Vec<Span>,
+) -> Result<(), AllocError>
+    requires order { AreInOrder rows.now }
+    requires within { row < length rows.now }
+    requires swept { IsSweep rows.now row spans.old.items stack.old.items }
+    requires behind { here spans.old.items ≤ (row_at rows.now row).address }
+    requires reach { DoReach rows.now stack.old.items (row_at rows.now row).address }
+    ensures swept { OnOk result (IsSweep rows.now (row + 1) spans.new.items stack.new.items) }
+    ensures behind { OnOk result (here spans.new.items ≡ (row_at rows.now row).address) }
 {
-    let jump = nodes[outer].jump;
-    let next = nodes[jump].jump;
-    let steps = nodes[outer].depth.abs_diff(nodes[jump].depth);
-    if steps == nodes[jump].depth.abs_diff(nodes[next].depth) {
-        next
-    } else {
-        outer
+    let last = rows[row].last;
+    while !stack.is_empty() {
+        let top = stack.len() - 1;
+        if rows[stack[top]].last > last {
+            break;
+        }
+        stack.truncate(top);
     }
+    stack.push(row)?;
+    spans.push(Span {
+        start: rows[row].address,
+        place: Some(rows[row].place.0),
+    })?;
+    Ok(())
 }

@@ -1,67 +1,29 @@
 //! Addresses that come as the lines of a text.
 
-ghost use Rattle.std.specs.Prelude.{◌≡◌, ◌≤◌, ◌<◌, ◌++◌, ◌∷◌, [], ℕ, List, length, MatchOption, IfOk};
+ghost use Rattle.std.specs.Prelude.{◌≡◌, ◌≤◌, ◌<◌, ◌++◌, ◌∷◌, [], ℕ, List, length, MatchOption, IfOk, OnOk};
+ghost use Rattle.binfarce_text.specs.Streams.{Fails};
+ghost use Rattle.binfarce_text.specs.machine.Passing.{WritesAll};
 ghost use Rattle.binfarce_addresses.specs.Answered.{AnswersOf};
-ghost use Rattle.binfarce_addresses.specs.Stream.{line_address, Fails, HasNoLineFeed, Streams};
-ghost use Rattle.binfarce_addresses.specs.machine.Answering.{AreAddressesOf, AnswersAll, AnswersLast, AnswersPart, AnswersUpTo, IsFirst, IsKeptOf, WritesAll};
+ghost use Rattle.binfarce_addresses.specs.Stream.{line_address, HasNoLineFeed, Streams};
+ghost use Rattle.binfarce_addresses.specs.machine.Answering.{AreAddressesOf, Answers, IsFirst, IsKeptOf};
 
 use crate::address::{hex_line, parse_address};
 use crate::at::Places;
 use crate::lookup::Lookup;
+use crate::names::Names;
+pub use binfarce_text::streams::StreamError;
+use binfarce_text::streams::{Pass, pass_stream};
 use binfarce_tools::list::Sink;
 use binfarce_tools::writing::write_whole;
 use std::alloc::{AllocError, Global};
-use std::error::Error;
-use std::fmt;
-use std::io::{ErrorKind, Read};
+use std::io::Read;
 
 // How many bytes are read at a time: the names and ranges for these lines stay in the cache until they are written, and
 // the buffer is small enough that the allocator reuses it.
-const CHUNK: usize = 1 << 13;
-
-// How many bytes of output a byte of input mostly has: so many are reserved at once.
-const GROWTH: usize = 8;
+pub(crate) const CHUNK: usize = 1 << 13;
 
 // The most bytes of a line with an address: `0x` and 16 digits.
 const LONGEST: usize = 18;
-
-/// Why the lines of a text were not answered to its end.
-#[derive(Debug, Clone, Copy, PartialEq, Drop)]
-pub enum LinesError {
-    /// The reader failed.
-    Read,
-    /// An allocation failed.
-    OutOfMemory,
-    /// A write of the sink failed.
-    Write,
-}
-
-impl fmt::Display for LinesError {
-    ghost use Rattle.std.specs.Prelude.{Some};
-    ghost use Rattle.binfarce_addresses.specs.Stream.{lines_words};
-
-    ghost output = { λ e. Some (lines_words e) };
-
-    fn fmt<W: fmt::Write>(&self, f: &mut fmt::Formatter<W>) -> fmt::Result {
-        match self {
-            LinesError::Read => write!(f, "read failed"),
-            LinesError::OutOfMemory => write!(f, "out of memory"),
-            LinesError::Write => write!(f, "write failed"),
-        }
-    }
-}
-
-impl Error for LinesError {}
-
-impl From<AllocError> for LinesError {
-    ghost use Rattle.binfarce_addresses.specs.declared.stream.LinesError.TheVariants.{OutOfMemory};
-
-    ghost from_gives = { λ _ e. e ≡ OutOfMemory };
-
-    fn from(_: AllocError) -> Self {
-        LinesError::OutOfMemory
-    }
-}
 
 /// How much of a text was answered.
 #[derive(Debug, Clone, Copy, PartialEq)]
@@ -87,8 +49,23 @@ pub fn push_lines(
 ) -> Result<Answered, AllocError>
     ensures { IfOk result (AnswersOf places.now lookup bytes.now text.old.items text.new.items) }
 {
+    push_answers(alloc, &mut Names::none(alloc, places), lookup, bytes, text)
+}
+
+// As `push_lines`, with the names that are known.
+fn push_answers(
+    alloc: Global,
+    names: &mut Names<'_, '_>,
+    lookup: Lookup,
+    bytes: &[u8],
+    text: &mut Vec<u8>,
+) -> Result<Answered, AllocError>
+    ensures answers { IfOk result
+        (AnswersOf names.old lookup bytes.now text.old.items text.new.items) }
+    ensures same { names.new ≡ names.old }
+{
     let (addresses, answered) = addresses_of(alloc, bytes)?;
-    places.push_all(alloc, text, lookup, &addresses)?;
+    names.push_all(alloc, text, lookup, &addresses)?;
     Ok(answered)
 }
 
@@ -152,84 +129,76 @@ pub fn answer_lines<R: Read, S: Sink>(
     lookup: Lookup,
     input: &mut R,
     out: &mut S,
-) -> Result<u64, LinesError>
+) -> Result<u64, StreamError>
     ensures answers { Streams places.now lookup (R.remaining input.old) (R.remaining input.new) (S.taken out.old)
         (S.taken out.new) result }
     ensures fails { Fails (S.has_failed out.old) (S.has_failed out.new) result }
 {
-    let mut chunk = new_chunk(alloc)?;
-    let mut line = Vec::new(alloc);
-    let missing = answer_whole(
+    let mut lines = Lines {
         alloc,
-        places,
+        names: Names::new(alloc, places)?,
         lookup,
-        &mut line,
-        chunk.as_mut_slice(),
-        input,
-        out,
-    )?;
-    answer_last(alloc, places, lookup, &mut line, missing, out)
+        line: Vec::new(alloc),
+        missing: 0,
+    };
+    pass_stream(alloc, &mut lines, CHUNK, input, out)?;
+    Ok(lines.missing)
 }
 
-// Room for the bytes of a read.
-pub(crate) fn new_chunk(alloc: Global) -> Result<Vec<u8>, AllocError>
-    ensures { IfOk result (λ chunk. 0 < length chunk.items) }
-{
-    vec![in alloc; 0; CHUNK]
-}
-
-// Answers the whole lines that the reader gives, and returns how many of them have no address; `line` keeps the rest.
-fn answer_whole<R: Read, S: Sink>(
+// What answers lines that come in parts.
+#[derive(Drop)]
+struct Lines<'b, 'a> {
     alloc: Global,
-    places: &Places<'_>,
+    names: Names<'b, 'a>,
     lookup: Lookup,
-    line: &mut Vec<u8>,
-    chunk: &mut [u8],
-    input: &mut R,
-    out: &mut S,
-) -> Result<u64, LinesError>
-    requires empty { line.old.items ≡ [] }
-    requires room { 0 < length chunk.now }
-    ensures answers { AnswersAll places.now lookup line.new.items (R.remaining input.old) (R.remaining input.new)
-        (S.taken out.old) (S.taken out.new) result }
-    ensures fails { Fails (S.has_failed out.old) (S.has_failed out.new) result }
-{
-    let mut missing = 0;
-    for _ in 0..u64::MAX {
-        match input.read(chunk) {
-            Ok(0) => return Ok(missing),
-            Ok(n) => {
-                let more = answer_part(alloc, places, lookup, line, &chunk[..n], out)?;
-                missing = u64::saturating_add(missing, more);
-            }
-            Err(e) => {
-                if e.kind() != ErrorKind::Interrupted {
-                    return Err(LinesError::Read);
-                }
-            }
-        }
+    // What is kept of the last line so far.
+    line: Vec<u8>,
+    // How many lines have no address.
+    missing: u64,
+}
+
+impl Lines<'_, '_> {
+    // Answers the whole lines of the kept text and the next part, and keeps the rest.
+    fn push(&mut self, part: &[u8], out: &mut Vec<u8>) -> Result<(), AllocError>
+        ensures { OnOk result ((more : List ℕ) × Answers self.old self.new part.now more
+            × (out.new.items ≡ out.old.items ++ more)) }
+    {
+        self.line.extend_from_slice(part)?;
+        let answered = push_answers(self.alloc, &mut self.names, self.lookup, &self.line, out)?;
+        self.missing = self.missing.saturating_add(answered.missing);
+        self.line = kept_of(self.alloc, &self.line[answered.len..])?;
+        Ok(())
     }
-    Err(LinesError::Read)
 }
 
-// Answers the whole lines of the kept text and the next part, and keeps the rest.
-fn answer_part<S: Sink>(
-    alloc: Global,
-    places: &Places<'_>,
-    lookup: Lookup,
-    line: &mut Vec<u8>,
-    part: &[u8],
-    out: &mut S,
-) -> Result<u64, LinesError>
-    ensures answers { AnswersPart places.now lookup (line.old.items ++ part.now) line.new.items (S.taken out.old)
-        (S.taken out.new) result }
-    ensures fails { Fails (S.has_failed out.old) (S.has_failed out.new) result }
-{
-    line.extend_from_slice(part)?;
-    let answered = answer(alloc, places, lookup, line.as_slice(), out)?;
-    let kept = kept_of(alloc, &line[answered.len..])?;
-    *line = kept;
-    Ok(answered.missing)
+impl<S: Sink> Pass<S> for Lines<'_, '_> {
+    ghost use Rattle.binfarce_addresses.specs.machine.Answering.{Holds, IsDone, MayBreakOff};
+
+    ghost Holds = { Holds };
+
+    ghost IsDone = { IsDone };
+
+    ghost MayBreakOff = { MayBreakOff };
+
+    ghost taken = { S.taken };
+
+    ghost has_failed = { S.has_failed };
+
+    fn take(&mut self, part: &[u8], out: &mut Vec<u8>) -> Result<(), AllocError> {
+        self.push(part, out)
+    }
+
+    /// Answers the last line, if there is one, unless the text was broken off.
+    fn end(&mut self, ended: bool, out: &mut Vec<u8>) -> Result<(), AllocError> {
+        if !ended || self.line.is_empty() {
+            return Ok(());
+        }
+        self.push(b"\n", out)
+    }
+
+    fn write(out: &mut S, bytes: &[u8]) -> Result<(), StreamError> {
+        write_all(out, bytes)
+    }
 }
 
 // The text that is kept of the first part of a line: no white space before the address, and at most one byte of it
@@ -249,46 +218,10 @@ fn kept_of(alloc: Global, line: &[u8]) -> Result<Vec<u8>, AllocError>
     Vec::from_slice(alloc, &begun[..begun.len().min(len + 1)])
 }
 
-// Answers the whole lines of the bytes.
-fn answer<S: Sink>(
-    alloc: Global,
-    places: &Places<'_>,
-    lookup: Lookup,
-    bytes: &[u8],
-    out: &mut S,
-) -> Result<Answered, LinesError>
-    ensures answers { AnswersUpTo places.now lookup bytes.now (S.taken out.old) (S.taken out.new) result }
-    ensures fails { Fails (S.has_failed out.old) (S.has_failed out.new) result }
-{
-    let mut text = Vec::with_capacity(alloc, bytes.len().saturating_mul(GROWTH))?;
-    let answered = push_lines(alloc, places, lookup, bytes, &mut text)?;
-    write_all(out, text.as_slice())?;
-    Ok(answered)
-}
-
-// Answers the last line, if there is one, and returns how many of all lines have no address.
-fn answer_last<S: Sink>(
-    alloc: Global,
-    places: &Places<'_>,
-    lookup: Lookup,
-    line: &mut Vec<u8>,
-    missing: u64,
-    out: &mut S,
-) -> Result<u64, LinesError>
-    ensures answers { AnswersLast places.now lookup line.old.items missing (S.taken out.old) (S.taken out.new) result }
-    ensures fails { Fails (S.has_failed out.old) (S.has_failed out.new) result }
-{
-    if line.as_slice().is_empty() {
-        return Ok(missing);
-    }
-    let more = answer_part(alloc, places, lookup, line, b"\n", out)?;
-    Ok(missing.saturating_add(more))
-}
-
 // Writes the bytes in as many calls as the sink needs.
-pub(crate) fn write_all<S: Sink>(out: &mut S, bytes: &[u8]) -> Result<(), LinesError>
+pub(crate) fn write_all<S: Sink>(out: &mut S, bytes: &[u8]) -> Result<(), StreamError>
     ensures takes { WritesAll (S.taken out.old) (S.taken out.new) bytes.now result }
     ensures fails { Fails (S.has_failed out.old) (S.has_failed out.new) result }
 {
-    write_whole(out, bytes).map_err(|_| LinesError::Write)
+    write_whole(out, bytes).map_err(|_| StreamError::Write)
 }

@@ -10,18 +10,11 @@ use Rattle.std.proofs.lemmas.List.Sorted.{sorted_far, sum_by-IsPermutation, IsPe
 use Rattle.std.proofs.lemmas.List.Sums.{sum_by-cons}
 use Rattle.binfarce_bytes.specs.Sizes.{RowAddress, comes_before, put_in, arranged}
 
--- what the test says
-abbrev pub Before : RowAddress → RowAddress → Type 0
-Before x y = (x.address < y.address) ⊎ ((x.address ≡ y.address) × (x.row < y.row))
-
 before_means : (a b r s : ℕ) → (nat_lt a b || (nat_eq a b && nat_lt r s)) ≡ true → (a < b) ⊎ ((a ≡ b) × (r < s))
 before_means a b r s e = grind (arith, nat_tests)
 
 not_before_means : (a b r s : ℕ) → (nat_lt a b || (nat_eq a b && nat_lt r s)) ≡ false → (b < a) ⊎ ((a ≡ b) × (s ≤ r))
 not_before_means a b r s e = grind (arith, nat_tests)
-
-before_from : (a b r s : ℕ) → (a < b) ⊎ ((a ≡ b) × (r < s)) → (nat_lt a b || (nat_eq a b && nat_lt r s)) ≡ true
-before_from a b r s h = grind (arith, nat_tests)
 
 not_before_from : (a b r s : ℕ) → (b < a) ⊎ ((a ≡ b) × (s ≤ r)) → (nat_lt a b || (nat_eq a b && nat_lt r s)) ≡ false
 not_before_from a b r s h = grind (arith, nat_tests)

@@ -11,4 +11,3 @@ pub mod Arrangement
 pub mod Above
 pub mod Sweeping
 pub mod Views
-pub mod AllAnswers

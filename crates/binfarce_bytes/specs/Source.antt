@@ -14,7 +14,11 @@ IsPart known offset part = IfSome known (λ bytes. (offset + length part ≤ len
 abbrev pub MayMiss : Bool → Option (List ℕ) → ℕ → ℕ → Type 0
 MayMiss may_fail known offset size = (may_fail ≡ true) ⊎ IfSome known (λ bytes. length bytes < offset + size)
 
--- from a log to a later one a source was asked for these parts alone: where they are among some parts, and those of the log before, all that it was asked
--- for is
+-- between two logs a source was asked for these parts alone: a set that has them, and all of the first log, has all of the second
 abbrev pub AskedFor : ((Part → Bool) → Bool) → ((Part → Bool) → Bool) → List Part → Type 0
 AskedFor before after parts = (allowed : Part → Bool) → AreSure allowed parts → before allowed ≡ true → after allowed ≡ true
+
+-- a reading of these parts alone: between two logs the source was asked for no other, and where it surely gives them, the reading didn't fail for want of one
+pub record ReadsOnly (is_sure : Part → Bool) (before after : (Part → Bool) → Bool) (parts : List Part) (readable : Type 0) : Type 0 where
+  pub asked : AskedFor before after parts
+  pub given : AreSure is_sure parts → readable

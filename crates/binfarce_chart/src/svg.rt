@@ -8,6 +8,7 @@ ghost use Rattle.binfarce_chart.specs.machine.Rows.{last_row};
 ghost use Rattle.binfarce_chart.specs.Views.{bar_view};
 
 use crate::bars::{Bar, MOST_BARS, falling, length_of, others, size_of_all};
+use binfarce_text::digits::hex_digit;
 use std::alloc::{AllocError, Global};
 
 /// The picture of these sizes, as a whole SVG document: a bar for each, the greatest first.
@@ -194,17 +195,8 @@ fn push_escaped_byte(text: &mut String, byte: u8) -> Result<(), AllocError>
         32..=126 => text.push(byte as char),
         _ => {
             text.push_str("\\x")?;
-            text.push(hex_digit(byte / 16 % 16))?;
-            text.push(hex_digit(byte % 16))
+            text.push(hex_digit(u64::from(byte / 16 % 16)) as char)?;
+            text.push(hex_digit(u64::from(byte % 16)) as char)
         }
     }
-}
-
-// A lower-case hexadecimal digit.
-fn hex_digit(value: u8) -> char
-    requires { value < 16 }
-    ensures { result ≡ Rattle.std.specs.Fmt.digit_glyph Rattle.std.specs.Prelude.false value }
-{
-    const DIGITS: [u8; 16] = *b"0123456789abcdef";
-    DIGITS[value as usize] as char
 }

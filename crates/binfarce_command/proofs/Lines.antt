@@ -1,56 +1,48 @@
 -- How the lines of standard input are answered: where the file isn't read, and where its entries can be had.
-use Rattle.std.proofs.Common.{◌≡◌, inl, inr, ap, ℕ, Bool, false, true, List, [], Option, Some, None, Result, Ok, Err, IsErrAnd, refl, sym, subst, append-nil}
-use Rattle.std.specs.Io.KnownBytes.{Appends, Consumes}
+use Rattle.std.proofs.Common.{◌≡◌, inl, inr, ap, ℕ, Bool, false, true, List, [], Option, Some, None, Result, Ok, Err, IsErrAnd, refl, sym, subst}
+use Rattle.std.proofs.KnownBytes.{Appends-nil, Consumes-nil}
 use Rattle.binfarce.specs.Refusal.{Refusal, refusal_of}
 use Rattle.binfarce.specs.Symbol.{Entry, Listed}
 use Rattle.binfarce_addresses.specs.declared.lookup.Lookup.{Lookup}
 use Rattle.binfarce_addresses.specs.PlacesViews.{IsMadeOf}
 use Rattle.binfarce_addresses.specs.Annotated.{AnnotatesAll}
 use Rattle.binfarce_addresses.specs.Stream.{Streams}
-use Rattle.binfarce_addresses.specs.declared.stream.LinesError.{LinesError}
+use Rattle.binfarce_addresses.specs.declared.stream.StreamError.{StreamError}
 use Rattle.binfarce_tables.specs.declared.error.ReadError.{ReadError}
 use Rattle.binfarce_tables.specs.declared.error.ReadError.TheVariants.{Refused, Unreadable, OutOfMemory}
 use Rattle.binfarce_tools.specs.Tables.{ReadsAs}
 use Rattle.binfarce_tools.specs.declared.list.ListError.TheVariants as errors
 use Rattle.binfarce_command.specs.At.{AnswersInput, HasPlaces, IsUntouched, WritesOf, lines_end}
-use Rattle.binfarce_command.specs.Faults.{lines_fault, read_fault}
+use Rattle.binfarce_command.specs.Faults.{stream_fault, read_fault}
 use Rattle.binfarce_command.specs.declared.fault.Fault.{Fault}
 use Rattle.binfarce_command.specs.declared.fault.Fault.TheVariants.{OutOfMemory as Full}
 
 -- lines were answered
-pub of_lines : (annotates : Bool) (entries : List Entry) (lookup : Lookup) (given left old new : Option (List ℕ)) (ended : Result ℕ LinesError) → annotates ≡ false → Streams entries lookup given left old new ended → WritesOf annotates entries lookup given left old new ended
+pub of_lines : (annotates : Bool) (entries : List Entry) (lookup : Lookup) (given left old new : Option (List ℕ)) (ended : Result ℕ StreamError) → annotates ≡ false → Streams entries lookup given left old new ended → WritesOf annotates entries lookup given left old new ended
 of_lines annotates entries lookup given left old new ended is streams = let P : Bool → Type 0 = λ b. WritesOf b entries lookup given left old new ended in subst P (sym is) streams
 
 -- or a text was annotated
 pub of_text : (annotates : Bool) (entries : List Entry) (lookup : Lookup) (given left old new : Option (List ℕ)) → annotates ≡ true → AnnotatesAll entries lookup given left old new (Ok tt) → WritesOf annotates entries lookup given left old new (Ok 0)
 of_text annotates entries lookup given left old new is streams = let P : Bool → Type 0 = λ b. WritesOf b entries lookup given left old new (Ok 0) in subst P (sym is) (refl, streams)
 
-pub of_part : (annotates : Bool) (entries : List Entry) (lookup : Lookup) (given left old new : Option (List ℕ)) (e : LinesError) → annotates ≡ true → AnnotatesAll entries lookup given left old new (Err e) → WritesOf annotates entries lookup given left old new (Err e)
+pub of_part : (annotates : Bool) (entries : List Entry) (lookup : Lookup) (given left old new : Option (List ℕ)) (e : StreamError) → annotates ≡ true → AnnotatesAll entries lookup given left old new (Err e) → WritesOf annotates entries lookup given left old new (Err e)
 of_part annotates entries lookup given left old new e is streams = let P : Bool → Type 0 = λ b. WritesOf b entries lookup given left old new (Err e) in subst P (sym is) streams
 
-pub answered_lines : (may : Type 0) (share : Bool) (memory : Result Listed Refusal → Type 0) (answer : Option (Result Listed Refusal)) (entries : List Entry) (annotates : Bool) (lookup : Lookup) (given left old new : Option (List ℕ)) (ended : Result ℕ LinesError) → share ≡ false → IsMadeOf memory answer (Ok entries)
+pub answered_lines : (may : Type 0) (share : Bool) (memory : Result Listed Refusal → Type 0) (answer : Option (Result Listed Refusal)) (entries : List Entry) (annotates : Bool) (lookup : Lookup) (given left old new : Option (List ℕ)) (ended : Result ℕ StreamError) → share ≡ false → IsMadeOf memory answer (Ok entries)
     → WritesOf annotates entries lookup given left old new ended → AnswersInput may share memory answer annotates lookup given left old new (lines_end ended)
 answered_lines may share memory None entries annotates lookup given left old new ended alone made streams = absurd made
 answered_lines may share memory (Some (Err refusal)) entries annotates lookup given left old new ended alone made streams = absurd made
 answered_lines may share memory (Some (Ok listed)) entries annotates lookup given left old new ended alone made streams =
     let P : List Entry → Type 0 = λ es. WritesOf annotates es lookup given left old new ended in inr (inr (inr (alone, listed, ended, refl, subst P made streams, refl)))
 
-pub answered_less : (may : Type 0) (share : Bool) (memory : Result Listed Refusal → Type 0) (answer : Option (Result Listed Refusal)) (entries : List Entry) (annotates : Bool) (lookup : Lookup) (given left old new : Option (List ℕ)) (e : LinesError) (result : Result ℕ Fault) → share ≡ false → IsMadeOf memory answer (Ok entries)
-    → WritesOf annotates entries lookup given left old new (Err e) → IsErrAnd result (λ x. x ≡ lines_fault e) → AnswersInput may share memory answer annotates lookup given left old new result
+pub answered_less : (may : Type 0) (share : Bool) (memory : Result Listed Refusal → Type 0) (answer : Option (Result Listed Refusal)) (entries : List Entry) (annotates : Bool) (lookup : Lookup) (given left old new : Option (List ℕ)) (e : StreamError) (result : Result ℕ Fault) → share ≡ false → IsMadeOf memory answer (Ok entries)
+    → WritesOf annotates entries lookup given left old new (Err e) → IsErrAnd result (λ x. x ≡ stream_fault e) → AnswersInput may share memory answer annotates lookup given left old new result
 answered_less may share memory answer entries annotates lookup given left old new e (Ok x) alone made streams is = absurd is
 answered_less may share memory answer entries annotates lookup given left old new e (Err x) alone made streams is =
     let P : Fault → Type 0 = λ f. AnswersInput may share memory answer annotates lookup given left old new (Err f) in subst P (sym is) (answered_lines may share memory answer entries annotates lookup given left old new (Err e) alone made streams)
 
 untouched : (given old : Option (List ℕ)) → IsUntouched given given old old
-untouched given old = (none_read given, none_written old)
-  where
-    none_read : (given : Option (List ℕ)) → Consumes given given []
-    none_read None = tt
-    none_read (Some bytes) = refl
-
-    none_written : (old : Option (List ℕ)) → Appends old old []
-    none_written None = tt
-    none_written (Some taken) = sym (append-nil taken)
+untouched given old = (Consumes-nil given, Appends-nil old)
 
 -- nothing was answered where the file isn't read
 pub unread : {T : Type 0} (AreTables : T → Type 0) (may : Type 0) (share : Bool) (memory : Result Listed Refusal → Type 0) (answer : Option (Result Listed Refusal)) (annotates : Bool) (lookup : Lookup) (given old : Option (List ℕ)) (e : ReadError) (result : Result ℕ Fault)
@@ -82,9 +74,3 @@ pub without_places : (may : Type 0) (share : Bool) (memory : Result Listed Refus
 without_places may share memory answer annotates lookup given old e (Ok x) has is = absurd is
 without_places may share memory answer annotates lookup given old e (Err x) has is =
     let P : Fault → Type 0 = λ f. AnswersInput may share memory answer annotates lookup given given old old (Err f) in subst P (sym is) (no_places may share memory answer annotates lookup given old e has)
-
--- nothing was answered where an allocation failed
-pub no_memory : (may : Type 0) (share : Bool) (memory : Result Listed Refusal → Type 0) (answer : Option (Result Listed Refusal)) (annotates : Bool) (lookup : Lookup) (given old : Option (List ℕ)) (result : Result ℕ Fault) → IsErrAnd result (λ x. x ≡ Full)
-    → AnswersInput may share memory answer annotates lookup given given old old result
-no_memory may share memory answer annotates lookup given old (Ok x) is = absurd is
-no_memory may share memory answer annotates lookup given old (Err x) is = inl (inr (ap failed is), untouched given old)

@@ -8,12 +8,12 @@ use Rattle.binfarce_addresses.specs.Annotated.{AnnotatesAll}
 use Rattle.binfarce_addresses.specs.PlacesViews.{IsMadeOf}
 use Rattle.binfarce_addresses.specs.Stream.{Streams}
 use Rattle.binfarce_addresses.specs.declared.lookup.Lookup.{Lookup}
-use Rattle.binfarce_addresses.specs.declared.stream.LinesError.{LinesError}
+use Rattle.binfarce_addresses.specs.declared.stream.StreamError.{StreamError}
 use Rattle.binfarce_tools.specs.declared.list.ListError.{ListError}
 use Rattle.binfarce_bytes.specs.Selection.{section_of}
 use Rattle.binfarce_tools.specs.Selection.{share_in}
 use Rattle.binfarce_tools.specs.Writing.{Outcome, written}
-use Rattle.binfarce_command.specs.Faults.{lines_fault, list_fault, outcome_of}
+use Rattle.binfarce_command.specs.Faults.{stream_fault, list_fault, outcome_of}
 use Rattle.binfarce_command.specs.declared.show.Symbols.{Symbols}
 use Rattle.binfarce_words.specs.Words.{Wrong, no_address}
 use Rattle.binfarce_command.specs.declared.fault.Fault.{Fault}
@@ -38,9 +38,9 @@ abbrev pub IsUntouched : Option (List ℕ) → Option (List ℕ) → Option (Lis
 IsUntouched given left old new = Consumes given left [] × Appends old new []
 
 -- the result of answering lines
-abbrev pub lines_end : Result ℕ LinesError → Result ℕ Fault
+abbrev pub lines_end : Result ℕ StreamError → Result ℕ Fault
 lines_end (Ok count) = Ok count
-lines_end (Err e) = Err (lines_fault e)
+lines_end (Err e) = Err (stream_fault e)
 
 -- the outcome of it
 abbrev pub lines_outcome : Result ℕ Fault → Outcome
@@ -62,7 +62,7 @@ HasPlaces share NeedsMemory answer (Ok entries) = (share ≡ false) × IsMadeOf 
 HasPlaces share NeedsMemory answer (Err e) = ((share ≡ true) × (e ≡ SharedAddresses)) ⊎ ((error : ListError) × IsMadeOf NeedsMemory answer (Err error) × (e ≡ list_fault error))
 
 -- what is read and written: a text is annotated, in which no line is missing; or its lines are answered
-abbrev pub WritesOf : (annotates : Bool) → List Entry → Lookup → Option (List ℕ) → Option (List ℕ) → Option (List ℕ) → Option (List ℕ) → Result ℕ LinesError → Type 0
+abbrev pub WritesOf : (annotates : Bool) → List Entry → Lookup → Option (List ℕ) → Option (List ℕ) → Option (List ℕ) → Option (List ℕ) → Result ℕ StreamError → Type 0
 WritesOf false entries lookup given left old new ended = Streams entries lookup given left old new ended
 WritesOf true entries lookup given left old new (Ok count) = (count ≡ 0) × AnnotatesAll entries lookup given left old new (Ok tt)
 WritesOf true entries lookup given left old new (Err e) = AnnotatesAll entries lookup given left old new (Err e)
@@ -73,4 +73,4 @@ AnswersInput MayFail share NeedsMemory answer annotates lookup given left old ne
     (((MayFail × (result ≡ Err Unreadable)) ⊎ (result ≡ Err OutOfMemory)) × IsUntouched given left old new)
     ⊎ ((share ≡ true) × (result ≡ Err SharedAddresses) × IsUntouched given left old new)
     ⊎ ((e : ListError) × IsMadeOf NeedsMemory answer (Err e) × (result ≡ Err (list_fault e)) × IsUntouched given left old new)
-    ⊎ ((share ≡ false) × (listed : Listed) × (ended : Result ℕ LinesError) × (answer ≡ Some (Ok listed)) × WritesOf annotates listed.entries lookup given left old new ended × (result ≡ lines_end ended))
+    ⊎ ((share ≡ false) × (listed : Listed) × (ended : Result ℕ StreamError) × (answer ≡ Some (Ok listed)) × WritesOf annotates listed.entries lookup given left old new ended × (result ≡ lines_end ended))

@@ -2,8 +2,6 @@
 use Rattle.std.specs.Prelude.{Result, Ok, Err}
 use Rattle.std.specs.declared.io.ErrorKind.{ErrorKind}
 use Rattle.std.specs.declared.io.ErrorKind.TheVariants as kinds
-use Rattle.binfarce_addresses.specs.declared.stream.LinesError.{LinesError}
-use Rattle.binfarce_addresses.specs.declared.stream.LinesError.TheVariants as lines
 use Rattle.binfarce_bytes.specs.Refusal.{refusal_of}
 use Rattle.binfarce_tables.specs.declared.error.ReadError.{ReadError}
 use Rattle.binfarce_tables.specs.declared.error.ReadError.TheVariants as reading
@@ -56,11 +54,6 @@ abbrev pub stream_fault : StreamError → Fault
 stream_fault stream.Read = Input
 stream_fault stream.Write = Write
 stream_fault stream.OutOfMemory = OutOfMemory
-
-abbrev pub lines_fault : LinesError → Fault
-lines_fault lines.Read = Input
-lines_fault lines.OutOfMemory = OutOfMemory
-lines_fault lines.Write = Write
 
 -- the outcome of the work on a file
 abbrev pub outcome_of : Result (Unit {0}) Fault → writing.Outcome

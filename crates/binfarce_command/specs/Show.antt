@@ -2,6 +2,7 @@
 use Rattle.std.specs.Prelude.{ℕ, List, Option, Result}
 use Rattle.binfarce.specs.Refusal.{Refusal}
 use Rattle.binfarce.specs.Symbol.{Listed}
+use Rattle.binfarce_tools.specs.RowListing.{IsListingBy}
 use Rattle.binfarce_tools.specs.AllListing.{IsListingIn}
 use Rattle.binfarce_tools.specs.Map.{IsMapOf}
 use Rattle.binfarce_tools.specs.Listing.{ListingFits}
@@ -12,18 +13,20 @@ use Rattle.binfarce_tools.specs.Writing.{Outcome, IsDue, ProgramEndsAs, Takes}
 use Rattle.binfarce_tools.specs.declared.SymbolTable.{SymbolTable}
 use Rattle.binfarce_command.specs.declared.show.Request.{Request}
 use Rattle.binfarce_command.specs.declared.show.Kind.{Kind}
-use Rattle.binfarce_command.specs.declared.show.Kind.TheVariants.{Listing, Sums, Picture}
+use Rattle.binfarce_command.specs.declared.show.Kind.TheVariants.{Listing, Rows, Sums, Picture}
 use Rattle.binfarce_command.specs.declared.show.Symbols.{Symbols}
 
 -- text shows a file's answer for a section, or for all sections
 abbrev pub IsTextOf : Kind → SymbolTable → (file : List ℕ) → (section : Option (List ℕ)) → Listed → List ℕ → Type 0
 IsTextOf Listing which file section = IsListingIn which file section
+IsTextOf (Rows shown) which file section = IsListingBy shown which file section
 IsTextOf Sums which file section = IsReportIn section
 IsTextOf Picture which file section = IsMapOf
 
 -- such a text can be made
 abbrev pub Fits : Kind → Listed → Type 0
 Fits Listing = ListingFits
+Fits (Rows shown) = ListingFits
 Fits Sums = ReportFits
 Fits Picture = ReportFits
 

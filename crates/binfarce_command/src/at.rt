@@ -114,12 +114,11 @@ pub fn answer_input<S: Source<Log = ()>, I: Read, K: Sink>(
     ensures fails { Fails (K.has_failed out.old) (K.has_failed out.new) (lines_outcome result) }
 {
     let tables = read(alloc, source, &mut (), symbols.which, symbols.selection)?;
-    let mut places = places_of(alloc, &tables)?;
+    let places = places_of(alloc, &tables)?;
     if annotates {
         annotate_stream(alloc, &places, lookup, input, out)?;
         return Ok(0);
     }
-    places.keep_names(alloc)?;
     let missing = answer_lines(alloc, &places, lookup, input, out)?;
     Ok(missing)
 }

@@ -3,7 +3,6 @@
 ghost use Rattle.std.specs.Prelude.{◌≡◌};
 ghost use Rattle.std.specs.IoError.{error_kind};
 
-use binfarce_addresses::stream::LinesError;
 use binfarce_bytes::ParseError;
 use binfarce_filtering::stream::StreamError;
 use binfarce_sections::error::SectionError;
@@ -180,20 +179,6 @@ impl From<StreamError> for Fault {
             StreamError::Read => Fault::Input,
             StreamError::Write => Fault::Write,
             StreamError::OutOfMemory => Fault::OutOfMemory,
-        }
-    }
-}
-
-impl From<LinesError> for Fault {
-    ghost use Rattle.binfarce_command.specs.Faults.{lines_fault};
-
-    ghost from_gives = { λ e f. f ≡ lines_fault e };
-
-    fn from(e: LinesError) -> Self {
-        match e {
-            LinesError::Read => Fault::Input,
-            LinesError::OutOfMemory => Fault::OutOfMemory,
-            LinesError::Write => Fault::Write,
         }
     }
 }

@@ -29,12 +29,18 @@ an address.
 ";
 
 const LIST: &str = "\
-usage: binfarce list [--dynamic] [--section=NAME | --all] FILE..
+usage: binfarce list [OPTION..] FILE..
 
 Writes a line for each function symbol: its address, its size in bytes, and its
 readable name; last the size of the section. Several files are each listed under a
 line with the file's name.
 
+  --sort=KEY       by rising address, falling size or name (address, size, name),
+                   without the last line
+  -n N, --first=N  the first N lines, without the last line
+  --no-total       without the last line
+  --full           names with hashes and disambiguators
+  --raw            names as they are stored
   --dynamic        by the dynamic symbol table of an ELF file (.dynsym)
   --section=NAME   the section of an ELF file, by default .text; of Mach-O and PE
                    files the code section is listed

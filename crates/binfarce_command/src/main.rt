@@ -26,6 +26,7 @@ use binfarce_addresses::Lookup;
 use binfarce_bytes::source::Source;
 use binfarce_filtering::stream::{StreamError, filter_stream};
 use binfarce_tools::SymbolTable;
+use binfarce_tools::rows::{Naming, Shown};
 use binfarce_tools::tables::Selection;
 use binfarce_words::words::{Arguments, Call, Command, Flag, Wrong, read_call};
 use std::alloc::Global;
@@ -114,13 +115,32 @@ fn work<W: Write>(
     out: &mut Output<W>,
 ) -> Result<bool, Fault> {
     match command {
-        Command::List => show_all(rt, Kind::Listing, given, out),
+        Command::List => show_all(rt, listing_of(given), given, out),
         Command::Size => show_all(rt, Kind::Sums, given, out),
         Command::Map => show_all(rt, Kind::Picture, given, out),
         Command::Filter => filter_text(rt, given, out),
         Command::At => symbolize(rt, given, addresses, out),
         Command::Section => write_section(rt, given, out),
     }
+}
+
+// How function symbols are listed: in their order and whole, unless something else is asked for.
+fn listing_of(given: &Arguments<'_>) -> Kind {
+    let naming = match (given.has(Flag::Raw), given.has(Flag::Full)) {
+        (true, _) => Naming::Stored,
+        (false, true) => Naming::Complete,
+        (false, false) => Naming::Trimmed,
+    };
+    let shown = Shown {
+        order: given.order(),
+        first: given.count(Flag::First),
+        naming,
+        has_total: !given.has(Flag::Sort) && !given.has(Flag::First) && !given.has(Flag::NoTotal),
+    };
+    if shown.has_total && naming == Naming::Trimmed {
+        return Kind::Listing;
+    }
+    Kind::Rows(shown)
 }
 
 // Shows the function symbols of all files that are given.

@@ -15,6 +15,7 @@ use binfarce_tools::SymbolTable;
 use binfarce_tools::list::{Sink, list_tables};
 use binfarce_tools::map::map_tables;
 use binfarce_tools::report::report_tables;
+use binfarce_tools::rows::{Shown, list_by};
 use binfarce_tools::tables::{Selection, Tables, read};
 use std::alloc::Global;
 
@@ -23,6 +24,8 @@ use std::alloc::Global;
 pub enum Kind {
     /// As a listing.
     Listing,
+    /// As a listing in an order, of the first lines, or with other names.
+    Rows(Shown),
     /// As sums by crate.
     Sums,
     /// As a picture of these sums.
@@ -97,6 +100,7 @@ fn show_tables<K: Sink>(
 {
     match kind {
         Kind::Listing => Ok(list_tables(alloc, tables, out)?),
+        Kind::Rows(shown) => Ok(list_by(alloc, tables, &shown, out)?),
         Kind::Sums => Ok(report_tables(alloc, tables, out)?),
         Kind::Picture => Ok(map_tables(alloc, tables, out)?),
     }

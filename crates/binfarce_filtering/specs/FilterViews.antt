@@ -51,3 +51,7 @@ IsBetweenRuns filter = filter.run.items ≡ []
 abbrev pub Shows : (filter : TextFilter) (bytes more : List ℕ) → Type 0
 Shows filter bytes more =
     (run : List ℕ) → IsKept filter.run.items run → (shown : List ℕ) × IsShown filter.full (run ++ bytes) shown × (shown_so_far run ++ more ≡ shown)
+
+-- a filter replaces names by their complete text
+abbrev pub is_full : (filter : TextFilter) → Bool
+is_full filter = filter.full

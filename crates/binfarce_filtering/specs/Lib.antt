@@ -1,5 +1,4 @@
 pub mod Filter
 pub mod Continued
 pub mod FilterViews
-pub mod Stream
 pub mod machine

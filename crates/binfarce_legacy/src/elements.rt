@@ -53,11 +53,7 @@ fn with_digit(number: usize, digit: u8) -> usize
     requires { digit < 10 }
     ensures { result ≡ min (number * 10 + digit) (2 ^ 64 - 1) }
 {
-    if number < 0x1000_0000_0000_0000 {
-        number * 10 + usize::from(digit)
-    } else {
-        number.saturating_mul(10).saturating_add(usize::from(digit))
-    }
+    number.saturating_mul(10).saturating_add(usize::from(digit))
 }
 
 // Where the name of the element at `at` begins and ends.

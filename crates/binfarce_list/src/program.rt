@@ -1,23 +1,15 @@
 //! The program, over any reader and any writer.
 
-ghost use Rattle.std.specs.Prelude.{◌≡◌, ◌⊎◌, ℕ, List, [], true, map, Some, None, MatchResult, IfSome};
-ghost use Rattle.std.specs.String.{string_bytes};
+ghost use Rattle.std.specs.Prelude.{◌≡◌, ◌⊎◌, ℕ, List, [], true, Some};
 ghost use Rattle.binfarce_tools.specs.Answer.{file_answer, FileNeedsMemory};
 ghost use Rattle.binfarce_tools.specs.Listing.{IsListingOf, ListingFits};
 ghost use Rattle.binfarce_tools.specs.Sink.{writer_of, has_failed};
 ghost use Rattle.binfarce_tools.specs.Writing.{ProgramEndsAs, Takes, Fails, Leaves};
-ghost use Rattle.binfarce_tools.specs.Given.{words_of};
-ghost use Rattle.binfarce_tools.specs.Status.{status_of};
-ghost use Rattle.binfarce_list.specs.Program.{outcome_of, is_usage};
-ghost use Rattle.binfarce_list.specs.declared.program.Fault.TheVariants.{Usage};
+ghost use Rattle.binfarce_list.specs.Program.{outcome_of};
 
 use binfarce_bytes::source::Source;
-use binfarce_tools::SymbolTable;
-use binfarce_tools::list::{ListError, Out, list, list_tables};
-use binfarce_tools::program::{
-    Failure, file_and_section, is_read_at_offsets, read_whole, tables_failure,
-};
-use binfarce_tools::tables::{Selection, read};
+use binfarce_tools::list::{ListError, Out, list_tables};
+use binfarce_tools::program::{Failure, tables_of};
 use std::alloc::Global;
 use std::io::{Read, Write};
 use thiserror::Error;
@@ -57,19 +49,9 @@ impl binfarce_tools::program::Fault for Fault {
 
     ghost is_usage = { is_usage };
 
-    fn status(&self) -> u8 {
-        status(self)
+    fn is_usage(&self) -> bool {
+        matches!(self, Fault::Usage)
     }
-}
-
-/// The file and the section that the arguments after the program's own name give. The section is by default `.text`.
-///
-/// `Usage` for none, and for more than two.
-pub fn words(arguments: &[String]) -> Result<(&str, &str), Fault>
-    ensures { let given = words_of (map string_bytes arguments.now) in MatchResult result
-        (λ w. given ≡ Some (w.0.now, w.1.now)) (λ e. (given ≡ None) × (e ≡ Usage)) }
-{
-    Ok(file_and_section(arguments)?)
 }
 
 /// Lists the function symbols of a file's section. Of a file that can be read at offsets only the headers, the symbol
@@ -92,32 +74,6 @@ pub fn run<F: Read + Source<Log = ()>, W: Write>(
     ensures fails { Fails (has_failed out.old) (has_failed out.new) (outcome_of result) }
     ensures leaves { Leaves out.old out.new (outcome_of result) }
 {
-    if is_read_at_offsets(file) {
-        let tables = match read(
-            alloc,
-            file,
-            &mut (),
-            SymbolTable::Symtab,
-            Selection::Section(section),
-        ) {
-            Ok(tables) => tables,
-            Err(e) => return Err(Fault::from(tables_failure(e))),
-        };
-        return match list_tables(alloc, &tables, out) {
-            Ok(()) => Ok(()),
-            Err(e) => Err(Fault::List(e)),
-        };
-    }
-    let bytes = read_whole(alloc, file)?;
-    list(alloc, bytes.as_slice(), section, out).map_err(Fault::List)
-}
-
-/// The program's exit status: 2 for the usage, and 1 for any other fault.
-pub fn status(fault: &Fault) -> u8
-    ensures { result ≡ status_of (is_usage fault.now) }
-{
-    match fault {
-        Fault::Usage => 2,
-        _ => 1,
-    }
+    let tables = tables_of(alloc, file, section)?;
+    list_tables(alloc, &tables, out).map_err(Fault::List)
 }

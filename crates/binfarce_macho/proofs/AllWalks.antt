@@ -81,10 +81,6 @@ with_room len body n old new le held is =
     (All-append (λ s. s + 52 ≤ len) old (first_starts body n) held
     (each_start (λ s. s + 52 ≤ len) body 0 n (λ i lt. let all : (len + 28 - (body + 64)) / 80 * 80 ≤ len + 28 - (body + 64) = div-mul-le_self (len + 28 - (body + 64)) 80 in omega (arith, all, le, lt))))
 
--- a segment has a section
-pub some_starts : (file : List ℕ) (body count n : ℕ) → count ≡ section_count file body → n ≤ count → 0 < n → starts_in file body ≢ []
-some_starts file body count n is le lt none = absurd (omega (arith, is, ap length none, length-map (range_with_len 0 (section_count file body)) (λ i. section_offset body i), range_long 0 (section_count file body)))
-
 module _ (file : List ℕ) where
   -- the starts so far, and what is left of the walk
   pub record SoFar (left : Walk Command) (starts : List ℕ) : Type 0 where

@@ -1,5 +1,5 @@
 -- The sections that an iterator has left: those of a segment, and after them those of the commands.
-use Rattle.std.proofs.Common.{◌≡◌, ℕ, suc, ◌+◌, ◌-◌, ◌<◌, ◌≤◌, List, length, Option, Some, None, Result, Ok, Err, MatchResult, refl, sym, ap, subst, ◌∙◌, arith}
+use Rattle.std.proofs.Common.{◌≡◌, ℕ, suc, ◌+◌, ◌-◌, ◌<◌, ◌≤◌, List, length, Some, None, Result, Ok, Err, MatchResult, refl, sym, ap, subst, ◌∙◌, arith}
 use Rattle.std.proofs.lemmas.Bool.{le-leb, lt-leb, le-ltb}
 use Rattle.binfarce_bytes.specs.Refusal.{Refusal, unexpected_eof}
 use Rattle.binfarce_bytes.specs.Walk.{Walk, ended, ahead_of, and_then}
@@ -46,18 +46,6 @@ all_left file s at whole is =
 
 go_on : Walk Section → Walk Section → Walk Section
 go_on after w = and_then w.items w.refusal after
-
-ahead : (after : Walk Section) (section : Section) (items : List Section) (refusal : Option Refusal)
-    → and_then (ahead_of section (record { items = items; refusal = refusal })).items refusal after ≡ ahead_of section (and_then items refusal after)
-ahead after section items None = refl
-ahead after section items (Some why) = refl
-
--- what a segment gives of itself it gives of all
-pub gives_next : (file : List ℕ) (s t : Segment) (section : Section) (left : Walk Command) → segment_from file s ≡ ahead_of section (segment_from file t)
-    → sections_from file s left ≡ ahead_of section (sections_from file t left)
-unfolding go_on
-gives_next file s t section left e =
-    ap (go_on (sections_left file left)) e ∙ ahead (sections_left file left) section (segment_from file t).items (segment_from file t).refusal
 
 pub goes_on : (file : List ℕ) (s : Segment) (left : Walk Command) → segment_from file s ≡ ended None → sections_from file s left ≡ sections_left file left
 unfolding go_on

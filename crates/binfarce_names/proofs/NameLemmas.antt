@@ -4,7 +4,7 @@ use Rattle.std.proofs.lemmas.Bool.{cases_Bool, cond-false}
 use Rattle.std.specs.Prelude.{IfOk}
 use Rattle.std.specs.List.{starts_with}
 use Rattle.binfarce_text.specs.Prefixes.{after_prefix}
-use Rattle.binfarce_names.specs.declared.demangle.Kind.TheVariants.{Unknown, Legacy, V0}
+use Rattle.binfarce_names.specs.declared.demangle.Kind.TheVariants.{Legacy, V0}
 use Rattle.binfarce_text.specs.Suffixes.{without_llvm}
 use Rattle.binfarce_legacy.specs.Legacy as legacy_names
 use Rattle.binfarce_legacy.specs.Legacy.{Element, IsLegacy}
@@ -80,12 +80,6 @@ one_tree text p q t u v a w b =
 
 pub legacy_not_v0 : (text : List ℕ) (m : Mangled) → IsLegacyMangled text m → m.kind ≡ V0 → ⊥
 legacy_not_v0 text m a k = let both : Legacy ≡ V0 = sym a.kind_is ∙ k in cc
-
-pub legacy_not_unknown : (text : List ℕ) (m : Mangled) → IsLegacyMangled text m → m.kind ≡ Unknown → ⊥
-legacy_not_unknown text m a k = let both : Legacy ≡ Unknown = sym a.kind_is ∙ k in cc
-
-pub v0_not_unknown : (text : List ℕ) (m : Mangled) → IsV0Mangled text m → m.kind ≡ Unknown → ⊥
-v0_not_unknown text m a k = let both : V0 ≡ Unknown = sym a.kind_is ∙ k in cc
 
 pub if_ok : {T E : Type 0} (P Q : T → Type 0) (r : Result T E) → ((x : T) → P x → Q x) → IfOk r P → IfOk r Q
 if_ok P Q (Ok x) f h = f x h

@@ -7,7 +7,7 @@ use Rattle.binfarce_names.specs.declared.demangle.Kind.TheVariants.{V0}
 use Rattle.binfarce_text.specs.Suffixes.{without_llvm}
 use Rattle.binfarce_legacy.specs.Legacy.{Element, Reads, IsLegacy, legacy_chars, without_last_part}
 use Rattle.binfarce_v0_grammar.specs.Tree.{PathTree}
-use Rattle.binfarce_v0.specs.Mangling.{IsV0, HasNoTree}
+use Rattle.binfarce_v0.specs.Mangling.{IsV0, HasRest, HasNoTree}
 use Rattle.binfarce_v0_state.specs.machine.Outcome.{Outcome}
 use Rattle.binfarce_v0.specs.machine.Outcome.{HasTree, IsOutcome, IsCrateName, AreTexts}
 use Rattle.binfarce_names.specs.Crates.{GrowsByCrate, crate_of, path_crate}
@@ -15,15 +15,15 @@ use Rattle.binfarce_v0_state.specs.TreeTexts.{name_text}
 use Rattle.binfarce_v0_state.specs.machine.Counted.{is_whole}
 use Rattle.binfarce_v0_state.proofs.Counting.{whole_or}
 use Rattle.binfarce_names.specs.Name.{Name, short_or, text_of}
-use Rattle.binfarce_names.specs.Named.{IsNotLegacy, IsNamed, legacy, unknown, v0}
+use Rattle.binfarce_names.specs.Named.{IsNotLegacy, IsNamed, IsRest, legacy, unknown, v0}
 
--- the old text, and then the trimmed text of a name's answer
-abbrev pub Grows : List ℕ → List ℕ → List ℕ → Type 0
-Grows text old new = (n : Name) × IsNamed text n × (new ≡ old ++ n.trimmed)
+-- the old text, and then the trimmed text of a name's answer; and the rest after its mangling
+abbrev pub Grows : (text rest old new : List ℕ) → Type 0
+Grows text rest old new = (n : Name) × IsNamed text n × IsRest n.kind text rest × (new ≡ old ++ n.trimmed)
 
 -- the same with either text, and with the name itself in place of a text that isn't counted whole
-abbrev pub GrowsBy : Bool → Option ℕ → List ℕ → List ℕ → List ℕ → Type 0
-GrowsBy full most text old new = (n : Name) × IsNamed text n × (new ≡ old ++ (if is_whole most (text_of full n) then text_of full n else text))
+abbrev pub GrowsBy : Bool → Option ℕ → (text rest old new : List ℕ) → Type 0
+GrowsBy full most text rest old new = (n : Name) × IsNamed text n × IsRest n.kind text rest × (new ≡ old ++ (if is_whole most (text_of full n) then text_of full n else text))
 
 -- what a push that succeeds leaves
 pub pushed : {T E : Type 0} (r : Result T E) (old new part : List ℕ) (Q : Type 0) → (new ≡ old ++ part → Q) → new ≡ (if is_ok r then old ++ part else old) → OnOk r Q
@@ -68,22 +68,23 @@ named_unchanged name text n o none same =
 -- the path of a legacy mangling without its last part was written
 pub legacy_grows : (name text part rest : List ℕ) (elements : List Element) (old new : List ℕ) → text ≡ without_llvm name → IsLegacy text part elements rest
     → ((elements : List Element) (rest : List ℕ) → Reads part elements rest → new ≡ old ++ encode_utf8_all (without_last_part (legacy_chars elements)))
-    → Grows name old new
+    → Grows name rest old new
 legacy_grows name text part rest elements old new e is grown =
-    (legacy elements, named_legacy name text part rest elements (legacy elements) e is refl, grown elements rest is.reads)
+    (legacy elements, named_legacy name text part rest elements (legacy elements) e is refl, (part, elements, subst (λ t. IsLegacy t part elements rest) e is), grown elements rest is.reads)
 
 tree_text : (full : Bool) (tree : PathTree) → name_text full tree ≡ text_of full (v0 tree)
 tree_text true tree = refl
 tree_text false tree = refl
 
 -- the text of a tree was written
-pub tree_grows : (full : Bool) (most : Option ℕ) (name text part : List ℕ) (outcome : Outcome) (old new : List ℕ) → IsOther name text → IsV0 text part → IsOutcome part full false most outcome
-    → new ≡ old ++ (if is_whole most outcome.text then outcome.text else name) → GrowsBy full most name old new
-tree_grows full most name text part outcome old new o v is grown =
-    let has : HasTree text is.tree = record { part = part; mangling = v; unfolds = is.unfolds } in
+pub tree_grows : (full : Bool) (most : Option ℕ) (name text part rest : List ℕ) (outcome : Outcome) (old new : List ℕ) → IsOther name text → HasRest text part rest → IsOutcome part full false most outcome
+    → new ≡ old ++ (if is_whole most outcome.text then outcome.text else name) → GrowsBy full most name rest old new
+tree_grows full most name text part rest outcome old new o v is grown =
+    let has : HasTree text is.tree = record { part = part; mangling = v.0; unfolds = is.unfolds } in
     let whole : List ℕ → List ℕ = λ t. if is_whole most t then t else name in (
       v0 is.tree,
       named_v0 name text is.tree (v0 is.tree) o has refl,
+      (part, subst (λ s. HasRest s part rest) o.stripped v),
       grown ∙ ap (λ (t : List ℕ). old ++ t) (ap whole is.text_is ∙ whole_or most (name_text full is.tree) name ∙ ap whole (tree_text full is.tree)),
     )
 
@@ -96,22 +97,13 @@ unchanged_text true most name = either (is_whole most name) name
 unchanged_text false most name = either (is_whole most name) name
 
 -- an unchanged name was written
-pub unchanged_grows : (full : Bool) (most : Option ℕ) (name text old new : List ℕ) → IsOther name text → HasNoTree text → new ≡ old ++ name → GrowsBy full most name old new
+pub unchanged_grows : (full : Bool) (most : Option ℕ) (name text old new : List ℕ) → IsOther name text → HasNoTree text → new ≡ old ++ name → GrowsBy full most name [] old new
 unchanged_grows full most name text old new o none grown =
-    (unknown name, named_unchanged name text (unknown name) o none refl, grown ∙ ap (λ (t : List ℕ). old ++ t) (sym (unchanged_text full most name)))
+    (unknown name, named_unchanged name text (unknown name) o none refl, refl, grown ∙ ap (λ (t : List ℕ). old ++ t) (sym (unchanged_text full most name)))
 
 -- an empty text was replaced by that of a name
-pub replaced : (full : Bool) (below : ℕ) (name old new : List ℕ) → old ≡ [] → GrowsBy full (Some below) name old new → (n : Name) × IsNamed name n × (new ≡ short_or below name (text_of full n))
-replaced full below name old new empty g = (g.0, g.1, g.2 ∙ ap (λ (t : List ℕ). t ++ short_or below name (text_of full g.0)) empty)
-
--- the text of a legacy mangling
-pub complete_text : (full : Bool) (elements : List Element) (text : List ℕ) → full ≡ true → text ≡ encode_utf8_all (legacy_chars elements) → text ≡ text_of full (legacy elements)
-complete_text true elements text is same = same
-complete_text false elements text is same = absurd cc
-
-pub trimmed_text : (full : Bool) (elements : List Element) (text : List ℕ) → full ≡ false → text ≡ encode_utf8_all (without_last_part (legacy_chars elements)) → text ≡ text_of full (legacy elements)
-trimmed_text true elements text is same = absurd cc
-trimmed_text false elements text is same = same
+pub replaced : (full : Bool) (below : ℕ) (name rest old new : List ℕ) → old ≡ [] → GrowsBy full (Some below) name rest old new → (n : Name) × IsNamed name n × (new ≡ short_or below name (text_of full n))
+replaced full below name rest old new empty g = (g.0, g.1, g.3 ∙ ap (λ (t : List ℕ). t ++ short_or below name (text_of full g.0)) empty)
 
 -- a short text stays, and a long one is replaced by a name
 pub short_stays : (below : ℕ) (name text whole : List ℕ) → length text < below → text ≡ whole → text ≡ short_or below name whole

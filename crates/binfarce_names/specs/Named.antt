@@ -1,11 +1,12 @@
 -- The answer of a name, by cases.
-use Rattle.std.specs.Prelude.{◌≡◌, ℕ, ◌⊎◌, List, None, true, false, option_map}
+use Rattle.std.specs.Prelude.{◌≡◌, ◌++◌, ℕ, ◌⊎◌, List, [], None, true, false, option_map}
 use Rattle.std.specs.Str.{encode_utf8_all}
+use Rattle.binfarce_names.specs.declared.demangle.Kind.{Kind}
 use Rattle.binfarce_names.specs.declared.demangle.Kind.TheVariants.{Unknown, Legacy, V0}
 use Rattle.binfarce_text.specs.Suffixes.{without_llvm}
 use Rattle.binfarce_legacy.specs.Legacy.{Element, IsLegacy, legacy_chars, without_last_part}
 use Rattle.binfarce_v0_state.specs.LeafTexts.{identifier_text}
-use Rattle.binfarce_v0.specs.Mangling.{IsV0, HasNoTree}
+use Rattle.binfarce_v0.specs.Mangling.{IsV0, HasRest, HasNoTree}
 use Rattle.binfarce_names.specs.Name.{Name, Mangled}
 use Rattle.binfarce_v0_grammar.specs.Tree.{PathTree, path_root}
 use Rattle.binfarce_v0_state.specs.TreeTexts.{name_text}
@@ -68,6 +69,20 @@ pub record IsUnchanged (text : List ℕ) (name : Name) : Type 0 where
 -- name is the answer of text
 unfoldable pub IsNamed : (text : List ℕ) (name : Name) → Type 0
 IsNamed text name = IsLegacyName text name ⊎ (IsV0Name text name ⊎ IsUnchanged text name)
+
+-- rest follows the mangling in a text of this kind; a `.llvm.` suffix is no part of it, and nothing follows a name that is unchanged
+abbrev pub IsRest : (kind : Kind) (text rest : List ℕ) → Type 0
+IsRest Legacy text rest = (part : List ℕ) × (elements : List Element) × IsLegacy (without_llvm text) part elements rest
+IsRest V0 text rest = (part : List ℕ) × HasRest (without_llvm text) part rest
+IsRest Unknown text rest = rest ≡ []
+
+-- shown is the trimmed text of the answer of text, and then the rest after the mangling, such as `.cold`
+pub record IsShown (text shown : List ℕ) : Type 0 where
+  pub answer : Name
+  pub is_named : IsNamed text answer
+  pub rest : List ℕ
+  pub is_rest : IsRest answer.kind text rest
+  pub shown_is : shown ≡ answer.trimmed ++ rest
 
 -- m keeps of text the part after the prefix of a legacy mangling
 pub record IsLegacyMangled (text : List ℕ) (m : Mangled) : Type 0 where

@@ -125,11 +125,6 @@ each_holds_all table rules k kept past h = record {
   each = λ i low lt. holds_all table (rules.accepts (rules.first + i)) k (rows_at kept i) (names_at kept i) past (h.each i lt);
 }
 
--- there are no more places than sections
-pub few : (kept : List Kept) (count : ℕ) → AllOrNone kept count → length kept ≤ count
-few kept count (inl none) = omega (arith, ap length none)
-few kept count (inr all) = omega (arith, all)
-
 -- the rows of a place
 pub held_at : (table : SymbolTable) (rules : Rules) (kept : List Kept) (at : ℕ) (d : Kept) → at < length kept → length kept ≤ rules.count → HoldsSections table rules at kept → HoldsRows table (rules.accepts (rules.first + at)) (get_or kept at d)
 held_at table rules kept at d lt le h = rw (rows_are kept at d lt, names_are kept at d lt) at (h.each at (omega arith) (omega arith))

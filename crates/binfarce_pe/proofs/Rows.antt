@@ -201,7 +201,3 @@ numbered_long n (a ∷ addresses) = ap suc (numbered_long (n + 1) addresses)
 -- as many rows are held as are kept
 pub held_long : (table : SymbolTable) (kept rows : List RowAddress) (names : List (List ℕ)) → HoldsKept table kept rows names → length rows ≡ length kept
 held_long table kept rows names h = ap length h.rows_are ∙ numbered_long 0 (addresses_of kept) ∙ length-map kept (λ r. r.address)
-
-nil_is : (xs : List RowAddress) → length xs ≡ 0 → xs ≡ []
-nil_is [] e = refl
-nil_is (x ∷ xs) e = absurd (omega arith)

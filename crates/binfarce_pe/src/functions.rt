@@ -140,7 +140,8 @@ pub fn functions_of<'a>(
     requires { IsWhole (sections_view sections) }
     ensures functions { IfOk result (λ v. map section_function_view v.items
         ≡ entries_by (rules_of (sections_view sections.entry)) (table_view symbols.entry)) }
-    ensures memory { OnErr result (entries_by (rules_of (sections_view sections.entry)) (table_view symbols.entry) ≢ []) }
+    ensures memory { OnErr result
+        (entries_by (rules_of (sections_view sections.entry)) (table_view symbols.entry) ≢ []) }
 {
     let mut kept = kept_by_section(alloc, sections, symbols)?;
     let (first, _) = span_of(sections);
@@ -356,8 +357,9 @@ fn push_functions<'a>(
     requires whole { IsWhole (sections_view sections) }
     requires within { (index < 65536)
         × (index < (rules_of (sections_view sections)).first + (rules_of (sections_view sections)).count) }
-    ensures { (table : pe_symbols.SymbolTable) (accepts : pe_symbols.SymbolRow ℕ → Bool) → HoldsRows table accepts kept.entry
-        → let rules = rules_of (sections_view sections.entry) in IfOk result (λ _. map section_function_view functions.new.items
+    ensures { (table : pe_symbols.SymbolTable) (accepts : pe_symbols.SymbolRow ℕ → Bool)
+        → HoldsRows table accepts kept.entry → let rules = rules_of (sections_view sections.entry) in IfOk result
+        (λ _. map section_function_view functions.new.items
         ≡ map section_function_view functions.old.items ++ in_section (index + 1)
         (map (moved (rules.address index)) (entries_of table accepts (rules.size index)))) }
 {
@@ -386,7 +388,8 @@ fn push_rows<'a>(
     requires whole { IsWhole (sections_view sections) }
     requires within { (index < 65536)
         × (index < (rules_of (sections_view sections)).first + (rules_of (sections_view sections)).count) }
-    ensures { let rules = rules_of (sections_view sections.entry) in IfOk result (λ _. map section_function_view functions.new.items
+    ensures { let rules = rules_of (sections_view sections.entry) in IfOk result
+        (λ _. map section_function_view functions.new.items
         ≡ map section_function_view functions.old.items ++ map (function_in rules index (map (λ t. t.now) names.now)
         (size_members (rules.size index) (rows_view rows.now))) (rows_view rows.now)) }
 {

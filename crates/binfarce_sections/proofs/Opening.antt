@@ -7,7 +7,7 @@ use Rattle.binfarce.specs.Walk.{Walk}
 use Rattle.binfarce_sections.specs.Section.{Section, elf_named, mapped, elf_sections}
 use Rattle.binfarce_sections.specs.Views.{named_by}
 
-abbrev table_of : elf.ElfClass → ByteOrder → List ℕ → elf.SectionTable
+abbrev pub table_of : elf.ElfClass → ByteOrder → List ℕ → elf.SectionTable
 table_of class order file = elf.section_table class (record { order = order; bytes = file })
 
 pub opened : (class : elf.ElfClass) (order : ByteOrder) (file : List ℕ) (names : Option (List ℕ)) (left : Walk elf.Section) → class.header_length ≤ length file

@@ -1,5 +1,5 @@
 -- What the calls over a source return and write.
-use Rattle.std.proofs.Common.{◌≡◌, ℕ, Bool, true, false, List, [], Option, Some, None, Vec, Global, Result, Ok, Err, refl, sym, ap, subst, ◌∙◌, append-nil}
+use Rattle.std.proofs.Common.{◌≡◌, ℕ, Bool, List, Option, Some, None, Vec, Global, Result, Ok, Err, refl, sym, ap, subst, ◌∙◌}
 use Rattle.std.specs.Prelude.{◌≢◌, IfErr}
 use Rattle.std.specs.Io.KnownBytes.{Appends}
 use Rattle.std.specs.Option.{option_map}
@@ -11,7 +11,7 @@ use Rattle.binfarce.specs.Walk.{Walk, ended, first}
 use Rattle.binfarce_tables.specs.declared.error.ReadError.{ReadError}
 use Rattle.binfarce_tables.specs.declared.error.ReadError.TheVariants as reading
 use Rattle.binfarce_sections.specs.declared.error.SectionError.{SectionError}
-use Rattle.binfarce_sections.specs.declared.error.SectionError.TheVariants.{Unknown, Parse, NoSection, NoBytes, PastEnd, OutOfMemory, Write, Unreadable}
+use Rattle.binfarce_sections.specs.declared.error.SectionError.TheVariants.{Unknown, Parse, OutOfMemory, Write, Unreadable}
 use Rattle.binfarce_sections.specs.declared.sections.Section as code
 use Rattle.binfarce_sections.specs.declared.sections.Sections.{Sections}
 use Rattle.binfarce_sections.specs.Lines.{section_lines}
@@ -21,15 +21,8 @@ use Rattle.binfarce_sections.specs.Results.{TakesBytes, TakesLines, TakesRead, T
 use Rattle.binfarce_sections.specs.Views.{Opens, section_view, sections_left}
 use Rattle.binfarce_sections.specs.machine.Found.{Finds, ReadsBytes}
 use Rattle.binfarce_sections.specs.machine.Tables.{ReadsTables}
-
-nothing : (taken : Option (List ℕ)) → Appends taken taken []
-nothing None = tt
-nothing (Some bytes) = sym (append-nil bytes)
-
--- an error as `?` passes it on, by a property of errors
-pub err_is : {X : Type 0} (P : Result X SectionError → Type 0) (r : Result X SectionError) (e : SectionError) → (IsErr r × IsErrAnd r (λ s. s ≡ e)) → P (Err e) → P r
-err_is P (Ok x) e is holds = let never : false ≡ true = is.0 in absurd cc
-err_is P (Err s) e is holds = subst (λ (error : SectionError). P (Err error)) (sym is.1) holds
+use Rattle.binfarce_tools.proofs.Lines.{nothing}
+use Rattle.binfarce_tables.proofs.Readings.{err_is}
 
 -- what is searched for in the sections that were opened
 pub found_ok : (walk : Option (Walk Section)) (sections : Sections) (word : List ℕ) (found : Option code.Section)
@@ -59,17 +52,11 @@ lines_unopened may_fail (Some walk) e old is =
 
 -- what is taken of bytes in memory may be taken of a source
 pub lines_read : (may_fail : Bool) (walk : Option (Walk Section)) (old new : Option (List ℕ)) (r : Result (Unit {0}) SectionError) → TakesLines walk old new r → TakesReadLines may_fail walk old new r
-lines_read may_fail walk old new (Ok x) takes = takes
-lines_read may_fail walk old new (Err Unknown) takes = takes
-lines_read may_fail walk old new (Err (Parse e)) takes = takes
-lines_read may_fail walk old new (Err NoSection) takes = takes
-lines_read may_fail walk old new (Err NoBytes) takes = takes
-lines_read may_fail walk old new (Err PastEnd) takes = takes
 lines_read may_fail None old new (Err OutOfMemory) takes = let e : Path (Result (Unit {0}) SectionError) (Err OutOfMemory) (Err Unknown) = takes.0 in absurd cc
-lines_read may_fail (Some walk) old new (Err OutOfMemory) takes = takes
-lines_read may_fail walk old new (Err Write) takes = takes
 lines_read may_fail None old new (Err Unreadable) takes = let e : Path (Result (Unit {0}) SectionError) (Err Unreadable) (Err Unknown) = takes.0 in absurd cc
+lines_read may_fail (Some walk) old new (Err OutOfMemory) takes = takes
 lines_read may_fail (Some walk) old new (Err Unreadable) takes = absurd takes
+lines_read may_fail walk old new r takes = takes
 
 -- where nothing was read, no line is taken
 pub lines_unread : (may_fail : Bool) (file : List ℕ) (e : ReadError) (old : Option (List ℕ)) → ReadsTables may_fail file (Err e) → TakesReadLines may_fail (sections_of (format_of file) file) old old (Err (error_of e))
@@ -108,26 +95,16 @@ pub bytes_taken : (may_fail : Bool) (answer : Result (List ℕ) Lack) (bytes : L
 bytes_taken may_fail answer bytes old new r is takes = by_result r (subst (λ (a : Result (List ℕ) Lack). TakesBytes a old new r) (sym is) takes)
   where
     by_result : (r : Result (Unit {0}) SectionError) → TakesBytes answer old new r → TakesRead may_fail answer old new r
-    by_result (Ok x) takes = takes
-    by_result (Err Unknown) takes = takes
-    by_result (Err (Parse e)) takes = takes
-    by_result (Err NoSection) takes = takes
-    by_result (Err NoBytes) takes = takes
-    by_result (Err PastEnd) takes = takes
     by_result (Err OutOfMemory) takes = absurd takes.2
-    by_result (Err Write) takes = takes
     by_result (Err Unreadable) takes = absurd takes.2
+    by_result r takes = takes
 
 -- where no bytes were read, none is taken
 pub bytes_untaken : (may_fail : Bool) (answer : Result (List ℕ) Lack) (e : SectionError) (old : Option (List ℕ)) → ReadsBytes may_fail answer (Err e) → TakesRead may_fail answer old old (Err e)
-bytes_untaken may_fail answer Unknown old is = (is.0, is.1, is.2, nothing old)
-bytes_untaken may_fail answer (Parse e) old is = (is.0, is.1, is.2, nothing old)
-bytes_untaken may_fail answer NoSection old is = (is.0, is.1, is.2, nothing old)
-bytes_untaken may_fail answer NoBytes old is = (is.0, is.1, is.2, nothing old)
-bytes_untaken may_fail answer PastEnd old is = (is.0, is.1, is.2, nothing old)
 bytes_untaken may_fail answer OutOfMemory old is = nothing old
 bytes_untaken may_fail answer Write old is = absurd is.2
 bytes_untaken may_fail answer Unreadable old is = (is, nothing old)
+bytes_untaken may_fail answer e old is = (is.0, is.1, is.2, nothing old)
 
 -- the error for an error of a reading isn't a failed write
 not_written : (e : ReadError) → error_of e ≡ Write → ⊥
@@ -141,10 +118,4 @@ unwritten {X = X} r e is = err_is (λ (x : Result X SectionError). IfErr x (λ s
 -- the sink fails with a failed write alone
 pub unfailed : (old : Bool) (e : SectionError) → e ≢ Write → Fails old old (Err e)
 unfailed old Write is = absurd (is refl)
-unfailed old Unknown is = refl
-unfailed old (Parse e) is = refl
-unfailed old NoSection is = refl
-unfailed old NoBytes is = refl
-unfailed old PastEnd is = refl
-unfailed old OutOfMemory is = refl
-unfailed old Unreadable is = refl
+unfailed old e is = refl

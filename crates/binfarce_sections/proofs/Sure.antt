@@ -1,9 +1,12 @@
 -- Sources that surely give the parts that are read, and results that are then not `Unreadable`.
-use Rattle.std.proofs.Common.{◌≡◌, ℕ, ◌+◌, ◌≤◌, true, List, length, Option, Some, None, Result, Ok, Err, sym, ap, subst, ◌∙◌, refl}
+use Rattle.binfarce_tables.proofs.Readings.{err_is}
+use Rattle.std.proofs.Common.{◌≡◌, ℕ, ◌+◌, ◌≤◌, Bool, true, List, length, Option, Some, None, Result, Ok, Err, sym, ap, subst, ◌∙◌, refl}
 use Rattle.std.specs.Prelude.{◌≢◌, All, IfErr}
 use Rattle.std.proofs.lemmas.Bool.{le-leb}
 use Rattle.std.proofs.lemmas.List.Elements.{All-head, All-tail}
+use Rattle.std.specs.Result.{IsErr, IsErrAnd}
 use Rattle.binfarce_bytes.specs.Part.{Part, part}
+use Rattle.binfarce_bytes.specs.Source.{ReadsOnly}
 use Rattle.binfarce.specs.declared.Format.{Format}
 use Rattle.binfarce.specs.Format.{format_of}
 use Rattle.binfarce.specs.Refusal.{Refusal}
@@ -53,10 +56,16 @@ pub of_part : (P : Part → Type 0) (file : List ℕ) (section : Section) → se
 of_part P file section has inside all = only P (part section.offset section.size) (rw (has, le-leb (section.offset + section.size) (length file) inside) at all)
 
 -- an error for an error of a reading that is not unreadable
-pub read_surely : (e : ReadError) → e ≢ reading.Unreadable → error_of e ≢ Unreadable
+read_surely : (e : ReadError) → e ≢ reading.Unreadable → error_of e ≢ Unreadable
 read_surely (reading.Refused p) is unreadable = cc
 read_surely reading.Unreadable is unreadable = absurd (is refl)
 read_surely reading.OutOfMemory is unreadable = cc
+
+-- an error of a reading, as `?` converts it
+pub converted_only : {X : Type 0} {sure : Part → Bool} {old new : (Part → Bool) → Bool} {parts : List Part} {e : ReadError} (r : Result X SectionError)
+    → ReadsOnly sure old new parts (e ≢ reading.Unreadable) → (IsErr r × IsErrAnd r (λ s. s ≡ error_of e)) → ReadsOnly sure old new parts (IfErr r (λ s. s ≢ Unreadable))
+converted_only {e = e} r reads error =
+    record { asked = reads.asked; given = λ are. err_is (λ (x : Result _ SectionError). IfErr x (λ s. s ≢ Unreadable)) r (error_of e) error (read_surely e (reads.given are)) }
 
 -- why sections aren't opened is not that the source is unreadable
 pub opened_surely : (walk : Option (Walk Section)) (e : SectionError) → Opens walk (Err e) → e ≢ Unreadable

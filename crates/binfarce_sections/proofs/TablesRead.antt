@@ -5,7 +5,6 @@ use Rattle.binfarce.specs.declared.ByteOrder.{ByteOrder}
 use Rattle.binfarce.specs.declared.Format.{Format}
 use Rattle.binfarce.specs.declared.Format.TheVariants as formats
 use Rattle.binfarce.specs.Elf as elf
-use Rattle.binfarce.specs.Elf.{elf32, elf64}
 use Rattle.binfarce.specs.Format.{format_of}
 use Rattle.binfarce.specs.Macho as macho
 use Rattle.binfarce.specs.Pe as pe
@@ -24,27 +23,12 @@ use Rattle.binfarce_sections.specs.declared.sections.Sections.{Sections}
 use Rattle.binfarce_sections.specs.declared.tables.Tables.{Tables}
 use Rattle.binfarce_sections.specs.declared.tables.Tables.TheVariants.{Elf, Macho, Pe, Unknown}
 use Rattle.binfarce_sections.specs.machine.Tables.{Has, AreTablesOf, HasLength, ReadsTables}
-
--- what a step gave of a known file
-taken : {Y : Type 0} {a b : Y} → Path (Result Y Refusal) (Ok a) (Ok b) → b ≡ a
-taken step = cc
+use Rattle.binfarce_tables.proofs.Readings.{taken, err_is}
+use Rattle.binfarce_sections.proofs.Opening.{table_of}
 
 -- the sections of a file are those of its format
-pub of_elf32 : (order : ByteOrder) (file : List ℕ) → format_of file ≡ formats.Elf32 order → Has file (elf_sections elf32 order file)
-unfolding sections_of
-of_elf32 order file format = ap (λ (f : Format). sections_of f file) format
-
-pub of_elf64 : (order : ByteOrder) (file : List ℕ) → format_of file ≡ formats.Elf64 order → Has file (elf_sections elf64 order file)
-unfolding sections_of
-of_elf64 order file format = ap (λ (f : Format). sections_of f file) format
-
-pub of_macho : (file : List ℕ) → format_of file ≡ formats.Macho → Has file (macho_sections file)
-unfolding sections_of
-of_macho file format = ap (λ (f : Format). sections_of f file) format
-
-pub of_pe : (file : List ℕ) → format_of file ≡ formats.PE → Has file (pe_sections file)
-unfolding sections_of
-of_pe file format = ap (λ (f : Format). sections_of f file) format
+pub of_format : (file : List ℕ) (format : Format) → format_of file ≡ format → sections_of (format_of file) file ≡ sections_of format file
+of_format file format is = ap (λ (f : Format). sections_of f file) is
 
 pub of_unknown : (file : List ℕ) → format_of file ≡ formats.Unknown → sections_of (format_of file) file ≡ None
 unfolding sections_of
@@ -57,9 +41,6 @@ walk_of seen (Err refusal) = ended (Some refusal)
 
 abbrev pub elf_walk : FileSections → Walk Section
 elf_walk seen = mapped (elf_named (named_by seen.names)) seen.sections
-
-abbrev table_of : elf.ElfClass → ByteOrder → List ℕ → elf.SectionTable
-table_of class order file = elf.section_table class (record { order = order; bytes = file })
 
 abbrev whole : elf.ElfClass → ByteOrder → List ℕ → FileSections
 whole class order file =
@@ -74,27 +55,20 @@ whole class order file =
       file_length = length file;
     }
 
+-- so of a file that is refused where it is too short
+by_length : {S : Type 0} (short : Bool) (seen : S → Walk Section) (given : S) → cond short (ended (Some unexpected_eof)) (seen given) ≡ walk_of seen (cond short (Err unexpected_eof) (Ok given))
+by_length true seen given = refl
+by_length false seen given = refl
+
 pub elf_is : (class : elf.ElfClass) (order : ByteOrder) (file : List ℕ) → elf_sections class order file ≡ walk_of elf_walk (file_sections class order file)
 unfolding elf.name_of
-elf_is class order file = by_test (ltb (length file) class.header_length)
-  where
-    by_test : (short : Bool) → cond short (ended (Some unexpected_eof)) (elf_walk (whole class order file)) ≡ walk_of elf_walk (cond short (Err unexpected_eof) (Ok (whole class order file)))
-    by_test true = refl
-    by_test false = refl
+elf_is class order file = by_length (ltb (length file) class.header_length) elf_walk (whole class order file)
 
 pub macho_is : (file : List ℕ) → macho_sections file ≡ walk_of (mapped macho_section) (beginning.macho_sections file)
-macho_is file = by_test (ltb (length file) macho.least_length)
-  where
-    by_test : (short : Bool) → cond short (ended (Some unexpected_eof)) (mapped macho_section (macho.walk file)) ≡ walk_of (mapped macho_section) (cond short (Err unexpected_eof) (Ok (macho.walk file)))
-    by_test true = refl
-    by_test false = refl
+macho_is file = by_length (ltb (length file) macho.least_length) (mapped macho_section) (macho.walk file)
 
 pub pe_is : (file : List ℕ) → pe_sections file ≡ walk_of (mapped pe_section) (beginning.pe_sections file)
-pe_is file = by_test (ltb (length file) (pe.least_length file))
-  where
-    by_test : (short : Bool) → cond short (ended (Some unexpected_eof)) (mapped pe_section (pe.walk file)) ≡ walk_of (mapped pe_section) (cond short (Err unexpected_eof) (Ok (pe.walk file)))
-    by_test true = refl
-    by_test false = refl
+pe_is file = by_length (ltb (length file) (pe.least_length file)) (mapped pe_section) (pe.walk file)
 
 -- the length that a reading gives is the file's
 pub elf_long : (class : elf.ElfClass) (order : ByteOrder) (file : List ℕ) (seen : FileSections) → file_sections class order file ≡ Ok seen → seen.file_length ≡ length file
@@ -123,10 +97,6 @@ not_read may_fail view seen answer file (Refused p) has reads = has ∙ ap (λ (
 not_read may_fail view seen answer file Unreadable has reads = reads
 not_read may_fail view seen answer file OutOfMemory has reads = tt
 
-passed_on : (may_fail : Bool) (file : List ℕ) (e : ReadError) (r : Result Tables ReadError) → ReadsTables may_fail file (Err e) → (IsErr r × IsErrAnd r (λ x. x ≡ e)) → ReadsTables may_fail file r
-passed_on may_fail file e (Ok x) step err = let never : false ≡ true = err.0 in absurd cc
-passed_on may_fail file e (Err x) step err = subst (λ (error : ReadError). ReadsTables may_fail file (Err error)) (sym err.1) step
-
 -- why a source's length and first bytes weren't read
 not_asked : {X : Type 0} (may_fail : Bool) (source : X) (file : List ℕ) (e : ReadError) → Reads {X = X} may_fail (λ x. x) (Ok source) (Err e) → ReadsTables may_fail file (Err e)
 not_asked {X = X} may_fail source file (Refused p) reads = let never : Path (Result X Refusal) (Ok source) (Err (refusal_of p)) = reads in absurd cc
@@ -135,11 +105,11 @@ not_asked may_fail source file OutOfMemory reads = tt
 
 pub unasked : {X : Type 0} (may_fail : Bool) (source : X) (file : List ℕ) (e : ReadError) (r : Result Tables ReadError)
     → Reads {X = X} may_fail (λ x. x) (Ok source) (Err e) → (IsErr r × IsErrAnd r (λ x. x ≡ e)) → ReadsTables may_fail file r
-unasked may_fail source file e r reads err = passed_on may_fail file e r (not_asked may_fail source file e reads) err
+unasked may_fail source file e r reads err = err_is (ReadsTables may_fail file) r e err (not_asked may_fail source file e reads)
 
 pub unread : {S X : Type 0} (may_fail : Bool) (view : X → S) (seen : S → Walk Section) (answer : Result S Refusal) (file : List ℕ) (e : ReadError) (r : Result Tables ReadError)
     → Has file (walk_of seen answer) → Reads may_fail view answer (Err e) → (IsErr r × IsErrAnd r (λ x. x ≡ e)) → ReadsTables may_fail file r
-unread may_fail view seen answer file e r has reads err = passed_on may_fail file e r (not_read may_fail view seen answer file e has reads) err
+unread may_fail view seen answer file e r has reads err = err_is (ReadsTables may_fail file) r e err (not_read may_fail view seen answer file e has reads)
 
 not_begun : {S : Type 0} (may_fail : Bool) (seen : S → Walk Section) (answer : List ℕ → Result S Refusal) (file : List ℕ) (e : ReadError)
     → Has file (walk_of seen (answer file)) → ReadsBeginning may_fail answer file (Err e) → ReadsTables may_fail file (Err e)
@@ -149,7 +119,7 @@ not_begun may_fail seen answer file OutOfMemory has reads = tt
 
 pub unbegun : {S : Type 0} (may_fail : Bool) (seen : S → Walk Section) (answer : List ℕ → Result S Refusal) (file : List ℕ) (e : ReadError) (r : Result Tables ReadError)
     → Has file (walk_of seen (answer file)) → ReadsBeginning may_fail answer file (Err e) → (IsErr r × IsErrAnd r (λ x. x ≡ e)) → ReadsTables may_fail file r
-unbegun may_fail seen answer file e r has reads err = passed_on may_fail file e r (not_begun may_fail seen answer file e has reads) err
+unbegun may_fail seen answer file e r has reads err = err_is (ReadsTables may_fail file) r e err (not_begun may_fail seen answer file e has reads)
 
 -- the length of tables that have sections is the file's
 pub length_is : (file : List ℕ) (tables : Tables) (n : ℕ) (sections : Sections) → AreTablesOf file tables → HasLength tables n → Opens (sections_of (format_of file) file) (Ok sections) → n ≡ length file

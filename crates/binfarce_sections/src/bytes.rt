@@ -6,8 +6,7 @@ ghost use Rattle.std.specs.Str.{bytes_eq};
 ghost use Rattle.binfarce.specs.Format.{format_of};
 ghost use Rattle.binfarce.specs.Refusal.{Gives, refusal_of};
 ghost use Rattle.binfarce.specs.Walk.{first};
-ghost use Rattle.binfarce_bytes.specs.Part.{AreSure};
-ghost use Rattle.binfarce_bytes.specs.Source.{AskedFor};
+ghost use Rattle.binfarce_bytes.specs.Source.{ReadsOnly};
 ghost use Rattle.binfarce_sections.specs.Named.{full_name, is_named, bytes_of, bytes_named};
 ghost use Rattle.binfarce_sections.specs.Parts.{named_parts_of};
 ghost use Rattle.binfarce_sections.specs.Section.{sections_of};
@@ -88,10 +87,9 @@ pub fn write_section_of<F: Source, S: Sink>(
         → TakesRead (F.may_fail source.now) (bytes_named (sections_of (format_of file) file) file name.now)
         (S.taken out.old) (S.taken out.new) result }
     ensures fails { Fails (S.has_failed out.old) (S.has_failed out.new) result }
-    ensures nothing_else { (file : List ℕ) → F.bytes source.now ≡ Some file
-        → AreSure (F.is_sure source.now) (named_parts_of file name.now) → IfErr result (λ e. e ≢ Unreadable) }
-    ensures asked { (file : List ℕ) → F.bytes source.now ≡ Some file
-        → AskedFor (F.logs_only log.old) (F.logs_only log.new) (named_parts_of file name.now) }
+    ensures only { (file : List ℕ) → F.bytes source.now ≡ Some file
+        → ReadsOnly (F.is_sure source.now) (F.logs_only log.old) (F.logs_only log.new)
+        (named_parts_of file name.now) (IfErr result (λ e. e ≢ Unreadable)) }
 {
     let bytes = read_named(alloc, source, log, name)?;
     write_all(bytes.as_slice(), out)

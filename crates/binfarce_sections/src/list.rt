@@ -4,8 +4,7 @@ ghost use Rattle.std.specs.Prelude.{◌≡◌, ◌≢◌, ◌++◌, ℕ, List, S
 ghost use Rattle.std.specs.Option.{option_map};
 ghost use Rattle.std.specs.String.{string_bytes};
 ghost use Rattle.binfarce.specs.Format.{format_of};
-ghost use Rattle.binfarce_bytes.specs.Part.{AreSure};
-ghost use Rattle.binfarce_bytes.specs.Source.{AskedFor};
+ghost use Rattle.binfarce_bytes.specs.Source.{ReadsOnly};
 ghost use Rattle.binfarce_sections.specs.Lines.{section_line, line_head, name_text};
 ghost use Rattle.binfarce_sections.specs.Parts.{section_parts_of};
 ghost use Rattle.binfarce_sections.specs.Section.{sections_of};
@@ -63,10 +62,9 @@ pub fn list_source<F: Source, S: Sink>(
         → TakesReadLines (F.may_fail source.now) (sections_of (format_of file) file) (S.taken out.old)
         (S.taken out.new) result }
     ensures fails { Fails (S.has_failed out.old) (S.has_failed out.new) result }
-    ensures nothing_else { (file : List ℕ) → F.bytes source.now ≡ Some file
-        → AreSure (F.is_sure source.now) (section_parts_of file) → IfErr result (λ e. e ≢ Unreadable) }
-    ensures asked { (file : List ℕ) → F.bytes source.now ≡ Some file
-        → AskedFor (F.logs_only log.old) (F.logs_only log.new) (section_parts_of file) }
+    ensures only { (file : List ℕ) → F.bytes source.now ≡ Some file
+        → ReadsOnly (F.is_sure source.now) (F.logs_only log.old) (F.logs_only log.new)
+        (section_parts_of file) (IfErr result (λ e. e ≢ Unreadable)) }
 {
     let tables = read(alloc, source, log)?;
     let sections = tables.sections()?;
@@ -117,7 +115,7 @@ fn push_line(text: &mut String, section: Section<'_>) -> Result<(), AllocError>
 }
 
 // Writes the numbers before a section's name.
-#[tactic(auto, using(crate::proofs::Pads::address_padded, crate::proofs::Pads::size_padded))]
+#[tactic(auto, using(binfarce_tools::proofs::Pads::address_padded, binfarce_tools::proofs::Pads::size_padded))]
 fn push_head(text: &mut String, address: u64, offset: u64, size: u64) -> Result<(), AllocError>
     ensures { OnOk result (string_bytes text.new ≡ string_bytes text.old ++ line_head address offset size) }
 {

@@ -195,7 +195,8 @@ fn next_pe<'a>(left: &mut pe::Sections<'a>) -> Option<Result<Section<'a>, ParseE
 }
 
 fn elf_section<'a>(names: Option<&'a [u8]>, section: elf_sections::Section<u64>) -> Section<'a>
-    ensures { section_view result ≡ elf_named (named_by (option_map (λ b. b.now) names.entry)) (elf_views.section_view (λ n. n) section) }
+    ensures { section_view result
+        ≡ elf_named (named_by (option_map (λ b. b.now) names.entry)) (elf_views.section_view (λ n. n) section) }
 {
     Section {
         segment: None,

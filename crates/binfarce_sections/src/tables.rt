@@ -2,8 +2,7 @@
 
 ghost use Rattle.std.specs.Prelude.{◌≡◌, ◌≢◌, ℕ, List, Some, IfErr, length};
 ghost use Rattle.binfarce.specs.Format.{format_of};
-ghost use Rattle.binfarce_bytes.specs.Part.{AreSure};
-ghost use Rattle.binfarce_bytes.specs.Source.{AskedFor};
+ghost use Rattle.binfarce_bytes.specs.Source.{ReadsOnly};
 ghost use Rattle.binfarce_tables.specs.declared.error.ReadError.TheVariants as read_errors;
 ghost use Rattle.binfarce_sections.specs.Named.{bytes_of, bytes_named};
 ghost use Rattle.binfarce_sections.specs.Parts.{section_parts_of, named_parts_of, format_parts, bytes_parts};
@@ -68,10 +67,9 @@ pub(crate) fn read<S: Source>(
 ) -> Result<Tables, ReadError>
     ensures reads { (file : List ℕ) → S.bytes source.now ≡ Some file
         → ReadsTables (S.may_fail source.now) file result }
-    ensures nothing_else { (file : List ℕ) → S.bytes source.now ≡ Some file
-        → AreSure (S.is_sure source.now) (section_parts_of file) → IfErr result (λ e. e ≢ read_errors.Unreadable) }
-    ensures asked { (file : List ℕ) → S.bytes source.now ≡ Some file
-        → AskedFor (S.logs_only log.old) (S.logs_only log.new) (section_parts_of file) }
+    ensures only { (file : List ℕ) → S.bytes source.now ≡ Some file
+        → ReadsOnly (S.is_sure source.now) (S.logs_only log.old) (S.logs_only log.new)
+        (section_parts_of file) (IfErr result (λ e. e ≢ read_errors.Unreadable)) }
 {
     let format = read_format(alloc, source, log)?;
     read_as(alloc, source, log, format)
@@ -87,10 +85,9 @@ fn read_as<S: Source>(
 ) -> Result<Tables, ReadError>
     ensures reads { (file : List ℕ) → S.bytes source.now ≡ Some file → format ≡ format_of file
         → ReadsTables (S.may_fail source.now) file result }
-    ensures nothing_else { (file : List ℕ) → S.bytes source.now ≡ Some file
-        → AreSure (S.is_sure source.now) (format_parts format file) → IfErr result (λ e. e ≢ read_errors.Unreadable) }
-    ensures asked { (file : List ℕ) → S.bytes source.now ≡ Some file
-        → AskedFor (S.logs_only log.old) (S.logs_only log.new) (format_parts format file) }
+    ensures only { (file : List ℕ) → S.bytes source.now ≡ Some file
+        → ReadsOnly (S.is_sure source.now) (S.logs_only log.old) (S.logs_only log.new)
+        (format_parts format file) (IfErr result (λ e. e ≢ read_errors.Unreadable)) }
 {
     match format {
         Format::Elf32 { byte_order } => {
@@ -123,10 +120,9 @@ pub(crate) fn read_named<F: Source>(
     ensures unwritten { IfErr result (λ e. e ≢ Write) }
     ensures reads { (file : List ℕ) → F.bytes source.now ≡ Some file
         → ReadsBytes (F.may_fail source.now) (bytes_named (sections_of (format_of file) file) file name.now) result }
-    ensures nothing_else { (file : List ℕ) → F.bytes source.now ≡ Some file
-        → AreSure (F.is_sure source.now) (named_parts_of file name.now) → IfErr result (λ e. e ≢ Unreadable) }
-    ensures asked { (file : List ℕ) → F.bytes source.now ≡ Some file
-        → AskedFor (F.logs_only log.old) (F.logs_only log.new) (named_parts_of file name.now) }
+    ensures only { (file : List ℕ) → F.bytes source.now ≡ Some file
+        → ReadsOnly (F.is_sure source.now) (F.logs_only log.old) (F.logs_only log.new)
+        (named_parts_of file name.now) (IfErr result (λ e. e ≢ Unreadable)) }
 {
     let tables = read(alloc, source, log)?;
     let sections = tables.sections()?;
@@ -149,11 +145,9 @@ fn read_bytes<F: Source>(
     ensures unwritten { IfErr result (λ e. e ≢ Write) }
     ensures reads { (file : List ℕ) → F.bytes source.now ≡ Some file → len ≡ length file
         → ReadsBytes (F.may_fail source.now) (bytes_of file (section_view section.entry)) result }
-    ensures nothing_else { (file : List ℕ) → F.bytes source.now ≡ Some file → len ≡ length file
-        → AreSure (F.is_sure source.now) (bytes_parts file (section_view section.entry))
-        → IfErr result (λ e. e ≢ Unreadable) }
-    ensures asked { (file : List ℕ) → F.bytes source.now ≡ Some file → len ≡ length file
-        → AskedFor (F.logs_only log.old) (F.logs_only log.new) (bytes_parts file (section_view section.entry)) }
+    ensures only { (file : List ℕ) → F.bytes source.now ≡ Some file → len ≡ length file
+        → ReadsOnly (F.is_sure source.now) (F.logs_only log.old) (F.logs_only log.new)
+        (bytes_parts file (section_view section.entry)) (IfErr result (λ e. e ≢ Unreadable)) }
 {
     if !section.has_bytes {
         return Err(SectionError::NoBytes);

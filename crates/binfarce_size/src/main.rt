@@ -3,9 +3,9 @@
 
 mod program;
 
-use crate::program::{Fault, run, words};
+use crate::program::{Fault, run};
 use binfarce_tools::list::Out;
-use binfarce_tools::program::{arguments, exit, finish, open};
+use binfarce_tools::program::{arguments, exit, file_and_section, finish, open};
 use std::io;
 use std::process::ExitCode;
 
@@ -15,7 +15,7 @@ fn main(rt: HostRuntime) -> ExitCode {
 
 fn report_file(rt: &HostRuntime) -> Result<(), Fault> {
     let arguments = arguments(rt)?;
-    let (path, section) = words(arguments.as_slice())?;
+    let (path, section) = file_and_section(arguments.as_slice())?;
     let mut file = open(rt, path)?;
     let mut out = Out::new(io::writer(rt));
     let reported = run(rt.alloc(), &mut file, section, &mut out);

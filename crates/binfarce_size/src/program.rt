@@ -1,24 +1,16 @@
 //! The program, over any reader and any writer.
 
-ghost use Rattle.std.specs.Prelude.{◌≡◌, ◌⊎◌, ℕ, List, [], true, map, Some, None, MatchResult, IfSome};
-ghost use Rattle.std.specs.String.{string_bytes};
+ghost use Rattle.std.specs.Prelude.{◌≡◌, ◌⊎◌, ℕ, List, [], true, Some};
 ghost use Rattle.binfarce_tools.specs.Answer.{file_answer, FileNeedsMemory};
 ghost use Rattle.binfarce_tools.specs.Report.{IsReportOf, ReportFits};
 ghost use Rattle.binfarce_tools.specs.Sink.{writer_of, has_failed};
 ghost use Rattle.binfarce_tools.specs.Writing.{ProgramEndsAs, Takes, Fails, Leaves};
-ghost use Rattle.binfarce_tools.specs.Given.{words_of};
-ghost use Rattle.binfarce_tools.specs.Status.{status_of};
-ghost use Rattle.binfarce_size.specs.Program.{outcome_of, is_usage};
-ghost use Rattle.binfarce_size.specs.declared.program.Fault.TheVariants.{Usage};
+ghost use Rattle.binfarce_size.specs.Program.{outcome_of};
 
 use binfarce_bytes::source::Source;
-use binfarce_tools::SymbolTable;
 use binfarce_tools::list::Out;
-use binfarce_tools::program::{
-    Failure, file_and_section, is_read_at_offsets, read_whole, tables_failure,
-};
-use binfarce_tools::report::{ReportError, report, report_tables};
-use binfarce_tools::tables::{Selection, read};
+use binfarce_tools::program::{Failure, tables_of};
+use binfarce_tools::report::{ReportError, report_tables};
 use std::alloc::Global;
 use std::io::{Read, Write};
 use thiserror::Error;
@@ -58,19 +50,9 @@ impl binfarce_tools::program::Fault for Fault {
 
     ghost is_usage = { is_usage };
 
-    fn status(&self) -> u8 {
-        status(self)
+    fn is_usage(&self) -> bool {
+        matches!(self, Fault::Usage)
     }
-}
-
-/// The file and the section that the arguments after the program's own name give. The section is by default `.text`.
-///
-/// `Usage` for none, and for more than two.
-pub fn words(arguments: &[String]) -> Result<(&str, &str), Fault>
-    ensures { let given = words_of (map string_bytes arguments.now) in MatchResult result
-        (λ w. given ≡ Some (w.0.now, w.1.now)) (λ e. (given ≡ None) × (e ≡ Usage)) }
-{
-    Ok(file_and_section(arguments)?)
 }
 
 /// Reports how much of a file's section each crate takes. Of a file that can be read at offsets only the headers, the symbol
@@ -93,32 +75,6 @@ pub fn run<F: Read + Source<Log = ()>, W: Write>(
     ensures fails { Fails (has_failed out.old) (has_failed out.new) (outcome_of result) }
     ensures leaves { Leaves out.old out.new (outcome_of result) }
 {
-    if is_read_at_offsets(file) {
-        let tables = match read(
-            alloc,
-            file,
-            &mut (),
-            SymbolTable::Symtab,
-            Selection::Section(section),
-        ) {
-            Ok(tables) => tables,
-            Err(e) => return Err(Fault::from(tables_failure(e))),
-        };
-        return match report_tables(alloc, &tables, out) {
-            Ok(()) => Ok(()),
-            Err(e) => Err(Fault::Report(e)),
-        };
-    }
-    let bytes = read_whole(alloc, file)?;
-    report(alloc, bytes.as_slice(), section, out).map_err(Fault::Report)
-}
-
-/// The program's exit status: 2 for the usage, and 1 for any other fault.
-pub fn status(fault: &Fault) -> u8
-    ensures { result ≡ status_of (is_usage fault.now) }
-{
-    match fault {
-        Fault::Usage => 2,
-        _ => 1,
-    }
+    let tables = tables_of(alloc, file, section)?;
+    report_tables(alloc, &tables, out).map_err(Fault::Report)
 }

@@ -24,6 +24,7 @@ use Rattle.binfarce_tables.proofs.Contents.{no_names, names_section_is, names_ar
 use Rattle.binfarce_tables.proofs.ElfSure.{of_names_header, of_names, of_headers, of_file_header, of_tables, of_sections, of_rows}
 use Rattle.binfarce_tables.proofs.HeadersAlone.{HasWithin, within_of, some_of, place_is, type_is, headers_walk}
 use Rattle.binfarce_tables.proofs.Located.{walk_outside, walk_of_none, after_rows, from_sections, after_needed, needed_of, after_sections, from_file, table_found}
+use Rattle.binfarce_tables.proofs.Readings.{after_same}
 use Rattle.binfarce_tables.proofs.Sure.{front, back, in_file}
 
 -- the table that a header places in a file
@@ -35,11 +36,6 @@ abbrev of_header : ElfClass → ByteOrder → Header ℕ → List ℕ → FileSe
 of_header class order header file =
     let table = placed order header file in
     record { class = class; order = order; elf_type = header.elf_type; count = header.shnum; sections = walk class table; names = names_bytes class table; file_length = length file }
-
--- what follows a step, where it agrees on what the step gives
-after_same : {X Y : Type 0} (a : Result X Refusal) (f g : X → Result Y Refusal) → ((x : X) → a ≡ Ok x → f x ≡ g x) → (a >>= f) ≡ (a >>= g)
-after_same (Ok x) f g agree = agree x refl
-after_same (Err refusal) f g agree = refl
 
 module _ (file other : List ℕ) (long : length file ≡ length other) where
   -- the bytes of a section that both hold

@@ -28,13 +28,13 @@ bytes_in file start len k width h =
     ∙ take-take width rest (drop k from) (omega arith)
     ∙ ap (take width) (drop-drop k start file)
 
+pub turned : (a b c : ℕ) → a + (b + c) ≡ (a + b) + c
+turned a b c = omega arith
+
 -- the number of a field of a structure within a part
 pub value_in : (order : ByteOrder) (file : List ℕ) (start len k : ℕ) (f : Field) → k + (f.offset + f.width) ≤ len → value_at order (bytes_at file start len) k f ≡ value_at order file (start + k) f
 value_in order file start len k f h =
     ap (number order) (bytes_in file start len (k + f.offset) f.width (omega (arith, h)) ∙ ap (λ n. bytes_at file n f.width) (turned start k f.offset))
-  where
-    turned : (a b c : ℕ) → a + (b + c) ≡ (a + b) + c
-    turned a b c = omega arith
 
 abbrev pub Within : ℕ → Field → Type 0
 Within len f = f.offset + f.width ≤ len

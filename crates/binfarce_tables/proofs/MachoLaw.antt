@@ -15,6 +15,7 @@ use Rattle.binfarce_tables.specs.machine.MachoPlaces.{CommandParts, selected_com
 use Rattle.binfarce_tables.proofs.MachoLocated.{commands_same, after_commands, steps_are}
 use Rattle.binfarce_tables.proofs.MachoPrefix.{header_said, same_sections, text_of_bytes}
 use Rattle.binfarce_tables.proofs.MachoSure.{header_part, prefix_part, file_part, section_parts, symbol_parts, commands_table}
+use Rattle.binfarce_tables.proofs.Readings.{after_same}
 use Rattle.binfarce_tables.proofs.Sure.{front, back, only}
 
 -- files that agree in all of their bytes
@@ -93,14 +94,9 @@ unfolding located_by_steps
 located_from file other same inside =
     let sections = section_parts (SameIn file other) file same.each in
     located_is other ∙ ap₂ (located_by_steps other) (text_same file other same.lengths inside sections) (table_same file other same.lengths inside sections)
-    ∙ by_steps (text_extent file) (table_of file) refl
+    ∙ after_same (text_extent file) _ _ (λ text found. after_same (table_of file) _ _
+    (λ table is. ap (λ (r : Result (Option Symbols) Refusal). r >>= located_by text) (symbols_same file other same.lengths table (symbol_parts (SameIn file other) file table is same.each))))
     ∙ sym (located_is file)
-  where
-    by_steps : (text : Result Extent Refusal) (table : Result (Option (SymbolTable ℕ)) Refusal) → table_of file ≡ table → located_by_steps other text table ≡ located_by_steps file text table
-    by_steps (Err why) table is = refl
-    by_steps (Ok text) (Err why) is = refl
-    by_steps (Ok text) (Ok table) is =
-        ap (λ (r : Result (Option Symbols) Refusal). r >>= located_by text) (symbols_same file other same.lengths table (symbol_parts (SameIn file other) file table is same.each))
 
 -- the symbols have one location
 located_same : (file other : List ℕ) → SameParts (macho_parts file) file other → located other ≡ located file
@@ -127,14 +123,10 @@ module _ (section : Option (List ℕ)) (file other : List ℕ) (same : SameParts
   selected_from inside =
       steps_are section other (omega (arith, inside, same.lengths))
       ∙ ap (λ (r : Result CommandParts Refusal). r >>= after_commands other) (selected_same file other same.lengths inside (section_parts (SameIn file other) file same.each) section)
-      ∙ by_found (selected_commands section file) refl
+      ∙ after_same (selected_commands section file) (after_commands other) (after_commands file)
+      (λ found is. ap (λ (r : Result (Option Symbols) Refusal). r >>= λ symbols. Ok (record { sections = found.sections; symbols = symbols; is_object = found.is_object }))
+      (symbols_same file other same.lengths found.table (symbol_parts (SameIn file other) file found.table (commands_table section file found is) same.each)))
       ∙ sym (steps_are section file inside)
-    where
-      by_found : (r : Result CommandParts Refusal) → selected_commands section file ≡ r → (r >>= after_commands other) ≡ (r >>= after_commands file)
-      by_found (Err why) is = refl
-      by_found (Ok found) is =
-          ap (λ (r : Result (Option Symbols) Refusal). r >>= λ symbols. Ok (record { sections = found.sections; symbols = symbols; is_object = found.is_object }))
-          (symbols_same file other same.lengths found.table (symbol_parts (SameIn file other) file found.table (commands_table section file found is) same.each))
 
   selected_tables_same : selected_file_tables section other ≡ selected_file_tables section file
   selected_tables_same = elim (cases_lt (length file) 28) [

@@ -79,6 +79,11 @@ in_memory fails view answer (Refused p) reads = reads
 in_memory fails view answer Unreadable reads = absurd cc
 in_memory fails view answer OutOfMemory reads = tt
 
+pub in_memory_readable : {X Y : Type 0} (view : X → Y) (answer : Result Y Refusal) (e : ReadError) → Reads false view answer (Err e) → e ≢ Unreadable
+in_memory_readable view answer (Refused p) reads unreadable = cc
+in_memory_readable view answer Unreadable reads unreadable = absurd cc
+in_memory_readable view answer OutOfMemory reads unreadable = cc
+
 -- a refusal, or a failed allocation
 pub with_memory : {X Y : Type 0} (view : X → Y) (answer : Result Y Refusal) (p : ParseError) (e : ReadError) → ((refusal_of p ≡ out_of_memory) × (e ≡ OutOfMemory)) ⊎ ((refusal_of p ≢ out_of_memory) × (e ≡ Refused p))
     → (refusal_of p ≢ out_of_memory → answer ≡ Err (refusal_of p)) → Reads false view answer (Err e)

@@ -6,7 +6,6 @@ use Rattle.std.proofs.lemmas.List.{length-take-le, take_all}
 use Rattle.std.proofs.lemmas.List.Elements.{All-nil, All-head, All-tail, All-same, All-append, All-take}
 use Rattle.std.proofs.lemmas.Nat.{le-div}
 use Rattle.std.specs.Prelude.{All}
-use Rattle.std.specs.List.{range_with_len, filter_map, cons_option}
 use Rattle.binfarce_bytes.specs.declared.ByteOrder.TheVariants.{LittleEndian}
 use Rattle.binfarce_bytes.specs.Field.{Field, field, number_in}
 use Rattle.binfarce_bytes.specs.Number.{bytes_at, number}
@@ -23,10 +22,7 @@ use Rattle.binfarce_macho.proofs.CommandWalks.{bad, given}
 use Rattle.binfarce_tables.specs.BeginningReading.{Begins, macho_sections}
 use Rattle.binfarce_tables.specs.MachoReads.{said_end, command_bytes}
 use Rattle.binfarce_tables.proofs.HeadersAlone.{bytes_in}
-
-pub assoc : {A B C : Type 0} (r : Result A Refusal) (f : A → Result B Refusal) (g : B → Result C Refusal) → ((r >>= f) >>= g) ≡ (r >>= λ x. f x >>= g)
-assoc (Ok x) f g = refl
-assoc (Err e) f g = refl
+use Rattle.binfarce_tables.proofs.PeAlone.{filter_map_same}
 
 -- the text among these sections
 abbrev text_in : Walk Section → Result Extent Refusal
@@ -39,11 +35,6 @@ text_in sections = do
 unless_refused : {A : Type 0} (refusal : Option Refusal) (all given : A) → unless refusal all ≡ Ok given → given ≡ all
 unless_refused None all given is = cc
 unless_refused (Some why) all given is = absurd cc
-
--- functions that agree on so many numbers
-filter_map_same : {X : Type 0} (f g : ℕ → Option X) (a n : ℕ) → ((i : ℕ) → i < a + n → f i ≡ g i) → filter_map f (range_with_len a n) ≡ filter_map g (range_with_len a n)
-filter_map_same f g a zero agree = refl
-filter_map_same f g a (suc n) agree = ap₂ cons_option (agree a (omega arith)) (filter_map_same f g (a + 1) n (λ i lt. agree i (omega arith)))
 
 -- bytes that a file begins with
 module _ (file bytes : List ℕ) (short : length bytes ≤ length file) (same : (k width : ℕ) → k + width ≤ length bytes → bytes_at bytes k width ≡ bytes_at file k width) where

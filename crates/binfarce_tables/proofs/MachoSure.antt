@@ -1,5 +1,5 @@
 -- The parts of a Mach-O file that are surely given.
-use Rattle.std.proofs.Common.{◌≡◌, ℕ, Bool, true, false, List, ◌∷◌, length, Option, Result, Ok, Err, subst}
+use Rattle.std.proofs.Common.{◌≡◌, ℕ, false, List, ◌∷◌, length, Option, Result, Ok, Err, subst}
 use Rattle.std.specs.Prelude.{All}
 use Rattle.std.proofs.lemmas.List.Elements.{All-head, All-tail}
 use Rattle.binfarce_bytes.specs.Number.{bytes_at}
@@ -11,10 +11,6 @@ use Rattle.binfarce_macho.specs.MachoSymbols.{SymbolTable, table_of}
 use Rattle.binfarce_tables.specs.MachoReads.{said_end, whole_file, macho_section_parts, table_parts, found_parts, macho_parts}
 use Rattle.binfarce_tables.specs.machine.MachoPlaces.{CommandParts, selected_commands}
 use Rattle.binfarce_tables.proofs.Sure.{front, back, only}
-
--- a source surely gives this part
-abbrev pub Given : (Part → Bool) → Part → Type 0
-Given is_sure p = is_sure p ≡ true
 
 -- what is true of each part that is read is true of these
 module _ (P : Part → Type 0) (file : List ℕ) where

@@ -11,7 +11,7 @@ use Rattle.binfarce_bytes.specs.Walk.{Walk, first}
 use Rattle.binfarce_pe.specs.Pe.{header_after, header_fields, Section, section_at, section_fields, section_length, is_named}
 use Rattle.binfarce_pe.specs.PeParts.{TablePlaces, SectionTable, TextPlace, headers_alone, section_in, whole_in, table_walk, text_place}
 use Rattle.binfarce_tables.specs.machine.PePlaces.{headers_at, text_at}
-use Rattle.binfarce_tables.proofs.HeadersAlone.{bytes_in, value_in}
+use Rattle.binfarce_tables.proofs.HeadersAlone.{bytes_in, value_in, turned}
 
 -- the bytes that a section table has in the file
 abbrev pub headers_of : List ℕ → TablePlaces → List ℕ
@@ -40,9 +40,6 @@ section_part file start len k index h = rw (
   value_in LittleEndian file start len k section_fields.size_of_raw_data (omega (arith, h)),
   value_in LittleEndian file start len k section_fields.pointer_to_raw_data (omega (arith, h)),
 ) refl
-  where
-    turned : (a b c : ℕ) → a + (b + c) ≡ (a + b) + c
-    turned a b c = omega arith
 
 -- functions that agree on so many numbers
 pub filter_map_same : {X : Type 0} (f g : ℕ → Option X) (a n : ℕ) → ((i : ℕ) → i < a + n → f i ≡ g i) → filter_map f (range_with_len a n) ≡ filter_map g (range_with_len a n)

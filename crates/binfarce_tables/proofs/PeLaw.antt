@@ -1,7 +1,7 @@
 -- PE files of one length that agree in the parts that are read have one answer.
-use Rattle.std.proofs.Common.{◌≡◌, ℕ, ◌+◌, ◌*◌, ◌-◌, ◌/◌, ◌<◌, ◌≤◌, Bool, true, false, cond, ltb, leb, ◌&&◌, List, [], ◌∷◌, ◌++◌, length, min, max, Option, Some, None, Result, Ok, Err, refl, sym, ap, ap₂, ◌∙◌, arith, inl, inr}
+use Rattle.std.proofs.Common.{◌≡◌, ℕ, ◌+◌, ◌*◌, ◌-◌, ◌/◌, ◌<◌, ◌≤◌, cond, ltb, leb, ◌&&◌, List, [], ◌∷◌, length, min, max, Option, Some, None, Result, Ok, Err, sym, ap, ap₂, ◌∙◌, arith, inl, inr}
 use Rattle.std.specs.Prelude.{All}
-use Rattle.std.proofs.lemmas.Bool.{cases_lt, cases_eq, lt-ltb, le-ltb, le-leb}
+use Rattle.std.proofs.lemmas.Bool.{cases_lt, cases_eq, le-leb}
 use Rattle.std.proofs.lemmas.List.Elements.{All-head, All-tail}
 use Rattle.binfarce_bytes.specs.declared.ByteOrder.TheVariants.{LittleEndian}
 use Rattle.binfarce_bytes.specs.Number.{bytes_at, number}
@@ -12,21 +12,12 @@ use Rattle.binfarce_pe.specs.Pe.{header_after, header_of, image_base, least_leng
 use Rattle.binfarce_pe.specs.PeSelection.{SelectedSections, the_text, all_sections, base_at, symbols_of, selected_file_answer}
 use Rattle.binfarce_pe.specs.PeParts.{TablePlaces, TextPlace, SectionTable, headers_alone, places_after, places_of, table_walk, text_place}
 use Rattle.binfarce_pe.specs.PeSymbols.{SymbolTable}
-use Rattle.binfarce_tables.specs.BeginningReading.{pe_sections}
-use Rattle.binfarce_tables.specs.PeReads.{pointer_part, header_part, headers_part, table_parts, beginning_part, optional_header_part, selected_parts, pe_section_parts, pe_parts}
+use Rattle.binfarce_tables.specs.PeReads.{pointer_part, header_part, headers_part, table_parts, optional_header_part, selected_parts, pe_parts}
 use Rattle.binfarce_tables.specs.machine.PePlaces.{places_step, headers_at, text_at, whole_at, chosen_at, table_at}
 use Rattle.binfarce_tables.proofs.PeAlone.{headers_of, header_alone, text_alone, text_of_none, text_outside}
-use Rattle.binfarce_tables.proofs.PeBeginning.{sections_held}
 use Rattle.binfarce_tables.proofs.PeSteps.{steps_are, after_places, table_inside, table_outside, table_past}
-use Rattle.binfarce_tables.proofs.Sure.{front, back}
-
--- what follows the places of a file
-then_same : {X : Type 0} (file : List ℕ) (f g : TablePlaces → Result X Refusal) → f (places_of file) ≡ g (places_of file) → (places_step file >>= f) ≡ (places_step file >>= g)
-then_same {X} file f g same = by_test (ltb (length file) (least_length file))
-  where
-    by_test : (short : Bool) → Path (Result X Refusal) (cond short (Err unexpected_eof) (Ok (places_of file)) >>= f) (cond short (Err unexpected_eof) (Ok (places_of file)) >>= g)
-    by_test true = refl
-    by_test false = same
+use Rattle.binfarce_tables.proofs.Readings.{after_same}
+use Rattle.binfarce_tables.proofs.PeSure.{pointer_sure, places_sure, selected_sure, table_sure}
 
 module _ (file other : List ℕ) (long : length file ≡ length other) where
   -- what is read at these places
@@ -111,64 +102,23 @@ module _ (file other : List ℕ) (long : length file ≡ length other) where
         ap₂ (λ (n s : ℕ). cond (ltb n (max 64 (s + 24))) (Err unexpected_eof) (Ok (places_of other))) (sym long) signature_same
         ∙ ap (λ (places : TablePlaces). cond (ltb (length file) (least_length file)) (Err unexpected_eof) (Ok places)) (ap₂ places_after signature_same header_same)
 
-    sections_same : SameIn file other (beginning_part file (places_of file)) → pe_sections other ≡ pe_sections file
-    sections_same same = elim (cases_lt (length file) (least_length file)) [
-      | inl short ↦ rw (lt-ltb (length file) (least_length file) short, lt-ltb (length other) (least_length other) (omega (arith, short, long, signature_same))) refl
-      | inr room ↦
-          let places = places_of file in
-          let end = min (max (places.sections + max (places.section_count * 40) 1) 64) (length file) in
-          let step : places_step file ≡ Ok places = rw (le-ltb (length file) (least_length file) room) refl in
-          sym (sections_held other places end (step_same ∙ step) (ap (min (max (places.sections + max (places.section_count * 40) 1) 64)) long))
-          ∙ ap pe_sections (sym same)
-          ∙ sections_held file places end step refl
-    ]
-
 module _ (section : Option (List ℕ)) (file other : List ℕ) (same : SameParts (pe_parts section file) file other) where
   abbrev P : Part → Type 0
   P = SameIn file other
 
-  abbrev places : TablePlaces
-  places = places_of file
-
-  abbrev rest : List Part
-  rest = selected_parts section file places ++ table_parts file places
-
-  each : All P (pointer_part ∷ header_part file ∷ rest)
-  unfolding pe_parts
-  each = same.each
-
-  after_pointer : All P (header_part file ∷ rest)
-  after_pointer = All-tail P pointer_part (header_part file ∷ rest) each
-
-  after_header : All P rest
-  after_header = All-tail P (header_part file) rest after_pointer
+  header : P (header_part file)
+  header = All-head P (header_part file) [] (All-tail P pointer_part (header_part file ∷ []) (places_sure P file section same.each))
 
   step : places_step other ≡ places_step file
-  step = step_same file other same.lengths (All-head P pointer_part (header_part file ∷ rest) each) (All-head P (header_part file) rest after_pointer)
-
-  chosen : chosen_at section other places ≡ chosen_at section file places
-  chosen = chosen_same file other same.lengths places section (front P (selected_parts section file places) (table_parts file places) after_header)
-
-  table : table_at other places ≡ table_at file places
-  table = table_same file other same.lengths places (back P (selected_parts section file places) (table_parts file places) after_header)
+  step = step_same file other same.lengths (pointer_sure P file section same.each) header
 
   -- of a selection
   pub file_answer_same : selected_file_answer section other ≡ selected_file_answer section file
   file_answer_same =
       steps_are section other
       ∙ ap (λ (r : Result TablePlaces Refusal). r >>= after_places section other) step
-      ∙ then_same file (after_places section other) (after_places section file)
-      (ap₂ (λ (chosen : Result SelectedSections Refusal) (table : Result SymbolTable Refusal). chosen >>= λ chosen. table >>= λ symbols. Ok (symbols_of chosen symbols)) chosen table)
+      ∙ after_same (places_step file) (after_places section other) (after_places section file)
+      (λ places is. ap₂ (λ (chosen : Result SelectedSections Refusal) (table : Result SymbolTable Refusal). chosen >>= λ chosen. table >>= λ symbols. Ok (symbols_of chosen symbols))
+      (chosen_same file other same.lengths places section (selected_sure P file section same.each places is))
+      (table_same file other same.lengths places (table_sure P file section same.each places is)))
       ∙ sym (steps_are section file)
-
--- the sections
-pub file_sections_same : (file other : List ℕ) → SameParts (pe_section_parts file) file other → pe_sections other ≡ pe_sections file
-unfolding pe_section_parts
-file_sections_same file other same =
-    let P = SameIn file other in
-    let beginning = beginning_part file (places_of file) in
-    let after_pointer = All-tail P pointer_part (header_part file ∷ beginning ∷ []) same.each in
-    sections_same file other same.lengths
-    (All-head P pointer_part (header_part file ∷ beginning ∷ []) same.each)
-    (All-head P (header_part file) (beginning ∷ []) after_pointer)
-    (All-head P beginning [] (All-tail P (header_part file) (beginning ∷ []) after_pointer))

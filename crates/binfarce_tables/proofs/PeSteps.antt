@@ -1,5 +1,5 @@
 -- The answer of a PE file by the steps of a reading.
-use Rattle.std.proofs.Common.{◌≡◌, ℕ, ◌+◌, ◌-◌, ◌<◌, ◌≤◌, Bool, true, false, cond, ltb, List, length, drop, Option, Some, None, Result, Ok, Err, refl, sym, ap, ap₂, ◌∙◌, arith, inl, inr, length-drop}
+use Rattle.std.proofs.Common.{◌≡◌, ℕ, ◌+◌, ◌-◌, ◌<◌, ◌≤◌, Bool, cond, ltb, List, length, drop, Option, Some, None, Result, Ok, Err, refl, sym, ap, ap₂, ◌∙◌, arith, inl, inr, length-drop}
 use Rattle.std.proofs.lemmas.Bool.{cases_lt, lt-ltb, le-ltb, lt-leb, le-leb}
 use Rattle.std.proofs.lemmas.List.{take_all}
 use Rattle.binfarce_bytes.specs.Number.{bytes_at}
@@ -14,7 +14,7 @@ use Rattle.binfarce_tables.specs.Reading.{Reads}
 use Rattle.binfarce_tables.specs.machine.PePlaces.{signature_step, places_step, headers_at, alone_at, chosen_at, table_at}
 use Rattle.binfarce_tables.proofs.PeAlone.{header_alone}
 use Rattle.binfarce_tables.proofs.PeWhole.{held, view_same}
-use Rattle.binfarce_tables.proofs.Readings.{instead}
+use Rattle.binfarce_tables.proofs.Readings.{instead, after_test}
 
 -- what follows the selected sections, and the places
 abbrev pub symbols_at : List ℕ → TablePlaces → SelectedSections → Result SelectedSymbols Refusal
@@ -47,14 +47,10 @@ after_is : (section : Option (List ℕ)) (file : List ℕ) → by_steps (chosen_
 unfolding by_steps
 after_is section file = refl
 
-after_test : (b : Bool) (section : Option (List ℕ)) (file : List ℕ) → cond b (Err unexpected_eof) (after_places section file (places_of file)) ≡ (cond b (Err unexpected_eof) (Ok (places_of file)) >>= after_places section file)
-after_test true section file = refl
-after_test false section file = refl
-
 pub steps_are : (section : Option (List ℕ)) (file : List ℕ) → selected_file_answer section file ≡ (places_step file >>= after_places section file)
 steps_are section file =
     ap (λ (a : Result SelectedSymbols Refusal). cond (ltb (length file) (least_length file)) (Err unexpected_eof) a) (answer_is section file ∙ chosen_is section file ∙ after_is section file)
-    ∙ after_test (ltb (length file) (least_length file)) section file
+    ∙ after_test (ltb (length file) (least_length file)) unexpected_eof (places_of file) (after_places section file)
 
 -- a reading from here on
 module _ {X : Type 0} (fails : Bool) (view : X → SelectedSymbols) (section : Option (List ℕ)) (file : List ℕ) where

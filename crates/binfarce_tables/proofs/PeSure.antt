@@ -1,8 +1,9 @@
--- The parts of a PE file that a source surely gives.
-use Rattle.std.proofs.Common.{◌≡◌, ℕ, ◌+◌, ◌-◌, ◌≤◌, Bool, true, List, [], ◌∷◌, ◌++◌, length, Option, Ok, sym, subst}
+-- What is true of each part of a PE file that is read, by the step that reads it.
+use Rattle.std.proofs.Common.{◌≡◌, ℕ, ◌+◌, ◌-◌, ◌≤◌, List, [], ◌∷◌, ◌++◌, length, Option, Ok, sym, subst}
 use Rattle.std.proofs.lemmas.Bool.{le-leb}
 use Rattle.std.proofs.lemmas.List.Elements.{All-head, All-tail, All-take}
-use Rattle.binfarce_bytes.specs.Part.{Part, part, AreSure}
+use Rattle.std.specs.Prelude.{All}
+use Rattle.binfarce_bytes.specs.Part.{Part, part}
 use Rattle.binfarce_pe.specs.PeParts.{TablePlaces, places_of}
 use Rattle.binfarce_tables.specs.PeReads.{pointer_part, header_part, places_parts, table_parts, beginning_part, pe_section_parts, selected_parts, pe_parts}
 use Rattle.binfarce_tables.specs.machine.PePlaces.{signature_step, places_step}
@@ -10,75 +11,72 @@ use Rattle.binfarce_tables.proofs.PeBeginning.{places_read}
 use Rattle.binfarce_tables.proofs.PeSteps.{signature_known}
 use Rattle.binfarce_tables.proofs.Sure.{front, back}
 
-module _ (sure : Part → Bool) (file : List ℕ) where
-  abbrev P : Part → Type 0
-  P = λ (p : Part). sure p ≡ true
-
+module _ (P : Part → Type 0) (file : List ℕ) where
   -- those of the symbols of a selection, at the places that were read
-  module _ (section : Option (List ℕ)) (are : AreSure sure (pe_parts section file)) where
+  module _ (section : Option (List ℕ)) (are : All P (pe_parts section file)) where
     abbrev rest : List Part
     rest = selected_parts section file (places_of file) ++ table_parts file (places_of file)
 
-    each : AreSure sure (pointer_part ∷ header_part file ∷ rest)
+    each : All P (pointer_part ∷ header_part file ∷ rest)
     unfolding pe_parts
     each = are
 
-    rest_sure : AreSure sure rest
+    rest_sure : All P rest
     rest_sure = All-tail P (header_part file) rest (All-tail P pointer_part (header_part file ∷ rest) each)
 
-    pub pointer_sure : sure pointer_part ≡ true
+    pub pointer_sure : P pointer_part
     pointer_sure = All-head P pointer_part (header_part file ∷ rest) each
 
-    pub places_sure : AreSure sure (places_parts file)
+    pub places_sure : All P (places_parts file)
     places_sure = All-take P 2 (pointer_part ∷ header_part file ∷ rest) each
 
     module _ (places : TablePlaces) (step : places_step file ≡ Ok places) where
       same : places_of file ≡ places
       same = let is = places_read file places step in sym is.0
 
-      pub selected_sure : AreSure sure (selected_parts section file places)
-      selected_sure = subst (λ (p : TablePlaces). AreSure sure (selected_parts section file p)) same (front P (selected_parts section file (places_of file)) (table_parts file (places_of file)) rest_sure)
+      pub selected_sure : All P (selected_parts section file places)
+      selected_sure = subst (λ (p : TablePlaces). All P (selected_parts section file p)) same (front P (selected_parts section file (places_of file)) (table_parts file (places_of file)) rest_sure)
 
-      pub table_sure : AreSure sure (table_parts file places)
-      table_sure = subst (λ (p : TablePlaces). AreSure sure (table_parts file p)) same (back P (selected_parts section file (places_of file)) (table_parts file (places_of file)) rest_sure)
+      pub table_sure : All P (table_parts file places)
+      table_sure = subst (λ (p : TablePlaces). All P (table_parts file p)) same (back P (selected_parts section file (places_of file)) (table_parts file (places_of file)) rest_sure)
 
   -- those of the sections
-  module _ (are : AreSure sure (pe_section_parts file)) where
-    section_each : AreSure sure (pointer_part ∷ header_part file ∷ beginning_part file (places_of file) ∷ [])
+  module _ (are : All P (pe_section_parts file)) where
+    section_each : All P (pointer_part ∷ header_part file ∷ beginning_part file (places_of file) ∷ [])
     unfolding pe_section_parts
     section_each = are
 
-    pub section_pointer_sure : sure pointer_part ≡ true
+    pub section_pointer_sure : P pointer_part
     section_pointer_sure = All-head P pointer_part (header_part file ∷ beginning_part file (places_of file) ∷ []) section_each
 
-    pub section_places_sure : AreSure sure (places_parts file)
+    pub section_places_sure : All P (places_parts file)
     section_places_sure = All-take P 2 (pointer_part ∷ header_part file ∷ beginning_part file (places_of file) ∷ []) section_each
 
-    pub beginning_sure : (places : TablePlaces) → places_step file ≡ Ok places → sure (beginning_part file places) ≡ true
+    pub beginning_sure : (places : TablePlaces) → places_step file ≡ Ok places → P (beginning_part file places)
     beginning_sure places step =
         let is = places_read file places step in
         let beginning = beginning_part file (places_of file) in
-        subst (λ (p : TablePlaces). sure (beginning_part file p) ≡ true) (sym is.0)
+        subst (λ (p : TablePlaces). P (beginning_part file p)) (sym is.0)
         (All-head P beginning [] (All-tail P (header_part file) (beginning ∷ []) (All-tail P pointer_part (header_part file ∷ beginning ∷ []) section_each)))
 
   -- the headers, at the offset that was read
-  pub header_sure : (signature : ℕ) → signature_step file ≡ Ok signature → AreSure sure (places_parts file) → sure (part signature 24) ≡ true
+  pub header_sure : (signature : ℕ) → signature_step file ≡ Ok signature → All P (places_parts file) → P (part signature 24)
   header_sure signature step are =
       let is = signature_known file signature step in
-      subst (λ (n : ℕ). sure (part n 24) ≡ true) (sym is.1) (All-head P (header_part file) [] (All-tail P pointer_part (header_part file ∷ []) are))
+      subst (λ (n : ℕ). P (part n 24)) (sym is.1) (All-head P (header_part file) [] (All-tail P pointer_part (header_part file ∷ []) are))
 
   -- those of a symbol table that lies in the file
-  module _ (places : TablePlaces) (are : AreSure sure (table_parts file places)) (inside : places.symbols + places.symbols_size ≤ length file) where
+  module _ (places : TablePlaces) (are : All P (table_parts file places)) (inside : places.symbols + places.symbols_size ≤ length file) where
     abbrev end : ℕ
     end = places.symbols + places.symbols_size
 
-    both : AreSure sure (part places.symbols places.symbols_size ∷ part end (length file - end) ∷ [])
+    both : All P (part places.symbols places.symbols_size ∷ part end (length file - end) ∷ [])
     both = rw (le-leb end (length file) inside) at are
 
-    pub rows_sure : sure (part places.symbols places.symbols_size) ≡ true
+    pub rows_sure : P (part places.symbols places.symbols_size)
     rows_sure = All-head P (part places.symbols places.symbols_size) (part end (length file - end) ∷ []) both
 
-    pub strings_sure : (len : ℕ) → len ≡ length file → sure (part end (len - end)) ≡ true
+    pub strings_sure : (len : ℕ) → len ≡ length file → P (part end (len - end))
     strings_sure len is =
-        subst (λ (n : ℕ). sure (part end (n - end)) ≡ true) (sym is)
+        subst (λ (n : ℕ). P (part end (n - end))) (sym is)
         (All-head P (part end (length file - end)) [] (All-tail P (part places.symbols places.symbols_size) (part end (length file - end) ∷ []) both))

@@ -1,5 +1,5 @@
 -- The section headers of a PE file, of which none is truncated, by what was read of it.
-use Rattle.std.proofs.Common.{◌≡◌, ℕ, zero, suc, ◌+◌, ◌*◌, ◌-◌, ◌/◌, ◌%◌, ◌^◌, ◌<◌, ◌≤◌, Bool, true, false, cond, ltb, leb, ◌&&◌, List, ◌++◌, length, min, map, Vec, Global, Option, Some, None, Result, Ok, Err, inl, inr, refl, sym, ap, ap₂, subst, ◌∙◌, arith}
+use Rattle.std.proofs.Common.{◌≡◌, ℕ, zero, suc, ◌+◌, ◌*◌, ◌-◌, ◌/◌, ◌%◌, ◌^◌, ◌<◌, ◌≤◌, Bool, true, false, cond, ltb, leb, ◌&&◌, List, ◌++◌, length, min, map, Vec, Global, Option, Some, None, Result, Ok, Err, inl, inr, refl, sym, ap, ap₂, ◌∙◌, arith}
 use Rattle.std.proofs.Math.Path.{fun_ext}
 use Rattle.std.proofs.lemmas.Bool.{cases_lt, cases_eq, eq-eqb, ne_eqb, lt-ltb, le-ltb, lt-leb, le-leb, ltb-true, leb-true}
 use Rattle.std.proofs.lemmas.Nat.{le-div, div_below}
@@ -12,16 +12,15 @@ use Rattle.binfarce_bytes.specs.Number.{bytes_at}
 use Rattle.binfarce_bytes.specs.Refusal.{unexpected_eof}
 use Rattle.binfarce_bytes.specs.SectionEntries.{SectionEntry, in_section}
 use Rattle.binfarce_pe.specs.Pe.{Section, section_fields}
-use Rattle.binfarce_pe.specs.PeParts.{TablePlaces, SectionTable, headers_alone, places_of, whole_in, table_walk}
+use Rattle.binfarce_pe.specs.PeParts.{TablePlaces, SectionTable, headers_alone, whole_in, table_walk}
 use Rattle.binfarce_pe.specs.PeSelection.{all_sections, is_external_or_static, number_of, memory_size, memory_address, moved, rules_of, section_entries, entries_by, name_of, symbols_of}
 use Rattle.binfarce_pe.specs.PeSymbols.{SymbolTable, entries_of}
-use Rattle.binfarce_tables.specs.machine.PePlaces.{places_step, headers_at, alone_at, whole_at}
+use Rattle.binfarce_tables.specs.machine.PePlaces.{headers_at, alone_at, whole_at}
 use Rattle.binfarce_tables.specs.declared.error.ReadError.{ReadError}
 use Rattle.binfarce_tables.specs.declared.error.ReadError.TheVariants.{Refused, Unreadable, OutOfMemory}
 use Rattle.binfarce_tables.specs.Reading.{Reads}
 use Rattle.binfarce_tables.proofs.HeadersAlone.{value_in}
 use Rattle.binfarce_tables.proofs.PeAlone.{same_header}
-use Rattle.binfarce_tables.proofs.PeBeginning.{places_read}
 use Rattle.binfarce_tables.proofs.Readings.{taken}
 
 -- functions that agree on so many numbers
@@ -108,13 +107,6 @@ module _ (file : List ℕ) (places : TablePlaces) where
       parts true false e = absurd cc
       parts false true e = absurd cc
       parts false false e = absurd cc
-
--- the optional header's beginning lies in the file, before the section headers
-pub optional_header_inside : (file : List ℕ) (places : TablePlaces) → places_step file ≡ Ok places → places.sections < length file → places.optional_header + places.optional_header_size ≤ length file
-optional_header_inside file places step begins =
-    let is = places_read file places step in
-    let inside : (places_of file).sections < length file = subst (λ (p : TablePlaces). p.sections < length file) is.0 begins in
-    subst (λ (p : TablePlaces). p.optional_header + p.optional_header_size ≤ length file) (sym is.0) (omega (arith, inside))
 
 -- the section headers that were read
 pub headers_read : (fails : Bool) (file : List ℕ) (places : TablePlaces) (size : ℕ) (r : Result (Vec ℕ Global) ReadError) → size ≡ min (places.section_count * 40) (length file - places.sections) → whole_at file places ≡ Ok (alone_at file places)

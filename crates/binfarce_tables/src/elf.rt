@@ -4,8 +4,8 @@ ghost use Rattle.std.specs.Prelude.{[], ◌∷◌, ◌≡◌, ◌≢◌, ◌⊎�
 ghost use Rattle.std.specs.Result.{IsErr};
 ghost use Rattle.std.specs.Option.{option_map};
 ghost use Rattle.binfarce_bytes.specs.Number.{bytes_at};
-ghost use Rattle.binfarce_bytes.specs.Part.{part, AreSure};
-ghost use Rattle.binfarce_bytes.specs.Source.{AskedFor};
+ghost use Rattle.binfarce_bytes.specs.Part.{part};
+ghost use Rattle.binfarce_bytes.specs.Source.{ReadsOnly};
 ghost use Rattle.binfarce_bytes.specs.Refusal.{Gives, refusal_of};
 ghost use Rattle.binfarce_bytes.specs.Selection.{section_of};
 ghost use Rattle.binfarce_elf.specs.Classes.{class_of};
@@ -99,11 +99,9 @@ pub fn read<S: Source>(
     ensures answer { (file : List ℕ) → S.bytes source.now ≡ Some file
         → Reads (S.may_fail source.now) parts_view
         (selected_file_answer which (class_of width) byte_order file (section_of selection.entry)) result }
-    ensures nothing_else { (file : List ℕ) → S.bytes source.now ≡ Some file
-        → AreSure (S.is_sure source.now) (elf_parts which (class_of width) byte_order file)
-        → IfErr result (λ e. e ≢ Unreadable) }
-    ensures asked { (file : List ℕ) → S.bytes source.now ≡ Some file
-        → AskedFor (S.logs_only log.old) (S.logs_only log.new) (elf_parts which (class_of width) byte_order file) }
+    ensures only { (file : List ℕ) → S.bytes source.now ≡ Some file
+        → ReadsOnly (S.is_sure source.now) (S.logs_only log.old) (S.logs_only log.new)
+        (elf_parts which (class_of width) byte_order file) (IfErr result (λ e. e ≢ Unreadable)) }
 {
     let sections = read_sections(alloc, source, log, width, byte_order)?;
     let needed = needed_of(&sections, which, selection)?;
@@ -148,9 +146,8 @@ pub(crate) fn read_place<S: Source>(
         → Reads (S.may_fail source.now) (table_at file) (table_step (class_of width) byte_order file) result }
     ensures type_is { (file : List ℕ) → Known (S.bytes source.now) len file
         → IfOk result (λ p. p.elf_type ≡ (header_of (class_of width) byte_order file).elf_type) }
-    ensures nothing_else { S.is_sure source.now (part 0 (class_of width).header_length) ≡ true
-        → IfErr result (λ e. e ≢ Unreadable) }
-    ensures asked { AskedFor (S.logs_only log.old) (S.logs_only log.new) (part 0 (class_of width).header_length ∷ []) }
+    ensures only { ReadsOnly (S.is_sure source.now) (S.logs_only log.old) (S.logs_only log.new)
+        (part 0 (class_of width).header_length ∷ []) (IfErr result (λ e. e ≢ Unreadable)) }
 {
     let size = width.header_length();
     if len < size {
@@ -180,12 +177,10 @@ pub(crate) fn read_headers<S: Source>(
 ) -> Result<Vec<u8>, ReadError>
     ensures answer { (file : List ℕ) → Known (S.bytes source.now) len file → place.shoff ≤ len
         → Reads (S.may_fail source.now) (λ v. v.items) (Ok (headers_of (class_of width) (table_at file place))) result }
-    ensures nothing_else { (file : List ℕ) → Known (S.bytes source.now) len file
-        → S.is_sure source.now (part place.shoff (headers_size (class_of width) (table_at file place))) ≡ true
-        → IfErr result (λ e. e ≢ Unreadable) }
-    ensures asked { (file : List ℕ) → Known (S.bytes source.now) len file
-        → AskedFor (S.logs_only log.old) (S.logs_only log.new)
-        (part place.shoff (headers_size (class_of width) (table_at file place)) ∷ []) }
+    ensures only { (file : List ℕ) → Known (S.bytes source.now) len file
+        → ReadsOnly (S.is_sure source.now) (S.logs_only log.old) (S.logs_only log.new)
+        (part place.shoff (headers_size (class_of width) (table_at file place)) ∷ [])
+        (IfErr result (λ e. e ≢ Unreadable)) }
 {
     let size = width.section_length();
     let whole = len.saturating_sub(place.shoff) / size;
@@ -205,11 +200,9 @@ pub(crate) fn read_names<S: Source>(
     ensures answer { (file : List ℕ) → Known (S.bytes source.now) len file
         → Reads (S.may_fail source.now) (option_map (λ v. v.items))
         (Ok (names_bytes (class_of width) (table_at file place))) result }
-    ensures nothing_else { (file : List ℕ) → Known (S.bytes source.now) len file
-        → AreSure (S.is_sure source.now) (names_parts (class_of width) (table_at file place))
-        → IfErr result (λ e. e ≢ Unreadable) }
-    ensures asked { (file : List ℕ) → Known (S.bytes source.now) len file
-        → AskedFor (S.logs_only log.old) (S.logs_only log.new) (names_parts (class_of width) (table_at file place)) }
+    ensures only { (file : List ℕ) → Known (S.bytes source.now) len file
+        → ReadsOnly (S.is_sure source.now) (S.logs_only log.old) (S.logs_only log.new)
+        (names_parts (class_of width) (table_at file place)) (IfErr result (λ e. e ≢ Unreadable)) }
 {
     let size = width.section_length();
     let whole = len.saturating_sub(place.shoff) / size;
@@ -243,11 +236,9 @@ fn read_rows<S: Source>(
     ensures answer { (file : List ℕ) → Known (S.bytes source.now) len file
         → Reads (S.may_fail source.now) rows_view
         (rows_at (class_of width) file (table_sections_view sections)) result }
-    ensures nothing_else { (file : List ℕ) → Known (S.bytes source.now) len file
-        → AreSure (S.is_sure source.now) (rows_parts file (table_sections_view sections))
-        → IfErr result (λ e. e ≢ Unreadable) }
-    ensures asked { (file : List ℕ) → Known (S.bytes source.now) len file
-        → AskedFor (S.logs_only log.old) (S.logs_only log.new) (rows_parts file (table_sections_view sections)) }
+    ensures only { (file : List ℕ) → Known (S.bytes source.now) len file
+        → ReadsOnly (S.is_sure source.now) (S.logs_only log.old) (S.logs_only log.new)
+        (rows_parts file (table_sections_view sections)) (IfErr result (λ e. e ≢ Unreadable)) }
 {
     let strings = read_section(alloc, source, log, len, sections.strings)?;
     let rows = read_section(alloc, source, log, len, sections.symbols)?;
@@ -266,11 +257,9 @@ fn read_contents<S: Source>(
     ensures answer { (file : List ℕ) → Known (S.bytes source.now) len file
         → Reads (S.may_fail source.now) (option_map (λ v. v.items))
         (Ok (contents file (section_view (λ n. n) section))) result }
-    ensures nothing_else { (file : List ℕ) → Known (S.bytes source.now) len file
-        → AreSure (S.is_sure source.now) (section_parts file (section_view (λ n. n) section))
-        → IfErr result (λ e. e ≢ Unreadable) }
-    ensures asked { (file : List ℕ) → Known (S.bytes source.now) len file
-        → AskedFor (S.logs_only log.old) (S.logs_only log.new) (section_parts file (section_view (λ n. n) section)) }
+    ensures only { (file : List ℕ) → Known (S.bytes source.now) len file
+        → ReadsOnly (S.is_sure source.now) (S.logs_only log.old) (S.logs_only log.new)
+        (section_parts file (section_view (λ n. n) section)) (IfErr result (λ e. e ≢ Unreadable)) }
 {
     match read_section(alloc, source, log, len, section) {
         Ok(bytes) => Ok(Some(bytes)),
@@ -289,11 +278,9 @@ fn read_section<S: Source>(
 ) -> Result<Vec<u8>, ReadError>
     ensures answer { (file : List ℕ) → Known (S.bytes source.now) len file
         → Reads (S.may_fail source.now) (λ v. v.items) (section_data file (section_view (λ n. n) section)) result }
-    ensures nothing_else { (file : List ℕ) → Known (S.bytes source.now) len file
-        → AreSure (S.is_sure source.now) (section_parts file (section_view (λ n. n) section))
-        → IfErr result (λ e. e ≢ Unreadable) }
-    ensures asked { (file : List ℕ) → Known (S.bytes source.now) len file
-        → AskedFor (S.logs_only log.old) (S.logs_only log.new) (section_parts file (section_view (λ n. n) section)) }
+    ensures only { (file : List ℕ) → Known (S.bytes source.now) len file
+        → ReadsOnly (S.is_sure source.now) (S.logs_only log.old) (S.logs_only log.new)
+        (section_parts file (section_view (λ n. n) section)) (IfErr result (λ e. e ≢ Unreadable)) }
 {
     let range = section.range()?;
     if range.end > len {
@@ -320,8 +307,8 @@ pub fn part<S: Source>(
     ensures past_end { (file : List ℕ) → S.bytes source.now ≡ Some file → length file < offset + size → IsErr result }
     ensures size { IfOk result (λ v. length v.items ≡ size) }
     ensures failed { IfErr result (λ e. (e ≡ Unreadable) ⊎ (e ≡ OutOfMemory)) }
-    ensures nothing_else { S.is_sure source.now (part offset size) ≡ true → IfErr result (λ e. e ≢ Unreadable) }
-    ensures asked { AskedFor (S.logs_only log.old) (S.logs_only log.new) (part offset size ∷ []) }
+    ensures only { ReadsOnly (S.is_sure source.now) (S.logs_only log.old) (S.logs_only log.new)
+        (part offset size ∷ []) (IfErr result (λ e. e ≢ Unreadable)) }
 {
     Ok(read_part(alloc, source, log, offset as u64, size)?)
 }

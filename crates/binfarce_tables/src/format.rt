@@ -3,7 +3,7 @@
 ghost use Rattle.std.specs.Prelude.{◌≡◌, ◌≢◌, ◌∷◌, [], List, ℕ, true, Ok, Some, length, min, IfErr};
 ghost use Rattle.binfarce_bytes.specs.Format.{format_of};
 ghost use Rattle.binfarce_bytes.specs.Part.{part};
-ghost use Rattle.binfarce_bytes.specs.Source.{AskedFor};
+ghost use Rattle.binfarce_bytes.specs.Source.{ReadsOnly};
 ghost use Rattle.binfarce_tables.specs.Reading.{Reads};
 ghost use Rattle.binfarce_tables.specs.declared.error.ReadError.TheVariants.{Unreadable};
 
@@ -30,10 +30,9 @@ pub fn read_format<S: Source>(
 ) -> Result<Format, ReadError>
     ensures answer { (file : List ℕ) → S.bytes source.now ≡ Some file
         → Reads (S.may_fail source.now) (λ format. format) (Ok (format_of file)) result }
-    ensures nothing_else { (file : List ℕ) → S.bytes source.now ≡ Some file
-        → S.is_sure source.now (part 0 (min 8 (length file))) ≡ true → IfErr result (λ e. e ≢ Unreadable) }
-    ensures asked { (file : List ℕ) → S.bytes source.now ≡ Some file
-        → AskedFor (S.logs_only log.old) (S.logs_only log.new) (part 0 (min 8 (length file)) ∷ []) }
+    ensures only { (file : List ℕ) → S.bytes source.now ≡ Some file
+        → ReadsOnly (S.is_sure source.now) (S.logs_only log.old) (S.logs_only log.new)
+        (part 0 (min 8 (length file)) ∷ []) (IfErr result (λ e. e ≢ Unreadable)) }
 {
     let len = source.length()? as usize;
     let head = part(alloc, source, log, 0, MAGIC_LENGTH.min(len))?;

@@ -3,10 +3,10 @@
 ghost use Rattle.std.specs.Prelude.{◌∷◌, [], ◌≡◌, ◌≢◌, ◌⊎◌, ◌<◌, ◌≤◌, List, ℕ, false, true, Ok, Some, length, MatchResult, IfErr};
 ghost use Rattle.std.specs.Option.{option_map};
 ghost use Rattle.binfarce_bytes.specs.Entries.{Answers};
-ghost use Rattle.binfarce_bytes.specs.Part.{part, whole_part, parts_if, AreSure};
+ghost use Rattle.binfarce_bytes.specs.Part.{part, whole_part, parts_if};
 ghost use Rattle.binfarce_bytes.specs.Refusal.{refusal_of, out_of_memory};
 ghost use Rattle.binfarce_bytes.specs.Selection.{section_of};
-ghost use Rattle.binfarce_bytes.specs.Source.{AskedFor};
+ghost use Rattle.binfarce_bytes.specs.Source.{ReadsOnly};
 ghost use Rattle.binfarce_bytes.specs.SymbolViews.{HoldsSelected};
 ghost use Rattle.binfarce_macho.specs.Macho.{least_length, header_of};
 ghost use Rattle.binfarce_macho.specs.MachoParts.{table_view, holds_commands};
@@ -125,10 +125,9 @@ pub fn read<S: Source>(
 ) -> Result<Parts, ReadError>
     ensures answer { (file : List ℕ) → S.bytes source.now ≡ Some file
         → Reads (S.may_fail source.now) parts_view (selected_file_tables (section_of selection.entry) file) result }
-    ensures nothing_else { (file : List ℕ) → S.bytes source.now ≡ Some file
-        → AreSure (S.is_sure source.now) (macho_parts file) → IfErr result (λ e. e ≢ Unreadable) }
-    ensures asked { (file : List ℕ) → S.bytes source.now ≡ Some file
-        → AskedFor (S.logs_only log.old) (S.logs_only log.new) (macho_parts file) }
+    ensures only { (file : List ℕ) → S.bytes source.now ≡ Some file
+        → ReadsOnly (S.is_sure source.now) (S.logs_only log.old) (S.logs_only log.new)
+        (macho_parts file) (IfErr result (λ e. e ≢ Unreadable)) }
 {
     let len = source.length()? as usize;
     if len < HEADER {
@@ -192,11 +191,9 @@ fn read_symbols<S: Source>(
     ensures answer { (file : List ℕ) → Known (S.bytes source.now) len file
         → Reads (S.may_fail source.now) (option_map symbols_view) (symbols_by file (option_map table_view table))
         result }
-    ensures nothing_else { (file : List ℕ) → Known (S.bytes source.now) len file
-        → AreSure (S.is_sure source.now) (parts_if (option_map table_view table) (table_parts file))
-        → IfErr result (λ e. e ≢ Unreadable) }
-    ensures asked { (file : List ℕ) → Known (S.bytes source.now) len file
-        → AskedFor (S.logs_only log.old) (S.logs_only log.new) (parts_if (option_map table_view table) (table_parts file)) }
+    ensures only { (file : List ℕ) → Known (S.bytes source.now) len file
+        → ReadsOnly (S.is_sure source.now) (S.logs_only log.old) (S.logs_only log.new)
+        (parts_if (option_map table_view table) (table_parts file)) (IfErr result (λ e. e ≢ Unreadable)) }
 {
     let table = match table {
         None => return Ok(None),
@@ -240,10 +237,9 @@ pub fn read_sections<S: Source>(
 ) -> Result<Beginning, ReadError>
     ensures answer { (file : List ℕ) → S.bytes source.now ≡ Some file
         → ReadsBeginning (S.may_fail source.now) macho_sections file result }
-    ensures nothing_else { (file : List ℕ) → S.bytes source.now ≡ Some file
-        → AreSure (S.is_sure source.now) (macho_section_parts file) → IfErr result (λ e. e ≢ Unreadable) }
-    ensures asked { (file : List ℕ) → S.bytes source.now ≡ Some file
-        → AskedFor (S.logs_only log.old) (S.logs_only log.new) (macho_section_parts file) }
+    ensures only { (file : List ℕ) → S.bytes source.now ≡ Some file
+        → ReadsOnly (S.is_sure source.now) (S.logs_only log.old) (S.logs_only log.new)
+        (macho_section_parts file) (IfErr result (λ e. e ≢ Unreadable)) }
 {
     let file_length = source.length()?;
     let len = file_length as usize;
@@ -264,10 +260,9 @@ fn read_commands<S: Source>(
     requires { least_length ≤ len }
     ensures answer { (file : List ℕ) → Known (S.bytes source.now) len file
         → Reads (S.may_fail source.now) (λ v. v.items) (Ok (command_bytes file)) result }
-    ensures nothing_else { (file : List ℕ) → Known (S.bytes source.now) len file
-        → AreSure (S.is_sure source.now) (macho_section_parts file) → IfErr result (λ e. e ≢ Unreadable) }
-    ensures asked { (file : List ℕ) → Known (S.bytes source.now) len file
-        → AskedFor (S.logs_only log.old) (S.logs_only log.new) (macho_section_parts file) }
+    ensures only { (file : List ℕ) → Known (S.bytes source.now) len file
+        → ReadsOnly (S.is_sure source.now) (S.logs_only log.old) (S.logs_only log.new)
+        (macho_section_parts file) (IfErr result (λ e. e ≢ Unreadable)) }
 {
     let end = read_end(alloc, source, log, len)?;
     let commands = part(alloc, source, log, 0, end)?;
@@ -288,8 +283,8 @@ fn read_end<S: Source>(
     requires { least_length ≤ len }
     ensures answer { (file : List ℕ) → Known (S.bytes source.now) len file
         → Reads (S.may_fail source.now) (λ n. n) (Ok (said_end file)) result }
-    ensures nothing_else { S.is_sure source.now (part 0 least_length) ≡ true → IfErr result (λ e. e ≢ Unreadable) }
-    ensures asked { AskedFor (S.logs_only log.old) (S.logs_only log.new) (part 0 least_length ∷ []) }
+    ensures only { ReadsOnly (S.is_sure source.now) (S.logs_only log.old) (S.logs_only log.new)
+        (part 0 least_length ∷ []) (IfErr result (λ e. e ≢ Unreadable)) }
 {
     let bytes = part(alloc, source, log, 0, HEADER)?;
     let header = header_in(&bytes)?;
@@ -325,10 +320,9 @@ fn read_table<S: Source>(
 ) -> Result<Vec<u8>, ReadError>
     ensures answer { (file : List ℕ) → Known (S.bytes source.now) len file
         → Reads (S.may_fail source.now) (λ v. v.items) (slice_at file offset size) result }
-    ensures nothing_else { (file : List ℕ) → Known (S.bytes source.now) len file
-        → AreSure (S.is_sure source.now) (whole_part file offset size) → IfErr result (λ e. e ≢ Unreadable) }
-    ensures asked { (file : List ℕ) → Known (S.bytes source.now) len file
-        → AskedFor (S.logs_only log.old) (S.logs_only log.new) (whole_part file offset size) }
+    ensures only { (file : List ℕ) → Known (S.bytes source.now) len file
+        → ReadsOnly (S.is_sure source.now) (S.logs_only log.old) (S.logs_only log.new)
+        (whole_part file offset size) (IfErr result (λ e. e ≢ Unreadable)) }
 {
     if offset > len || size > len - offset {
         return Err(ReadError::Refused(ParseError::UnexpectedEof));

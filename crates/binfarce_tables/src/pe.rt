@@ -3,8 +3,7 @@
 ghost use Rattle.std.specs.Prelude.{◌∷◌, [], ◌≡◌, ◌≢◌, ◌<◌, ◌≤◌, List, ℕ, true, Ok, Some, None, IfOk, IfErr};
 ghost use Rattle.std.specs.Option.{option_map};
 ghost use Rattle.binfarce_bytes.specs.Entries.{Answers};
-ghost use Rattle.binfarce_bytes.specs.Part.{AreSure};
-ghost use Rattle.binfarce_bytes.specs.Source.{AskedFor};
+ghost use Rattle.binfarce_bytes.specs.Source.{ReadsOnly};
 ghost use Rattle.binfarce_bytes.specs.SectionEntries.{SelectsSome};
 ghost use Rattle.binfarce_bytes.specs.Selection.{section_of};
 ghost use Rattle.binfarce_bytes.specs.SymbolViews.{HoldsSelected};
@@ -149,11 +148,9 @@ pub fn read<S: Source>(
 ) -> Result<Parts, ReadError>
     ensures answer { (file : List ℕ) → S.bytes source.now ≡ Some file
         → Reads (S.may_fail source.now) selected_view (selected_file_answer (section_of selection.entry) file) result }
-    ensures nothing_else { (file : List ℕ) → S.bytes source.now ≡ Some file
-        → AreSure (S.is_sure source.now) (pe_parts (section_of selection.entry) file)
-        → IfErr result (λ e. e ≢ Unreadable) }
-    ensures asked { (file : List ℕ) → S.bytes source.now ≡ Some file
-        → AskedFor (S.logs_only log.old) (S.logs_only log.new) (pe_parts (section_of selection.entry) file) }
+    ensures only { (file : List ℕ) → S.bytes source.now ≡ Some file
+        → ReadsOnly (S.is_sure source.now) (S.logs_only log.old) (S.logs_only log.new)
+        (pe_parts (section_of selection.entry) file) (IfErr result (λ e. e ≢ Unreadable)) }
 {
     let len = source.length()? as usize;
     let places = read_places(alloc, source, log, len)?;
@@ -175,12 +172,9 @@ fn read_selected<S: Source>(
         → Reads (S.may_fail source.now) read_view
         (chosen_at (section_of selection.entry) file (places_view places)) result }
     ensures whole { IfOk result (λ s. IsWhole (read_view s)) }
-    ensures nothing_else { (file : List ℕ) → Known (S.bytes source.now) len file
-        → AreSure (S.is_sure source.now) (selected_parts (section_of selection.entry) file (places_view places))
-        → IfErr result (λ e. e ≢ Unreadable) }
-    ensures asked { (file : List ℕ) → Known (S.bytes source.now) len file → places_step file ≡ Ok (places_view places)
-        → AskedFor (S.logs_only log.old) (S.logs_only log.new)
-        (selected_parts (section_of selection.entry) file (places_view places)) }
+    ensures only { (file : List ℕ) → Known (S.bytes source.now) len file → places_step file ≡ Ok (places_view places)
+        → ReadsOnly (S.is_sure source.now) (S.logs_only log.old) (S.logs_only log.new)
+        (selected_parts (section_of selection.entry) file (places_view places)) (IfErr result (λ e. e ≢ Unreadable)) }
 {
     match selection {
         Selection::Section(_) => {
@@ -201,11 +195,9 @@ fn read_all_sections<S: Source>(
     ensures answer { (file : List ℕ) → Known (S.bytes source.now) len file → places_step file ≡ Ok (places_view places)
         → Reads (S.may_fail source.now) read_view (chosen_at None file (places_view places)) result }
     ensures whole { IfOk result (λ s. IsWhole (read_view s)) }
-    ensures nothing_else { (file : List ℕ) → Known (S.bytes source.now) len file
-        → AreSure (S.is_sure source.now) (selected_parts None file (places_view places))
-        → IfErr result (λ e. e ≢ Unreadable) }
-    ensures asked { (file : List ℕ) → Known (S.bytes source.now) len file → places_step file ≡ Ok (places_view places)
-        → AskedFor (S.logs_only log.old) (S.logs_only log.new) (selected_parts None file (places_view places)) }
+    ensures only { (file : List ℕ) → Known (S.bytes source.now) len file → places_step file ≡ Ok (places_view places)
+        → ReadsOnly (S.is_sure source.now) (S.logs_only log.old) (S.logs_only log.new)
+        (selected_parts None file (places_view places)) (IfErr result (λ e. e ≢ Unreadable)) }
 {
     let headers = read_headers(alloc, source, log, len, places)?;
     let header = part(
@@ -234,10 +226,9 @@ pub fn read_sections<S: Source>(
 ) -> Result<Beginning, ReadError>
     ensures answer { (file : List ℕ) → S.bytes source.now ≡ Some file
         → ReadsBeginning (S.may_fail source.now) pe_sections file result }
-    ensures nothing_else { (file : List ℕ) → S.bytes source.now ≡ Some file
-        → AreSure (S.is_sure source.now) (pe_section_parts file) → IfErr result (λ e. e ≢ Unreadable) }
-    ensures asked { (file : List ℕ) → S.bytes source.now ≡ Some file
-        → AskedFor (S.logs_only log.old) (S.logs_only log.new) (pe_section_parts file) }
+    ensures only { (file : List ℕ) → S.bytes source.now ≡ Some file
+        → ReadsOnly (S.is_sure source.now) (S.logs_only log.old) (S.logs_only log.new)
+        (pe_section_parts file) (IfErr result (λ e. e ≢ Unreadable)) }
 {
     let file_length = source.length()?;
     let len = file_length as usize;
@@ -260,10 +251,9 @@ fn read_places<S: Source>(
 ) -> Result<Places, ReadError>
     ensures answer { (file : List ℕ) → Known (S.bytes source.now) len file
         → Reads (S.may_fail source.now) places_view (places_step file) result }
-    ensures nothing_else { (file : List ℕ) → Known (S.bytes source.now) len file
-        → AreSure (S.is_sure source.now) (places_parts file) → IfErr result (λ e. e ≢ Unreadable) }
-    ensures asked { (file : List ℕ) → Known (S.bytes source.now) len file
-        → AskedFor (S.logs_only log.old) (S.logs_only log.new) (places_parts file) }
+    ensures only { (file : List ℕ) → Known (S.bytes source.now) len file
+        → ReadsOnly (S.is_sure source.now) (S.logs_only log.old) (S.logs_only log.new)
+        (places_parts file) (IfErr result (λ e. e ≢ Unreadable)) }
 {
     let signature = read_signature(alloc, source, log, len)?;
     let offset = signature as usize;
@@ -282,8 +272,8 @@ fn read_signature<S: Source>(
 ) -> Result<u32, ReadError>
     ensures answer { (file : List ℕ) → Known (S.bytes source.now) len file
         → Reads (S.may_fail source.now) (λ n. n) (signature_step file) result }
-    ensures nothing_else { S.is_sure source.now pointer_part ≡ true → IfErr result (λ e. e ≢ Unreadable) }
-    ensures asked { AskedFor (S.logs_only log.old) (S.logs_only log.new) (pointer_part ∷ []) }
+    ensures only { ReadsOnly (S.is_sure source.now) (S.logs_only log.old) (S.logs_only log.new)
+        (pointer_part ∷ []) (IfErr result (λ e. e ≢ Unreadable)) }
 {
     if len < SIGNATURE_POINTER + 4 {
         return Err(ReadError::Refused(ParseError::UnexpectedEof));
@@ -302,10 +292,9 @@ fn read_text<S: Source>(
 ) -> Result<Text, ReadError>
     ensures answer { (file : List ℕ) → Known (S.bytes source.now) len file
         → Reads (S.may_fail source.now) text_view (text_at file (places_view places)) result }
-    ensures nothing_else { (file : List ℕ) → Known (S.bytes source.now) len file
-        → S.is_sure source.now (headers_part file (places_view places)) ≡ true → IfErr result (λ e. e ≢ Unreadable) }
-    ensures asked { (file : List ℕ) → Known (S.bytes source.now) len file
-        → AskedFor (S.logs_only log.old) (S.logs_only log.new) (headers_part file (places_view places) ∷ []) }
+    ensures only { (file : List ℕ) → Known (S.bytes source.now) len file
+        → ReadsOnly (S.is_sure source.now) (S.logs_only log.old) (S.logs_only log.new)
+        (headers_part file (places_view places) ∷ []) (IfErr result (λ e. e ≢ Unreadable)) }
 {
     let offset = places.sections;
     if offset >= len {
@@ -338,10 +327,9 @@ fn read_headers<S: Source>(
     ensures begins { IfOk result (λ _. places.sections < len) }
     ensures whole { IfOk result
         (λ v. places.section_count ≤ whole_in (headers_alone v.items places.section_count)) }
-    ensures nothing_else { (file : List ℕ) → Known (S.bytes source.now) len file
-        → S.is_sure source.now (headers_part file (places_view places)) ≡ true → IfErr result (λ e. e ≢ Unreadable) }
-    ensures asked { (file : List ℕ) → Known (S.bytes source.now) len file
-        → AskedFor (S.logs_only log.old) (S.logs_only log.new) (headers_part file (places_view places) ∷ []) }
+    ensures only { (file : List ℕ) → Known (S.bytes source.now) len file
+        → ReadsOnly (S.is_sure source.now) (S.logs_only log.old) (S.logs_only log.new)
+        (headers_part file (places_view places) ∷ []) (IfErr result (λ e. e ≢ Unreadable)) }
 {
     let offset = places.sections;
     if offset >= len {
@@ -372,10 +360,9 @@ fn read_records<S: Source>(
 ) -> Result<Records, ReadError>
     ensures answer { (file : List ℕ) → Known (S.bytes source.now) len file
         → Reads (S.may_fail source.now) records_view (table_at file (places_view places)) result }
-    ensures nothing_else { (file : List ℕ) → Known (S.bytes source.now) len file
-        → AreSure (S.is_sure source.now) (table_parts file (places_view places)) → IfErr result (λ e. e ≢ Unreadable) }
-    ensures asked { (file : List ℕ) → Known (S.bytes source.now) len file
-        → AskedFor (S.logs_only log.old) (S.logs_only log.new) (table_parts file (places_view places)) }
+    ensures only { (file : List ℕ) → Known (S.bytes source.now) len file
+        → ReadsOnly (S.is_sure source.now) (S.logs_only log.old) (S.logs_only log.new)
+        (table_parts file (places_view places)) (IfErr result (λ e. e ≢ Unreadable)) }
 {
     let offset = places.symbols;
     if offset >= len || places.symbols_size > len - offset {

@@ -2,8 +2,7 @@
 
 ghost use Rattle.std.specs.Prelude.{◌≡◌, ◌≢◌, List, ℕ, Ok, Some, IfErr};
 ghost use Rattle.std.specs.Option.{option_map};
-ghost use Rattle.binfarce_bytes.specs.Part.{AreSure};
-ghost use Rattle.binfarce_bytes.specs.Source.{AskedFor};
+ghost use Rattle.binfarce_bytes.specs.Source.{ReadsOnly};
 ghost use Rattle.binfarce_elf.specs.Classes.{class_of};
 ghost use Rattle.binfarce_elf.specs.Elf.{walk, name_among};
 ghost use Rattle.binfarce_elf.specs.ElfParts.{headers_alone, sections_left};
@@ -92,11 +91,9 @@ pub fn read_sections<S: Source>(
 ) -> Result<SectionParts, ReadError>
     ensures answer { (file : List ℕ) → S.bytes source.now ≡ Some file
         → Reads (S.may_fail source.now) sections_view (file_sections (class_of width) byte_order file) result }
-    ensures nothing_else { (file : List ℕ) → S.bytes source.now ≡ Some file
-        → AreSure (S.is_sure source.now) (elf_section_parts (class_of width) byte_order file)
-        → IfErr result (λ e. e ≢ Unreadable) }
-    ensures asked { (file : List ℕ) → S.bytes source.now ≡ Some file
-        → AskedFor (S.logs_only log.old) (S.logs_only log.new) (elf_section_parts (class_of width) byte_order file) }
+    ensures only { (file : List ℕ) → S.bytes source.now ≡ Some file
+        → ReadsOnly (S.is_sure source.now) (S.logs_only log.old) (S.logs_only log.new)
+        (elf_section_parts (class_of width) byte_order file) (IfErr result (λ e. e ≢ Unreadable)) }
 {
     let len = source.length()? as usize;
     let place = read_place(alloc, source, log, len, width, byte_order)?;
@@ -125,11 +122,9 @@ fn read_table<S: Source>(
         → Reads (S.may_fail source.now)
         (λ v. walk (class_of width) (headers_alone place.byte_order v.items place.shnum))
         (Ok (walk (class_of width) (table_at file place))) result }
-    ensures nothing_else { (file : List ℕ) → Known (S.bytes source.now) len file
-        → AreSure (S.is_sure source.now) (headers_parts (class_of width) (table_at file place))
-        → IfErr result (λ e. e ≢ Unreadable) }
-    ensures asked { (file : List ℕ) → Known (S.bytes source.now) len file
-        → AskedFor (S.logs_only log.old) (S.logs_only log.new) (headers_parts (class_of width) (table_at file place)) }
+    ensures only { (file : List ℕ) → Known (S.bytes source.now) len file
+        → ReadsOnly (S.is_sure source.now) (S.logs_only log.old) (S.logs_only log.new)
+        (headers_parts (class_of width) (table_at file place)) (IfErr result (λ e. e ≢ Unreadable)) }
 {
     if place.shoff >= len {
         return Ok(Vec::new(alloc));

@@ -2,3 +2,4 @@ pub mod TextLemmas
 pub mod Lanes
 pub mod LlvmLemmas
 pub mod PrefixLemmas
+pub mod Passing

@@ -3,5 +3,6 @@
 
 pub mod digits;
 pub mod prefixes;
+pub mod streams;
 pub mod strides;
 pub mod suffixes;

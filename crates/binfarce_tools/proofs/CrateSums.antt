@@ -1,6 +1,6 @@
 -- Sums by crate, added one share after the other.
 use Rattle.std.proofs.Common.{◌≡◌, ℕ, ◌+◌, ◌<◌, ◌≤◌, ◌^◌, Result, Ok, Err, Bool, true, false, cond, List, [], ◌∷◌, ◌||◌, Option, Some, String, BTreeMap, refl, sym, ◌∙◌, ap, subst, arith, unwrap_or}
-use Rattle.std.specs.BTreeMap.{IsEmpty, get_by_text}
+use Rattle.std.specs.BTreeMap.{get_by_text}
 use Rattle.std.specs.Cmp.Lexicographic.{bytes_decides}
 use Rattle.std.specs.List.{AllZip, filter, sum_by}
 use Rattle.std.specs.Option.{is_some, SomeIff}
@@ -82,9 +82,6 @@ module _ {Y : Type 0} where
   -- with the shares of the entries that are left, those of all are summed
   abbrev pub Completes : List Entry → List Entry → BTreeMap (String Y) ℕ → Type 0
   Completes all left crates = (others : List Share) → AllZip IsShareOf left others → (shares : List Share) × AllZip IsShareOf all shares × Sums shares others crates
-
-  pub begun : (all : List Entry) (crates : BTreeMap (String Y) ℕ) → IsEmpty crates → Completes all all crates
-  begun all crates empty others are = (others, are, record { sums_are = λ name. rw empty (let none : sum_of others name ≡ 0 + sum_of others name = omega arith in none); crates_are = λ name. rw empty refl })
 
   -- the sum of a crate, and whether there is one, after a share was added
   sum_added : (old new : BTreeMap (String Y) ℕ) (s : Share) (name : List ℕ) → Adds old s new → sum_at new name ≡ sum_at old name + added s name

@@ -1,5 +1,5 @@
 -- What the reader of a Mach-O or PE file gives of the text is the file's answer.
-use Rattle.std.proofs.Common.{◌≡◌, ◌≢◌, ℕ, ◌≤◌, Bool, true, false, cond, ltb, List, [], ◌∷◌, map, length, Option, Some, unwrap_or, Result, Ok, Err, refl, sym, ap, subst, ◌∙◌, inl, inr}
+use Rattle.std.proofs.Common.{◌≡◌, ℕ, ◌≤◌, Bool, cond, ltb, List, map, length, Option, Some, unwrap_or, Result, Ok, Err, sym, ap, subst, ◌∙◌, inl, inr}
 use Rattle.std.specs.Global.{Vec}
 use Rattle.std.specs.Result.{IsErrAnd}
 use Rattle.std.proofs.lemmas.Bool.{le-ltb}
@@ -12,7 +12,7 @@ use Rattle.binfarce.specs.Pe as pe_file
 use Rattle.binfarce.specs.PeSelection as pe
 use Rattle.binfarce.specs.PeSymbols.{pe_file_answer}
 use Rattle.binfarce.specs.Refusal.{◌>>=◌, Refusal, refusal_of, unexpected_eof}
-use Rattle.binfarce.specs.SectionEntries.{SectionEntry, SelectedSymbols, SelectsSome}
+use Rattle.binfarce.specs.SectionEntries.{SelectedSymbols, SelectsSome}
 use Rattle.binfarce.specs.Symbol.{Listed, ListsSome, Answers}
 use Rattle.binfarce.specs.SymbolViews.{section_function_view, HoldsSized}
 use Rattle.binfarce_tools.specs.declared.functions.Functions.{Functions}

@@ -1,4 +1,6 @@
-pub mod HeaderLengths
+pub mod Growing
+pub mod Ordered
+pub mod RowListings
 pub mod Pads
 pub mod Heads
 pub mod Reported

@@ -22,9 +22,6 @@ module _ {X : Type 0} (IsLine : X → List ℕ → Type 0) where
   abbrev pub Completes : List X → List X → List ℕ → Type 0
   Completes all left text = (others : List ℕ) → AreLines left others → AreLines all (text ++ others)
 
-  pub begun : (all : List X) → Completes all all []
-  begun all others are = are
-
   one_more : (entry : X) (left : List X) (line others : List ℕ) → IsLine entry line → AreLines left others → AreLines (entry ∷ left) (line ++ others)
   one_more entry left line others is are = (line ∷ are.0, (is, are.1), ap (λ (x : List ℕ). line ++ x) are.2)
 

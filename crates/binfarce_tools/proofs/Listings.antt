@@ -21,21 +21,13 @@ use Rattle.binfarce_tools.proofs.Reported.{is_reported, Reported}
 
 -- a failed allocation is reported as such
 pub as_memory : (e : ParseError) → refusal_of e ≡ out_of_memory → list_error_of e ≡ OutOfMemory
-as_memory errors.SymbolsSectionIsMissing is = absurd cc
-as_memory (errors.SectionIsMissing name) is = absurd cc
-as_memory (errors.UnexpectedSectionType expected actual) is = absurd cc
-as_memory errors.MalformedInput is = absurd cc
-as_memory errors.UnexpectedEof is = absurd cc
 as_memory errors.OutOfMemory is = refl
+as_memory e is = absurd cc
 
 -- any other refusal is `Parse`
 pub parse : (e : ParseError) → is_reported (refusal_of e) ≡ true → list_error_of e ≡ Parse e
-parse errors.SymbolsSectionIsMissing reported_is = refl
-parse (errors.SectionIsMissing name) reported_is = refl
-parse (errors.UnexpectedSectionType expected actual) reported_is = refl
-parse errors.MalformedInput reported_is = refl
-parse errors.UnexpectedEof reported_is = refl
 parse errors.OutOfMemory reported_is = absurd cc
+parse e reported_is = refl
 
 gets_refusal : (memory : Result Listed Refusal → Type 0) (answer : Result Listed Refusal) (e : ParseError) → Reported answer → Answers HoldsLeft memory answer (Err e) → Gets memory (Some answer) (Err (list_error_of e))
 gets_refusal memory (Ok listed) e reported_is answers = (answers.1, as_memory e answers.0)

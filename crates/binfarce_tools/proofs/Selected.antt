@@ -1,6 +1,6 @@
 -- What a file of each format answers for a selection: of a section as one list with its size, of all sections without one.
 use Rattle.std.proofs.Common.{◌≡◌, ◌≢◌, ℕ, Bool, true, false, cond, ltb, List, [], ◌∷◌, map, length, Option, Some, None, is_some, unwrap_or, Result, Ok, Err, refl, sym, ap, subst, ◌∙◌}
-use Rattle.std.specs.Prelude.{is_none, ◌&&◌, nat_eq}
+use Rattle.std.specs.Prelude.{nat_eq}
 use Rattle.binfarce.specs.declared.ByteOrder.{ByteOrder}
 use Rattle.binfarce.specs.declared.Format.{Format}
 use Rattle.binfarce.specs.declared.Format.TheVariants as formats
@@ -17,7 +17,7 @@ use Rattle.binfarce.specs.SymbolTables.{has_indirect}
 use Rattle.binfarce.specs.Macho.{least_length}
 use Rattle.binfarce.specs.MachoSections.{NumberedSection, numbered_sections}
 use Rattle.binfarce.specs.MachoSelection as macho
-use Rattle.binfarce.specs.MachoSymbols.{SymbolTable as MachoTable, Extent, Symbols, text_extent, table_of, symbols_by, macho_answer, macho_file_answer}
+use Rattle.binfarce.specs.MachoSymbols.{SymbolTable as MachoTable, Symbols, table_of, symbols_by, macho_answer, macho_file_answer}
 use Rattle.binfarce.specs.Pe as pe_file
 use Rattle.binfarce.specs.PeSelection as pe
 use Rattle.binfarce.specs.PeSymbols.{pe_answer, pe_file_answer}

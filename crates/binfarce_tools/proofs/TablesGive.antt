@@ -1,6 +1,6 @@
 -- What the tables of a file give is what the file answers for the selection.
-use Rattle.std.proofs.Common.{◌≡◌, ℕ, Bool, true, false, List, [], ◌∷◌, map, Option, Some, None, is_some, unwrap_or, Result, Ok, Err, refl, sym, ap, subst, ◌∙◌, inl, inr}
-use Rattle.std.specs.Prelude.{◌≢◌, IfErr}
+use Rattle.std.proofs.Common.{◌≡◌, ℕ, List, [], map, Option, Some, None, is_some, unwrap_or, Result, Ok, Err, refl, sym, ap, subst, ◌∙◌, inl, inr}
+use Rattle.std.specs.Prelude.{◌≢◌}
 use Rattle.std.specs.Global.{Vec}
 use Rattle.std.specs.Result.{IsErrAnd}
 use Rattle.binfarce.specs.declared.Format.{Format}
@@ -14,16 +14,15 @@ use Rattle.binfarce.specs.MachoSelection as macho
 use Rattle.binfarce.specs.PeSelection as pe
 use Rattle.binfarce.specs.Refusal.{Refusal}
 use Rattle.binfarce.specs.SectionEntries.{SectionEntry, SelectedSymbols, as_listed}
-use Rattle.binfarce.specs.Symbol.{Entry, Listed, Answers}
+use Rattle.binfarce.specs.Symbol.{Listed, Answers}
 use Rattle.binfarce.specs.SymbolViews.{HoldsSelected}
-use Rattle.binfarce_tools.specs.declared.functions.Functions.{Functions}
 use Rattle.binfarce_tools.specs.declared.functions.Selected.{Selected}
 use Rattle.binfarce_tools.specs.declared.functions.Selected.TheVariants.{Section, All}
 use Rattle.binfarce_tools.specs.declared.list.ListError.{ListError}
-use Rattle.binfarce_tools.specs.declared.list.ListError.TheVariants.{Unknown, Parse, OutOfMemory, Write}
-use Rattle.binfarce_tools.specs.Answer.{answer_of, NeedsMemory, FileNeedsMemory}
+use Rattle.binfarce_tools.specs.declared.list.ListError.TheVariants.{Unknown}
+use Rattle.binfarce_tools.specs.Answer.{NeedsMemory}
 use Rattle.binfarce_tools.specs.AllAnswer.{selected_symbols, selected_answer, one_answer, HasSections}
-use Rattle.binfarce_tools.specs.Entries.{GetsAs, GetsIn, Gets, HoldsIn, IsSelection}
+use Rattle.binfarce_tools.specs.Entries.{GetsAs, GetsIn, HoldsIn, IsSelection}
 use Rattle.binfarce_tools.specs.ListWords.{list_error_of}
 use Rattle.binfarce_tools.specs.Selection.{answer_in, MemoryIn}
 use Rattle.binfarce_tools.proofs.Listings.{as_memory, parse}
@@ -110,11 +109,3 @@ of_whole which file whole named section result is gets =
     subst (λ (w : SymbolTable). GetsIn w file section result) (sym is.0)
     (subst (λ (s : Option (List ℕ)). GetsIn Symtab file s result) (sym is.2)
     (subst (λ (f : List ℕ). GetsIn Symtab f (Some named) result) (sym is.1) gets))
-
--- no such answer is a failed write
-pub unwritten : (memory : Result Listed Refusal → Type 0) (answer : Option (Result Listed Refusal)) (result : Result (Functions × ℕ) ListError) → Gets memory answer result → IfErr result (λ e. e ≢ Write)
-unwritten memory answer (Ok value) gets = tt
-unwritten memory None (Err e) gets = λ write. let never : Unknown ≡ Write = sym gets ∙ write in absurd cc
-unwritten memory (Some (Ok listed)) (Err e) gets = λ write. let never : OutOfMemory ≡ Write = sym gets.1 ∙ write in absurd cc
-unwritten memory (Some (Err refusal)) (Err e) (inl is) = λ write. let never : Parse is.0 ≡ Write = sym is.2 ∙ write in absurd cc
-unwritten memory (Some (Err refusal)) (Err e) (inr is) = λ write. let never : OutOfMemory ≡ Write = sym is.1 ∙ write in absurd cc

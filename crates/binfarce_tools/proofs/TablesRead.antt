@@ -1,5 +1,5 @@
 -- What was read of a file is what the file answers.
-use Rattle.std.proofs.Common.{◌≡◌, Bool, true, false, List, ℕ, Option, Some, Result, Ok, Err, sym, ap, subst, ◌∙◌}
+use Rattle.std.proofs.Common.{◌≡◌, Bool, true, List, ℕ, Option, Some, Result, Err, sym, ap, ◌∙◌}
 use Rattle.std.specs.Prelude.{codes}
 use Rattle.std.specs.Result.{IsErr, IsErrAnd}
 use Rattle.binfarce.specs.declared.Format.{Format}
@@ -17,6 +17,7 @@ use Rattle.binfarce_tools.specs.Answer.{by_symbol_table}
 use Rattle.binfarce_tools.specs.AllAnswer.{selected_symbols, selected_answer, one_answer}
 use Rattle.binfarce_tools.specs.Tables.{ReadsTables}
 use Rattle.binfarce_tools.proofs.Selected.{in_is}
+use Rattle.binfarce_tables.proofs.Readings.{err_is}
 
 -- the answer of a file is that of its format
 pub of_format : (which : SymbolTable) (section : Option (List ℕ)) (file : List ℕ) (format : Format) → format_of file ≡ format → selected_answer which section file ≡ selected_symbols which section format file
@@ -40,9 +41,7 @@ module _ (may_fail : Bool) (which : SymbolTable) (section : Option (List ℕ)) (
   -- and as `?` passes it on
   pub unread : {X : Type 0} (view : X → SelectedSymbols) (given : Result SelectedSymbols Refusal) (e : ReadError) (r : Result Tables ReadError)
       → selected_answer which section file ≡ Some given → Reads may_fail view given (Err e) → (IsErr r × IsErrAnd r (λ x. x ≡ e)) → ReadsTables (may_fail ≡ true) which file section r
-  unread view given e (Ok x) is reads err = let never : false ≡ true = err.0 in absurd cc
-  unread view given e (Err x) is reads err =
-      subst (λ (error : ReadError). ReadsTables (may_fail ≡ true) which file section (Err error)) (sym err.1) (not_read view given e is reads)
+  unread view given e r is reads err = err_is (ReadsTables (may_fail ≡ true) which file section) r e err (not_read view given e is reads)
 
 -- so for a file of which is read what its answer is made of
 pub of_answer : {X Y L : Type 0} (may_fail : Bool) (view : X → Y) (found : Result Y Refusal) (f : Y → Result L Refusal) (e : ReadError) → Reads may_fail view found (Err e) → Reads may_fail (λ (l : L). l) (found >>= f) (Err e)

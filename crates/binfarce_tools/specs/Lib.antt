@@ -7,6 +7,9 @@ pub mod Writing
 pub mod Sink
 pub mod Listing
 pub mod ListWords
+pub mod Rows
+pub mod Order
+pub mod RowListing
 pub mod Report
 pub mod ReportWords
 pub mod Sums

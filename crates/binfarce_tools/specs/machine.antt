@@ -1,3 +1,4 @@
 -- Definitions that only private contracts cite.
+pub mod SelectedList
 pub mod Shares
 pub mod Symbols

@@ -2,7 +2,6 @@
 
 ghost use Rattle.std.specs.Prelude.{◌≡◌, Some, None, map, unwrap_or};
 ghost use Rattle.std.specs.Iterator.{YieldsFirstBy};
-ghost use Rattle.binfarce.specs.Elf.{elf32, elf64};
 ghost use Rattle.binfarce.specs.ElfSymbols.{elf_file_answer, listed_of};
 ghost use Rattle.binfarce.specs.ElfViews.{selected_view};
 ghost use Rattle.binfarce.specs.MachoSymbols.{macho_file_answer, HasAddress};
@@ -16,9 +15,12 @@ ghost use Rattle.binfarce_tools.specs.Entries.{all_left, arranged_left, function
 use crate::list::ListError;
 use binfarce::{
     ByteOrder, Format, FunctionSymbol, ParseError, SectionFunction, SymbolTable, detect_format,
-    elf32, elf64, macho, pe,
+    macho, pe,
 };
 use binfarce_bytes::functions::Selection;
+use binfarce_elf::class::Class;
+use binfarce_elf::header::parse_header;
+use binfarce_elf::sections::section_table;
 use binfarce_elf::symbols;
 use std::alloc::Global;
 
@@ -126,39 +128,27 @@ pub fn functions_of_file<'a>(
     ensures { Gets (FileNeedsMemory file.entry.now) (file_answer file.entry.now section.now) result }
 {
     match detect_format(file) {
-        Format::Elf32 { byte_order } => Ok(functions_of_elf32(file, byte_order, section)?),
-        Format::Elf64 { byte_order } => Ok(functions_of_elf64(file, byte_order, section)?),
+        Format::Elf32 { byte_order } => Ok(functions_of_elf::<u32>(file, byte_order, section)?),
+        Format::Elf64 { byte_order } => Ok(functions_of_elf::<u64>(file, byte_order, section)?),
         Format::Macho => Ok(functions_of_macho(alloc, file, section)?),
         Format::PE => Ok(functions_of_pe(alloc, file, section)?),
         Format::Unknown => Err(ListError::Unknown),
     }
 }
 
-// Those of a section of a 32-bit ELF file.
-#[tactic(auto, using(crate::proofs::HeaderLengths::of_32_bits), unfolding(binfarce_elf::specs::ElfSymbols::elf_answer))]
-fn functions_of_elf32<'a>(
+// Those of a section of an ELF file of this class.
+#[tactic(auto, unfolding(binfarce_elf::specs::ElfSymbols::elf_answer))]
+fn functions_of_elf<'a, C: Class>(
     file: &'a [u8],
     byte_order: ByteOrder,
     section: &str,
 ) -> Result<(Functions<'a>, u64), ParseError>
-    ensures { Answers HoldsLeft ListsSome (elf_file_answer Symtab elf32 byte_order file.entry.now section.now) result }
+    ensures { Answers HoldsLeft ListsSome (elf_file_answer Symtab C.table byte_order file.entry.now section.now) result }
 {
-    let file = elf32::parse(file, byte_order)?;
-    let functions = file.selected_functions(SymbolTable::Symtab, Selection::Section(section))?;
-    Ok(of_section(functions))
-}
-
-// Those of a section of a 64-bit ELF file.
-#[tactic(auto, using(crate::proofs::HeaderLengths::of_64_bits), unfolding(binfarce_elf::specs::ElfSymbols::elf_answer))]
-fn functions_of_elf64<'a>(
-    file: &'a [u8],
-    byte_order: ByteOrder,
-    section: &str,
-) -> Result<(Functions<'a>, u64), ParseError>
-    ensures { Answers HoldsLeft ListsSome (elf_file_answer Symtab elf64 byte_order file.entry.now section.now) result }
-{
-    let file = elf64::parse(file, byte_order)?;
-    let functions = file.selected_functions(SymbolTable::Symtab, Selection::Section(section))?;
+    let header = parse_header::<C>(file, byte_order)?;
+    let table = section_table(file, byte_order, &header);
+    let selection = Selection::Section(section);
+    let functions = symbols::selected_functions::<C>(table, SymbolTable::Symtab, selection)?;
     Ok(of_section(functions))
 }
 

@@ -1,10 +1,10 @@
 //! The head of a line, before the name: the address and the size.
 
-ghost use Rattle.std.specs.Prelude.{◌≡◌, ◌++◌, ◌<◌, ◌^◌, OnOk, false, length, replicate};
-ghost use Rattle.std.specs.Fmt.{digit_glyph};
+ghost use Rattle.std.specs.Prelude.{◌≡◌, ◌++◌, ◌<◌, ◌^◌, OnOk, length, replicate};
 ghost use Rattle.std.specs.String.{string_bytes};
 ghost use Rattle.binfarce_tools.specs.Listing.{address_text, line_head, size_text};
 
+use binfarce_text::digits::hex_digit;
 use std::alloc::AllocError;
 use std::fmt::Write;
 
@@ -54,16 +54,6 @@ fn put_address(digits: &mut [u8], address: u64)
         digits[at] = hex_digit(rest % 16);
         rest /= 16;
     }
-}
-
-// A lower-case hexadecimal digit.
-#[inline(always)]
-fn hex_digit(value: u64) -> u8
-    requires { value < 16 }
-    ensures { result ≡ digit_glyph false value }
-{
-    const DIGITS: [u8; 16] = *b"0123456789abcdef";
-    DIGITS[value as usize]
 }
 
 // Puts a size in decimal, to the right of blanks.

@@ -290,7 +290,11 @@ fn push_section_line(
 }
 
 // Appends a section's name, or its number in brackets where it has none, to the text.
-fn push_section(text: &mut String, tables: &Tables<'_>, number: u32) -> Result<(), AllocError>
+pub(crate) fn push_section(
+    text: &mut String,
+    tables: &Tables<'_>,
+    number: u32,
+) -> Result<(), AllocError>
     ensures { OnOk result
         (string_bytes text.new ≡ string_bytes text.old ++ section_text (section_names tables.now number) number) }
 {

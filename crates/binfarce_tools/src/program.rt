@@ -1,14 +1,15 @@
 //! Code that the programs share: for arguments, for the file that they read, and for their exit.
 
-ghost use Rattle.std.specs.Prelude.{◌≡◌, ◌≢◌, ◌⊎◌, [], Bool, true, false, map, Err, Some, None, MatchResult, IfSome, IfOk, IfErr, OnOk};
+ghost use Rattle.std.specs.Prelude.{◌≡◌, ◌≢◌, ◌⊎◌, ℕ, List, [], Bool, true, false, map, Err, Some, None, MatchResult, IfSome, IfOk, IfErr, OnOk};
 ghost use Rattle.std.specs.IoError.{error_kind};
 ghost use Rattle.std.specs.Process.{exit_status};
 ghost use Rattle.std.specs.String.{string_bytes};
-ghost use Rattle.binfarce_tools.specs.Given.{words_of, failure_of, tables_failure_of};
+ghost use Rattle.binfarce_tools.specs.Given.{words_of, failure_of, tables_failure_of, GetsTables};
 ghost use Rattle.binfarce_tools.specs.Status.{status_of};
 ghost use Rattle.binfarce_tools.specs.declared.program.Failure.TheVariants.{Usage, File as Unreadable, OutOfMemory, Write as Unwritten};
 
-use binfarce::ParseError;
+use crate::tables::{Selection, Tables, read};
+use binfarce::{ParseError, SymbolTable};
 use binfarce_bytes::source::Source;
 use binfarce_tables::ReadError;
 use std::alloc::Global;
@@ -37,9 +38,9 @@ pub trait Fault: fmt::Display + From<Failure> {
     // The arguments are wrong.
     ghost is_usage: { Self → Bool };
 
-    /// The program's exit status: 2 for wrong arguments, and 1 for any other fault.
-    fn status(&self) -> u8
-        ensures { result ≡ status_of (is_usage self.now) };
+    /// Whether the arguments are wrong.
+    fn is_usage(&self) -> bool
+        ensures { result ≡ is_usage self.now };
 }
 
 /// The arguments after the program's own name. `Usage` where they can't be taken, as where one isn't UTF-8.
@@ -95,8 +96,8 @@ fn read_failure(e: io::Error) -> Failure
     }
 }
 
-/// The failure for an error of reading a file's tables.
-pub fn tables_failure(e: ReadError) -> Failure
+// The failure for an error of reading a file's tables.
+fn tables_failure(e: ReadError) -> Failure
     ensures { result ≡ tables_failure_of e }
 {
     match e {
@@ -118,6 +119,44 @@ pub fn read_whole<R: Read>(alloc: Global, file: &mut R) -> Result<Vec<u8>, Failu
     Ok(bytes)
 }
 
+/// The tables of a file for the function symbols of a section. Of a file that can be read at offsets only the headers,
+/// the symbol table and the names are read; any other is first read to its end.
+///
+/// `File` where it can't be read; `Refused` with the error of its format's reader; `OutOfMemory` where an allocation
+/// fails.
+pub fn tables_of<F: Read + Source<Log = ()>>(
+    alloc: Global,
+    file: &mut F,
+    section: &str,
+) -> Result<Tables<'static>, Failure>
+    ensures gets { (bytes : List ℕ) → F.bytes file.old ≡ Some bytes → F.remaining file.old ≡ Some bytes
+        → GetsTables ((F.may_fail file.old ≡ true) ⊎ (bytes ≡ [])) bytes section.now result }
+    ensures unwritten { IfErr result (λ e. e ≢ Unwritten) }
+{
+    if is_read_at_offsets(file) {
+        return symbols_of(alloc, file, section);
+    }
+    let bytes = read_whole(alloc, file)?;
+    symbols_of(alloc, &bytes.as_slice(), section)
+}
+
+// The same, of a source that is read at offsets.
+fn symbols_of<S: Source<Log = ()>>(
+    alloc: Global,
+    source: &S,
+    section: &str,
+) -> Result<Tables<'static>, Failure>
+    ensures gets { (bytes : List ℕ) → S.bytes source.now ≡ Some bytes
+        → GetsTables (S.may_fail source.now ≡ true) bytes section.now result }
+    ensures unwritten { IfErr result (λ e. e ≢ Unwritten) }
+{
+    let selection = Selection::Section(section);
+    match read(alloc, source, &mut (), SymbolTable::Symtab, selection) {
+        Ok(tables) => Ok(tables),
+        Err(e) => Err(tables_failure(e)),
+    }
+}
+
 /// Flushes the output, and returns the result of a program's work: its own fault if it has one, and else `Write` where
 /// the flush fails.
 pub fn finish<W: Write + Drop, F: From<Failure>>(mut out: W, ended: Result<(), F>) -> Result<(), F>
@@ -130,7 +169,8 @@ pub fn finish<W: Write + Drop, F: From<Failure>>(mut out: W, ended: Result<(), F
     Ok(())
 }
 
-/// Prints a program's fault to standard error, if it has one, and returns its exit status.
+/// Prints a program's fault to standard error, if it has one, and returns its exit status: 2 for wrong arguments, and 1
+/// for any other fault.
 pub fn exit<F: Fault + Drop>(rt: &HostRuntime, ended: Result<(), F>) -> ExitCode
     ensures { MatchResult ended (λ _. exit_status result ≡ 0) (λ f. exit_status result ≡ status_of (F.is_usage f)) }
 {
@@ -138,7 +178,13 @@ pub fn exit<F: Fault + Drop>(rt: &HostRuntime, ended: Result<(), F>) -> ExitCode
         Ok(()) => ExitCode::SUCCESS,
         Err(fault) => {
             let _ = eprintln!(rt; "{fault}");
-            ExitCode::from(fault.status())
+            ExitCode::from(status(&fault))
         }
     }
+}
+
+fn status<F: Fault>(fault: &F) -> u8
+    ensures { result ≡ status_of (F.is_usage fault.now) }
+{
+    if fault.is_usage() { 2 } else { 1 }
 }

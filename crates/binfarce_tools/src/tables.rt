@@ -8,8 +8,7 @@ ghost use Rattle.binfarce.specs.Symbol.{Listed};
 ghost use Rattle.binfarce.specs.declared.SymbolTable.{SymbolTable};
 ghost use Rattle.binfarce.specs.declared.SymbolTable.TheVariants.{Symtab, Dynsym};
 ghost use Rattle.binfarce.specs.Format.{format_of};
-ghost use Rattle.binfarce_bytes.specs.Part.{AreSure};
-ghost use Rattle.binfarce_bytes.specs.Source.{AskedFor};
+ghost use Rattle.binfarce_bytes.specs.Source.{ReadsOnly};
 ghost use Rattle.binfarce_tables.specs.declared.error.ReadError.TheVariants.{Unreadable};
 ghost use Rattle.binfarce_tools.specs.AllAnswer.{all_answer_of};
 ghost use Rattle.binfarce_tools.specs.Entries.{GetsIn};
@@ -149,11 +148,9 @@ pub fn read<S: Source>(
 ) -> Result<Tables<'static>, ReadError>
     ensures answer { (file : List ℕ) → S.bytes source.now ≡ Some file
         → ReadsTables (S.may_fail source.now ≡ true) which file (section_of selection.entry) result }
-    ensures nothing_else { (file : List ℕ) → S.bytes source.now ≡ Some file
-        → AreSure (S.is_sure source.now) (parts_in which (section_of selection.entry) file)
-        → IfErr result (λ e. e ≢ Unreadable) }
-    ensures asked { (file : List ℕ) → S.bytes source.now ≡ Some file
-        → AskedFor (S.logs_only log.old) (S.logs_only log.new) (parts_in which (section_of selection.entry) file) }
+    ensures only { (file : List ℕ) → S.bytes source.now ≡ Some file
+        → ReadsOnly (S.is_sure source.now) (S.logs_only log.old) (S.logs_only log.new)
+        (parts_in which (section_of selection.entry) file) (IfErr result (λ e. e ≢ Unreadable)) }
 {
     let format = read_format(alloc, source, log)?;
     read_tables(alloc, source, log, format, which, selection)
@@ -170,12 +167,9 @@ fn read_tables<S: Source>(
 ) -> Result<Tables<'static>, ReadError>
     ensures answer { (file : List ℕ) → S.bytes source.now ≡ Some file → format ≡ format_of file
         → ReadsTables (S.may_fail source.now ≡ true) which file (section_of selection.entry) result }
-    ensures nothing_else { (file : List ℕ) → S.bytes source.now ≡ Some file
-        → AreSure (S.is_sure source.now) (format_parts which (section_of selection.entry) format file)
-        → IfErr result (λ e. e ≢ Unreadable) }
-    ensures asked { (file : List ℕ) → S.bytes source.now ≡ Some file
-        → AskedFor (S.logs_only log.old) (S.logs_only log.new)
-        (format_parts which (section_of selection.entry) format file) }
+    ensures only { (file : List ℕ) → S.bytes source.now ≡ Some file
+        → ReadsOnly (S.is_sure source.now) (S.logs_only log.old) (S.logs_only log.new)
+        (format_parts which (section_of selection.entry) format file) (IfErr result (λ e. e ≢ Unreadable)) }
 {
     match format {
         Format::Elf32 { byte_order } => {

@@ -25,7 +25,7 @@ nothing_closed (PathProduction position) = refl
 nothing_closed TypeProduction = refl
 nothing_closed ConstProduction = refl
 
-pub read_at : (part : List ℕ) (levels_left : ℕ) (production : Production) (binder_depth : ℕ) (s : State) → read (readers part levels_left) production binder_depth s ≡ (if nat_le 1 levels_left && nat_le 1 s.steps_left then production_rule part (readers part (levels_left - 1)) production binder_depth (entered (levels_left - 1) s) s.at else (nothing_of production, stopped s))
+pub read_at : (part : List ℕ) (levels_left : ℕ) (production : Production) (binder_depth : ℕ) (s : State) → read (readers part levels_left) production binder_depth s ≡ (if nat_le 1 levels_left && nat_le 1 s.steps_left then production_rule part (readers part (levels_left - 1)) production binder_depth (entered (levels_left - 1) s) else (nothing_of production, stopped s))
 read_at part levels_left (PathProduction position) binder_depth s = path_at part levels_left position binder_depth s
 read_at part levels_left TypeProduction binder_depth s = type_at part levels_left binder_depth s
 read_at part levels_left ConstProduction binder_depth s = constant_at part levels_left s

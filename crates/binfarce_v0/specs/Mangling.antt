@@ -54,6 +54,10 @@ pub record IsV0 (text part : List ℕ) : Type 0 where
   pub mangling : IsMangling text part after
   pub rest : is_allowed_rest (drop after part) ≡ true
 
+-- text is a v0 mangling: part follows its prefix, and rest follows its paths
+abbrev pub HasRest : (text part rest : List ℕ) → Type 0
+HasRest text part rest = (v : IsV0 text part) × (rest ≡ drop v.after part)
+
 -- text is no v0 mangling that unfolds to a tree within the limits
 abbrev pub HasNoTree : (text : List ℕ) → Type 0
 HasNoTree text = (part : List ℕ) (tree : PathTree) → IsV0 text part → ¬ (UnfoldsTo part tree)

@@ -36,10 +36,7 @@ fn print_special_name(printer: &mut Printer<'_>, namespace: u8, at: usize) -> Re
     match identifier_at(printer.part, at) {
         Some((identifier, after)) => {
             printer.seek(Some(after));
-            printer.put(Nested {
-                namespace,
-                identifier,
-            })
+            printer.put(Nested(namespace, identifier))
         }
         None => printer.invalid_syntax(),
     }
@@ -56,7 +53,7 @@ fn print_plain_name(printer: &mut Printer<'_>, namespace: u8, at: usize) -> Resu
     match identifier_name_at(printer.part, at) {
         Some((name, after)) => {
             printer.seek(Some(after));
-            printer.put(AfterMark { mark: "::", name })
+            printer.put(AfterMark("::", name))
         }
         None => printer.invalid_syntax(),
     }

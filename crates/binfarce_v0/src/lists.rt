@@ -3,7 +3,7 @@
 ghost use Rattle.std.specs.Prelude.{◌≡◌, IfOk, OnOk, suc};
 ghost use Rattle.binfarce_v0_grammar.specs.Tree.{Arguments};
 ghost use Rattle.binfarce_v0_grammar.specs.machine.View.{listed_view};
-ghost use Rattle.binfarce_v0_state.specs.machine.Printing.{WithinLevels, with_state, readers, item_rule, items_from, items_count, bindings_rule};
+ghost use Rattle.binfarce_v0_state.specs.machine.Printing.{with_state, readers, item_rule, items_from, items_count, bindings_rule};
 
 use crate::consts::print_const;
 use crate::paths::print_path;
@@ -11,6 +11,7 @@ use crate::types::print_type;
 use binfarce_v0_grammar::forms::{Listed, lifetime_form};
 use binfarce_v0_grammar::identifiers::undisambiguated_at;
 use binfarce_v0_grammar::positions::{eat, list_end, required_end};
+use binfarce_v0_state::place::Place;
 use binfarce_v0_state::position::Position;
 use binfarce_v0_state::state::Printer;
 use binfarce_v0_state::text::ArgumentLifetime;
@@ -21,19 +22,17 @@ use std::alloc::AllocError;
 #[tactic(auto, using(crate::proofs::ListLemmas::items_step, crate::proofs::ListLemmas::items_none))]
 pub fn print_items(
     printer: &mut Printer<'_>,
-    levels_left: usize,
-    binder_depth: usize,
+    here: Place,
     listed: Listed,
     between: &'static str,
 ) -> Result<usize, AllocError>
-    requires levels { WithinLevels levels_left binder_depth }
     ensures printed { OnOk result
         (printer.new ≡ with_state
-        ((items_from printer.old.part (readers printer.old.part levels_left) binder_depth (listed_view listed)
+        ((items_from printer.old.part (readers printer.old.part here.levels_left) here.binder_depth (listed_view listed)
         between.entry.now printer.old.state).1) printer.old) }
     ensures counted { IfOk result
         (λ count. count ≡ items_count
-        (items_from printer.old.part (readers printer.old.part levels_left) binder_depth (listed_view listed)
+        (items_from printer.old.part (readers printer.old.part here.levels_left) here.binder_depth (listed_view listed)
         between.entry.now printer.old.state).0) }
 {
     let most = printer.steps_left + 1;
@@ -43,7 +42,7 @@ pub fn print_items(
             return Ok(count);
         }
         printer.write(if count == 0 { "" } else { between })?;
-        print_item(printer, levels_left, binder_depth, listed)?;
+        print_item(printer, here, listed)?;
     }
     printer.stop();
     Ok(most)
@@ -52,24 +51,18 @@ pub fn print_items(
 // An item of a list.
 #[cycle(printing)]
 #[tactic(auto, unfolding(binfarce_v0_state::specs::machine::Printing::item_rule))]
-fn print_item(
-    printer: &mut Printer<'_>,
-    levels_left: usize,
-    binder_depth: usize,
-    listed: Listed,
-) -> Result<(), AllocError>
-    requires levels { WithinLevels levels_left binder_depth }
+fn print_item(printer: &mut Printer<'_>, here: Place, listed: Listed) -> Result<(), AllocError>
     ensures { OnOk result
         (printer.new ≡ with_state
-        ((item_rule printer.old.part (readers printer.old.part levels_left) binder_depth (listed_view listed)
+        ((item_rule printer.old.part (readers printer.old.part here.levels_left) here.binder_depth (listed_view listed)
         printer.old.state).1) printer.old) }
 {
     match listed {
-        Listed::Types => print_type(printer, levels_left, binder_depth),
-        Listed::Arguments => print_argument(printer, levels_left, binder_depth),
+        Listed::Types => print_type(printer, here),
+        Listed::Arguments => print_argument(printer, here),
         Listed::Traits => {
-            let opened = print_path(printer, levels_left, binder_depth, Position::OpenTrait)?;
-            print_bindings(printer, levels_left, binder_depth, opened)
+            let opened = print_path(printer, here, Position::OpenTrait)?;
+            print_bindings(printer, here, opened)
         }
     }
 }
@@ -77,15 +70,10 @@ fn print_item(
 // `<generic-arg>`
 #[cycle(printing)]
 #[tactic(auto, unfolding(binfarce_v0_state::specs::machine::Printing::item_rule))]
-fn print_argument(
-    printer: &mut Printer<'_>,
-    levels_left: usize,
-    binder_depth: usize,
-) -> Result<(), AllocError>
-    requires levels { WithinLevels levels_left binder_depth }
+fn print_argument(printer: &mut Printer<'_>, here: Place) -> Result<(), AllocError>
     ensures { OnOk result
         (printer.new ≡ with_state
-        ((item_rule printer.old.part (readers printer.old.part levels_left) binder_depth Arguments printer.old.state).1)
+        ((item_rule printer.old.part (readers printer.old.part here.levels_left) here.binder_depth Arguments printer.old.state).1)
         printer.old) }
 {
     let bytes = printer.part.as_bytes();
@@ -93,17 +81,17 @@ fn print_argument(
         let (life, after) = lifetime_form(bytes, printer.at);
         printer.visit();
         if printer.take(1) {
-            printer.seek(required_end(binder_depth, life, after));
-            printer.put(ArgumentLifetime { binder_depth, life })?;
+            printer.seek(required_end(here.binder_depth, life, after));
+            printer.put(ArgumentLifetime(here.binder_depth, life))?;
         }
         return Ok(());
     }
     match eat(bytes, b'K', printer.at) {
         Some(after) => {
             printer.seek(Some(after));
-            print_const(printer, levels_left)
+            print_const(printer, here)
         }
-        None => print_type(printer, levels_left, binder_depth),
+        None => print_type(printer, here),
     }
 }
 
@@ -112,14 +100,12 @@ fn print_argument(
 #[tactic(auto, using(crate::proofs::ListLemmas::bindings_step, crate::proofs::ListLemmas::bindings_none))]
 fn print_bindings(
     printer: &mut Printer<'_>,
-    levels_left: usize,
-    binder_depth: usize,
+    here: Place,
     mut opened: bool,
 ) -> Result<(), AllocError>
-    requires levels { WithinLevels levels_left binder_depth }
     ensures { OnOk result
         (printer.new ≡ with_state
-        ((bindings_rule printer.old.part (readers printer.old.part levels_left) binder_depth
+        ((bindings_rule printer.old.part (readers printer.old.part here.levels_left) here.binder_depth
         (suc printer.old.state.steps_left) opened printer.old.state).1) printer.old) }
 {
     let most = printer.steps_left + 1;
@@ -134,7 +120,7 @@ fn print_bindings(
         printer.seek(Some(after));
         printer.put(binding)?;
         printer.write(" = ")?;
-        print_type(printer, levels_left, binder_depth)?;
+        print_type(printer, here)?;
         opened = true;
     }
     printer.stop();

@@ -8,7 +8,7 @@ ghost use Rattle.binfarce_v0_state.specs.LeafTexts.{identifier_text};
 ghost use Rattle.binfarce_v0_grammar.specs.Tree.{PathTree};
 ghost use Rattle.binfarce_v0_grammar.specs.Unfolding.{UnfoldsTo};
 ghost use Rattle.binfarce_v0_grammar.specs.machine.View.{undisambiguated_view};
-ghost use Rattle.binfarce_v0.specs.Mangling.{part_after_prefix, is_upper_at, IsMangling, IsV0, HasNoTree};
+ghost use Rattle.binfarce_v0.specs.Mangling.{part_after_prefix, is_upper_at, IsMangling, IsV0, HasRest, HasNoTree};
 ghost use Rattle.binfarce_v0.specs.machine.Mangling.{paths_end};
 ghost use Rattle.binfarce_v0.specs.machine.Outcome.{ReadsUpTo, HasBegun, IsCandidate, IsOutcomeOf, IsCrateName, AreTexts};
 
@@ -20,6 +20,7 @@ use binfarce_v0_grammar::limits::MAX_LEVELS;
 use binfarce_v0_grammar::numbers::byte_at;
 use binfarce_v0_grammar::reading::read_path;
 use binfarce_v0_state::memory::Memory;
+use binfarce_v0_state::place::Place;
 use binfarce_v0_state::position::Position;
 use binfarce_v0_state::state::{Buffers, Printer};
 use binfarce_v0_state::text::Leaf;
@@ -96,7 +97,11 @@ pub fn print(printer: &mut Printer<'_>) -> Result<bool, AllocError>
         ((tree : PathTree) → UnfoldsTo printer.old.part tree → ⊥)) }
 {
     printer.prepare()?;
-    print_path(printer, MAX_LEVELS, 0, Position::InValue)?;
+    let whole = Place {
+        levels_left: MAX_LEVELS,
+        binder_depth: 0,
+    };
+    print_path(printer, whole, Position::InValue)?;
     Ok(!printer.limit_exceeded)
 }
 
@@ -106,7 +111,7 @@ pub fn mangled_part(text: &str) -> Option<&str>
     ensures { MatchOption result ((part : List ℕ) → IsV0 text.now part → ⊥) (λ p. IsV0 text.now p.now) }
 {
     let (part, after) = read(text)?;
-    if is_allowed_rest(rest_from(part.as_bytes(), after)) {
+    if is_allowed_rest(rest_from(part, after).as_bytes()) {
         Some(part)
     } else {
         None
@@ -114,32 +119,39 @@ pub fn mangled_part(text: &str) -> Option<&str>
 }
 
 // The part from a position on.
-fn rest_from(part: &[u8], at: usize) -> &[u8]
+#[tactic(auto, using(binfarce_v0_grammar::proofs::TextLemmas::ascii_parts))]
+fn rest_from(part: &str, at: usize) -> &str
+    requires { IsAscii part.now }
     ensures { result.now ≡ drop at part.now }
 {
-    if at <= part.len() { &part[at..] } else { &[] }
+    if at <= part.len() { &part[at..] } else { "" }
 }
 
 /// Prints what the part of a new printing unfolds to, as `print` does. `candidate` gave this part of a text. Returns
-/// whether that text is a v0 mangling whose reading has at most `MAX_LEVELS` levels, and which unfolds to a tree of at
-/// most `MAX_LEVELS` levels and `MAX_STEPS` steps.
+/// what follows the mangling in the text. `None` where the text isn't a v0 mangling whose reading has at most
+/// `MAX_LEVELS` levels, and which unfolds to a tree of at most `MAX_LEVELS` levels and `MAX_STEPS` steps.
 ///
 /// Printing without invalid syntax outside back references also reads the first path: then only a second path is left
 /// to read.
 #[inline(always)]
-pub fn print_mangling(printer: &mut Printer<'_>) -> Result<bool, AllocError>
+pub fn print_mangling<'a>(printer: &mut Printer<'a>) -> Result<Option<&'a str>, AllocError>
     requires { HasBegun printer.now }
     ensures { IfOk result
-        (λ found. (text : List ℕ) → IsCandidate text printer.old.part
-        → MatchBool found (IsV0 text printer.old.part × IsOutcomeOf printer.old printer.new) (HasNoTree text)) }
+        (λ rest. (text : List ℕ) → IsCandidate text printer.old.part
+        → MatchOption rest (HasNoTree text)
+        (λ rest. HasRest text printer.old.part rest.now × IsOutcomeOf printer.old printer.new)) }
 {
     if !print(printer)? {
-        return Ok(false);
+        return Ok(None);
     }
     let Some(after) = paths_end(printer.part, printer.at) else {
-        return Ok(false);
+        return Ok(None);
     };
-    Ok(is_allowed_rest(rest_from(printer.part.as_bytes(), after)))
+    let rest = rest_from(printer.part, after);
+    if !is_allowed_rest(rest.as_bytes()) {
+        return Ok(None);
+    }
+    Ok(Some(rest))
 }
 
 /// Both texts of a name, and its crate.
@@ -208,10 +220,9 @@ pub fn push_crate_name(alloc: Global, text: &mut String, name: &str) -> Result<b
         return Ok(false);
     };
     let mut printer = Printer::new(Buffers::empty(alloc), part, false, true, None);
-    if print_mangling(&mut printer)? {
-        push_root(alloc, text, printer.root)
-    } else {
-        Ok(false)
+    match print_mangling(&mut printer)? {
+        Some(_) => push_root(alloc, text, printer.root),
+        None => Ok(false),
     }
 }
 
@@ -229,10 +240,10 @@ pub fn both_texts(memory: &mut Memory, text: &str) -> Result<Option<Texts>, Allo
     };
     let alloc = memory.alloc;
     let mut printer = Printer::new(memory.take(), part, true, false, None);
-    if !print_mangling(&mut printer)? {
+    let Some(_rest) = print_mangling(&mut printer)? else {
         memory.put_back(printer.into_buffers());
         return Ok(None);
-    }
+    };
     let crate_name = root_text(alloc, printer.root)?;
     let (complete, trimmed) = printer.texts(alloc)?;
     memory.put_back(printer.into_buffers());

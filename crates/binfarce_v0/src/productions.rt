@@ -9,6 +9,7 @@ use crate::consts::print_const_by_letter;
 use crate::paths::print_path_by_letter;
 use crate::types::print_type_by_letter;
 use binfarce_v0_state::fragments::{FragmentKey, Production};
+use binfarce_v0_state::place::Place;
 use binfarce_v0_state::state::Printer;
 use std::alloc::AllocError;
 
@@ -17,22 +18,20 @@ use std::alloc::AllocError;
 #[inline(always)]
 pub fn print(
     printer: &mut Printer<'_>,
-    levels_left: usize,
-    binder_depth: usize,
+    here: Place,
     production: Production,
 ) -> Result<bool, AllocError>
-    requires levels { WithinLevels levels_left binder_depth }
     ensures printed { OnOk result
         (printer.new ≡ with_state
-        ((read (readers printer.old.part levels_left) (production_view production) binder_depth printer.old.state).1)
+        ((read (readers printer.old.part here.levels_left) (production_view production) here.binder_depth printer.old.state).1)
         printer.old) }
     ensures opened { IfOk result
         (λ opened. opened ≡ left_open_of (production_view production)
-        (read (readers printer.old.part levels_left) (production_view production) binder_depth printer.old.state).0) }
+        (read (readers printer.old.part here.levels_left) (production_view production) here.binder_depth printer.old.state).0) }
 {
     match printer.keeps_at() {
-        Some(at) => print_and_keep(printer, levels_left, binder_depth, production, at),
-        None => print_anew(printer, levels_left, binder_depth, production),
+        Some(at) => print_and_keep(printer, here, production, at),
+        None => print_anew(printer, here, production),
     }
 }
 
@@ -42,24 +41,28 @@ pub fn print(
 #[tactic(auto, using(crate::proofs::Anew::read_anew))]
 fn print_and_keep(
     printer: &mut Printer<'_>,
-    levels_left: usize,
-    binder_depth: usize,
+    here: Place,
     production: Production,
     at: usize,
 ) -> Result<bool, AllocError>
     requires at { printer.old.state.at ≡ Some at }
-    requires levels { WithinLevels levels_left binder_depth }
     ensures printed { OnOk result
         (printer.new ≡ with_state
-        ((read (readers printer.old.part levels_left) (production_view production) binder_depth printer.old.state).1)
+        ((read (readers printer.old.part here.levels_left) (production_view production) here.binder_depth printer.old.state).1)
         printer.old) }
     ensures opened { IfOk result
         (λ opened. opened ≡ left_open_of (production_view production)
-        (read (readers printer.old.part levels_left) (production_view production) binder_depth printer.old.state).0) }
+        (read (readers printer.old.part here.levels_left) (production_view production) here.binder_depth printer.old.state).0) }
 {
-    let mark = printer.mark(levels_left, at);
-    let opened = print_anew(printer, levels_left, binder_depth, production)?;
-    printer.keep(mark, levels_left, binder_depth, production, opened)?;
+    let mark = printer.mark(here.levels_left, at);
+    let opened = print_anew(printer, here, production)?;
+    printer.keep(
+        mark,
+        here.levels_left,
+        here.binder_depth,
+        production,
+        opened,
+    )?;
     Ok(opened)
 }
 
@@ -69,24 +72,21 @@ fn print_and_keep(
 #[tactic(auto, using(crate::proofs::Anew::read_at, crate::proofs::Anew::nothing_closed))]
 fn print_anew(
     printer: &mut Printer<'_>,
-    levels_left: usize,
-    binder_depth: usize,
+    here: Place,
     production: Production,
 ) -> Result<bool, AllocError>
-    requires levels { WithinLevels levels_left binder_depth }
     ensures printed { OnOk result
         (printer.new ≡ with_state
-        ((read (readers printer.old.part levels_left) (production_view production) binder_depth printer.old.state).1)
+        ((read (readers printer.old.part here.levels_left) (production_view production) here.binder_depth printer.old.state).1)
         printer.old) }
     ensures opened { IfOk result
         (λ opened. opened ≡ left_open_of (production_view production)
-        (read (readers printer.old.part levels_left) (production_view production) binder_depth printer.old.state).0) }
+        (read (readers printer.old.part here.levels_left) (production_view production) here.binder_depth printer.old.state).0) }
 {
-    let start = printer.at;
-    let Some(below) = printer.enter(levels_left) else {
+    let Some(below) = printer.enter(here) else {
         return Ok(false);
     };
-    print_by_letter(printer, below, binder_depth, production, start)
+    print_by_letter(printer, below, production)
 }
 
 // A production by the letter that it begins with.
@@ -94,27 +94,25 @@ fn print_anew(
 #[inline(always)]
 fn print_by_letter(
     printer: &mut Printer<'_>,
-    levels_left: usize,
-    binder_depth: usize,
+    here: Place,
     production: Production,
-    start: Option<usize>,
 ) -> Result<bool, AllocError>
-    requires levels { WithinLevels (levels_left + 1) binder_depth }
+    requires entered { WithinLevels (here.levels_left + 1) here.binder_depth }
     ensures printed { OnOk result
         (printer.new ≡ with_state
-        ((production_rule printer.old.part (readers printer.old.part levels_left)
-        (production_view production) binder_depth printer.old.state start).1) printer.old) }
+        ((production_rule printer.old.part (readers printer.old.part here.levels_left)
+        (production_view production) here.binder_depth printer.old.state).1) printer.old) }
     ensures opened { IfOk result
         (λ opened. opened ≡ left_open_of (production_view production)
-        (production_rule printer.old.part (readers printer.old.part levels_left)
-        (production_view production) binder_depth printer.old.state start).0) }
+        (production_rule printer.old.part (readers printer.old.part here.levels_left)
+        (production_view production) here.binder_depth printer.old.state).0) }
 {
     match production {
         Production::Path(position) => {
-            return print_path_by_letter(printer, levels_left, binder_depth, position, start);
+            return print_path_by_letter(printer, here, position);
         }
-        Production::Type => print_type_by_letter(printer, levels_left, binder_depth, start)?,
-        Production::Const => print_const_by_letter(printer, levels_left, start)?,
+        Production::Type => print_type_by_letter(printer, here)?,
+        Production::Const => print_const_by_letter(printer, here)?,
     }
     Ok(false)
 }
@@ -123,35 +121,33 @@ fn print_by_letter(
 #[cycle(printing)]
 pub fn print_target(
     printer: &mut Printer<'_>,
-    levels_left: usize,
-    binder_depth: usize,
+    here: Place,
     production: Production,
     target: usize,
     after: usize,
 ) -> Result<bool, AllocError>
-    requires levels { WithinLevels levels_left binder_depth }
     ensures printed { OnOk result
         (printer.new ≡ with_state
         (back_to after printer.old.state.in_back_reference
-        (read (readers printer.old.part levels_left) (production_view production) binder_depth
+        (read (readers printer.old.part here.levels_left) (production_view production) here.binder_depth
         (into target printer.old.state)).1) printer.old) }
     ensures opened { IfOk result
         (λ opened. opened ≡ left_open_of (production_view production)
-        (read (readers printer.old.part levels_left) (production_view production) binder_depth
+        (read (readers printer.old.part here.levels_left) (production_view production) here.binder_depth
         (into target printer.old.state)).0) }
 {
     let key = FragmentKey {
         production,
         at: target,
-        binder_depth,
+        binder_depth: here.binder_depth,
     };
-    if let Some(opened) = printer.print_kept(levels_left, key, after)? {
+    if let Some(opened) = printer.print_kept(here.levels_left, key, after)? {
         return Ok(opened);
     }
     printer.look_for_targets()?;
     let in_back_reference = printer.in_back_reference;
     printer.enter_target(target);
-    let opened = print(printer, levels_left, binder_depth, production)?;
+    let opened = print(printer, here, production)?;
     printer.leave_target(after, in_back_reference);
     Ok(opened)
 }

@@ -1,12 +1,12 @@
 //! Printing a type, by the letter that its form begins with.
 
-ghost use Rattle.std.specs.Prelude.{◌≡◌, ℕ, ◌+◌, ◌<◌, ◌==◌, OnOk, Some, None, [], if◌then◌else◌, codes, length};
+ghost use Rattle.std.specs.Prelude.{◌≡◌, ℕ, ◌+◌, ◌<◌, ◌==◌, OnOk, Some, None, codes, length, slice_index};
 ghost use Rattle.std.specs.Option.{option_map_or};
 ghost use Rattle.binfarce_v0_grammar.specs.Base62.{optional_base_62_number};
 ghost use Rattle.binfarce_v0_grammar.specs.Forms.{SliceOf, DynOf, InvalidDyn, lifetime, reference_form, function_form, type_form_by, type_form};
 ghost use Rattle.binfarce_v0_grammar.specs.Tree.{Items, NoType, Types};
 ghost use Rattle.binfarce_v0_grammar.specs.machine.View.{signature_view};
-ghost use Rattle.binfarce_v0_state.specs.machine.Printing.{WithinLevels, with_state, readers, type_rule, items_from, function_rule, dyn_rule, dyn_life, taking, seek, write, array_rule, tuple_end, invalid_reference, invalid_function};
+ghost use Rattle.binfarce_v0_state.specs.machine.Printing.{WithinLevels, with_state, readers, type_rule, items_from, function_rule, dyn_rule, dyn_life, taking, seek, write, array_rule, tuple_end, invalid_function};
 
 use crate::consts::print_const;
 use crate::lists::print_items;
@@ -18,32 +18,20 @@ use binfarce_v0_grammar::forms::{
 use binfarce_v0_grammar::numbers::{back_reference, byte_at, optional_base_62_number};
 use binfarce_v0_grammar::positions::{bound_end, eat, required_end};
 use binfarce_v0_state::fragments::Production;
+use binfarce_v0_state::place::Place;
 use binfarce_v0_state::position::Position;
 use binfarce_v0_state::state::Printer;
 use binfarce_v0_state::text::{Binder, DynLifetime, ReferenceLifetime};
 use std::alloc::AllocError;
 
-// The text after the items of a tuple, by their number.
-#[inline(always)]
-fn single_mark(count: usize) -> &'static str
-    ensures { result.now ≡ (if count == 1 then codes "," else []) }
-{
-    if count == 1 { "," } else { "" }
-}
-
 /// `<type>`. It is kept where a back reference may name it.
 #[cycle(printing)]
-pub fn print_type(
-    printer: &mut Printer<'_>,
-    levels_left: usize,
-    binder_depth: usize,
-) -> Result<(), AllocError>
-    requires levels { WithinLevels levels_left binder_depth }
+pub fn print_type(printer: &mut Printer<'_>, here: Place) -> Result<(), AllocError>
     ensures { OnOk result
-        (printer.new ≡ with_state (((readers printer.old.part levels_left).ty binder_depth printer.old.state).1)
+        (printer.new ≡ with_state (((readers printer.old.part here.levels_left).ty here.binder_depth printer.old.state).1)
         printer.old) }
 {
-    print(printer, levels_left, binder_depth, Production::Type)?;
+    print(printer, here, Production::Type)?;
     Ok(())
 }
 
@@ -51,73 +39,61 @@ pub fn print_type(
 #[cycle(printing)]
 #[inline(always)]
 #[tactic(auto, unfolding(binfarce_v0_state::specs::machine::Printing::type_rule, binfarce_v0_grammar::specs::Forms::type_form))]
-pub(crate) fn print_type_by_letter(
-    printer: &mut Printer<'_>,
-    levels_left: usize,
-    binder_depth: usize,
-    start: Option<usize>,
-) -> Result<(), AllocError>
-    requires levels { WithinLevels (levels_left + 1) binder_depth }
+pub(crate) fn print_type_by_letter(printer: &mut Printer<'_>, here: Place) -> Result<(), AllocError>
+    requires entered { WithinLevels (here.levels_left + 1) here.binder_depth }
     ensures { OnOk result
         (printer.new ≡ with_state
-        ((type_rule printer.old.part (readers printer.old.part levels_left) binder_depth printer.old.state
-        (type_form printer.old.part start)).1) printer.old) }
+        ((type_rule printer.old.part (readers printer.old.part here.levels_left) here.binder_depth printer.old.state
+        (type_form printer.old.part printer.old.state.at)).1) printer.old) }
 {
-    let Some(at) = start else {
+    let Some(at) = printer.at else {
         return printer.invalid_syntax();
     };
     if at >= printer.part.len() {
         return printer.invalid_syntax();
     }
-    let letter = byte_at(printer.part.as_bytes(), at);
-    match basic_type(letter) {
+    match basic_type(byte_at(printer.part.as_bytes(), at)) {
         Some(text) => {
             printer.seek(Some(at + 1));
             printer.write(text)
         }
-        None => print_other_type(printer, levels_left, binder_depth, at, letter),
+        None => print_other_type(printer, here, at),
     }
 }
 
 // A type that isn't a basic type.
 #[cycle(printing)]
 #[tactic(auto, unfolding(binfarce_v0_state::specs::machine::Printing::type_rule, binfarce_v0_grammar::specs::Forms::type_form_by))]
-fn print_other_type(
-    printer: &mut Printer<'_>,
-    levels_left: usize,
-    binder_depth: usize,
-    at: usize,
-    letter: u8,
-) -> Result<(), AllocError>
-    requires levels { WithinLevels (levels_left + 1) binder_depth }
+fn print_other_type(printer: &mut Printer<'_>, here: Place, at: usize) -> Result<(), AllocError>
+    requires entered { WithinLevels (here.levels_left + 1) here.binder_depth }
     requires within { at < length printer.now.part }
     ensures { OnOk result
         (printer.new ≡ with_state
-        ((type_rule printer.old.part (readers printer.old.part levels_left) binder_depth printer.old.state
-        (type_form_by printer.old.part at letter)).1) printer.old) }
+        ((type_rule printer.old.part (readers printer.old.part here.levels_left) here.binder_depth printer.old.state
+        (type_form_by printer.old.part at (slice_index printer.old.part at))).1) printer.old) }
 {
     let bytes = printer.part.as_bytes();
     let after = at + 1;
-    match letter {
-        b'R' => print_reference(printer, levels_left, binder_depth, false, after),
-        b'Q' => print_reference(printer, levels_left, binder_depth, true, after),
-        b'P' => print_pointer(printer, levels_left, binder_depth, "*const ", after),
-        b'O' => print_pointer(printer, levels_left, binder_depth, "*mut ", after),
-        b'S' => print_slice(printer, levels_left, binder_depth, after),
-        b'A' => print_array(printer, levels_left, binder_depth, after),
-        b'T' => print_tuple(printer, levels_left, binder_depth, after),
-        b'F' => print_function_form(printer, levels_left, binder_depth, after),
-        b'D' => print_dyn_form(printer, levels_left, binder_depth, after),
+    match byte_at(bytes, at) {
+        b'R' => print_reference(printer, here, false, after),
+        b'Q' => print_reference(printer, here, true, after),
+        b'P' => print_pointer(printer, here, "*const ", after),
+        b'O' => print_pointer(printer, here, "*mut ", after),
+        b'S' => print_slice(printer, here, after),
+        b'A' => print_array(printer, here, after),
+        b'T' => print_tuple(printer, here, after),
+        b'F' => print_function_form(printer, here, after),
+        b'D' => print_dyn_form(printer, here, after),
         b'B' => match back_reference(bytes, at) {
             Some((target, end)) => {
                 let production = Production::Type;
-                print_target(printer, levels_left, binder_depth, production, target, end)?;
+                print_target(printer, here, production, target, end)?;
                 Ok(())
             }
             None => printer.invalid_syntax(),
         },
         _ => {
-            print_path(printer, levels_left, binder_depth, Position::InType)?;
+            print_path(printer, here, Position::InType)?;
             Ok(())
         }
     }
@@ -126,43 +102,35 @@ fn print_other_type(
 // `"S" <type>`, after the letter.
 #[cycle(printing)]
 #[tactic(auto, unfolding(binfarce_v0_state::specs::machine::Printing::type_rule))]
-fn print_slice(
-    printer: &mut Printer<'_>,
-    levels_left: usize,
-    binder_depth: usize,
-    after: usize,
-) -> Result<(), AllocError>
-    requires levels { WithinLevels levels_left binder_depth }
+fn print_slice(printer: &mut Printer<'_>, here: Place, after: usize) -> Result<(), AllocError>
     ensures { OnOk result
         (printer.new ≡ with_state
-        ((type_rule printer.old.part (readers printer.old.part levels_left) binder_depth printer.old.state
+        ((type_rule printer.old.part (readers printer.old.part here.levels_left) here.binder_depth printer.old.state
         (SliceOf after)).1) printer.old) }
 {
     printer.seek(Some(after));
     printer.write("[")?;
-    print_type(printer, levels_left, binder_depth)?;
+    print_type(printer, here)?;
     printer.write("]")
 }
 
 // `"D" ..`, after the letter.
 #[cycle(printing)]
 #[tactic(auto, unfolding(binfarce_v0_state::specs::machine::Printing::type_rule))]
-fn print_dyn_form(
-    printer: &mut Printer<'_>,
-    levels_left: usize,
-    binder_depth: usize,
-    at: usize,
-) -> Result<(), AllocError>
-    requires levels { WithinLevels (levels_left + 1) binder_depth }
+fn print_dyn_form(printer: &mut Printer<'_>, here: Place, at: usize) -> Result<(), AllocError>
+    requires entered { WithinLevels (here.levels_left + 1) here.binder_depth }
     ensures { OnOk result
         (printer.new ≡ with_state
-        ((type_rule printer.old.part (readers printer.old.part levels_left) binder_depth printer.old.state
+        ((type_rule printer.old.part (readers printer.old.part here.levels_left) here.binder_depth printer.old.state
         (option_map_or (λ b. DynOf b.0 b.1) (optional_base_62_number printer.old.part 71 at) InvalidDyn)).1)
         printer.old) }
 {
     match optional_base_62_number(printer.part.as_bytes(), b'G', at) {
-        Some((binder, after)) => print_dyn(printer, levels_left, binder_depth, binder, after),
-        None => print_invalid_dyn(printer),
+        Some((binder, after)) => print_dyn(printer, here, binder, after),
+        None => {
+            printer.seek(None);
+            printer.write("dyn ??")
+        }
     }
 }
 
@@ -170,35 +138,28 @@ fn print_dyn_form(
 #[cycle(printing)]
 fn print_pointer(
     printer: &mut Printer<'_>,
-    levels_left: usize,
-    binder_depth: usize,
+    here: Place,
     mark: &'static str,
     after: usize,
 ) -> Result<(), AllocError>
-    requires levels { WithinLevels levels_left binder_depth }
     ensures { OnOk result
         (printer.new ≡ with_state
-        ((readers printer.old.part levels_left).ty binder_depth
+        ((readers printer.old.part here.levels_left).ty here.binder_depth
         (write mark.now (seek (Some after) printer.old.state))).1 printer.old) }
 {
     printer.seek(Some(after));
     printer.write(mark)?;
-    print_type(printer, levels_left, binder_depth)
+    print_type(printer, here)
 }
 
 // `"F" ..`, after the letter.
 #[cycle(printing)]
 #[tactic(auto, unfolding(binfarce_v0_state::specs::machine::Printing::type_rule))]
-fn print_function_form(
-    printer: &mut Printer<'_>,
-    levels_left: usize,
-    binder_depth: usize,
-    at: usize,
-) -> Result<(), AllocError>
-    requires levels { WithinLevels (levels_left + 1) binder_depth }
+fn print_function_form(printer: &mut Printer<'_>, here: Place, at: usize) -> Result<(), AllocError>
+    requires entered { WithinLevels (here.levels_left + 1) here.binder_depth }
     ensures { OnOk result
         (printer.new ≡ with_state
-        ((type_rule printer.old.part (readers printer.old.part levels_left) binder_depth printer.old.state
+        ((type_rule printer.old.part (readers printer.old.part here.levels_left) here.binder_depth printer.old.state
         (function_form printer.old.part (optional_base_62_number printer.old.part 71 at))).1) printer.old) }
 {
     match function_form(
@@ -206,55 +167,47 @@ fn print_function_form(
         optional_base_62_number(printer.part.as_bytes(), b'G', at),
     ) {
         FunctionForm::FunctionOf(signature, after) => {
-            print_function(printer, levels_left, binder_depth, signature, after)
+            print_function(printer, here, signature, after)
         }
-        FunctionForm::InvalidAbi(binder) => print_invalid_function(printer, binder_depth, binder),
+        FunctionForm::InvalidAbi(binder) => print_invalid_function(
+            printer,
+            here.binder_depth,
+            binder,
+        ),
         _ => printer.invalid_syntax(),
     }
 }
 
 // `"A" <type> <const>`
 #[cycle(printing)]
-fn print_array(
-    printer: &mut Printer<'_>,
-    levels_left: usize,
-    binder_depth: usize,
-    after: usize,
-) -> Result<(), AllocError>
-    requires levels { WithinLevels levels_left binder_depth }
+fn print_array(printer: &mut Printer<'_>, here: Place, after: usize) -> Result<(), AllocError>
     ensures { OnOk result
         (printer.new ≡ with_state
-        ((array_rule (readers printer.old.part levels_left)
-        ((readers printer.old.part levels_left).ty binder_depth
+        ((array_rule (readers printer.old.part here.levels_left)
+        ((readers printer.old.part here.levels_left).ty here.binder_depth
         (write (codes "[") (seek (Some after) printer.old.state)))).1) printer.old) }
 {
     printer.seek(Some(after));
     printer.write("[")?;
-    print_type(printer, levels_left, binder_depth)?;
+    print_type(printer, here)?;
     printer.write("; ")?;
-    print_const(printer, levels_left)?;
+    print_const(printer, here)?;
     printer.write("]")
 }
 
 // `"T" {<type>} "E"`
 #[cycle(printing)]
 #[tactic(auto, using(crate::proofs::ListLemmas::single_mark_count))]
-fn print_tuple(
-    printer: &mut Printer<'_>,
-    levels_left: usize,
-    binder_depth: usize,
-    after: usize,
-) -> Result<(), AllocError>
-    requires levels { WithinLevels levels_left binder_depth }
+fn print_tuple(printer: &mut Printer<'_>, here: Place, after: usize) -> Result<(), AllocError>
     ensures { OnOk result
         (printer.new ≡ with_state
-        (tuple_end (items_from printer.old.part (readers printer.old.part levels_left) binder_depth Types (codes ", ")
+        (tuple_end (items_from printer.old.part (readers printer.old.part here.levels_left) here.binder_depth Types (codes ", ")
         (write (codes "(") (seek (Some after) printer.old.state)))).1 printer.old) }
 {
     printer.seek(Some(after));
     printer.write("(")?;
-    let count = print_items(printer, levels_left, binder_depth, Listed::Types, ", ")?;
-    printer.write(single_mark(count))?;
+    let count = print_items(printer, here, Listed::Types, ", ")?;
+    printer.write(if count == 1 { "," } else { "" })?;
     printer.write(")")
 }
 
@@ -263,45 +216,46 @@ fn print_tuple(
 #[tactic(auto, unfolding(binfarce_v0_state::specs::machine::Printing::type_rule))]
 fn print_reference(
     printer: &mut Printer<'_>,
-    levels_left: usize,
-    binder_depth: usize,
+    here: Place,
     mutable: bool,
     at: usize,
 ) -> Result<(), AllocError>
-    requires levels { WithinLevels levels_left binder_depth }
     ensures { OnOk result
         (printer.new ≡ with_state
-        ((type_rule printer.old.part (readers printer.old.part levels_left) binder_depth printer.old.state
+        ((type_rule printer.old.part (readers printer.old.part here.levels_left) here.binder_depth printer.old.state
         (reference_form mutable (lifetime printer.old.part (Some at)))).1) printer.old) }
 {
     let (life, end) = lifetime_form(printer.part.as_bytes(), Some(at));
     let Some(after) = end else {
-        return print_invalid_reference(printer);
+        if printer.take(1) {
+            printer.seek(None);
+            printer.write("&?")?;
+        }
+        return Ok(());
     };
     if !printer.take_lifetime(life) {
         return Ok(());
     }
-    printer.seek(bound_end(binder_depth, life, Some(after)));
+    printer.seek(bound_end(here.binder_depth, life, Some(after)));
     printer.write("&")?;
-    printer.put(ReferenceLifetime { binder_depth, life })?;
+    printer.put(ReferenceLifetime(here.binder_depth, life))?;
     printer.write(if mutable { "mut " } else { "" })?;
-    print_type(printer, levels_left, binder_depth)
+    print_type(printer, here)
 }
 
 // A function type.
 #[cycle(printing)]
 fn print_function<'a>(
     printer: &mut Printer<'a>,
-    levels_left: usize,
-    binder_depth: usize,
+    here: Place,
     signature: Signature<'a>,
     after: usize,
 ) -> Result<(), AllocError>
-    requires levels { WithinLevels (levels_left + 1) binder_depth }
+    requires entered { WithinLevels (here.levels_left + 1) here.binder_depth }
     ensures { OnOk result
         (printer.new ≡ with_state
         ((taking signature.entry.binder NoType printer.old.state
-        (function_rule printer.old.part (readers printer.old.part levels_left) binder_depth
+        (function_rule printer.old.part (readers printer.old.part here.levels_left) here.binder_depth
         (signature_view signature.entry) after)).1) printer.old) }
 {
     if !printer.take(signature.binder) {
@@ -309,12 +263,12 @@ fn print_function<'a>(
     }
     printer.seek(Some(after));
     printer.put(Binder {
-        binder_depth,
+        binder_depth: here.binder_depth,
         count: signature.binder as usize,
     })?;
     printer.put(signature)?;
-    let inner = binder_depth + signature.binder as usize;
-    print_items(printer, levels_left, inner, Listed::Types, ", ")?;
+    let inner = here.under(signature.binder as usize);
+    print_items(printer, inner, Listed::Types, ", ")?;
     printer.write(")")?;
     match eat(printer.part.as_bytes(), b'u', printer.at) {
         Some(after) => {
@@ -323,7 +277,7 @@ fn print_function<'a>(
         }
         None => {
             printer.write(" -> ")?;
-            print_type(printer, levels_left, inner)
+            print_type(printer, inner)
         }
     }
 }
@@ -332,17 +286,16 @@ fn print_function<'a>(
 #[cycle(printing)]
 fn print_dyn(
     printer: &mut Printer<'_>,
-    levels_left: usize,
-    binder_depth: usize,
+    here: Place,
     binder: u64,
     after: usize,
 ) -> Result<(), AllocError>
-    requires levels { WithinLevels (levels_left + 1) binder_depth }
+    requires entered { WithinLevels (here.levels_left + 1) here.binder_depth }
     ensures { OnOk result
         (printer.new ≡ with_state
         ((taking binder NoType
         printer.old.state (dyn_rule printer.old.part
-        (readers printer.old.part levels_left) binder_depth binder after)).1) printer.old) }
+        (readers printer.old.part here.levels_left) here.binder_depth binder after)).1) printer.old) }
 {
     if !printer.take(binder) {
         return Ok(());
@@ -350,17 +303,11 @@ fn print_dyn(
     printer.seek(Some(after));
     printer.write("dyn ")?;
     printer.put(Binder {
-        binder_depth,
+        binder_depth: here.binder_depth,
         count: binder as usize,
     })?;
-    print_items(
-        printer,
-        levels_left,
-        binder_depth + binder as usize,
-        Listed::Traits,
-        " + ",
-    )?;
-    print_dyn_lifetime(printer, binder_depth)
+    print_items(printer, here.under(binder as usize), Listed::Traits, " + ")?;
+    print_dyn_lifetime(printer, here.binder_depth)
 }
 
 // The lifetime of a dyn type, which is outside its binder.
@@ -374,30 +321,9 @@ fn print_dyn_lifetime(printer: &mut Printer<'_>, binder_depth: usize) -> Result<
     let (life, end) = lifetime_form(printer.part.as_bytes(), printer.at);
     if printer.take_lifetime(life) {
         printer.seek(required_end(binder_depth, life, end));
-        printer.put(DynLifetime { binder_depth, life })?;
+        printer.put(DynLifetime(binder_depth, life))?;
     }
     Ok(())
-}
-
-// A reference whose lifetime is invalid.
-fn print_invalid_reference(printer: &mut Printer<'_>) -> Result<(), AllocError>
-    ensures { OnOk result
-        (printer.new ≡ with_state ((taking 1 NoType printer.old.state invalid_reference).1) printer.old) }
-{
-    if printer.take(1) {
-        printer.seek(None);
-        printer.write("&?")?;
-    }
-    Ok(())
-}
-
-// A dyn type whose binder is invalid.
-fn print_invalid_dyn(printer: &mut Printer<'_>) -> Result<(), AllocError>
-    ensures { OnOk result
-        (printer.new ≡ with_state (write (codes "dyn ??") (seek None printer.old.state)) printer.old) }
-{
-    printer.seek(None);
-    printer.write("dyn ??")
 }
 
 // A function type whose ABI is invalid.

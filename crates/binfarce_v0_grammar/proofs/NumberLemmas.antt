@@ -291,26 +291,6 @@ hex_fits i value digit h small d =
     let top : 16 ^ (i + 1) ≤ 16 ^ 16 = pow-le-pow_right {n = 16} (omega arith) {i = i + 1} {j = 16} (omega arith) in
     (below, omega arith)
 
-pub number_from_past : (s : List ℕ) (value at : ℕ) → length s ≤ at → number_from (drop at s) value at ≡ None
-number_from_past s value at h = ap (λ (l : List ℕ). number_from l value at) (drop_of_length-le s {i = at} h)
-
--- ten base-62 digits write a number below 2^64
-pub digits_fit : (i value digit : ℕ) → i < 10 → value < 62 ^ i → digit < 62 → (value * 62 + digit < 62 ^ (i + 1)) × (value * 62 + digit + 1 < 2 ^ 64)
-digits_fit i value digit h small d =
-    let below : value * 62 + digit < 62 ^ (i + 1) = omega (arith, pow_more 62 i) in
-    let top : 62 ^ (i + 1) ≤ 62 ^ 10 = pow-le-pow_right {n = 62} (omega arith) {i = i + 1} {j = 10} (omega arith) in
-    (below, omega arith)
-
 pub digit_below : (c : ℕ) → is_ascii_alphanumeric c ≡ true → digit_62 c < 62
 unfolding digit_62
 digit_below c h = grind (arith, nat_tests)
-
-pub number_from_ends : (s : List ℕ) (at value : ℕ) → at < length s → get_or s at 0 ≡ 95 → value + 1 < 2 ^ 64 → number_from (drop at s) value at ≡ Some (value + 1, at + 1)
-number_from_ends s at value h e small =
-    number_from_step s at value h ∙ cond-true (eqb (get_or s at 0) 95) _ _ (eq-eqb (get_or s at 0) 95 e) ∙ limited_small (value + 1) (at + 1) small
-
-pub number_from_digit : (s : List ℕ) (at value digit : ℕ) → at < length s → (get_or s at 0 ≡ 95 → ⊥) → is_ascii_alphanumeric (get_or s at 0) ≡ true → digit ≡ digit_62 (get_or s at 0)
-    → number_from (drop at s) value at ≡ number_from (drop (at + 1) s) (value * 62 + digit) (at + 1)
-number_from_digit s at value digit h ne is e =
-    number_from_step s at value h ∙ cond-false (eqb (get_or s at 0) 95) _ _ (ne_eqb (get_or s at 0) 95 ne) ∙ cond-true (is_ascii_alphanumeric (get_or s at 0)) _ None is
-    ∙ ap (λ d. number_from (drop (at + 1) s) (value * 62 + d) (at + 1)) (sym e)

@@ -8,14 +8,6 @@ use Rattle.std.proofs.lemmas.List.Sums.{suffix_len-le-length}
 use Rattle.std.proofs.lemmas.Str.{IsCharBoundary-after_ascii, IsCharBoundary-from_ascii, IsAscii-take, IsAscii-drop}
 use Rattle.binfarce_v0_grammar.specs.Identifiers.{identifier_of, is_empty}
 
--- a text may be split after an "R"
-pub boundary_after_letter : (text : List ℕ) (n : ℕ) → IsUtf8 text → 0 < n → n ≤ length text → get_or text (n - 1) 0 ≡ 82 → IsCharBoundary text n
-boundary_after_letter text n u p h e =
-    let next : n - 1 + 1 ≡ n = omega arith in
-    subst (λ k. IsCharBoundary text k) next (IsCharBoundary-after_ascii text (n - 1) u (omega arith) (omega arith))
-
-pub ruleset after_letter = (boundary_after_letter)
-
 pub ruleset ascii_parts = (IsCharBoundary-from_ascii, IsAscii-take, IsAscii-drop)
 
 abbrev punycode_at : List ℕ → ℕ

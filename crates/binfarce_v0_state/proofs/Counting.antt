@@ -39,12 +39,6 @@ grown_whole (Some n) text more whole =
     let short : length (text ++ take j more) + 1 ≤ n = grind (arith, nat_tests) in
     ap (λ (xs : List ℕ). text ++ xs) (take_all j more (omega (arith, short, length-append text (take j more), length-take j more)))
 
--- nothing more is counted
-pub grown_full : (n : ℕ) (text more : List ℕ) → n ≤ length text → grown (Some n) text more ≡ text
-grown_full n text more full =
-    let none : n - length text ≡ 0 = omega (arith, full) in
-    ap (λ (k : ℕ). text ++ take k more) none ∙ append-nil text
-
 pub grown_first : (most : Option ℕ) (text : List ℕ) → grown most [] text ≡ counted most text
 grown_first None text = refl
 grown_first (Some n) text = ap (λ (k : ℕ). take k text) (let all : n - 0 ≡ n = omega arith in all)

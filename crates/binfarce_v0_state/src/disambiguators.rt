@@ -1,8 +1,9 @@
 //! Crates' disambiguators as they are shown.
 
-ghost use Rattle.std.specs.Prelude.{◌≡◌, ◌<◌, ◌≤◌, drop, false, length, true};
-ghost use Rattle.std.specs.Fmt.{digit_glyph};
+ghost use Rattle.std.specs.Prelude.{◌≡◌, ◌≤◌, drop, length, true};
 ghost use Rattle.binfarce_v0_state.specs.LeafTexts.{disambiguator_text};
+
+use binfarce_text::digits::hex_digit;
 
 /// Puts a disambiguator at the end of 18 bytes: where it begins.
 #[inline(always)]
@@ -22,14 +23,4 @@ pub fn put_disambiguator(shown: &mut [u8], n: u64) -> usize
     shown[at] = hex_digit(rest);
     shown[at - 1] = b'[';
     at - 1
-}
-
-// A lower-case hexadecimal digit.
-#[inline(always)]
-fn hex_digit(value: u64) -> u8
-    requires { value < 16 }
-    ensures { result ≡ digit_glyph false value }
-{
-    const DIGITS: [u8; 16] = *b"0123456789abcdef";
-    DIGITS[value as usize]
 }

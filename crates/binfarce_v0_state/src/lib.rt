@@ -5,6 +5,7 @@
 mod disambiguators;
 pub mod fragments;
 pub mod memory;
+pub mod place;
 pub mod position;
 pub mod state;
 pub mod targets;

@@ -1,6 +1,6 @@
 //! The state of a printing: its position, its counts and its texts.
 
-ghost use Rattle.std.specs.Prelude.{◌≡◌, ◌-◌, ◌^◌, ℕ, List, length, min, ◌≤◌, ◌++◌, IfOk, OnOk, OnErr, IsTrue, MatchOption, option_map, true, false, if◌then◌else◌, ◌&&◌, nat_le};
+ghost use Rattle.std.specs.Prelude.{◌≡◌, ◌+◌, ◌-◌, ◌^◌, ℕ, List, length, min, ◌≤◌, ◌++◌, IfOk, OnOk, OnErr, IsTrue, MatchOption, option_map, true, false, if◌then◌else◌, ◌&&◌, nat_le};
 ghost use Rattle.std.specs.Str.{IsAscii};
 ghost use Rattle.std.specs.String.{string_bytes};
 ghost use Rattle.binfarce_v0_grammar.specs.Tree.{lifetime_steps};
@@ -10,6 +10,7 @@ ghost use Rattle.binfarce_v0_state.specs.machine.Counted.{counted, is_whole};
 ghost use Rattle.binfarce_v0_state.specs.machine.Printing.{with_state, first_printing, write, disambiguate, seek, after_invalid_syntax, stopped, take, entered, rooted, into, back_to, set_muted, has_room};
 
 use crate::fragments::{Fragments, or_forget, share};
+use crate::place::Place;
 use crate::text::{Disambiguator, Leaf};
 use binfarce_v0_grammar::forms::Lifetime;
 use binfarce_v0_grammar::identifiers::UndisambiguatedIdentifier;
@@ -288,21 +289,11 @@ impl<'a> Printer<'a> {
     #[inline(always)]
     pub fn into_buffers(self) -> Buffers {
         let Printer {
-            part: _,
-            at: _,
-            steps_left: _,
-            least_levels_left: _,
-            limit_exceeded: _,
             complete,
             trimmed,
             text,
-            muted: _,
-            full: _,
-            in_back_reference: _,
-            root: _,
             kept,
-            most: _,
-            visits: _,
+            ..
         } = self;
         Buffers {
             complete,
@@ -368,23 +359,24 @@ impl<'a> Printer<'a> {
         self.take(lifetime_steps(life))
     }
 
-    /// Takes a level and a step, where one of each is left. Returns the levels left below.
+    /// Takes a level and a step, where one of each is left. Returns the place below.
     #[inline(always)]
-    pub fn enter(&mut self, levels_left: usize) -> Option<usize>
+    pub fn enter(&mut self, here: Place) -> Option<Place>
         ensures entered { self.new
-            ≡ with_state (if nat_le 1 levels_left && nat_le 1 self.old.state.steps_left then entered (levels_left - 1)
-            self.old.state else stopped self.old.state) self.old }
-        ensures below { MatchOption result ((nat_le 1 levels_left && nat_le 1 self.old.state.steps_left) ≡ false)
-            (λ below. ((nat_le 1 levels_left && nat_le 1 self.old.state.steps_left) ≡ true)
-            × (below ≡ levels_left - 1)) }
+            ≡ with_state (if nat_le 1 here.levels_left && nat_le 1 self.old.state.steps_left then entered
+            (here.levels_left - 1) self.old.state else stopped self.old.state) self.old }
+        ensures below { MatchOption result ((nat_le 1 here.levels_left && nat_le 1 self.old.state.steps_left) ≡ false)
+            (λ below. ((nat_le 1 here.levels_left && nat_le 1 self.old.state.steps_left) ≡ true)
+            × (below.levels_left + 1 ≡ here.levels_left) × (below.binder_depth ≡ here.binder_depth)) }
     {
-        if levels_left == 0 || self.steps_left == 0 {
+        if here.levels_left == 0 || self.steps_left == 0 {
             self.stop();
             return None;
         }
-        let below = levels_left - 1;
+        let mut below = here;
+        below.levels_left -= 1;
         self.steps_left -= 1;
-        self.least_levels_left = self.least_levels_left.min(below);
+        self.least_levels_left = self.least_levels_left.min(below.levels_left);
         self.visit();
         Some(below)
     }

@@ -1,2 +1,3 @@
+pub mod Counts
 pub mod LastGiven
 pub mod WordLoop

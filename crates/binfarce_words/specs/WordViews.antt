@@ -8,7 +8,7 @@ use Rattle.binfarce_words.specs.declared.words.Call.TheVariants as calls
 use Rattle.binfarce_words.specs.declared.words.Arguments.{Arguments}
 use Rattle.binfarce_words.specs.declared.words.Reading.{Reading}
 use Rattle.binfarce_words.specs.declared.words.Wrong.{Wrong}
-use Rattle.binfarce_words.specs.declared.words.Wrong.TheVariants.{NoCommand, UnknownCommand, UnknownOption, NoValue, Exclusive, NoAddress, NoFile, TooMany, NotUtf8, OutOfMemory}
+use Rattle.binfarce_words.specs.declared.words.Wrong.TheVariants.{NoCommand, UnknownCommand, UnknownOption, NoValue, Exclusive, NoAddress, BadValue, NoFile, TooMany, NotUtf8, OutOfMemory}
 
 abbrev pub given_view : Arguments → words.Arguments
 given_view g = record { options = map (λ it. (it.0, it.1.now)) g.options.items; operands = map (λ t. t.now) g.operands.items }
@@ -33,6 +33,7 @@ wrong_words (UnknownOption command word (Some near)) =
 wrong_words (NoValue flag) = flag_name flag ++ codes " has no value"
 wrong_words (Exclusive one other) = flag_name one ++ (codes " and " ++ (flag_name other ++ codes " exclude each other"))
 wrong_words (NoAddress word) = codes "not an address: " ++ word.now
+wrong_words (BadValue flag word) = flag_name flag ++ (codes " does not take " ++ word.now)
 wrong_words (NoFile command) = codes "no file; binfarce " ++ (command_name command ++ codes " --help shows how it is called")
 wrong_words (TooMany word) = codes "one argument too many: " ++ word.now
 wrong_words NotUtf8 = codes "an argument is not UTF-8"
@@ -46,6 +47,7 @@ wrong_view (UnknownOption command word nearest) = words.unknown_option command w
 wrong_view (NoValue flag) = words.no_value flag
 wrong_view (Exclusive one other) = words.exclusive one other
 wrong_view (NoAddress word) = words.no_address word.now
+wrong_view (BadValue flag word) = words.not_taken flag word.now
 wrong_view (NoFile command) = words.no_file command
 wrong_view (TooMany word) = words.too_many word.now
 wrong_view NotUtf8 = words.not_utf8

@@ -1,15 +1,19 @@
 -- The call that the words mean: `COMMAND [OPTION..] [OPERAND..]`.
-use Rattle.std.specs.Prelude.{◌==◌, ◌++◌, ◌&&◌, ◌||◌, ℕ, Bool, true, false, not, List, [], ◌∷◌, codes, find, reverse, length, Option, Some, None, is_some, is_none, Result, Ok, Err, if◌then◌else◌}
-use Rattle.std.specs.Option.{option_map}
-use Rattle.std.specs.List.{position_or_len, before_first, after_first}
+use Rattle.std.specs.Prelude.{◌==◌, ◌^◌, ◌++◌, ◌&&◌, ◌||◌, ℕ, Bool, true, false, not, List, [], ◌∷◌, codes, find, reverse, length, nat_lt, Option, Some, None, is_some, is_none, Result, Ok, Err, if◌then◌else◌}
+use Rattle.std.specs.Char.{digit_value}
+use Rattle.std.specs.Option.{option_map, option_and_then}
+use Rattle.std.specs.List.{list_all, position_or_len, before_first, after_first}
 use Rattle.std.specs.Str.{byte, bytes_eq}
+use Rattle.std.specs.Str.Parse.{digits_value, without_leading_plus}
 use Rattle.binfarce_addresses.specs.Address.{address_of}
 use Rattle.binfarce_words.specs.declared.words.Command.{Command}
 use Rattle.binfarce_words.specs.declared.words.Command.TheVariants.{List as Listing, Size, Map, Filter, At, Section}
 use Rattle.binfarce_words.specs.declared.words.Flag.{Flag}
 use Rattle.binfarce_words.specs.declared.words.Flag.TheVariants as flags
 use Rattle.binfarce_words.specs.declared.words.Takes.{Takes}
-use Rattle.binfarce_words.specs.declared.words.Takes.TheVariants.{Nothing, Text, Address}
+use Rattle.binfarce_words.specs.declared.words.Takes.TheVariants.{Nothing, Text, Address, Count, Order as TakesOrder}
+use Rattle.binfarce_tools.specs.declared.order.Order.{Order}
+use Rattle.binfarce_tools.specs.declared.order.Order.TheVariants as orders
 
 -- the commands, and the name of each
 abbrev pub commands : List Command
@@ -25,7 +29,7 @@ command_name Section = codes "section"
 
 -- the options of a command
 abbrev pub flags_of : Command → List Flag
-flags_of Listing = flags.Help ∷ flags.Section ∷ flags.Dynamic ∷ flags.All ∷ []
+flags_of Listing = flags.Help ∷ flags.Section ∷ flags.Dynamic ∷ flags.All ∷ flags.Sort ∷ flags.First ∷ flags.NoTotal ∷ flags.Raw ∷ flags.Full ∷ []
 flags_of Size = flags.Help ∷ flags.Section ∷ flags.Dynamic ∷ flags.All ∷ []
 flags_of Map = flags.Help ∷ flags.Section ∷ flags.Dynamic ∷ flags.All ∷ []
 flags_of Filter = flags.Help ∷ flags.Full ∷ []
@@ -42,6 +46,23 @@ form_of flags.Return = (codes "--return", [], Nothing)
 form_of flags.Annotate = (codes "--annotate", [], Nothing)
 form_of flags.Dynamic = (codes "--dynamic", [], Nothing)
 form_of flags.All = (codes "--all", [], Nothing)
+form_of flags.Sort = (codes "--sort", [], TakesOrder)
+form_of flags.First = (codes "--first", codes "-n", Count)
+form_of flags.NoTotal = (codes "--no-total", [], Nothing)
+form_of flags.Raw = (codes "--raw", [], Nothing)
+
+-- the orders of lines, and the name of each
+abbrev pub all_orders : List Order
+all_orders = orders.Address ∷ orders.Size ∷ orders.Name ∷ []
+
+abbrev pub order_name : Order → List ℕ
+order_name orders.Address = codes "address"
+order_name orders.Size = codes "size"
+order_name orders.Name = codes "name"
+
+-- the order of this name
+abbrev pub order_named : List ℕ → Option Order
+order_named name = find (λ order. bytes_eq (order_name order) name) all_orders
 
 abbrev pub flag_name : Flag → List ℕ
 flag_name flag = (form_of flag).0
@@ -54,6 +75,7 @@ pub data Wrong : Type 0 where
   no_value : (flag : Flag) → Wrong
   exclusive : (one other : Flag) → Wrong
   no_address : (word : List ℕ) → Wrong
+  not_taken : (flag : Flag) (word : List ℕ) → Wrong
   no_file : (command : Command) → Wrong
   too_many : (word : List ℕ) → Wrong
   not_utf8 : Wrong
@@ -87,14 +109,42 @@ number_in (Some value) = address_of value
 abbrev pub number_given : Flag → Arguments → Option ℕ
 number_given flag given = number_in (value_given flag given)
 
-abbrev pub is_address : Takes → Bool
-is_address Address = true
-is_address takes = false
+-- the number below 2^64 that decimal digits write, perhaps behind a plus
+abbrev pub count_of : (digits : List ℕ) → Option ℕ
+count_of digits = if nat_lt 0 (length digits) && (list_all (λ c. nat_lt (digit_value c) 10) digits && nat_lt (digits_value 10 digits) (2 ^ 64)) then Some (digits_value 10 digits) else None
+
+abbrev pub count_in : (value : List ℕ) → Option ℕ
+count_in value = count_of (without_leading_plus value)
+
+-- the number that is the option's value
+abbrev pub count_given : Flag → Arguments → Option ℕ
+count_given flag given = option_and_then count_in (value_given flag given)
+
+-- the order that is asked for
+abbrev pub order_given : Arguments → Option Order
+order_given given = option_and_then order_named (value_given flags.Sort given)
+
+-- whether an option that takes this takes the value
+abbrev pub is_met_by : Takes → (value : List ℕ) → Bool
+is_met_by Nothing value = true
+is_met_by Text value = true
+is_met_by Address value = is_some (address_of value)
+is_met_by Count value = is_some (count_in value)
+is_met_by TakesOrder value = is_some (order_named value)
+
+-- why an option doesn't take the value
+abbrev pub bad_value_of : Takes → Flag → (value : List ℕ) → Wrong
+bad_value_of Address flag value = no_address value
+bad_value_of takes flag value = not_taken flag value
+
+abbrev pub bad_value : Flag → (value : List ℕ) → Wrong
+bad_value flag value = bad_value_of (form_of flag).2 flag value
 
 -- the options with one more, whose value must be what it takes
 abbrev pub with_option : Arguments → Flag → (value : List ℕ) → Result Arguments Wrong
-with_option given flag value = if is_address (form_of flag).2 && is_none (address_of value) then Err (no_address value)
-    else Ok (record given { options = given.options ++ (flag, value) ∷ [] })
+with_option given flag value = if is_met_by (form_of flag).2 value
+    then Ok (record given { options = given.options ++ (flag, value) ∷ [] })
+    else Err (bad_value flag value)
 
 abbrev pub with_operand : Arguments → List ℕ → Arguments
 with_operand given word = record given { operands = given.operands ++ word ∷ [] }
@@ -198,9 +248,14 @@ operands_checked Section annotates (file ∷ section ∷ more ∷ others) = Err 
 operands_checked command true (file ∷ more ∷ others) = Err (too_many more)
 operands_checked command annotates operands = Ok tt
 
--- what is given is checked: not both all sections and one of them; the operands
+-- both options are given
+abbrev pub are_given : (one other : Flag) → Arguments → Bool
+are_given one other given = is_some (value_given one given) && is_some (value_given other given)
+
+-- what is given is checked: no two options that exclude each other; the operands
 abbrev pub checked : Command → Arguments → Result (Unit {0}) Wrong
-checked command given = if is_some (value_given flags.All given) && is_some (value_given flags.Section given) then Err (exclusive flags.All flags.Section)
+checked command given = if are_given flags.All flags.Section given then Err (exclusive flags.All flags.Section)
+    else if are_given flags.Raw flags.Full given then Err (exclusive flags.Raw flags.Full)
     else operands_checked command (is_some (value_given flags.Annotate given)) given.operands
 
 -- the command, or help on it, where that is requested

@@ -4,7 +4,7 @@ use crate::Asking;
 use crate::words::{known, number, push_hex, push_number, push_words};
 use binfarce_addresses::annotate::{annotate_stream, push_annotated};
 use binfarce_addresses::at::{Places, at, at_tables};
-use binfarce_addresses::stream::{LinesError, answer_lines, push_lines as push_lines_of};
+use binfarce_addresses::stream::{StreamError, answer_lines, push_lines as push_lines_of};
 use binfarce_addresses::{Lookup, parse_address};
 use binfarce_tools::SymbolTable;
 use binfarce_tools::list::Out;
@@ -99,10 +99,9 @@ pub(crate) fn push_answers(
 ) -> io::Result<()> {
     let (base, words) = known(words.split_once(' '))?;
     let lines = typed(alloc, quoted(words)?)?;
-    let Ok(mut places) = Places::of_file(alloc, &ELF64_LITTLE, ".text") else {
+    let Ok(places) = Places::of_file(alloc, &ELF64_LITTLE, ".text") else {
         return known(None);
     };
-    places.keep_names(alloc)?;
     let input = Input {
         alloc,
         places: &places,
@@ -171,7 +170,7 @@ fn answered<R: Read + Drop>(
     input: &Input<'_>,
     reader: R,
     target: Target,
-) -> (Result<u64, LinesError>, Vec<u8>) {
+) -> (Result<u64, StreamError>, Vec<u8>) {
     let mut reader = reader;
     let mut out = Out::new(target);
     let (alloc, places, lookup) = (input.alloc, input.places, input.lookup);
@@ -225,7 +224,7 @@ fn are_failed_calls_reported(input: &Input<'_>, answers: &[u8]) -> io::Result<bo
             ..Source::of(part)
         };
         let (ended, taken) = answered(input, source, Target::taking(input.alloc, usize::MAX));
-        if ended != Err(LinesError::Read) || !is_first(input, part, answers, &taken)? {
+        if ended != Err(StreamError::Read) || !is_first(input, part, answers, &taken)? {
             return Ok(false);
         }
     }
@@ -237,7 +236,7 @@ fn are_failed_calls_reported(input: &Input<'_>, answers: &[u8]) -> io::Result<bo
                 ..Target::taking(input.alloc, usize::MAX)
             };
             let (ended, taken) = answered(input, Source::of(input.text), target);
-            if ended != Err(LinesError::Write) || taken.as_slice() != first_bytes(answers, left) {
+            if ended != Err(StreamError::Write) || taken.as_slice() != first_bytes(answers, left) {
                 return Ok(false);
             }
         }

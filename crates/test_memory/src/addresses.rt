@@ -2,7 +2,7 @@
 
 use binfarce_addresses::Lookup;
 use binfarce_addresses::at::{Places, at};
-use binfarce_addresses::stream::{LinesError, answer_lines};
+use binfarce_addresses::stream::{StreamError, answer_lines};
 use binfarce_tools::list::{ListError, Out};
 use std::alloc::{AllocError, Global};
 use test_image_samples::tally::{Row, Tally};
@@ -38,19 +38,18 @@ fn are_lines(alloc: Global) -> Row {
 }
 
 fn is_answered(alloc: Global, text: &[u8]) -> Row {
-    let mut places = match Places::of_file(alloc, &ELF64_LITTLE, ".text") {
+    let places = match Places::of_file(alloc, &ELF64_LITTLE, ".text") {
         Ok(places) => places,
         Err(ListError::OutOfMemory) => return Err(AllocError),
         Err(_) => return Ok(false),
     };
-    places.keep_names(alloc)?;
     let mut input = Source::of(text);
     let mut out = Out::new(Expected::new(LINES.as_bytes()));
     let result = answer_lines(alloc, &places, AS_THEY_ARE, &mut input, &mut out);
     let written = out.into_inner();
     match result {
         Ok(missing) => Ok(missing == 0 && written.is_whole()),
-        Err(LinesError::OutOfMemory) if written.is_beginning() => Err(AllocError),
+        Err(StreamError::OutOfMemory) if written.is_beginning() => Err(AllocError),
         Err(_) => Ok(false),
     }
 }

@@ -1,6 +1,8 @@
 //! Names and their crates.
 
-use binfarce_names::demangle::{Demangler, Kind, SymbolName, crate_of, demangle, push_trimmed};
+use binfarce_names::demangle::{
+    Demangler, Kind, SymbolName, crate_of, demangle, push_shown, push_trimmed,
+};
 use std::alloc::{AllocError, Global};
 
 /// One demangler of all names, and the names after which each is asked for.
@@ -40,6 +42,18 @@ impl Names {
             }
         }
         push_fields(line, &answer)
+    }
+
+    /// Appends the trimmed text of a name and what follows its mangling to an empty line, and whether a demangler gives
+    /// another one.
+    pub fn push_suffixed(&mut self, line: &mut String, name: &str) -> Result<(), AllocError> {
+        push_shown(self.alloc, line, name)?;
+        let mut text = String::new(self.alloc);
+        self.demangler.push_shown(&mut text, name)?;
+        if text.as_str() != line.as_str() {
+            line.push_str(" otherwise after another name")?;
+        }
+        Ok(())
     }
 }
 

@@ -1,9 +1,7 @@
 //! What a printing of a v0 name takes.
 
 use binfarce_v0::mangling::print;
-use binfarce_v0::paths::print_path;
 use binfarce_v0_grammar::limits::{MAX_LEVELS, MAX_STEPS};
-use binfarce_v0_state::position::Position;
 use binfarce_v0_state::state::{Buffers, Printer};
 use std::alloc::Global;
 use std::io::{self, Error, ErrorKind};
@@ -36,7 +34,6 @@ fn visits(alloc: Global, part: &str, full: bool, muted: bool) -> io::Result<usiz
         return Err(Error::from(ErrorKind::InvalidData));
     }
     let mut printer = Printer::new(Buffers::empty(alloc), part, full, muted, None);
-    printer.prepare()?;
-    print_path(&mut printer, MAX_LEVELS, 0, Position::InValue)?;
+    let _ = print(&mut printer)?;
     Ok(printer.visits)
 }

@@ -5,12 +5,11 @@
 pub mod address;
 pub mod annotate;
 pub mod at;
-mod cells;
 mod digits;
 pub mod lookup;
-pub mod marks;
 mod names;
 pub mod ranges;
+mod slices;
 pub mod stream;
 
 pub use crate::erased::binfarce_addresses::address::parse_address;

@@ -5,9 +5,9 @@
 mod program;
 
 use crate::shim::HostRuntime;
-use crate::erased::binfarce_size::program::{Fault, run, words};
+use crate::erased::binfarce_size::program::{Fault, run};
 use crate::erased::binfarce_tools::list::Out;
-use crate::erased::binfarce_tools::program::{arguments, exit, finish, open};
+use crate::erased::binfarce_tools::program::{arguments, exit, file_and_section, finish, open};
 use crate::shim::io;
 use std::process::ExitCode;
 
@@ -17,7 +17,7 @@ pub fn main(rt: HostRuntime) -> ExitCode {
 
 fn report_file(rt: &HostRuntime) -> Result<(), Fault> {
     let arguments = arguments(rt)?;
-    let (path, section) = words(arguments.as_slice())?;
+    let (path, section) = file_and_section(arguments.as_slice())?;
     let mut file = open(rt, path)?;
     let mut out = Out::new(io::writer(rt));
     let reported = run(rt.alloc(), &mut file, section, &mut out);

@@ -6,8 +6,10 @@ pub mod functions;
 mod head;
 pub mod list;
 pub mod map;
+pub mod order;
 pub mod program;
 pub mod report;
+pub mod rows;
 pub mod tables;
 pub mod writing;
 

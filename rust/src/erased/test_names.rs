@@ -7,6 +7,7 @@
 //! | `name NAME` | how the name is mangled, its complete text, its trimmed text and its crate (`-` for none) |
 //! | `before NAME` | none: from here on each name is also asked of one demangler, after this one |
 //! | `crate NAME` | the crate alone |
+//! | `shown NAME` | the trimmed text and what follows the mangling |
 //! | `kept NAME` | how the name is mangled, its limits aside, and the part of it that is kept |
 //! | `text TEXT` | the text with complete and with trimmed names |
 //! | `sizes TEXT` | how many bytes the text has with complete and with trimmed names |
@@ -97,6 +98,7 @@ fn push_answer(
             "name" => names.push_answer(line, asked)?,
             "before" => return Ok(names.ask_after(asked)?),
             "crate" => push_crate(alloc, line, asked)?,
+            "shown" => names.push_suffixed(line, asked)?,
             "kept" => push_kept(line, asked)?,
             "sizes" => push_sizes(alloc, line, asked.as_bytes())?,
             "stream" => push_streamed(alloc, line, asked.as_bytes())?,

@@ -1,12 +1,10 @@
 -- The steps of annotating a text.
-use Rattle.std.specs.Prelude.{◌≡◌, ◌≢◌, ℕ, Bool, true, false, List, [], ◌++◌, drop, Option, Result, Ok, Err}
-use Rattle.std.specs.Io.KnownBytes.{Appends, Consumes, IsAtEnd}
+use Rattle.std.specs.Prelude.{◌≡◌, ℕ, Bool, true, false, List, [], ◌++◌, drop}
 use Rattle.binfarce.specs.Symbol.{Entry}
-use Rattle.binfarce_tools.specs.Writing.{AppendsBeginning}
-use Rattle.binfarce_addresses.specs.Annotated.{address_len, AnnotatesPart, IsAnnotated, IsBeginning}
+use Rattle.binfarce_text.specs.Streams.{IsBeginningOf}
+use Rattle.binfarce_addresses.specs.Annotated.{address_len, IsAnnotated}
+use Rattle.binfarce_addresses.specs.declared.annotate.Annotating.{Annotating}
 use Rattle.binfarce_addresses.specs.declared.lookup.Lookup.{Lookup}
-use Rattle.binfarce_addresses.specs.declared.stream.LinesError.{LinesError}
-use Rattle.binfarce_addresses.specs.declared.stream.LinesError.TheVariants.{Read}
 
 -- old has grown by what is shown of the first n bytes of a text, which holds unless what follows the text changes the address that it begins with
 abbrev pub ShowsFirst : (entries : List Entry) (lookup : Lookup) (text : List ℕ) (n : ℕ) (old new : List ℕ) → Type 0
@@ -32,23 +30,24 @@ Leaves entries lookup is_last text left shown =
 abbrev pub ShowsTo : (entries : List Entry) (lookup : Lookup) (is_last : Bool) (text : List ℕ) (at : ℕ) (old new : List ℕ) → Type 0
 ShowsTo entries lookup is_last text at old new = (shown : List ℕ) × Leaves entries lookup is_last text (drop at text) shown × (new ≡ old ++ shown)
 
--- the output for a text was written up to what is kept, or a beginning of it
-abbrev pub Passes : (entries : List Entry) (lookup : Lookup) (is_last : Bool) (text kept : List ℕ) (old new : Option (List ℕ)) (result : Result (Unit {0}) LinesError) → Type 0
-Passes entries lookup is_last text kept old new (Ok x) =
-    (before : List ℕ) × (shown : List ℕ) × (text ≡ before ++ kept) × Leaves entries lookup is_last text kept shown × Appends old new shown
-Passes entries lookup is_last text kept old new (Err e) = (e ≢ Read) × ((shown : List ℕ) × IsBeginning entries lookup text shown × AppendsBeginning old new shown)
+-- both annotate by these entries and this lookup
+abbrev pub AreAlike : (first now : Annotating) → Type 0
+AreAlike first now = (now.places.now ≡ first.places.now) × (now.lookup ≡ first.lookup)
 
--- came was read, and was shown up to what is kept
-abbrev pub HasPassed : (entries : List Entry) (lookup : Lookup) (kept : List ℕ) (given left old new : Option (List ℕ)) → Type 0
-HasPassed entries lookup kept given left old new =
-    (came : List ℕ) × (before : List ℕ) × (shown : List ℕ) × Consumes given left came × (came ≡ before ++ kept) × Leaves entries lookup false came kept shown × Appends old new shown
+-- the text was shown up to what is kept
+abbrev pub HasShown : (entries : List Entry) (lookup : Lookup) (is_last : Bool) (text kept made : List ℕ) → Type 0
+HasShown entries lookup is_last text kept made = (before : List ℕ) × (text ≡ before ++ kept) × Leaves entries lookup is_last text kept made
 
--- at the reader's end nothing is left
-abbrev pub HasEnded : (ended : Bool) (left : Option (List ℕ)) → Type 0
-HasEnded true left = IsAtEnd left
-HasEnded false left = Unit {0}
+abbrev pub Holds : (first now : Annotating) (text made : List ℕ) → Type 0
+Holds first now text made = AreAlike first now × HasShown first.places.now first.lookup false text now.kept.items made
 
--- all that the reader gave was shown up to what is kept, up to its end or to its failure
-abbrev pub PassesAll : (entries : List Entry) (lookup : Lookup) (kept : List ℕ) (given left old new : Option (List ℕ)) (result : Result Bool LinesError) → Type 0
-PassesAll entries lookup kept given left old new (Ok ended) = HasEnded ended left × HasPassed entries lookup kept given left old new
-PassesAll entries lookup kept given left old new (Err e) = (e ≢ Read) × AnnotatesPart entries lookup given left old new
+abbrev pub IsDone : (first now : Annotating) (ended : Bool) (text made : List ℕ) → Type 0
+IsDone first now ended text made = IsAnnotated first.places.now first.lookup text made
+
+abbrev pub MayBreakOff : (first : Annotating) (text made : List ℕ) → Type 0
+MayBreakOff first text made = IsBeginningOf (IsAnnotated first.places.now first.lookup) text made
+
+-- the next part is shown up to what is kept, which is nothing at the text's end
+abbrev pub Annotates : (old new : Annotating) (is_last : Bool) (part more : List ℕ) → Type 0
+Annotates old new is_last part more =
+    AreAlike old new × HasShown old.places.now old.lookup is_last (old.kept.items ++ part) new.kept.items more × (is_last ≡ true → new.kept.items ≡ [])

@@ -19,8 +19,7 @@ pub fn line_of(
         (λ line. (listed : Listed) × (file_answer file.now (codes ".text") ≡ Some (Ok listed))
         × IsLineAt listed.entries lookup address line.items) }
 {
-    let mut places = places_of(alloc, file)?;
-    places.keep_names(alloc)?;
+    let places = places_of(alloc, file)?;
     let mut line = Vec::new(alloc);
     places.push_line(alloc, &mut line, lookup, address)?;
     Ok(line)

@@ -7,11 +7,12 @@ use crate::erased::binfarce_addresses::address::parse_address;
 use crate::erased::binfarce_addresses::at::Places;
 use crate::erased::binfarce_addresses::lookup::Lookup;
 use crate::erased::binfarce_addresses::names::name_of;
-use crate::erased::binfarce_addresses::stream::{LinesError, new_chunk, write_all};
+use crate::erased::binfarce_addresses::stream::{CHUNK, write_all};
 use crate::erased::binfarce::FunctionSymbol;
+use crate::erased::binfarce_text::streams::{Pass, StreamError, pass_stream};
 use crate::erased::binfarce_tools::list::Sink;
 use crate::shim::alloc::{AllocError, Global};
-use crate::shim::io::{ErrorKind, Read};
+use crate::shim::io::Read;
 
 // The fewest and the most digits of an address.
 const FEWEST: usize = 4;
@@ -21,7 +22,7 @@ const MOST: usize = 16;
 // The most bytes of one: `0x` and 16 digits.
 const LONGEST: usize = 18;
 
-/// Appends the text with ` <name+0x1f>` after each address that a function symbol holds: its trimmed name, and the offset
+/// Appends the text with ` <name+0x1f>` after each address that a function symbol holds: its readable name, and the offset
 /// of the address into it, by this lookup. An address is `0x` and 4 to 16 hexadecimal digits, in upper or lower case,
 /// up to the next other byte. All other bytes stay as they are, and need not be UTF-8.
 ///
@@ -53,63 +54,54 @@ pub fn annotate_stream<R: Read, S: Sink>(
     lookup: Lookup,
     input: &mut R,
     out: &mut S,
-) -> Result<(), LinesError> {
-    let mut chunk = new_chunk(alloc)?;
-    let mut kept = Vec::new(alloc);
-    let ended = pass_all(
+) -> Result<(), StreamError> {
+    let mut pass = Annotating {
         alloc,
         places,
         lookup,
-        &mut kept,
-        chunk.as_mut_slice(),
-        input,
-        out,
-    )?;
-    pass(alloc, places, lookup, true, &mut kept, &[], out)?;
-    if ended { Ok(()) } else { Err(LinesError::Read) }
+        kept: Vec::new(alloc),
+    };
+    pass_stream(alloc, &mut pass, CHUNK, input, out)
 }
 
-// Annotates all that the reader gives, but for what is kept of it. Returns `false` where the reader failed.
-fn pass_all<R: Read, S: Sink>(
+// What annotates a text that comes in parts.
+struct Annotating<'b, 'a> {
     alloc: Global,
-    places: &Places<'_>,
+    places: &'b Places<'a>,
     lookup: Lookup,
-    kept: &mut Vec<u8>,
-    chunk: &mut [u8],
-    input: &mut R,
-    out: &mut S,
-) -> Result<bool, LinesError> {
-    for _ in 0..u64::MAX {
-        match input.read(chunk) {
-            Ok(0) => return Ok(true),
-            Ok(n) => pass(alloc, places, lookup, false, kept, &chunk[..n], out)?,
-            Err(e) => {
-                if e.kind() != ErrorKind::Interrupted {
-                    return Ok(false);
-                }
-            }
-        }
+    // The address at the text's end that may go on.
+    kept: Vec<u8>,
+}
+
+impl Annotating<'_, '_> {
+    // Annotates the kept text and the next part, and keeps an address at its end that may go on, unless the text ends.
+    fn push(&mut self, is_last: bool, part: &[u8], out: &mut Vec<u8>) -> Result<(), AllocError> {
+        self.kept.extend_from_slice(part)?;
+        let at = push_decided(
+            self.alloc,
+            self.places,
+            self.lookup,
+            is_last,
+            &self.kept,
+            out,
+        )?;
+        self.kept = Vec::from_slice(self.alloc, &self.kept[at..])?;
+        Ok(())
     }
-    Ok(false)
 }
 
-// Annotates the kept text and the next part, and keeps an address at its end that may go on.
-fn pass<S: Sink>(
-    alloc: Global,
-    places: &Places<'_>,
-    lookup: Lookup,
-    is_last: bool,
-    kept: &mut Vec<u8>,
-    part: &[u8],
-    out: &mut S,
-) -> Result<(), LinesError> {
-    kept.extend_from_slice(part)?;
-    let mut text = Vec::new(alloc);
-    let at = push_decided(alloc, places, lookup, is_last, kept.as_slice(), &mut text)?;
-    write_all(out, text.as_slice())?;
-    let rest = Vec::from_slice(alloc, &kept[at..])?;
-    *kept = rest;
-    Ok(())
+impl<S: Sink> Pass<S> for Annotating<'_, '_> {
+    fn take(&mut self, part: &[u8], out: &mut Vec<u8>) -> Result<(), AllocError> {
+        self.push(false, part, out)
+    }
+
+    fn end(&mut self, _ended: bool, out: &mut Vec<u8>) -> Result<(), AllocError> {
+        self.push(true, &[], out)
+    }
+
+    fn write(out: &mut S, bytes: &[u8]) -> Result<(), StreamError> {
+        write_all(out, bytes)
+    }
 }
 
 // Appends the annotated text before an address at its end that may go on, and returns where that begins. With nothing
@@ -184,7 +176,7 @@ fn push_added(
     Ok(())
 }
 
-// Appends a function symbol's trimmed name and an offset in angle brackets.
+// Appends a function symbol's readable name and an offset in angle brackets.
 fn push_place(
     alloc: Global,
     function: FunctionSymbol<'_>,

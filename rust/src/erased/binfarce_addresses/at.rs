@@ -3,11 +3,9 @@
 //! Symbolizes addresses in an executable, a line for each.
 
 use crate::shim::{String, Vec};
-use crate::erased::binfarce_addresses::cells::Cells;
-use crate::erased::binfarce_addresses::digits::{push_address, push_offset};
 use crate::erased::binfarce_addresses::lookup::Lookup;
-use crate::erased::binfarce_addresses::names::{Names, name_of, names_of};
-use crate::erased::binfarce_addresses::ranges::{AddressRange, Found, Ranges};
+use crate::erased::binfarce_addresses::names::{Names, name_of};
+use crate::erased::binfarce_addresses::ranges::{AddressRange, Ranges};
 use crate::erased::binfarce::FunctionSymbol;
 use crate::erased::binfarce_tools::functions::{Functions, functions_of_file};
 use crate::erased::binfarce_tools::list::{ListError, Sink};
@@ -19,10 +17,15 @@ use crate::shim::alloc::{AllocError, Global};
 ///
 /// Contracts speak of its entries, in the order of the listing.
 pub struct Places<'a> {
-    functions: Vec<FunctionSymbol<'a>>,
+    pub(crate) functions: Vec<FunctionSymbol<'a>>,
     ranges: Ranges,
-    names: Names,
-    cells: Cells,
+}
+
+// What an address symbolizes to: the place of a function symbol, and the offset of the address into it.
+#[derive(Clone, Copy)]
+pub(crate) struct Found {
+    pub(crate) place: usize,
+    pub(crate) offset: u64,
 }
 
 impl<'a> Places<'a> {
@@ -50,30 +53,24 @@ impl<'a> Places<'a> {
         Ok(places)
     }
 
-    /// Demangles and keeps each name: this saves time with many addresses.
-    ///
-    /// # Errors
-    ///
-    /// `AllocError` where an allocation failed.
-    pub fn keep_names(&mut self, alloc: Global) -> Result<(), AllocError> {
-        let names = names_of(alloc, &self.functions)?;
-        self.cells = Cells::new(alloc, &self.ranges, &names.bounds)?;
-        self.names = names;
-        Ok(())
-    }
-
     /// The function symbol that an address symbolizes to by this lookup, and the offset of the address into it.
     pub fn find(&self, lookup: Lookup, address: u64) -> Option<(FunctionSymbol<'a>, u64)> {
-        let (_, function, offset) = self.find_place(lookup, address)?;
-        Some((function, offset))
+        let found = self.find_place(lookup, Some(address))?;
+        Some((self.functions[found.place], found.offset))
     }
 
-    // Its place, itself, and the offset into it.
-    fn find_place(&self, lookup: Lookup, address: u64) -> Option<(usize, FunctionSymbol<'a>, u64)> {
-        let in_file = lookup.in_file(address)?;
-        let place = self.ranges.find(in_file)?;
-        let function = self.functions[place];
-        Some((place, function, address - lookup.base - function.address))
+    // What an address symbolizes to; nothing without an address.
+    #[cfg_attr(not(debug_assertions), inline(always))]
+    fn find_place(&self, lookup: Lookup, address: Option<u64>) -> Option<Found> {
+        let address = address?;
+        let place = self.ranges.find(lookup.in_file(address)?)?;
+        let offset = address - lookup.base - self.functions[place].address;
+        Some(Found { place, offset })
+    }
+
+    /// The readable name of the function symbol at a place.
+    pub(crate) fn name(&self, alloc: Global, place: usize) -> Result<String, AllocError> {
+        name_of(alloc, self.functions[place])
     }
 
     /// Appends the line of an address to the text: the address, the symbol that it symbolizes to by this lookup, and the
@@ -89,153 +86,23 @@ impl<'a> Places<'a> {
         lookup: Lookup,
         address: u64,
     ) -> Result<(), AllocError> {
-        let shown = self.find_shown(lookup, address);
-        self.push_shown(alloc, text, lookup, address, shown)
+        let found = self.find_place(lookup, Some(address));
+        let mut names = Names::none(alloc, self);
+        names.push_answer(alloc, text, lookup, Some(address), found)
     }
 
-    // Appends the answers of lines with these addresses, or none, to the text. The memory of all is read before the
-    // first answer is written, so that cache misses overlap.
-    pub(crate) fn push_all(
+    // What each address symbolizes to.
+    pub(crate) fn find_all(
         &self,
         alloc: Global,
-        text: &mut Vec<u8>,
         lookup: Lookup,
         addresses: &[Option<u64>],
-    ) -> Result<(), AllocError> {
-        let nears = self.cells.nears(alloc, lookup, addresses)?;
-        let names = self.names.text.as_bytes();
-        self.cells.ends_of_names(alloc, &nears, names)?;
-        for k in 0..addresses.len() {
-            self.push_answer(alloc, text, lookup, addresses[k], nears[k])?;
+    ) -> Result<Vec<Option<Found>>, AllocError> {
+        let mut found = Vec::with_capacity(alloc, addresses.len())?;
+        for address in addresses {
+            found.push(self.find_place(lookup, *address))?;
         }
-        Ok(())
-    }
-
-    // Appends the answer of a line with this address, or none, to the text: by the cell at this place, or by a search.
-    fn push_answer(
-        &self,
-        alloc: Global,
-        text: &mut Vec<u8>,
-        lookup: Lookup,
-        address: Option<u64>,
-        near: usize,
-    ) -> Result<(), AllocError> {
-        match address {
-            Some(address) => self.push_near(alloc, text, lookup, address, near),
-            None => Ok(text.extend_from_slice(b"??\n")?),
-        }
-    }
-
-    // Appends the line of an address to the text: by the cell at this place, or by a search.
-    fn push_near(
-        &self,
-        alloc: Global,
-        text: &mut Vec<u8>,
-        lookup: Lookup,
-        address: u64,
-        near: usize,
-    ) -> Result<(), AllocError> {
-        if let Some((name, offset)) = self.near_name(lookup, address, near) {
-            push_address(text, address)?;
-            text.extend_from_slice(name)?;
-            push_offset(text, offset)?;
-            return Ok(());
-        }
-        if self.is_free(lookup, address, near) {
-            return self.push_shown(alloc, text, lookup, address, None);
-        }
-        self.push_line(alloc, text, lookup, address)
-    }
-
-    // The kept name of the function symbol that an address symbolizes to, and the offset into it, if the cell at this
-    // place has it.
-    #[cfg_attr(not(debug_assertions), inline(always))]
-    fn near_name(&self, lookup: Lookup, address: u64, near: usize) -> Option<(&[u8], u64)> {
-        let cell = *self.cells.cells.get(near)?;
-        let in_file = lookup.in_file(address)?;
-        if in_file < cell.address || in_file - cell.address >= u64::from(cell.size) {
-            return None;
-        }
-        let text = self.names.text.as_bytes();
-        let start = cell.start as usize;
-        let stop = start + cell.len as usize;
-        Some((&text[start..stop], address - lookup.base - cell.address))
-    }
-
-    // Whether the cell at this place shows that the address has no symbol.
-    #[cfg_attr(not(debug_assertions), inline(always))]
-    fn is_free(&self, lookup: Lookup, address: u64, near: usize) -> bool {
-        let Some(in_file) = lookup.in_file(address) else {
-            return false;
-        };
-        match self.cells.cells.get(near) {
-            Some(cell) if in_file >= cell.address => {
-                let offset = in_file - cell.address;
-                u64::from(cell.size) <= offset && offset < u64::from(cell.until)
-            }
-            _ => false,
-        }
-    }
-
-    // The symbol of an address: the place of a function symbol, and the offset into it.
-    fn find_shown(&self, lookup: Lookup, address: u64) -> Option<Found> {
-        match self.find_place(lookup, address) {
-            Some(found) => Some(Found {
-                place: found.0,
-                offset: found.2,
-            }),
-            None => None,
-        }
-    }
-
-    // Appends the line of an address with this symbol to the text.
-    fn push_shown(
-        &self,
-        alloc: Global,
-        text: &mut Vec<u8>,
-        lookup: Lookup,
-        address: u64,
-        shown: Option<Found>,
-    ) -> Result<(), AllocError> {
-        push_address(text, address)?;
-        match shown {
-            Some(found) => {
-                self.push_name(alloc, text, found.place)?;
-                push_offset(text, found.offset)?;
-                Ok(())
-            }
-            None => {
-                text.extend_from_slice(b"??\n")?;
-                Ok(())
-            }
-        }
-    }
-
-    // Appends the trimmed name of the function symbol at a place to the text.
-    fn push_name(&self, alloc: Global, text: &mut Vec<u8>, place: usize) -> Result<(), AllocError> {
-        match self.kept_name(place) {
-            Some(name) => {
-                text.extend_from_slice(name)?;
-                Ok(())
-            }
-            None => {
-                let name = name_of(alloc, self.functions[place])?;
-                text.extend_from_slice(name.as_bytes())?;
-                Ok(())
-            }
-        }
-    }
-
-    // The trimmed name of the function symbol at a place, where it is kept.
-    fn kept_name(&self, place: usize) -> Option<&[u8]> {
-        let count = self.names.bounds.len().saturating_sub(1);
-        if place >= count {
-            return None;
-        }
-        let start = self.names.bounds[place];
-        let end = self.names.bounds[place + 1];
-        let text = self.names.text.as_bytes();
-        Some(&text[start..end])
+        Ok(found)
     }
 }
 
@@ -252,19 +119,14 @@ fn places_of(alloc: Global, functions: Functions<'_>) -> Result<Places<'_>, Allo
     }
     Ok(Places {
         functions: kept,
-        ranges: Ranges::new(alloc, ranges)?,
-        names: Names {
-            text: String::new(alloc),
-            bounds: Vec::new(alloc),
-        },
-        cells: Cells::none(alloc),
+        ranges: Ranges::new(alloc, &ranges)?,
     })
 }
 
 /// Symbolizes addresses in an executable: a line for each, in their order.
 ///
-/// The format and the section are as in `list`. A line is `{address:016x} {trimmed}+0x{offset:x}`: the address, the
-/// trimmed name of its function symbol, and the offset into it. The base is subtracted first, and from a return address
+/// The format and the section are as in `list`. A line is `{address:016x} {name}+0x{offset:x}`: the address, the
+/// readable name of its function symbol, and the offset into it. The base is subtracted first, and from a return address
 /// 1 more for the lookup, but not for the offset. A symbol holds the addresses of its range, or of size 0 its own. Of
 /// several that hold an address, it is the one of greatest address, and of several there the first in the order of the
 /// listing. The line is `{address:016x} ??` for an address that none holds, for one below the base, and for a return

@@ -6,51 +6,20 @@ use crate::shim::{TrimAscii, Vec};
 use crate::erased::binfarce_addresses::address::{hex_line, parse_address};
 use crate::erased::binfarce_addresses::at::Places;
 use crate::erased::binfarce_addresses::lookup::Lookup;
+use crate::erased::binfarce_addresses::names::Names;
+pub use crate::erased::binfarce_text::streams::StreamError;
+use crate::erased::binfarce_text::streams::{Pass, pass_stream};
 use crate::erased::binfarce_tools::list::Sink;
 use crate::erased::binfarce_tools::writing::write_whole;
 use crate::shim::alloc::{AllocError, Global};
-use std::error::Error;
-use std::fmt;
-use crate::shim::io::{ErrorKind, Read};
+use crate::shim::io::Read;
 
 // How many bytes are read at a time: the names and ranges for these lines stay in the cache until they are written, and
 // the buffer is small enough that the allocator reuses it.
-const CHUNK: usize = 1 << 13;
-
-// How many bytes of output a byte of input mostly has: so many are reserved at once.
-const GROWTH: usize = 8;
+pub(crate) const CHUNK: usize = 1 << 13;
 
 // The most bytes of a line with an address: `0x` and 16 digits.
 const LONGEST: usize = 18;
-
-/// Why the lines of a text were not answered to its end.
-#[derive(Debug, Clone, Copy, PartialEq)]
-pub enum LinesError {
-    /// The reader failed.
-    Read,
-    /// An allocation failed.
-    OutOfMemory,
-    /// A write of the sink failed.
-    Write,
-}
-
-impl fmt::Display for LinesError {
-    fn fmt(&self, f: &mut fmt::Formatter<'_>) -> fmt::Result {
-        match self {
-            LinesError::Read => write!(f, "read failed"),
-            LinesError::OutOfMemory => write!(f, "out of memory"),
-            LinesError::Write => write!(f, "write failed"),
-        }
-    }
-}
-
-impl Error for LinesError {}
-
-impl From<AllocError> for LinesError {
-    fn from(_: AllocError) -> Self {
-        LinesError::OutOfMemory
-    }
-}
 
 /// How much of a text was answered.
 #[derive(Debug, Clone, Copy, PartialEq)]
@@ -74,8 +43,19 @@ pub fn push_lines(
     bytes: &[u8],
     text: &mut Vec<u8>,
 ) -> Result<Answered, AllocError> {
+    push_answers(alloc, &mut Names::none(alloc, places), lookup, bytes, text)
+}
+
+// As `push_lines`, with the names that are known.
+fn push_answers(
+    alloc: Global,
+    names: &mut Names<'_, '_>,
+    lookup: Lookup,
+    bytes: &[u8],
+    text: &mut Vec<u8>,
+) -> Result<Answered, AllocError> {
     let (addresses, answered) = addresses_of(alloc, bytes)?;
-    places.push_all(alloc, text, lookup, &addresses)?;
+    names.push_all(alloc, text, lookup, &addresses)?;
     Ok(answered)
 }
 
@@ -130,68 +110,56 @@ pub fn answer_lines<R: Read, S: Sink>(
     lookup: Lookup,
     input: &mut R,
     out: &mut S,
-) -> Result<u64, LinesError> {
-    let mut chunk = new_chunk(alloc)?;
-    let mut line = Vec::new(alloc);
-    let missing = answer_whole(
+) -> Result<u64, StreamError> {
+    let mut lines = Lines {
         alloc,
-        places,
+        names: Names::new(alloc, places)?,
         lookup,
-        &mut line,
-        chunk.as_mut_slice(),
-        input,
-        out,
-    )?;
-    answer_last(alloc, places, lookup, &mut line, missing, out)
+        line: Vec::new(alloc),
+        missing: 0,
+    };
+    pass_stream(alloc, &mut lines, CHUNK, input, out)?;
+    Ok(lines.missing)
 }
 
-// Room for the bytes of a read.
-pub(crate) fn new_chunk(alloc: Global) -> Result<Vec<u8>, AllocError> {
-    Vec::filled(alloc, 0, CHUNK)
-}
-
-// Answers the whole lines that the reader gives, and returns how many of them have no address; `line` keeps the rest.
-fn answer_whole<R: Read, S: Sink>(
+// What answers lines that come in parts.
+struct Lines<'b, 'a> {
     alloc: Global,
-    places: &Places<'_>,
+    names: Names<'b, 'a>,
     lookup: Lookup,
-    line: &mut Vec<u8>,
-    chunk: &mut [u8],
-    input: &mut R,
-    out: &mut S,
-) -> Result<u64, LinesError> {
-    let mut missing = 0;
-    for _ in 0..u64::MAX {
-        match input.read(chunk) {
-            Ok(0) => return Ok(missing),
-            Ok(n) => {
-                let more = answer_part(alloc, places, lookup, line, &chunk[..n], out)?;
-                missing = u64::saturating_add(missing, more);
-            }
-            Err(e) => {
-                if e.kind() != ErrorKind::Interrupted {
-                    return Err(LinesError::Read);
-                }
-            }
-        }
+    // What is kept of the last line so far.
+    line: Vec<u8>,
+    // How many lines have no address.
+    missing: u64,
+}
+
+impl Lines<'_, '_> {
+    // Answers the whole lines of the kept text and the next part, and keeps the rest.
+    fn push(&mut self, part: &[u8], out: &mut Vec<u8>) -> Result<(), AllocError> {
+        self.line.extend_from_slice(part)?;
+        let answered = push_answers(self.alloc, &mut self.names, self.lookup, &self.line, out)?;
+        self.missing = self.missing.saturating_add(answered.missing);
+        self.line = kept_of(self.alloc, &self.line[answered.len..])?;
+        Ok(())
     }
-    Err(LinesError::Read)
 }
 
-// Answers the whole lines of the kept text and the next part, and keeps the rest.
-fn answer_part<S: Sink>(
-    alloc: Global,
-    places: &Places<'_>,
-    lookup: Lookup,
-    line: &mut Vec<u8>,
-    part: &[u8],
-    out: &mut S,
-) -> Result<u64, LinesError> {
-    line.extend_from_slice(part)?;
-    let answered = answer(alloc, places, lookup, line.as_slice(), out)?;
-    let kept = kept_of(alloc, &line[answered.len..])?;
-    *line = kept;
-    Ok(answered.missing)
+impl<S: Sink> Pass<S> for Lines<'_, '_> {
+    fn take(&mut self, part: &[u8], out: &mut Vec<u8>) -> Result<(), AllocError> {
+        self.push(part, out)
+    }
+
+    /// Answers the last line, if there is one, unless the text was broken off.
+    fn end(&mut self, ended: bool, out: &mut Vec<u8>) -> Result<(), AllocError> {
+        if !ended || self.line.is_empty() {
+            return Ok(());
+        }
+        self.push(b"\n", out)
+    }
+
+    fn write(out: &mut S, bytes: &[u8]) -> Result<(), StreamError> {
+        write_all(out, bytes)
+    }
 }
 
 // The text that is kept of the first part of a line: no white space before the address, and at most one byte of it
@@ -208,37 +176,7 @@ fn kept_of(alloc: Global, line: &[u8]) -> Result<Vec<u8>, AllocError> {
     Vec::from_slice(alloc, &begun[..begun.len().min(len + 1)])
 }
 
-// Answers the whole lines of the bytes.
-fn answer<S: Sink>(
-    alloc: Global,
-    places: &Places<'_>,
-    lookup: Lookup,
-    bytes: &[u8],
-    out: &mut S,
-) -> Result<Answered, LinesError> {
-    let mut text = Vec::with_capacity(alloc, bytes.len().saturating_mul(GROWTH))?;
-    let answered = push_lines(alloc, places, lookup, bytes, &mut text)?;
-    write_all(out, text.as_slice())?;
-    Ok(answered)
-}
-
-// Answers the last line, if there is one, and returns how many of all lines have no address.
-fn answer_last<S: Sink>(
-    alloc: Global,
-    places: &Places<'_>,
-    lookup: Lookup,
-    line: &mut Vec<u8>,
-    missing: u64,
-    out: &mut S,
-) -> Result<u64, LinesError> {
-    if line.as_slice().is_empty() {
-        return Ok(missing);
-    }
-    let more = answer_part(alloc, places, lookup, line, b"\n", out)?;
-    Ok(missing.saturating_add(more))
-}
-
 // Writes the bytes in as many calls as the sink needs.
-pub(crate) fn write_all<S: Sink>(out: &mut S, bytes: &[u8]) -> Result<(), LinesError> {
-    write_whole(out, bytes).map_err(|_| LinesError::Write)
+pub(crate) fn write_all<S: Sink>(out: &mut S, bytes: &[u8]) -> Result<(), StreamError> {
+    write_whole(out, bytes).map_err(|_| StreamError::Write)
 }

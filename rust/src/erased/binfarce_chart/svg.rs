@@ -4,6 +4,7 @@
 
 use crate::shim::String;
 use crate::erased::binfarce_chart::bars::{Bar, MOST_BARS, falling, length_of, others, size_of_all};
+use crate::erased::binfarce_text::digits::hex_digit;
 use crate::shim::alloc::{AllocError, Global};
 
 /// The picture of these sizes, as a whole SVG document: a bar for each, the greatest first.
@@ -143,14 +144,8 @@ fn push_escaped_byte(text: &mut String, byte: u8) -> Result<(), AllocError> {
         32..=126 => text.push(byte as char),
         _ => {
             text.push_str("\\x")?;
-            text.push(hex_digit(byte / 16 % 16))?;
-            text.push(hex_digit(byte % 16))
+            text.push(hex_digit(u64::from(byte / 16 % 16)) as char)?;
+            text.push(hex_digit(u64::from(byte % 16)) as char)
         }
     }
-}
-
-// A lower-case hexadecimal digit.
-fn hex_digit(value: u8) -> char {
-    const DIGITS: [u8; 16] = *b"0123456789abcdef";
-    DIGITS[value as usize] as char
 }

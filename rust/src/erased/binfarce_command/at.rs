@@ -80,12 +80,11 @@ pub fn answer_input<S: Source<Log = ()>, I: Read, K: Sink>(
     out: &mut K,
 ) -> Result<u64, Fault> {
     let tables = read(alloc, source, &mut (), symbols.which, symbols.selection)?;
-    let mut places = places_of(alloc, &tables)?;
+    let places = places_of(alloc, &tables)?;
     if annotates {
         annotate_stream(alloc, &places, lookup, input, out)?;
         return Ok(0);
     }
-    places.keep_names(alloc)?;
     let missing = answer_lines(alloc, &places, lookup, input, out)?;
     Ok(missing)
 }

@@ -2,7 +2,6 @@
 
 //! Why a file's result was not written, or not all of it.
 
-use crate::erased::binfarce_addresses::stream::LinesError;
 use crate::erased::binfarce_bytes::ParseError;
 use crate::erased::binfarce_filtering::stream::StreamError;
 use crate::erased::binfarce_sections::error::SectionError;
@@ -146,16 +145,6 @@ impl From<StreamError> for Fault {
             StreamError::Read => Fault::Input,
             StreamError::Write => Fault::Write,
             StreamError::OutOfMemory => Fault::OutOfMemory,
-        }
-    }
-}
-
-impl From<LinesError> for Fault {
-    fn from(e: LinesError) -> Self {
-        match e {
-            LinesError::Read => Fault::Input,
-            LinesError::OutOfMemory => Fault::OutOfMemory,
-            LinesError::Write => Fault::Write,
         }
     }
 }

@@ -8,6 +8,7 @@ use crate::erased::binfarce_tools::SymbolTable;
 use crate::erased::binfarce_tools::list::{Sink, list_tables};
 use crate::erased::binfarce_tools::map::map_tables;
 use crate::erased::binfarce_tools::report::report_tables;
+use crate::erased::binfarce_tools::rows::{Shown, list_by};
 use crate::erased::binfarce_tools::tables::{Selection, Tables, read};
 use crate::shim::alloc::Global;
 
@@ -16,6 +17,8 @@ use crate::shim::alloc::Global;
 pub enum Kind {
     /// As a listing.
     Listing,
+    /// As a listing in an order, of the first lines, or with other names.
+    Rows(Shown),
     /// As sums by crate.
     Sums,
     /// As a picture of these sums.
@@ -72,6 +75,7 @@ fn show_tables<K: Sink>(
 ) -> Result<(), Fault> {
     match kind {
         Kind::Listing => Ok(list_tables(alloc, tables, out)?),
+        Kind::Rows(shown) => Ok(list_by(alloc, tables, &shown, out)?),
         Kind::Sums => Ok(report_tables(alloc, tables, out)?),
         Kind::Picture => Ok(map_tables(alloc, tables, out)?),
     }

@@ -4,42 +4,13 @@
 
 use crate::shim::Vec;
 use crate::erased::binfarce_filtering::filter::TextFilter;
+pub use crate::erased::binfarce_text::streams::StreamError;
+use crate::erased::binfarce_text::streams::{Pass, pass_stream};
 use crate::shim::alloc::{AllocError, Global};
-use std::error::Error;
-use std::fmt;
 use crate::shim::io::{ErrorKind, Read, Write};
 
 // How many bytes are read at a time.
 const CHUNK: usize = 1 << 16;
-
-/// Why a stream was not filtered to its end.
-#[derive(Debug, Clone, Copy, PartialEq)]
-pub enum StreamError {
-    /// The reader failed.
-    Read,
-    /// The writer failed.
-    Write,
-    /// An allocation failed.
-    OutOfMemory,
-}
-
-impl fmt::Display for StreamError {
-    fn fmt(&self, f: &mut fmt::Formatter<'_>) -> fmt::Result {
-        match self {
-            StreamError::Read => write!(f, "read failed"),
-            StreamError::Write => write!(f, "write failed"),
-            StreamError::OutOfMemory => write!(f, "out of memory"),
-        }
-    }
-}
-
-impl Error for StreamError {}
-
-impl From<AllocError> for StreamError {
-    fn from(_: AllocError) -> Self {
-        StreamError::OutOfMemory
-    }
-}
 
 /// Filters a stream: writes what `filter` gives for all that the reader gives. The output for each part is written
 /// before the next is read. `full` is as in `filter`.
@@ -58,94 +29,35 @@ pub fn filter_stream<R: Read, W: Write>(
     output: &mut W,
 ) -> Result<(), StreamError> {
     let mut filter = TextFilter::new(alloc, full);
-    let mut out = Vec::new(alloc);
-    let ended = pass_all(alloc, &mut filter, &mut out, input, output)?;
-    pass_rest(&mut filter, &mut out, output)?;
-    if ended {
-        Ok(())
-    } else {
-        Err(StreamError::Read)
+    pass_stream(alloc, &mut filter, CHUNK, input, output)
+}
+
+impl<W: Write> Pass<W> for TextFilter {
+    fn take(&mut self, part: &[u8], out: &mut Vec<u8>) -> Result<(), AllocError> {
+        self.push(part, out)
     }
-}
 
-// Filters all that the reader gives. Returns `false` where the reader failed.
-fn pass_all<R: Read, W: Write>(
-    alloc: Global,
-    filter: &mut TextFilter,
-    out: &mut Vec<u8>,
-    input: &mut R,
-    output: &mut W,
-) -> Result<bool, StreamError> {
-    let mut chunk = new_chunk(alloc)?;
-    pass_chunks(filter, out, chunk.as_mut_slice(), input, output)
-}
+    fn end(&mut self, _ended: bool, out: &mut Vec<u8>) -> Result<(), AllocError> {
+        self.finish(out)
+    }
 
-// Room for the bytes of a read.
-fn new_chunk(alloc: Global) -> Result<Vec<u8>, AllocError> {
-    Vec::filled(alloc, 0, CHUNK)
-}
-
-// The same, with room for the bytes of a read.
-fn pass_chunks<R: Read, W: Write>(
-    filter: &mut TextFilter,
-    out: &mut Vec<u8>,
-    chunk: &mut [u8],
-    input: &mut R,
-    output: &mut W,
-) -> Result<bool, StreamError> {
-    for _ in 0..u64::MAX {
-        match input.read(chunk) {
-            Ok(0) => return Ok(true),
-            Ok(n) => pass(filter, out, &chunk[..n], output)?,
-            Err(e) => {
-                if e.kind() != ErrorKind::Interrupted {
-                    return Ok(false);
+    /// Writes the bytes, and flushes. A write that was interrupted is tried again.
+    fn write(output: &mut W, bytes: &[u8]) -> Result<(), StreamError> {
+        let mut at = 0;
+        for _ in 0..u64::MAX {
+            if at == bytes.len() {
+                return output.flush().map_err(|_| StreamError::Write);
+            }
+            match output.write(&bytes[at..]) {
+                Ok(0) => return Err(StreamError::Write),
+                Ok(n) => at += n,
+                Err(e) => {
+                    if e.kind() != ErrorKind::Interrupted {
+                        return Err(StreamError::Write);
+                    }
                 }
             }
         }
+        Err(StreamError::Write)
     }
-    Ok(false)
-}
-
-// Filters the next part of the text.
-fn pass<W: Write>(
-    filter: &mut TextFilter,
-    out: &mut Vec<u8>,
-    part: &[u8],
-    output: &mut W,
-) -> Result<(), StreamError> {
-    out.clear();
-    filter.push(part, out)?;
-    write_whole(output, out.as_slice())
-}
-
-// Writes the rest of the output at the text's end.
-fn pass_rest<W: Write>(
-    filter: &mut TextFilter,
-    out: &mut Vec<u8>,
-    output: &mut W,
-) -> Result<(), StreamError> {
-    out.clear();
-    filter.finish(out)?;
-    write_whole(output, out.as_slice())
-}
-
-// Writes the bytes in as many calls as the writer needs.
-fn write_whole<W: Write>(output: &mut W, bytes: &[u8]) -> Result<(), StreamError> {
-    let mut at = 0;
-    for _ in 0..u64::MAX {
-        if at == bytes.len() {
-            return output.flush().map_err(|_| StreamError::Write);
-        }
-        match output.write(&bytes[at..]) {
-            Ok(0) => return Err(StreamError::Write),
-            Ok(n) => at += n,
-            Err(e) => {
-                if e.kind() != ErrorKind::Interrupted {
-                    return Err(StreamError::Write);
-                }
-            }
-        }
-    }
-    Err(StreamError::Write)
 }

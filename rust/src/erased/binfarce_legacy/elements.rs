@@ -37,11 +37,7 @@ fn few_digits(text: &[u8]) -> Option<(usize, usize)> {
 // A number with one more digit after it, if that is below `usize::MAX`.
 #[cfg_attr(not(debug_assertions), inline(always))]
 fn with_digit(number: usize, digit: u8) -> usize {
-    if number < 0x1000_0000_0000_0000 {
-        number * 10 + usize::from(digit)
-    } else {
-        number.saturating_mul(10).saturating_add(usize::from(digit))
-    }
+    number.saturating_mul(10).saturating_add(usize::from(digit))
 }
 
 // Where the name of the element at `at` begins and ends.

@@ -15,9 +15,9 @@ fn part_after_prefix(text: &str) -> Option<&str> {
     after_prefix(text, "_ZN", "ZN", "__ZN")
 }
 
-/// The part of `text` after the prefix of a legacy mangling, with any suffix after its `E`. `None` where `text` isn't a
-/// legacy mangling. Nothing is copied.
-pub fn mangling(text: &str) -> Option<&str> {
+/// The part of `text` after the prefix of a legacy mangling, and the suffix after its `E` in that part. `None` where
+/// `text` isn't a legacy mangling. Nothing is copied.
+pub fn mangling(text: &str) -> Option<(&str, &str)> {
     let part = part_after_prefix(text)?;
     let bytes = part.as_bytes();
     let (end, _) = elements_end(bytes)?;
@@ -27,7 +27,7 @@ pub fn mangling(text: &str) -> Option<&str> {
     if !bytes.is_ascii() {
         return None;
     }
-    Some(part)
+    Some((part, &part[end..]))
 }
 
 // The length of the mark that is dropped from the front of `name`: a `_` before a `$`.

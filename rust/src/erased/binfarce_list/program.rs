@@ -2,14 +2,9 @@
 
 //! The program, over any reader and any writer.
 
-use crate::shim::String;
 use crate::erased::binfarce_bytes::source::Source;
-use crate::erased::binfarce_tools::SymbolTable;
-use crate::erased::binfarce_tools::list::{ListError, Out, list, list_tables};
-use crate::erased::binfarce_tools::program::{
-    Failure, file_and_section, is_read_at_offsets, read_whole, tables_failure,
-};
-use crate::erased::binfarce_tools::tables::{Selection, read};
+use crate::erased::binfarce_tools::list::{ListError, Out, list_tables};
+use crate::erased::binfarce_tools::program::{Failure, tables_of};
 use crate::shim::alloc::Global;
 use crate::shim::io::{Read, Write};
 
@@ -49,16 +44,9 @@ impl From<Failure> for Fault {
 }
 
 impl crate::erased::binfarce_tools::program::Fault for Fault {
-    fn status(&self) -> u8 {
-        status(self)
+    fn is_usage(&self) -> bool {
+        matches!(self, Fault::Usage)
     }
-}
-
-/// The file and the section that the arguments after the program's own name give. The section is by default `.text`.
-///
-/// `Usage` for none, and for more than two.
-pub fn words(arguments: &[String]) -> Result<(&str, &str), Fault> {
-    Ok(file_and_section(arguments)?)
 }
 
 /// Lists the function symbols of a file's section. Of a file that can be read at offsets only the headers, the symbol
@@ -71,30 +59,6 @@ pub fn run<F: Read + Source<Log = ()>, W: Write>(
     section: &str,
     out: &mut Out<W>,
 ) -> Result<(), Fault> {
-    if is_read_at_offsets(file) {
-        let tables = match read(
-            alloc,
-            file,
-            &mut (),
-            SymbolTable::Symtab,
-            Selection::Section(section),
-        ) {
-            Ok(tables) => tables,
-            Err(e) => return Err(Fault::from(tables_failure(e))),
-        };
-        return match list_tables(alloc, &tables, out) {
-            Ok(()) => Ok(()),
-            Err(e) => Err(Fault::List(e)),
-        };
-    }
-    let bytes = read_whole(alloc, file)?;
-    list(alloc, bytes.as_slice(), section, out).map_err(Fault::List)
-}
-
-/// The program's exit status: 2 for the usage, and 1 for any other fault.
-pub fn status(fault: &Fault) -> u8 {
-    match fault {
-        Fault::Usage => 2,
-        _ => 1,
-    }
+    let tables = tables_of(alloc, file, section)?;
+    list_tables(alloc, &tables, out).map_err(Fault::List)
 }

@@ -108,7 +108,7 @@ impl Demangler {
     /// `AllocError` where an allocation failed.
     pub fn demangle(&mut self, name: &str) -> Result<SymbolName, AllocError> {
         let stripped = without_llvm(name);
-        if let Some(part) = legacy::mangling(stripped) {
+        if let Some((part, _)) = legacy::mangling(stripped) {
             return legacy_name(self.memory.alloc, part);
         }
         match v0::both_texts(&mut self.memory, stripped)? {
@@ -135,12 +135,33 @@ impl Demangler {
     ///
     /// `AllocError` where an allocation failed. `text` is then unchanged.
     pub fn push_trimmed(&mut self, text: &mut String, name: &str) -> Result<(), AllocError> {
+        let _ = self.push_and_rest(text, name)?;
+        Ok(())
+    }
+
+    /// Appends the trimmed text of `name` and what follows its mangling to `text`, as the function `push_shown` does.
+    ///
+    /// # Errors
+    ///
+    /// `AllocError` where an allocation failed. `text` is then unchanged.
+    pub fn push_shown(&mut self, text: &mut String, name: &str) -> Result<(), AllocError> {
+        let mut shown = String::new(self.memory.alloc);
+        let rest = self.push_and_rest(&mut shown, name)?;
+        shown.push_str(rest)?;
+        text.push_str(shown.as_str())
+    }
+
+    // Appends the trimmed text of `name` to `text`. Returns what follows the mangling in `name`.
+    #[cfg_attr(not(debug_assertions), inline(always))]
+    fn push_and_rest<'a>(&mut self, text: &mut String, name: &'a str) -> Result<&'a str, AllocError> {
         let stripped = without_llvm(name);
-        if let Some(part) = legacy::mangling(stripped) {
-            return legacy::push_trimmed(text, part);
+        if let Some((part, rest)) = legacy::mangling(stripped) {
+            legacy::push_trimmed(text, part)?;
+            return Ok(rest);
         }
         let Some(part) = v0::candidate(stripped) else {
-            return text.push_str(name);
+            text.push_str(name)?;
+            return Ok("");
         };
         self.push_candidate(text, name, part, false, None)
     }
@@ -161,35 +182,38 @@ impl Demangler {
     ) -> Result<(), AllocError> {
         text.clear();
         let stripped = without_llvm(name);
-        if let Some(part) = legacy::mangling(stripped) {
+        if let Some((part, _)) = legacy::mangling(stripped) {
             return short_legacy(self.memory.alloc, text, name, part, full, below);
         }
         let Some(part) = v0::candidate(stripped) else {
             return text.push_str(name);
         };
-        self.push_candidate(text, name, part, full, Some(below))
+        let _ = self.push_candidate(text, name, part, full, Some(below))?;
+        Ok(())
     }
 
     // Appends the text of a name that isn't a legacy mangling and may be a v0 one; the name itself where its text has
-    // `most` bytes or more. A printing is a large value, which is zeroed at the beginning of a function: so other names
+    // `most` bytes or more. Returns what follows the mangling in the name. A printing is a large value, which is zeroed at the beginning of a function: so other names
     // don't get here.
     #[inline(never)]
-    fn push_candidate(
+    fn push_candidate<'a>(
         &mut self,
         text: &mut String,
         name: &str,
-        part: &str,
+        part: &'a str,
         full: bool,
         most: Option<usize>,
-    ) -> Result<(), AllocError> {
+    ) -> Result<&'a str, AllocError> {
         let mut printer = Printer::new(self.memory.take(), part, full, false, most);
-        if !v0::print_mangling(&mut printer)? {
+        let Some(rest) = v0::print_mangling(&mut printer)? else {
             self.memory.put_back(printer.into_buffers());
-            return text.push_str(name);
-        }
+            text.push_str(name)?;
+            return Ok("");
+        };
         let pushed = printer.push_text(self.memory.alloc, text, name);
         self.memory.put_back(printer.into_buffers());
-        pushed
+        pushed?;
+        Ok(rest)
     }
 
     /// The crate of `name`, as the function `crate_of` gives it.
@@ -209,6 +233,16 @@ impl Demangler {
 /// `AllocError` where an allocation failed. `text` is then unchanged.
 pub fn push_trimmed(alloc: Global, text: &mut String, name: &str) -> Result<(), AllocError> {
     Demangler::new(alloc).push_trimmed(text, name)
+}
+
+/// Appends to `text` the trimmed text of `name` and then what follows its mangling, such as `.cold`, without the
+/// `.llvm.` suffix. A name that `SymbolName::demangle` leaves unchanged is appended as it is.
+///
+/// # Errors
+///
+/// `AllocError` where an allocation failed. `text` is then unchanged.
+pub fn push_shown(alloc: Global, text: &mut String, name: &str) -> Result<(), AllocError> {
+    Demangler::new(alloc).push_shown(text, name)
 }
 
 /// The crate of `name`: of a v0 name its `crate_name`, and of a legacy name the first part of its path, unless that
@@ -235,7 +269,7 @@ pub fn crate_of(alloc: Global, name: &str) -> Result<Option<String>, AllocError>
 pub fn push_crate(alloc: Global, text: &mut String, name: &str) -> Result<bool, AllocError> {
     let stripped = without_llvm(name);
     match legacy::mangling(stripped) {
-        Some(part) => push_path_crate(text, part),
+        Some((part, _)) => push_path_crate(text, part),
         None => v0::push_crate_name(alloc, text, stripped),
     }
 }
@@ -323,7 +357,7 @@ fn unknown(alloc: Global, name: &str) -> Result<SymbolName, AllocError> {
 /// the `.llvm.` suffix that LLVM may have added. Of a name that isn't mangled, all is kept.
 pub fn demangle(name: &str) -> Demangled<'_> {
     let text = without_llvm(name);
-    if let Some(part) = legacy::mangling(text) {
+    if let Some((part, _)) = legacy::mangling(text) {
         return Demangled {
             kind: Kind::Legacy,
             part,

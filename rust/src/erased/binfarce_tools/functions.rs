@@ -6,9 +6,12 @@ use crate::shim::Vec;
 use crate::erased::binfarce_tools::list::ListError;
 use crate::erased::binfarce::{
     ByteOrder, Format, FunctionSymbol, ParseError, SectionFunction, SymbolTable, detect_format,
-    elf32, elf64, macho, pe,
+    macho, pe,
 };
 use crate::erased::binfarce_bytes::functions::Selection;
+use crate::erased::binfarce_elf::class::Class;
+use crate::erased::binfarce_elf::header::parse_header;
+use crate::erased::binfarce_elf::sections::section_table;
 use crate::erased::binfarce_elf::symbols;
 use crate::shim::alloc::Global;
 
@@ -88,33 +91,24 @@ pub fn functions_of_file<'a>(
     section: &str,
 ) -> Result<(Functions<'a>, u64), ListError> {
     match detect_format(file) {
-        Format::Elf32 { byte_order } => Ok(functions_of_elf32(file, byte_order, section)?),
-        Format::Elf64 { byte_order } => Ok(functions_of_elf64(file, byte_order, section)?),
+        Format::Elf32 { byte_order } => Ok(functions_of_elf::<u32>(file, byte_order, section)?),
+        Format::Elf64 { byte_order } => Ok(functions_of_elf::<u64>(file, byte_order, section)?),
         Format::Macho => Ok(functions_of_macho(alloc, file, section)?),
         Format::PE => Ok(functions_of_pe(alloc, file, section)?),
         Format::Unknown => Err(ListError::Unknown),
     }
 }
 
-// Those of a section of a 32-bit ELF file.
-fn functions_of_elf32<'a>(
+// Those of a section of an ELF file of this class.
+fn functions_of_elf<'a, C: Class>(
     file: &'a [u8],
     byte_order: ByteOrder,
     section: &str,
 ) -> Result<(Functions<'a>, u64), ParseError> {
-    let file = elf32::parse(file, byte_order)?;
-    let functions = file.selected_functions(SymbolTable::Symtab, Selection::Section(section))?;
-    Ok(of_section(functions))
-}
-
-// Those of a section of a 64-bit ELF file.
-fn functions_of_elf64<'a>(
-    file: &'a [u8],
-    byte_order: ByteOrder,
-    section: &str,
-) -> Result<(Functions<'a>, u64), ParseError> {
-    let file = elf64::parse(file, byte_order)?;
-    let functions = file.selected_functions(SymbolTable::Symtab, Selection::Section(section))?;
+    let header = parse_header::<C>(file, byte_order)?;
+    let table = section_table(file, byte_order, &header);
+    let selection = Selection::Section(section);
+    let functions = symbols::selected_functions::<C>(table, SymbolTable::Symtab, selection)?;
     Ok(of_section(functions))
 }
 

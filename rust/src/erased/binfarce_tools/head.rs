@@ -3,6 +3,7 @@
 //! The head of a line, before the name: the address and the size.
 
 use crate::shim::String;
+use crate::erased::binfarce_text::digits::hex_digit;
 use crate::shim::alloc::AllocError;
 
 /// Appends the head of a line to the text.
@@ -38,13 +39,6 @@ fn put_address(digits: &mut [u8], address: u64) {
         digits[at] = hex_digit(rest % 16);
         rest /= 16;
     }
-}
-
-// A lower-case hexadecimal digit.
-#[cfg_attr(not(debug_assertions), inline(always))]
-fn hex_digit(value: u64) -> u8 {
-    const DIGITS: [u8; 16] = *b"0123456789abcdef";
-    DIGITS[value as usize]
 }
 
 // Puts a size in decimal, to the right of blanks.

@@ -202,7 +202,11 @@ fn push_section_line(
 }
 
 // Appends a section's name, or its number in brackets where it has none, to the text.
-fn push_section(text: &mut String, tables: &Tables<'_>, number: u32) -> Result<(), AllocError> {
+pub(crate) fn push_section(
+    text: &mut String,
+    tables: &Tables<'_>,
+    number: u32,
+) -> Result<(), AllocError> {
     match tables.section_name(number) {
         Some(name) => text.push_str(name),
         None => {

@@ -3,7 +3,8 @@
 //! Code that the programs share: for arguments, for the file that they read, and for their exit.
 
 use crate::shim::{CollectIn, HostRuntime, String, Vec};
-use crate::erased::binfarce::ParseError;
+use crate::erased::binfarce_tools::tables::{Selection, Tables, read};
+use crate::erased::binfarce::{ParseError, SymbolTable};
 use crate::erased::binfarce_bytes::source::Source;
 use crate::erased::binfarce_tables::ReadError;
 use crate::shim::alloc::Global;
@@ -30,8 +31,8 @@ pub enum Failure {
 
 /// Why a program ended early. Its text is the printed line.
 pub trait Fault: fmt::Display + From<Failure> {
-    /// The program's exit status: 2 for wrong arguments, and 1 for any other fault.
-    fn status(&self) -> u8;
+    /// Whether the arguments are wrong.
+    fn is_usage(&self) -> bool;
 }
 
 /// The arguments after the program's own name. `Usage` where they can't be taken, as where one isn't UTF-8.
@@ -75,8 +76,8 @@ fn read_failure(e: io::Error) -> Failure {
     }
 }
 
-/// The failure for an error of reading a file's tables.
-pub fn tables_failure(e: ReadError) -> Failure {
+// The failure for an error of reading a file's tables.
+fn tables_failure(e: ReadError) -> Failure {
     match e {
         ReadError::Refused(e) => Failure::Refused(e),
         ReadError::Unreadable => Failure::File,
@@ -93,6 +94,36 @@ pub fn read_whole<R: Read>(alloc: Global, file: &mut R) -> Result<Vec<u8>, Failu
     Ok(bytes)
 }
 
+/// The tables of a file for the function symbols of a section. Of a file that can be read at offsets only the headers,
+/// the symbol table and the names are read; any other is first read to its end.
+///
+/// `File` where it can't be read; `Refused` with the error of its format's reader; `OutOfMemory` where an allocation
+/// fails.
+pub fn tables_of<F: Read + Source<Log = ()>>(
+    alloc: Global,
+    file: &mut F,
+    section: &str,
+) -> Result<Tables<'static>, Failure> {
+    if is_read_at_offsets(file) {
+        return symbols_of(alloc, file, section);
+    }
+    let bytes = read_whole(alloc, file)?;
+    symbols_of(alloc, &bytes.as_slice(), section)
+}
+
+// The same, of a source that is read at offsets.
+fn symbols_of<S: Source<Log = ()>>(
+    alloc: Global,
+    source: &S,
+    section: &str,
+) -> Result<Tables<'static>, Failure> {
+    let selection = Selection::Section(section);
+    match read(alloc, source, &mut (), SymbolTable::Symtab, selection) {
+        Ok(tables) => Ok(tables),
+        Err(e) => Err(tables_failure(e)),
+    }
+}
+
 /// Flushes the output, and returns the result of a program's work: its own fault if it has one, and else `Write` where
 /// the flush fails.
 pub fn finish<W: Write, F: From<Failure>>(mut out: W, ended: Result<(), F>) -> Result<(), F> {
@@ -102,13 +133,18 @@ pub fn finish<W: Write, F: From<Failure>>(mut out: W, ended: Result<(), F>) -> R
     Ok(())
 }
 
-/// Prints a program's fault to standard error, if it has one, and returns its exit status.
+/// Prints a program's fault to standard error, if it has one, and returns its exit status: 2 for wrong arguments, and 1
+/// for any other fault.
 pub fn exit<F: Fault>(rt: &HostRuntime, ended: Result<(), F>) -> ExitCode {
     match ended {
         Ok(()) => ExitCode::SUCCESS,
         Err(fault) => {
             let _ = rt.eprintln(format_args!("{fault}"));
-            ExitCode::from(fault.status())
+            ExitCode::from(status(&fault))
         }
     }
+}
+
+fn status<F: Fault>(fault: &F) -> u8 {
+    if fault.is_usage() { 2 } else { 1 }
 }

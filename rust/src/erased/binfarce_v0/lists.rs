@@ -8,6 +8,7 @@ use crate::erased::binfarce_v0::types::print_type;
 use crate::erased::binfarce_v0_grammar::forms::{Listed, lifetime_form};
 use crate::erased::binfarce_v0_grammar::identifiers::undisambiguated_at;
 use crate::erased::binfarce_v0_grammar::positions::{eat, list_end, required_end};
+use crate::erased::binfarce_v0_state::place::Place;
 use crate::erased::binfarce_v0_state::position::Position;
 use crate::erased::binfarce_v0_state::state::Printer;
 use crate::erased::binfarce_v0_state::text::ArgumentLifetime;
@@ -16,8 +17,7 @@ use crate::shim::alloc::AllocError;
 // A list up to its `E`: how many items it has.
 pub fn print_items(
     printer: &mut Printer<'_>,
-    levels_left: usize,
-    binder_depth: usize,
+    here: Place,
     listed: Listed,
     between: &'static str,
 ) -> Result<usize, AllocError> {
@@ -28,59 +28,49 @@ pub fn print_items(
             return Ok(count);
         }
         printer.write(if count == 0 { "" } else { between })?;
-        print_item(printer, levels_left, binder_depth, listed)?;
+        print_item(printer, here, listed)?;
     }
     printer.stop();
     Ok(most)
 }
 
 // An item of a list.
-fn print_item(
-    printer: &mut Printer<'_>,
-    levels_left: usize,
-    binder_depth: usize,
-    listed: Listed,
-) -> Result<(), AllocError> {
+fn print_item(printer: &mut Printer<'_>, here: Place, listed: Listed) -> Result<(), AllocError> {
     match listed {
-        Listed::Types => print_type(printer, levels_left, binder_depth),
-        Listed::Arguments => print_argument(printer, levels_left, binder_depth),
+        Listed::Types => print_type(printer, here),
+        Listed::Arguments => print_argument(printer, here),
         Listed::Traits => {
-            let opened = print_path(printer, levels_left, binder_depth, Position::OpenTrait)?;
-            print_bindings(printer, levels_left, binder_depth, opened)
+            let opened = print_path(printer, here, Position::OpenTrait)?;
+            print_bindings(printer, here, opened)
         }
     }
 }
 
 // `<generic-arg>`
-fn print_argument(
-    printer: &mut Printer<'_>,
-    levels_left: usize,
-    binder_depth: usize,
-) -> Result<(), AllocError> {
+fn print_argument(printer: &mut Printer<'_>, here: Place) -> Result<(), AllocError> {
     let bytes = printer.part.as_bytes();
     if eat(bytes, b'L', printer.at).is_some() {
         let (life, after) = lifetime_form(bytes, printer.at);
         printer.visit();
         if printer.take(1) {
-            printer.seek(required_end(binder_depth, life, after));
-            printer.put(ArgumentLifetime { binder_depth, life })?;
+            printer.seek(required_end(here.binder_depth, life, after));
+            printer.put(ArgumentLifetime(here.binder_depth, life))?;
         }
         return Ok(());
     }
     match eat(bytes, b'K', printer.at) {
         Some(after) => {
             printer.seek(Some(after));
-            print_const(printer, levels_left)
+            print_const(printer, here)
         }
-        None => print_type(printer, levels_left, binder_depth),
+        None => print_type(printer, here),
     }
 }
 
 // The bindings of a trait.
 fn print_bindings(
     printer: &mut Printer<'_>,
-    levels_left: usize,
-    binder_depth: usize,
+    here: Place,
     mut opened: bool,
 ) -> Result<(), AllocError> {
     let most = printer.steps_left + 1;
@@ -95,7 +85,7 @@ fn print_bindings(
         printer.seek(Some(after));
         printer.put(binding)?;
         printer.write(" = ")?;
-        print_type(printer, levels_left, binder_depth)?;
+        print_type(printer, here)?;
         opened = true;
     }
     printer.stop();

@@ -11,6 +11,7 @@ use crate::erased::binfarce_v0_grammar::limits::MAX_LEVELS;
 use crate::erased::binfarce_v0_grammar::numbers::byte_at;
 use crate::erased::binfarce_v0_grammar::reading::read_path;
 use crate::erased::binfarce_v0_state::memory::Memory;
+use crate::erased::binfarce_v0_state::place::Place;
 use crate::erased::binfarce_v0_state::position::Position;
 use crate::erased::binfarce_v0_state::state::{Buffers, Printer};
 use crate::erased::binfarce_v0_state::text::Leaf;
@@ -66,7 +67,11 @@ pub fn read(text: &str) -> Option<(&str, usize)> {
 #[cfg_attr(not(debug_assertions), inline(always))]
 pub fn print(printer: &mut Printer<'_>) -> Result<bool, AllocError> {
     printer.prepare()?;
-    print_path(printer, MAX_LEVELS, 0, Position::InValue)?;
+    let whole = Place {
+        levels_left: MAX_LEVELS,
+        binder_depth: 0,
+    };
+    print_path(printer, whole, Position::InValue)?;
     Ok(!printer.limit_exceeded)
 }
 
@@ -74,7 +79,7 @@ pub fn print(printer: &mut Printer<'_>) -> Result<bool, AllocError> {
 /// it. `None` where `text` isn't a v0 mangling whose reading has at most `MAX_LEVELS` levels. Nothing is allocated.
 pub fn mangled_part(text: &str) -> Option<&str> {
     let (part, after) = read(text)?;
-    if is_allowed_rest(rest_from(part.as_bytes(), after)) {
+    if is_allowed_rest(rest_from(part, after).as_bytes()) {
         Some(part)
     } else {
         None
@@ -82,25 +87,29 @@ pub fn mangled_part(text: &str) -> Option<&str> {
 }
 
 // The part from a position on.
-fn rest_from(part: &[u8], at: usize) -> &[u8] {
-    if at <= part.len() { &part[at..] } else { &[] }
+fn rest_from(part: &str, at: usize) -> &str {
+    if at <= part.len() { &part[at..] } else { "" }
 }
 
 /// Prints what the part of a new printing unfolds to, as `print` does. `candidate` gave this part of a text. Returns
-/// whether that text is a v0 mangling whose reading has at most `MAX_LEVELS` levels, and which unfolds to a tree of at
-/// most `MAX_LEVELS` levels and `MAX_STEPS` steps.
+/// what follows the mangling in the text. `None` where the text isn't a v0 mangling whose reading has at most
+/// `MAX_LEVELS` levels, and which unfolds to a tree of at most `MAX_LEVELS` levels and `MAX_STEPS` steps.
 ///
 /// Printing without invalid syntax outside back references also reads the first path: then only a second path is left
 /// to read.
 #[cfg_attr(not(debug_assertions), inline(always))]
-pub fn print_mangling(printer: &mut Printer<'_>) -> Result<bool, AllocError> {
+pub fn print_mangling<'a>(printer: &mut Printer<'a>) -> Result<Option<&'a str>, AllocError> {
     if !print(printer)? {
-        return Ok(false);
+        return Ok(None);
     }
     let Some(after) = paths_end(printer.part, printer.at) else {
-        return Ok(false);
+        return Ok(None);
     };
-    Ok(is_allowed_rest(rest_from(printer.part.as_bytes(), after)))
+    let rest = rest_from(printer.part, after);
+    if !is_allowed_rest(rest.as_bytes()) {
+        return Ok(None);
+    }
+    Ok(Some(rest))
 }
 
 /// Both texts of a name, and its crate.
@@ -151,10 +160,9 @@ pub fn push_crate_name(alloc: Global, text: &mut String, name: &str) -> Result<b
         return Ok(false);
     };
     let mut printer = Printer::new(Buffers::empty(alloc), part, false, true, None);
-    if print_mangling(&mut printer)? {
-        push_root(alloc, text, printer.root)
-    } else {
-        Ok(false)
+    match print_mangling(&mut printer)? {
+        Some(_) => push_root(alloc, text, printer.root),
+        None => Ok(false),
     }
 }
 
@@ -168,10 +176,10 @@ pub fn both_texts(memory: &mut Memory, text: &str) -> Result<Option<Texts>, Allo
     };
     let alloc = memory.alloc;
     let mut printer = Printer::new(memory.take(), part, true, false, None);
-    if !print_mangling(&mut printer)? {
+    let Some(_rest) = print_mangling(&mut printer)? else {
         memory.put_back(printer.into_buffers());
         return Ok(None);
-    }
+    };
     let crate_name = root_text(alloc, printer.root)?;
     let (complete, trimmed) = printer.texts(alloc)?;
     memory.put_back(printer.into_buffers());

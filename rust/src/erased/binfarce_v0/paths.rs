@@ -11,6 +11,7 @@ use crate::erased::binfarce_v0_grammar::numbers::{
     back_reference, byte_at, skip_optional_base_62_number,
 };
 use crate::erased::binfarce_v0_state::fragments::Production;
+use crate::erased::binfarce_v0_state::place::Place;
 use crate::erased::binfarce_v0_state::position::{
     Position, closing, is_open_trait, parent, value_mark,
 };
@@ -26,48 +27,33 @@ fn is_namespace(letter: u8) -> bool {
 /// `<path>`. Returns whether it was left open. It is kept where a back reference may name it.
 pub fn print_path(
     printer: &mut Printer<'_>,
-    levels_left: usize,
-    binder_depth: usize,
+    here: Place,
     position: Position,
 ) -> Result<bool, AllocError> {
-    print(
-        printer,
-        levels_left,
-        binder_depth,
-        Production::Path(position),
-    )
+    print(printer, here, Production::Path(position))
 }
 
 // A path by the letter that it begins with.
 #[cfg_attr(not(debug_assertions), inline(always))]
 pub(crate) fn print_path_by_letter(
     printer: &mut Printer<'_>,
-    levels_left: usize,
-    binder_depth: usize,
+    here: Place,
     position: Position,
-    start: Option<usize>,
 ) -> Result<bool, AllocError> {
-    let Some(at) = start else {
+    let Some(at) = printer.at else {
         printer.invalid_syntax()?;
         return Ok(false);
     };
     let bytes = printer.part.as_bytes();
     match byte_at(bytes, at) {
         b'I' => {
-            print_generic(printer, levels_left, binder_depth, position, at + 1)?;
+            print_generic(printer, here, position, at + 1)?;
             Ok(is_open_trait(position))
         }
         b'B' => match back_reference(bytes, at) {
             Some((target, after)) => {
                 let production = Production::Path(position);
-                print_target(
-                    printer,
-                    levels_left,
-                    binder_depth,
-                    production,
-                    target,
-                    after,
-                )
+                print_target(printer, here, production, target, after)
             }
             None => {
                 printer.invalid_syntax()?;
@@ -75,7 +61,7 @@ pub(crate) fn print_path_by_letter(
             }
         },
         _ => {
-            print_closed_path(printer, levels_left, binder_depth, position, at)?;
+            print_closed_path(printer, here, position, at)?;
             Ok(false)
         }
     }
@@ -85,19 +71,18 @@ pub(crate) fn print_path_by_letter(
 #[cfg_attr(not(debug_assertions), inline(always))]
 fn print_closed_path(
     printer: &mut Printer<'_>,
-    levels_left: usize,
-    binder_depth: usize,
+    here: Place,
     position: Position,
     at: usize,
 ) -> Result<(), AllocError> {
     match byte_at(printer.part.as_bytes(), at) {
         b'C' => print_crate_root(printer, at + 1),
-        b'N' => print_nested(printer, levels_left, binder_depth, position, at),
-        b'M' => print_inherent_impl(printer, levels_left, binder_depth, position, at),
-        b'X' => print_trait_impl(printer, levels_left, binder_depth, position, at),
+        b'N' => print_nested(printer, here, position, at),
+        b'M' => print_inherent_impl(printer, here, position, at),
+        b'X' => print_trait_impl(printer, here, position, at),
         b'Y' => {
             printer.seek(Some(at + 1));
-            print_qualified(printer, levels_left, binder_depth)
+            print_qualified(printer, here)
         }
         _ => printer.invalid_syntax(),
     }
@@ -106,8 +91,7 @@ fn print_closed_path(
 // `"N" <namespace> <path> <identifier>`, with its `N` at `at`.
 fn print_nested(
     printer: &mut Printer<'_>,
-    levels_left: usize,
-    binder_depth: usize,
+    here: Place,
     position: Position,
     at: usize,
 ) -> Result<(), AllocError> {
@@ -116,15 +100,14 @@ fn print_nested(
         return printer.invalid_syntax();
     }
     printer.seek(Some(at + 2));
-    print_path(printer, levels_left, binder_depth, parent(position))?;
+    print_path(printer, here, parent(position))?;
     print_nested_name(printer, namespace)
 }
 
 // `"M" <impl-path> <type>`, with its `M` at `at`.
 fn print_inherent_impl(
     printer: &mut Printer<'_>,
-    levels_left: usize,
-    binder_depth: usize,
+    here: Place,
     position: Position,
     at: usize,
 ) -> Result<(), AllocError> {
@@ -132,17 +115,16 @@ fn print_inherent_impl(
     let Some(after) = skip_optional_base_62_number(bytes, b's', at + 1) else {
         return printer.invalid_syntax();
     };
-    print_impl_path(printer, levels_left, binder_depth, position, after)?;
+    print_impl_path(printer, here, position, after)?;
     printer.write("<")?;
-    print_type(printer, levels_left, binder_depth)?;
+    print_type(printer, here)?;
     printer.write(">")
 }
 
 // `"X" <impl-path> <type> <path>`, with its `X` at `at`.
 fn print_trait_impl(
     printer: &mut Printer<'_>,
-    levels_left: usize,
-    binder_depth: usize,
+    here: Place,
     position: Position,
     at: usize,
 ) -> Result<(), AllocError> {
@@ -150,51 +132,45 @@ fn print_trait_impl(
     let Some(after) = skip_optional_base_62_number(bytes, b's', at + 1) else {
         return printer.invalid_syntax();
     };
-    print_impl_path(printer, levels_left, binder_depth, position, after)?;
-    print_qualified(printer, levels_left, binder_depth)
+    print_impl_path(printer, here, position, after)?;
+    print_qualified(printer, here)
 }
 
 // The path of an impl, which is read and not written.
 fn print_impl_path(
     printer: &mut Printer<'_>,
-    levels_left: usize,
-    binder_depth: usize,
+    here: Place,
     position: Position,
     after: usize,
 ) -> Result<(), AllocError> {
     let muted = printer.muted;
     printer.seek(Some(after));
     printer.set_muted(true);
-    print_path(printer, levels_left, binder_depth, parent(position))?;
+    print_path(printer, here, parent(position))?;
     printer.set_muted(muted);
     Ok(())
 }
 
 // `<T as Trait>`
-fn print_qualified(
-    printer: &mut Printer<'_>,
-    levels_left: usize,
-    binder_depth: usize,
-) -> Result<(), AllocError> {
+fn print_qualified(printer: &mut Printer<'_>, here: Place) -> Result<(), AllocError> {
     printer.write("<")?;
-    print_type(printer, levels_left, binder_depth)?;
+    print_type(printer, here)?;
     printer.write(" as ")?;
-    print_path(printer, levels_left, binder_depth, Position::InType)?;
+    print_path(printer, here, Position::InType)?;
     printer.write(">")
 }
 
 // A path with its arguments.
 fn print_generic(
     printer: &mut Printer<'_>,
-    levels_left: usize,
-    binder_depth: usize,
+    here: Place,
     position: Position,
     after: usize,
 ) -> Result<(), AllocError> {
     printer.seek(Some(after));
-    print_path(printer, levels_left, binder_depth, parent(position))?;
+    print_path(printer, here, parent(position))?;
     printer.write(value_mark(position))?;
     printer.write("<")?;
-    print_items(printer, levels_left, binder_depth, Listed::Arguments, ", ")?;
+    print_items(printer, here, Listed::Arguments, ", ")?;
     printer.write(closing(position))
 }

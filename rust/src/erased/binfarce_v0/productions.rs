@@ -6,6 +6,7 @@ use crate::erased::binfarce_v0::consts::print_const_by_letter;
 use crate::erased::binfarce_v0::paths::print_path_by_letter;
 use crate::erased::binfarce_v0::types::print_type_by_letter;
 use crate::erased::binfarce_v0_state::fragments::{FragmentKey, Production};
+use crate::erased::binfarce_v0_state::place::Place;
 use crate::erased::binfarce_v0_state::state::Printer;
 use crate::shim::alloc::AllocError;
 
@@ -13,13 +14,12 @@ use crate::shim::alloc::AllocError;
 #[cfg_attr(not(debug_assertions), inline(always))]
 pub fn print(
     printer: &mut Printer<'_>,
-    levels_left: usize,
-    binder_depth: usize,
+    here: Place,
     production: Production,
 ) -> Result<bool, AllocError> {
     match printer.keeps_at() {
-        Some(at) => print_and_keep(printer, levels_left, binder_depth, production, at),
-        None => print_anew(printer, levels_left, binder_depth, production),
+        Some(at) => print_and_keep(printer, here, production, at),
+        None => print_anew(printer, here, production),
     }
 }
 
@@ -27,14 +27,19 @@ pub fn print(
 #[inline(never)]
 fn print_and_keep(
     printer: &mut Printer<'_>,
-    levels_left: usize,
-    binder_depth: usize,
+    here: Place,
     production: Production,
     at: usize,
 ) -> Result<bool, AllocError> {
-    let mark = printer.mark(levels_left, at);
-    let opened = print_anew(printer, levels_left, binder_depth, production)?;
-    printer.keep(mark, levels_left, binder_depth, production, opened)?;
+    let mark = printer.mark(here.levels_left, at);
+    let opened = print_anew(printer, here, production)?;
+    printer.keep(
+        mark,
+        here.levels_left,
+        here.binder_depth,
+        production,
+        opened,
+    )?;
     Ok(opened)
 }
 
@@ -42,32 +47,28 @@ fn print_and_keep(
 #[cfg_attr(not(debug_assertions), inline(always))]
 fn print_anew(
     printer: &mut Printer<'_>,
-    levels_left: usize,
-    binder_depth: usize,
+    here: Place,
     production: Production,
 ) -> Result<bool, AllocError> {
-    let start = printer.at;
-    let Some(below) = printer.enter(levels_left) else {
+    let Some(below) = printer.enter(here) else {
         return Ok(false);
     };
-    print_by_letter(printer, below, binder_depth, production, start)
+    print_by_letter(printer, below, production)
 }
 
 // A production by the letter that it begins with.
 #[cfg_attr(not(debug_assertions), inline(always))]
 fn print_by_letter(
     printer: &mut Printer<'_>,
-    levels_left: usize,
-    binder_depth: usize,
+    here: Place,
     production: Production,
-    start: Option<usize>,
 ) -> Result<bool, AllocError> {
     match production {
         Production::Path(position) => {
-            return print_path_by_letter(printer, levels_left, binder_depth, position, start);
+            return print_path_by_letter(printer, here, position);
         }
-        Production::Type => print_type_by_letter(printer, levels_left, binder_depth, start)?,
-        Production::Const => print_const_by_letter(printer, levels_left, start)?,
+        Production::Type => print_type_by_letter(printer, here)?,
+        Production::Const => print_const_by_letter(printer, here)?,
     }
     Ok(false)
 }
@@ -75,8 +76,7 @@ fn print_by_letter(
 // The target of a back reference: a production, printed from the position that it names.
 pub fn print_target(
     printer: &mut Printer<'_>,
-    levels_left: usize,
-    binder_depth: usize,
+    here: Place,
     production: Production,
     target: usize,
     after: usize,
@@ -84,15 +84,15 @@ pub fn print_target(
     let key = FragmentKey {
         production,
         at: target,
-        binder_depth,
+        binder_depth: here.binder_depth,
     };
-    if let Some(opened) = printer.print_kept(levels_left, key, after)? {
+    if let Some(opened) = printer.print_kept(here.levels_left, key, after)? {
         return Ok(opened);
     }
     printer.look_for_targets()?;
     let in_back_reference = printer.in_back_reference;
     printer.enter_target(target);
-    let opened = print(printer, levels_left, binder_depth, production)?;
+    let opened = print(printer, here, production)?;
     printer.leave_target(after, in_back_reference);
     Ok(opened)
 }

@@ -12,200 +12,162 @@ use crate::erased::binfarce_v0_grammar::forms::{
 use crate::erased::binfarce_v0_grammar::numbers::{back_reference, byte_at, optional_base_62_number};
 use crate::erased::binfarce_v0_grammar::positions::{bound_end, eat, required_end};
 use crate::erased::binfarce_v0_state::fragments::Production;
+use crate::erased::binfarce_v0_state::place::Place;
 use crate::erased::binfarce_v0_state::position::Position;
 use crate::erased::binfarce_v0_state::state::Printer;
 use crate::erased::binfarce_v0_state::text::{Binder, DynLifetime, ReferenceLifetime};
 use crate::shim::alloc::AllocError;
 
-// The text after the items of a tuple, by their number.
-#[cfg_attr(not(debug_assertions), inline(always))]
-fn single_mark(count: usize) -> &'static str {
-    if count == 1 { "," } else { "" }
-}
-
 /// `<type>`. It is kept where a back reference may name it.
-pub fn print_type(
-    printer: &mut Printer<'_>,
-    levels_left: usize,
-    binder_depth: usize,
-) -> Result<(), AllocError> {
-    print(printer, levels_left, binder_depth, Production::Type)?;
+pub fn print_type(printer: &mut Printer<'_>, here: Place) -> Result<(), AllocError> {
+    print(printer, here, Production::Type)?;
     Ok(())
 }
 
 // A type by the letter that it begins with.
 #[cfg_attr(not(debug_assertions), inline(always))]
-pub(crate) fn print_type_by_letter(
-    printer: &mut Printer<'_>,
-    levels_left: usize,
-    binder_depth: usize,
-    start: Option<usize>,
-) -> Result<(), AllocError> {
-    let Some(at) = start else {
+pub(crate) fn print_type_by_letter(printer: &mut Printer<'_>, here: Place) -> Result<(), AllocError> {
+    let Some(at) = printer.at else {
         return printer.invalid_syntax();
     };
     if at >= printer.part.len() {
         return printer.invalid_syntax();
     }
-    let letter = byte_at(printer.part.as_bytes(), at);
-    match basic_type(letter) {
+    match basic_type(byte_at(printer.part.as_bytes(), at)) {
         Some(text) => {
             printer.seek(Some(at + 1));
             printer.write(text)
         }
-        None => print_other_type(printer, levels_left, binder_depth, at, letter),
+        None => print_other_type(printer, here, at),
     }
 }
 
 // A type that isn't a basic type.
-fn print_other_type(
-    printer: &mut Printer<'_>,
-    levels_left: usize,
-    binder_depth: usize,
-    at: usize,
-    letter: u8,
-) -> Result<(), AllocError> {
+fn print_other_type(printer: &mut Printer<'_>, here: Place, at: usize) -> Result<(), AllocError> {
     let bytes = printer.part.as_bytes();
     let after = at + 1;
-    match letter {
-        b'R' => print_reference(printer, levels_left, binder_depth, false, after),
-        b'Q' => print_reference(printer, levels_left, binder_depth, true, after),
-        b'P' => print_pointer(printer, levels_left, binder_depth, "*const ", after),
-        b'O' => print_pointer(printer, levels_left, binder_depth, "*mut ", after),
-        b'S' => print_slice(printer, levels_left, binder_depth, after),
-        b'A' => print_array(printer, levels_left, binder_depth, after),
-        b'T' => print_tuple(printer, levels_left, binder_depth, after),
-        b'F' => print_function_form(printer, levels_left, binder_depth, after),
-        b'D' => print_dyn_form(printer, levels_left, binder_depth, after),
+    match byte_at(bytes, at) {
+        b'R' => print_reference(printer, here, false, after),
+        b'Q' => print_reference(printer, here, true, after),
+        b'P' => print_pointer(printer, here, "*const ", after),
+        b'O' => print_pointer(printer, here, "*mut ", after),
+        b'S' => print_slice(printer, here, after),
+        b'A' => print_array(printer, here, after),
+        b'T' => print_tuple(printer, here, after),
+        b'F' => print_function_form(printer, here, after),
+        b'D' => print_dyn_form(printer, here, after),
         b'B' => match back_reference(bytes, at) {
             Some((target, end)) => {
                 let production = Production::Type;
-                print_target(printer, levels_left, binder_depth, production, target, end)?;
+                print_target(printer, here, production, target, end)?;
                 Ok(())
             }
             None => printer.invalid_syntax(),
         },
         _ => {
-            print_path(printer, levels_left, binder_depth, Position::InType)?;
+            print_path(printer, here, Position::InType)?;
             Ok(())
         }
     }
 }
 
 // `"S" <type>`, after the letter.
-fn print_slice(
-    printer: &mut Printer<'_>,
-    levels_left: usize,
-    binder_depth: usize,
-    after: usize,
-) -> Result<(), AllocError> {
+fn print_slice(printer: &mut Printer<'_>, here: Place, after: usize) -> Result<(), AllocError> {
     printer.seek(Some(after));
     printer.write("[")?;
-    print_type(printer, levels_left, binder_depth)?;
+    print_type(printer, here)?;
     printer.write("]")
 }
 
 // `"D" ..`, after the letter.
-fn print_dyn_form(
-    printer: &mut Printer<'_>,
-    levels_left: usize,
-    binder_depth: usize,
-    at: usize,
-) -> Result<(), AllocError> {
+fn print_dyn_form(printer: &mut Printer<'_>, here: Place, at: usize) -> Result<(), AllocError> {
     match optional_base_62_number(printer.part.as_bytes(), b'G', at) {
-        Some((binder, after)) => print_dyn(printer, levels_left, binder_depth, binder, after),
-        None => print_invalid_dyn(printer),
+        Some((binder, after)) => print_dyn(printer, here, binder, after),
+        None => {
+            printer.seek(None);
+            printer.write("dyn ??")
+        }
     }
 }
 
 // `"P" ..` and `"O" ..`, after the letter.
 fn print_pointer(
     printer: &mut Printer<'_>,
-    levels_left: usize,
-    binder_depth: usize,
+    here: Place,
     mark: &'static str,
     after: usize,
 ) -> Result<(), AllocError> {
     printer.seek(Some(after));
     printer.write(mark)?;
-    print_type(printer, levels_left, binder_depth)
+    print_type(printer, here)
 }
 
 // `"F" ..`, after the letter.
-fn print_function_form(
-    printer: &mut Printer<'_>,
-    levels_left: usize,
-    binder_depth: usize,
-    at: usize,
-) -> Result<(), AllocError> {
+fn print_function_form(printer: &mut Printer<'_>, here: Place, at: usize) -> Result<(), AllocError> {
     match function_form(
         printer.part,
         optional_base_62_number(printer.part.as_bytes(), b'G', at),
     ) {
         FunctionForm::FunctionOf(signature, after) => {
-            print_function(printer, levels_left, binder_depth, signature, after)
+            print_function(printer, here, signature, after)
         }
-        FunctionForm::InvalidAbi(binder) => print_invalid_function(printer, binder_depth, binder),
+        FunctionForm::InvalidAbi(binder) => print_invalid_function(
+            printer,
+            here.binder_depth,
+            binder,
+        ),
         _ => printer.invalid_syntax(),
     }
 }
 
 // `"A" <type> <const>`
-fn print_array(
-    printer: &mut Printer<'_>,
-    levels_left: usize,
-    binder_depth: usize,
-    after: usize,
-) -> Result<(), AllocError> {
+fn print_array(printer: &mut Printer<'_>, here: Place, after: usize) -> Result<(), AllocError> {
     printer.seek(Some(after));
     printer.write("[")?;
-    print_type(printer, levels_left, binder_depth)?;
+    print_type(printer, here)?;
     printer.write("; ")?;
-    print_const(printer, levels_left)?;
+    print_const(printer, here)?;
     printer.write("]")
 }
 
 // `"T" {<type>} "E"`
-fn print_tuple(
-    printer: &mut Printer<'_>,
-    levels_left: usize,
-    binder_depth: usize,
-    after: usize,
-) -> Result<(), AllocError> {
+fn print_tuple(printer: &mut Printer<'_>, here: Place, after: usize) -> Result<(), AllocError> {
     printer.seek(Some(after));
     printer.write("(")?;
-    let count = print_items(printer, levels_left, binder_depth, Listed::Types, ", ")?;
-    printer.write(single_mark(count))?;
+    let count = print_items(printer, here, Listed::Types, ", ")?;
+    printer.write(if count == 1 { "," } else { "" })?;
     printer.write(")")
 }
 
 // `"R" ..` and `"Q" ..`, after the letter.
 fn print_reference(
     printer: &mut Printer<'_>,
-    levels_left: usize,
-    binder_depth: usize,
+    here: Place,
     mutable: bool,
     at: usize,
 ) -> Result<(), AllocError> {
     let (life, end) = lifetime_form(printer.part.as_bytes(), Some(at));
     let Some(after) = end else {
-        return print_invalid_reference(printer);
+        if printer.take(1) {
+            printer.seek(None);
+            printer.write("&?")?;
+        }
+        return Ok(());
     };
     if !printer.take_lifetime(life) {
         return Ok(());
     }
-    printer.seek(bound_end(binder_depth, life, Some(after)));
+    printer.seek(bound_end(here.binder_depth, life, Some(after)));
     printer.write("&")?;
-    printer.put(ReferenceLifetime { binder_depth, life })?;
+    printer.put(ReferenceLifetime(here.binder_depth, life))?;
     printer.write(if mutable { "mut " } else { "" })?;
-    print_type(printer, levels_left, binder_depth)
+    print_type(printer, here)
 }
 
 // A function type.
 fn print_function<'a>(
     printer: &mut Printer<'a>,
-    levels_left: usize,
-    binder_depth: usize,
+    here: Place,
     signature: Signature<'a>,
     after: usize,
 ) -> Result<(), AllocError> {
@@ -214,12 +176,12 @@ fn print_function<'a>(
     }
     printer.seek(Some(after));
     printer.put(Binder {
-        binder_depth,
+        binder_depth: here.binder_depth,
         count: signature.binder as usize,
     })?;
     printer.put(signature)?;
-    let inner = binder_depth + signature.binder as usize;
-    print_items(printer, levels_left, inner, Listed::Types, ", ")?;
+    let inner = here.under(signature.binder as usize);
+    print_items(printer, inner, Listed::Types, ", ")?;
     printer.write(")")?;
     match eat(printer.part.as_bytes(), b'u', printer.at) {
         Some(after) => {
@@ -228,7 +190,7 @@ fn print_function<'a>(
         }
         None => {
             printer.write(" -> ")?;
-            print_type(printer, levels_left, inner)
+            print_type(printer, inner)
         }
     }
 }
@@ -236,8 +198,7 @@ fn print_function<'a>(
 // A dyn type.
 fn print_dyn(
     printer: &mut Printer<'_>,
-    levels_left: usize,
-    binder_depth: usize,
+    here: Place,
     binder: u64,
     after: usize,
 ) -> Result<(), AllocError> {
@@ -247,17 +208,11 @@ fn print_dyn(
     printer.seek(Some(after));
     printer.write("dyn ")?;
     printer.put(Binder {
-        binder_depth,
+        binder_depth: here.binder_depth,
         count: binder as usize,
     })?;
-    print_items(
-        printer,
-        levels_left,
-        binder_depth + binder as usize,
-        Listed::Traits,
-        " + ",
-    )?;
-    print_dyn_lifetime(printer, binder_depth)
+    print_items(printer, here.under(binder as usize), Listed::Traits, " + ")?;
+    print_dyn_lifetime(printer, here.binder_depth)
 }
 
 // The lifetime of a dyn type, which is outside its binder.
@@ -265,24 +220,9 @@ fn print_dyn_lifetime(printer: &mut Printer<'_>, binder_depth: usize) -> Result<
     let (life, end) = lifetime_form(printer.part.as_bytes(), printer.at);
     if printer.take_lifetime(life) {
         printer.seek(required_end(binder_depth, life, end));
-        printer.put(DynLifetime { binder_depth, life })?;
+        printer.put(DynLifetime(binder_depth, life))?;
     }
     Ok(())
-}
-
-// A reference whose lifetime is invalid.
-fn print_invalid_reference(printer: &mut Printer<'_>) -> Result<(), AllocError> {
-    if printer.take(1) {
-        printer.seek(None);
-        printer.write("&?")?;
-    }
-    Ok(())
-}
-
-// A dyn type whose binder is invalid.
-fn print_invalid_dyn(printer: &mut Printer<'_>) -> Result<(), AllocError> {
-    printer.seek(None);
-    printer.write("dyn ??")
 }
 
 // A function type whose ABI is invalid.

@@ -4,8 +4,6 @@
 //! of 2^64 or more is invalid.
 
 use crate::erased::binfarce_text::digits::hex_value;
-use crate::erased::binfarce_text::strides::STRIDE;
-use crate::shim::simd::prelude::*;
 
 /// The byte at a position, and 0 from the end on.
 #[cfg_attr(not(debug_assertions), inline(always))]
@@ -60,29 +58,10 @@ fn with_digit(value: u64, base: u64, digit: u8) -> Option<u64> {
     value.checked_mul(base)?.checked_add(u64::from(digit))
 }
 
-// How many base-62 digits always write a number below 2^64.
-const FEW_DIGITS: usize = 10;
-
 // Base-62 digits up to a `_`: one more than the number that they write.
 #[cfg_attr(not(debug_assertions), inline(always))]
 fn digits_62(part: &[u8], start: usize) -> Option<(u64, usize)> {
-    let end = part.len().min(start.saturating_add(FEW_DIGITS));
     let mut value: u64 = 0;
-    for at in start..end {
-        let c = part[at];
-        if c == b'_' {
-            return Some((value + 1, at + 1));
-        }
-        let digit = digit_62(c)?;
-        value = value * 62 + u64::from(digit);
-    }
-    more_digits_62(part, value, end)
-}
-
-// The same after digits of the value `before`.
-#[cfg_attr(not(debug_assertions), inline(always))]
-fn more_digits_62(part: &[u8], before: u64, start: usize) -> Option<(u64, usize)> {
-    let mut value = before;
     for at in start..part.len() {
         let c = part[at];
         if c == b'_' {
@@ -116,36 +95,9 @@ pub fn optional_base_62_number(part: &[u8], tag: u8, at: usize) -> Option<(u64, 
     }
 }
 
-// How many of 16 bytes are base-62 digits before the first that isn't.
-#[cfg_attr(not(debug_assertions), inline(always))]
-fn digit_run(bytes: &[u8]) -> usize {
-    let v = u8x16::from_slice(bytes);
-    let letter = (v | u8x16::splat(0x20)) - u8x16::splat(b'a');
-    let digit = v - u8x16::splat(b'0');
-    let is_other = letter.simd_ge(u8x16::splat(26)) & digit.simd_ge(u8x16::splat(10));
-    let others = is_other.to_bitmask();
-    if others == 0 {
-        STRIDE
-    } else {
-        others.trailing_zeros() as usize
-    }
-}
-
 // The position after the longest run of base-62 digits from a position on.
 #[cfg_attr(not(debug_assertions), inline(always))]
 fn digits_end(part: &[u8], start: usize) -> usize {
-    if part.len() - start >= STRIDE {
-        let run = digit_run(&part[start..start + STRIDE]);
-        if run < STRIDE {
-            return start + run;
-        }
-    }
-    digits_end_slowly(part, start)
-}
-
-// The same, one byte at a time.
-#[inline(never)]
-fn digits_end_slowly(part: &[u8], start: usize) -> usize {
     let mut end = start;
     while end < part.len() && is_digit_62(part[end]) {
         end += 1;
@@ -200,25 +152,17 @@ pub fn back_reference(part: &[u8], at: usize) -> Option<(usize, usize)> {
     }
 }
 
-// The value of a decimal digit.
-#[cfg_attr(not(debug_assertions), inline(always))]
-fn decimal_digit(c: u8) -> Option<u8> {
-    match c {
-        b'0'..=b'9' => Some(c - b'0'),
-        _ => None,
-    }
-}
-
 // The longest run of decimal digits.
 #[inline(never)]
 fn digits_10(part: &[u8], start: usize) -> Option<(u64, usize)> {
     let mut value: u64 = 0;
     let mut after = start;
     for at in start..part.len() {
-        let Some(digit) = decimal_digit(part[at]) else {
+        let c = part[at];
+        if !c.is_ascii_digit() {
             return Some((value, at));
-        };
-        value = with_digit(value, 10, digit)?;
+        }
+        value = with_digit(value, 10, c - b'0')?;
         after = at + 1;
     }
     Some((value, after))

@@ -2,6 +2,8 @@
 
 //! Crates' disambiguators as they are shown.
 
+use crate::erased::binfarce_text::digits::hex_digit;
+
 /// Puts a disambiguator at the end of 18 bytes: where it begins.
 #[cfg_attr(not(debug_assertions), inline(always))]
 pub fn put_disambiguator(shown: &mut [u8], n: u64) -> usize {
@@ -16,11 +18,4 @@ pub fn put_disambiguator(shown: &mut [u8], n: u64) -> usize {
     shown[at] = hex_digit(rest);
     shown[at - 1] = b'[';
     at - 1
-}
-
-// A lower-case hexadecimal digit.
-#[cfg_attr(not(debug_assertions), inline(always))]
-fn hex_digit(value: u64) -> u8 {
-    const DIGITS: [u8; 16] = *b"0123456789abcdef";
-    DIGITS[value as usize]
 }

@@ -4,6 +4,7 @@
 
 use crate::shim::String;
 use crate::erased::binfarce_v0_state::fragments::{Fragments, or_forget, share};
+use crate::erased::binfarce_v0_state::place::Place;
 use crate::erased::binfarce_v0_state::text::{Disambiguator, Leaf};
 use crate::erased::binfarce_v0_grammar::forms::Lifetime;
 use crate::erased::binfarce_v0_grammar::identifiers::UndisambiguatedIdentifier;
@@ -208,21 +209,11 @@ impl<'a> Printer<'a> {
     #[cfg_attr(not(debug_assertions), inline(always))]
     pub fn into_buffers(self) -> Buffers {
         let Printer {
-            part: _,
-            at: _,
-            steps_left: _,
-            least_levels_left: _,
-            limit_exceeded: _,
             complete,
             trimmed,
             text,
-            muted: _,
-            full: _,
-            in_back_reference: _,
-            root: _,
             kept,
-            most: _,
-            visits: _,
+            ..
         } = self;
         Buffers {
             complete,
@@ -271,16 +262,17 @@ impl<'a> Printer<'a> {
         self.take(lifetime_steps(life))
     }
 
-    /// Takes a level and a step, where one of each is left. Returns the levels left below.
+    /// Takes a level and a step, where one of each is left. Returns the place below.
     #[cfg_attr(not(debug_assertions), inline(always))]
-    pub fn enter(&mut self, levels_left: usize) -> Option<usize> {
-        if levels_left == 0 || self.steps_left == 0 {
+    pub fn enter(&mut self, here: Place) -> Option<Place> {
+        if here.levels_left == 0 || self.steps_left == 0 {
             self.stop();
             return None;
         }
-        let below = levels_left - 1;
+        let mut below = here;
+        below.levels_left -= 1;
         self.steps_left -= 1;
-        self.least_levels_left = self.least_levels_left.min(below);
+        self.least_levels_left = self.least_levels_left.min(below.levels_left);
         self.visit();
         Some(below)
     }

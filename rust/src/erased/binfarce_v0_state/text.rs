@@ -41,15 +41,12 @@ fn push_lifetime(text: &mut String, binder_depth: usize, index: u64) -> Result<(
 
 /// The lifetime of an argument under a depth of binders.
 #[derive(Clone, Copy)]
-pub struct ArgumentLifetime {
-    pub binder_depth: usize,
-    pub life: Lifetime,
-}
+pub struct ArgumentLifetime(pub usize, pub Lifetime);
 
 impl Leaf for ArgumentLifetime {
     fn push(self, out: &mut String) -> Result<(), AllocError> {
-        match self.life {
-            Lifetime::Indexed(index) => push_lifetime(out, self.binder_depth, index),
+        match self.1 {
+            Lifetime::Indexed(index) => push_lifetime(out, self.0, index),
             _ => out.push_str("?"),
         }
     }
@@ -57,19 +54,16 @@ impl Leaf for ArgumentLifetime {
 
 /// The lifetime of a reference under a depth of binders.
 #[derive(Clone, Copy)]
-pub struct ReferenceLifetime {
-    pub binder_depth: usize,
-    pub life: Lifetime,
-}
+pub struct ReferenceLifetime(pub usize, pub Lifetime);
 
 impl Leaf for ReferenceLifetime {
     fn push(self, out: &mut String) -> Result<(), AllocError> {
-        match self.life {
+        match self.1 {
             Lifetime::Indexed(index) => {
                 if index == 0 {
                     return Ok(());
                 }
-                push_lifetime(out, self.binder_depth, index)?;
+                push_lifetime(out, self.0, index)?;
                 out.push_str(" ")
             }
             _ => Ok(()),
@@ -79,20 +73,17 @@ impl Leaf for ReferenceLifetime {
 
 /// The lifetime of a dyn type under a depth of binders.
 #[derive(Clone, Copy)]
-pub struct DynLifetime {
-    pub binder_depth: usize,
-    pub life: Lifetime,
-}
+pub struct DynLifetime(pub usize, pub Lifetime);
 
 impl Leaf for DynLifetime {
     fn push(self, out: &mut String) -> Result<(), AllocError> {
-        match self.life {
+        match self.1 {
             Lifetime::Indexed(index) => {
                 if index == 0 {
                     return Ok(());
                 }
                 out.push_str(" + ")?;
-                push_lifetime(out, self.binder_depth, index)
+                push_lifetime(out, self.0, index)
             }
             _ => out.push_str("?"),
         }
@@ -135,19 +126,16 @@ impl Leaf for Disambiguator {
 
 /// A name after a mark, or nothing for an empty name.
 #[derive(Clone, Copy)]
-pub struct AfterMark<'a> {
-    pub mark: &'static str,
-    pub name: UndisambiguatedIdentifier<'a>,
-}
+pub struct AfterMark<'a>(pub &'static str, pub UndisambiguatedIdentifier<'a>);
 
 impl<'a> Leaf for AfterMark<'a> {
     #[cfg_attr(not(debug_assertions), inline(always))]
     fn push(self, out: &mut String) -> Result<(), AllocError> {
-        if self.name.ascii.is_empty() && self.name.punycode.is_empty() {
+        if self.1.ascii.is_empty() && self.1.punycode.is_empty() {
             return Ok(());
         }
-        out.push_str(self.mark)?;
-        self.name.push(out)
+        out.push_str(self.0)?;
+        self.1.push(out)
     }
 }
 
@@ -162,23 +150,20 @@ fn push_namespace(text: &mut String, namespace: u8) -> Result<(), AllocError> {
 
 /// What a nested path adds to its parent.
 #[derive(Clone, Copy)]
-pub struct Nested<'a> {
-    pub namespace: u8,
-    pub identifier: Identifier<'a>,
-}
+pub struct Nested<'a>(pub u8, pub Identifier<'a>);
 
 impl<'a> Leaf for Nested<'a> {
     fn push(self, out: &mut String) -> Result<(), AllocError> {
         let Identifier {
             disambiguator,
             name,
-        } = self.identifier;
-        if !self.namespace.is_ascii_uppercase() {
-            return AfterMark { mark: "::", name }.push(out);
+        } = self.1;
+        if !self.0.is_ascii_uppercase() {
+            return AfterMark("::", name).push(out);
         }
         out.push_str("::{")?;
-        push_namespace(out, self.namespace)?;
-        AfterMark { mark: ":", name }.push(out)?;
+        push_namespace(out, self.0)?;
+        AfterMark(":", name).push(out)?;
         out.push_str("#")?;
         push_decimal(out, disambiguator)?;
         out.push_str("}")

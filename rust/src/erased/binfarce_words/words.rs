@@ -5,6 +5,7 @@
 use crate::shim::{String, Vec};
 use crate::erased::binfarce_words::named::{Named, find_named, nearest};
 use crate::erased::binfarce_addresses::address::parse_address;
+use crate::erased::binfarce_tools::order::Order;
 use crate::shim::alloc::Global;
 use std::fmt;
 
@@ -67,6 +68,14 @@ pub enum Flag {
     Dynamic,
     /// Takes the function symbols of all sections.
     All,
+    /// Sorts the lines.
+    Sort,
+    /// Takes the first lines alone.
+    First,
+    /// Leaves out the line of the section's size.
+    NoTotal,
+    /// Shows names as they are stored.
+    Raw,
 }
 
 /// What an option takes.
@@ -78,6 +87,40 @@ pub enum Takes {
     Text,
     /// An address.
     Address,
+    /// A number in decimal digits.
+    Count,
+    /// What lines are sorted by.
+    Order,
+}
+
+/// All orders of lines.
+pub const ORDERS: [Order; 3] = [Order::Address, Order::Size, Order::Name];
+
+impl Named for Order {
+    fn name(self) -> &'static str {
+        match self {
+            Order::Address => "address",
+            Order::Size => "size",
+            Order::Name => "name",
+        }
+    }
+}
+
+impl Takes {
+    // Whether it takes this value.
+    fn is_met_by(self, value: &str) -> bool {
+        match self {
+            Takes::Nothing | Takes::Text => true,
+            Takes::Address => parse_address(value.as_bytes()).is_some(),
+            Takes::Count => count_in(value).is_some(),
+            Takes::Order => find_named(&ORDERS, value).is_some(),
+        }
+    }
+}
+
+// The number in decimal digits.
+fn count_in(value: &str) -> Option<usize> {
+    value.parse::<usize>().ok()
 }
 
 impl Flag {
@@ -92,6 +135,10 @@ impl Flag {
             Flag::Annotate => ("--annotate", "", Takes::Nothing),
             Flag::Dynamic => ("--dynamic", "", Takes::Nothing),
             Flag::All => ("--all", "", Takes::Nothing),
+            Flag::Sort => ("--sort", "", Takes::Order),
+            Flag::First => ("--first", "-n", Takes::Count),
+            Flag::NoTotal => ("--no-total", "", Takes::Nothing),
+            Flag::Raw => ("--raw", "", Takes::Nothing),
         }
     }
 
@@ -111,7 +158,18 @@ impl Command {
     // Its options.
     fn flags(self) -> &'static [Flag] {
         match self {
-            Command::List | Command::Size | Command::Map => {
+            Command::List => &[
+                Flag::Help,
+                Flag::Section,
+                Flag::Dynamic,
+                Flag::All,
+                Flag::Sort,
+                Flag::First,
+                Flag::NoTotal,
+                Flag::Raw,
+                Flag::Full,
+            ],
+            Command::Size | Command::Map => {
                 &[Flag::Help, Flag::Section, Flag::Dynamic, Flag::All]
             }
             Command::Filter => &[Flag::Help, Flag::Full],
@@ -144,6 +202,8 @@ pub enum Wrong<'a> {
     Exclusive(Flag, Flag),
     /// The word isn't an address.
     NoAddress(&'a str),
+    /// The option doesn't take this value.
+    BadValue(Flag, &'a str),
     /// The command has no file.
     NoFile(Command),
     /// A word more than the command takes.
@@ -188,6 +248,10 @@ impl<'a> fmt::Display for Wrong<'a> {
                 write!(f, "{first} and {second} exclude each other")
             }
             Wrong::NoAddress(word) => write!(f, "not an address: {word}"),
+            Wrong::BadValue(flag, word) => {
+                let name = flag.name();
+                write!(f, "{name} does not take {word}")
+            }
             Wrong::NoFile(command) => {
                 let name = command.name();
                 write!(f, "no file; binfarce {name} --help shows how it is called")
@@ -230,10 +294,26 @@ impl<'a> Arguments<'a> {
         }
     }
 
+    /// The number that is the option's value.
+    pub fn count(&self, flag: Flag) -> Option<usize> {
+        match self.value(flag) {
+            Some(value) => count_in(value),
+            None => None,
+        }
+    }
+
+    /// The order that is asked for.
+    pub fn order(&self) -> Option<Order> {
+        match self.value(Flag::Sort) {
+            Some(value) => find_named(&ORDERS, value),
+            None => None,
+        }
+    }
+
     // Takes an option.
     fn set(&mut self, flag: Flag, value: &'a str) -> Result<(), Wrong<'a>> {
-        if flag.form().2 == Takes::Address && parse_address(value.as_bytes()).is_none() {
-            return Err(Wrong::NoAddress(value));
+        if !flag.form().2.is_met_by(value) {
+            return Err(bad_value(flag, value));
         }
         match self.options.push((flag, value)) {
             Ok(()) => Ok(()),
@@ -247,6 +327,14 @@ impl<'a> Arguments<'a> {
             Ok(()) => Ok(()),
             Err(_) => Err(Wrong::OutOfMemory),
         }
+    }
+}
+
+// Why an option doesn't take this value.
+fn bad_value<'a>(flag: Flag, value: &'a str) -> Wrong<'a> {
+    match flag.form().2 {
+        Takes::Address => Wrong::NoAddress(value),
+        _ => Wrong::BadValue(flag, value),
     }
 }
 
@@ -335,16 +423,37 @@ fn unknown_option<'a>(command: Command, word: &'a str) -> Wrong<'a> {
     Wrong::UnknownOption(command, word, nearest(command.flags(), word, 2))
 }
 
-// What is wrong with what is given: all sections and one of them, or the operands.
+// What is wrong with what is given: two options that exclude each other, or the operands.
 fn check<'a>(command: Command, given: &Arguments<'a>) -> Result<(), Wrong<'a>> {
-    if given.has(Flag::All) && given.has(Flag::Section) {
+    if are_given(given, Flag::All, Flag::Section) {
         return Err(Wrong::Exclusive(Flag::All, Flag::Section));
     }
-    match given.operands.as_slice() {
+    if are_given(given, Flag::Raw, Flag::Full) {
+        return Err(Wrong::Exclusive(Flag::Raw, Flag::Full));
+    }
+    check_operands(
+        command,
+        given.has(Flag::Annotate),
+        given.operands.as_slice(),
+    )
+}
+
+// Whether both options are given.
+fn are_given(given: &Arguments<'_>, one: Flag, other: Flag) -> bool {
+    given.has(one) && given.has(other)
+}
+
+// What is wrong with the operands of a command.
+fn check_operands<'a>(
+    command: Command,
+    annotates: bool,
+    operands: &[&'a str],
+) -> Result<(), Wrong<'a>> {
+    match operands {
         _ if command == Command::Filter => Ok(()),
         [] => Err(Wrong::NoFile(command)),
         [_, _, word, ..] if command == Command::Section => Err(Wrong::TooMany(word)),
-        [_, word, ..] if given.has(Flag::Annotate) => Err(Wrong::TooMany(word)),
+        [_, word, ..] if annotates => Err(Wrong::TooMany(word)),
         _ => Ok(()),
     }
 }

@@ -8,7 +8,7 @@ use crate::erased::test_lookups::words::{known, number, push_hex, push_number, p
 use crate::erased::binfarce_addresses::annotate::{annotate_stream, push_annotated};
 use crate::erased::binfarce_addresses::at::{Places, at, at_tables};
 use crate::erased::binfarce_addresses::stream::{
-    LinesError, answer_lines, push_lines as push_lines_of,
+    StreamError, answer_lines, push_lines as push_lines_of,
 };
 use crate::erased::binfarce_addresses::{Lookup, parse_address};
 use crate::erased::binfarce_tools::SymbolTable;
@@ -104,10 +104,9 @@ pub(crate) fn push_answers(
 ) -> io::Result<()> {
     let (base, words) = known(words.split_once(' '))?;
     let lines = typed(alloc, quoted(words)?)?;
-    let Ok(mut places) = Places::of_file(alloc, &ELF64_LITTLE, ".text") else {
+    let Ok(places) = Places::of_file(alloc, &ELF64_LITTLE, ".text") else {
         return known(None);
     };
-    places.keep_names(alloc)?;
     let input = Input {
         alloc,
         places: &places,
@@ -176,7 +175,7 @@ fn answered<R: Read>(
     input: &Input<'_>,
     reader: R,
     target: Target,
-) -> (Result<u64, LinesError>, Vec<u8>) {
+) -> (Result<u64, StreamError>, Vec<u8>) {
     let mut reader = reader;
     let mut out = Out::new(target);
     let (alloc, places, lookup) = (input.alloc, input.places, input.lookup);
@@ -230,7 +229,7 @@ fn are_failed_calls_reported(input: &Input<'_>, answers: &[u8]) -> io::Result<bo
             ..Source::of(part)
         };
         let (ended, taken) = answered(input, source, Target::taking(input.alloc, usize::MAX));
-        if ended != Err(LinesError::Read) || !is_first(input, part, answers, &taken)? {
+        if ended != Err(StreamError::Read) || !is_first(input, part, answers, &taken)? {
             return Ok(false);
         }
     }
@@ -242,7 +241,7 @@ fn are_failed_calls_reported(input: &Input<'_>, answers: &[u8]) -> io::Result<bo
                 ..Target::taking(input.alloc, usize::MAX)
             };
             let (ended, taken) = answered(input, Source::of(input.text), target);
-            if ended != Err(LinesError::Write) || taken.as_slice() != first_bytes(answers, left) {
+            if ended != Err(StreamError::Write) || taken.as_slice() != first_bytes(answers, left) {
                 return Ok(false);
             }
         }

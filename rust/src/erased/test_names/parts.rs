@@ -4,9 +4,7 @@
 
 use crate::shim::String;
 use crate::erased::binfarce_v0::mangling::print;
-use crate::erased::binfarce_v0::paths::print_path;
 use crate::erased::binfarce_v0_grammar::limits::{MAX_LEVELS, MAX_STEPS};
-use crate::erased::binfarce_v0_state::position::Position;
 use crate::erased::binfarce_v0_state::state::{Buffers, Printer};
 use crate::shim::alloc::Global;
 use crate::shim::io::{self, Error, ErrorKind};
@@ -39,7 +37,6 @@ fn visits(alloc: Global, part: &str, full: bool, muted: bool) -> io::Result<usiz
         return Err(Error::from(ErrorKind::InvalidData));
     }
     let mut printer = Printer::new(Buffers::empty(alloc), part, full, muted, None);
-    printer.prepare()?;
-    print_path(&mut printer, MAX_LEVELS, 0, Position::InValue)?;
+    let _ = print(&mut printer)?;
     Ok(printer.visits)
 }

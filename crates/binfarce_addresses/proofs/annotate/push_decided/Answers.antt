@@ -1,5 +1,4 @@
-use Rattle.std.proofs.Common.{◌-◌, ◌+◌, drop, length, length-drop, refl, subst, sym, take, arith}
-use Rattle.binfarce_addresses.specs.machine.Annotating.{ShowsTo}
+use Rattle.std.proofs.Common.{◌-◌, drop, length, refl, take, arith}
 use Rattle.binfarce_addresses.proofs.Annotating.{shows_more, shows_nothing}
 use Rattle.binfarce_addresses.proofs.annotate.push_decided.Goals as goal
 

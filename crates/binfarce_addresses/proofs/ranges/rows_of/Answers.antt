@@ -5,7 +5,7 @@ use Rattle.binfarce_addresses.proofs.ranges.rows_of.Goals as goal
 use Rattle.binfarce_addresses.proofs.ranges.rows_of.Goals.{After-sort_unstable}
 
 pub loop-place-preserved : goal.loop-place-preserved
-loop-place-preserved c = made_more c.args.ranges.now c.loop-place.rows.items c.push.new.self.items c.loop-place.place _ c.loop-place.invariant c.in_ok-push.ensures.items refl refl c.last_address.ensures
+loop-place-preserved c = made_more c.args.ranges.now c.loop-place.rows.items c.push.new.self.items c.loop-place.place _ c.loop-place.invariant c.in_ok-push.ensures.items refl refl c.last_address.ensures.last c.last_address.ensures.holds
 
 -- the sort goes by the test
 by_test : (c : After-sort_unstable) → IsSortedBy comes_before c.sort_unstable.new.self.items

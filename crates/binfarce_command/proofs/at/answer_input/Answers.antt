@@ -1,11 +1,10 @@
-use Rattle.std.proofs.Common.{◌≡◌, true, Ok, List, sym, subst}
-use Rattle.binfarce.specs.Symbol.{Entry}
+use Rattle.std.proofs.Common.{Ok}
 use Rattle.binfarce_bytes.specs.Selection.{section_of}
 use Rattle.binfarce_tools.specs.Tables.{AreTablesOf}
-use Rattle.binfarce_command.specs.At.{HasPlaces, share_addresses}
+use Rattle.binfarce_command.specs.At.{share_addresses}
 use Rattle.binfarce_command.specs.Show.{MemoryFor, answer_for}
 use Rattle.binfarce_command.proofs.Outcomes.{lines_still_so}
-use Rattle.binfarce_command.proofs.Lines.{answered_less, answered_lines, no_memory, of_lines, of_part, of_text, unread, without_places}
+use Rattle.binfarce_command.proofs.Lines.{answered_less, answered_lines, of_lines, of_part, of_text, unread, without_places}
 use Rattle.binfarce_command.proofs.at.answer_input.Goals as goal
 
 pub returns-in_err-tables-clause-answers : goal.returns-in_err-tables-clause-answers
@@ -22,23 +21,18 @@ returns-in_err-places-clause-answers g c = λ file is.
 pub returns-in_err-places-clause-fails : goal.returns-in_err-places-clause-fails
 returns-in_err-places-clause-fails g c = lines_still_so (g.K.Sink.has_failed c.args.out.now) c.in_err-places.field-0.0 c.from_residual-in_err-places.result c.from_residual-in_err-places.ensures.1 c.in_err-places.ensures.unwritten
 
-pub returns-in_err-keep_names-clause-answers : goal.returns-in_err-keep_names-clause-answers
-returns-in_err-keep_names-clause-answers g c = λ file is.
-    let symbols = c.args.symbols.now in
-    no_memory _ (share_addresses symbols file) (MemoryFor symbols file) (answer_for symbols file) c.args.annotates c.args.lookup _ _ c.from_residual-in_err-keep_names.result c.from_residual-in_err-keep_names.ensures.1
-
 pub returns-in_err-missing-clause-answers : goal.returns-in_err-missing-clause-answers
 returns-in_err-missing-clause-answers g c = λ file is.
     let symbols = c.args.symbols.now in
-    let has = subst (λ (entries : List Entry). HasPlaces (share_addresses symbols file) (MemoryFor symbols file) (answer_for symbols file) (Ok entries)) (sym c.keep_names.ensures) (c.in_ok-places.ensures.has symbols.which file (section_of symbols.selection) (c.in_ok-tables.ensures.answer file is)) in
-    answered_less _ (share_addresses symbols file) (MemoryFor symbols file) (answer_for symbols file) c.keep_names.new.self c.args.annotates c.args.lookup _ _ _ _ c.in_err-missing.field-0.0 c.from_residual-in_err-missing.result
+    let has = c.in_ok-places.ensures.has symbols.which file (section_of symbols.selection) (c.in_ok-tables.ensures.answer file is) in
+    answered_less _ (share_addresses symbols file) (MemoryFor symbols file) (answer_for symbols file) c.in_ok-places.places c.args.annotates c.args.lookup _ _ _ _ c.in_err-missing.field-0.0 c.from_residual-in_err-missing.result
     has.0 has.1 (of_lines c.args.annotates _ c.args.lookup _ _ _ _ _ c.if-annotates.false c.in_err-missing.ensures.answers) c.from_residual-in_err-missing.ensures.1
 
 pub returns-clause-answers : goal.returns-clause-answers
 returns-clause-answers g c = λ file is.
     let symbols = c.args.symbols.now in
-    let has = subst (λ (entries : List Entry). HasPlaces (share_addresses symbols file) (MemoryFor symbols file) (answer_for symbols file) (Ok entries)) (sym c.keep_names.ensures) (c.in_ok-places.ensures.has symbols.which file (section_of symbols.selection) (c.in_ok-tables.ensures.answer file is)) in
-    answered_lines _ (share_addresses symbols file) (MemoryFor symbols file) (answer_for symbols file) c.keep_names.new.self c.args.annotates c.args.lookup _ _ _ _ (Ok c.in_ok-missing.missing) has.0 has.1 (of_lines c.args.annotates _ c.args.lookup _ _ _ _ _ c.if-annotates.false c.in_ok-missing.ensures.answers)
+    let has = c.in_ok-places.ensures.has symbols.which file (section_of symbols.selection) (c.in_ok-tables.ensures.answer file is) in
+    answered_lines _ (share_addresses symbols file) (MemoryFor symbols file) (answer_for symbols file) c.in_ok-places.places c.args.annotates c.args.lookup _ _ _ _ (Ok c.in_ok-missing.missing) has.0 has.1 (of_lines c.args.annotates _ c.args.lookup _ _ _ _ _ c.if-annotates.false c.in_ok-missing.ensures.answers)
 
 pub returns-in_err-annotate_stream-clause-answers : goal.returns-in_err-annotate_stream-clause-answers
 returns-in_err-annotate_stream-clause-answers g c = λ file is.

@@ -3,7 +3,7 @@ use Rattle.binfarce_tools.specs.Selection.{answer_in}
 use Rattle.binfarce_tools.specs.Writing.{Outcome, Takes, written}
 use Rattle.binfarce_command.specs.Show.{IsTextOf}
 use Rattle.binfarce_command.specs.declared.show.Kind.{Kind}
-use Rattle.binfarce_command.specs.declared.show.Kind.TheVariants.{Listing, Sums, Picture}
+use Rattle.binfarce_command.specs.declared.show.Kind.TheVariants.{Listing, Rows, Sums, Picture}
 use Rattle.binfarce_command.proofs.Shown.{list_in, report_in}
 use Rattle.binfarce_command.proofs.show.show_tables.Goals as goal
 
@@ -15,6 +15,15 @@ returns-in_err-list_tables-in-Listing-clause-takes g c = λ which file section a
 pub returns-in_ok-list_tables-in-Listing-clause-takes : goal.returns-in_ok-list_tables-in-Listing-clause-takes
 returns-in_ok-list_tables-in-Listing-clause-takes g c = λ which file section are.
     subst (λ (k : Kind). Takes (IsTextOf k which file section) (answer_in which file section) (g.K.Sink.taken c.args.out.now) (g.K.Sink.taken c.list_tables.new.out) written) (sym c.in-Listing.is) (c.in_ok-list_tables-in-Listing.ensures.takes which file section are)
+
+pub returns-in_err-list_by-in-Rows-clause-takes : goal.returns-in_err-list_by-in-Rows-clause-takes
+returns-in_err-list_by-in-Rows-clause-takes g c = λ which file section are.
+    list_in (λ (k : Kind) (o : Outcome). Takes (IsTextOf k which file section) (answer_in which file section) (g.K.Sink.taken c.args.out.now) (g.K.Sink.taken c.list_by.new.out) o) c.args.kind (Rows c.in-Rows.shown) c.in-Rows.is c.in_err-list_by-in-Rows.field-0.0 c.from_residual-in_err-list_by-in-Rows.result c.from_residual-in_err-list_by-in-Rows.ensures.1
+    (c.in_err-list_by-in-Rows.ensures.takes which file section are)
+
+pub returns-in_ok-list_by-in-Rows-clause-takes : goal.returns-in_ok-list_by-in-Rows-clause-takes
+returns-in_ok-list_by-in-Rows-clause-takes g c = λ which file section are.
+    subst (λ (k : Kind). Takes (IsTextOf k which file section) (answer_in which file section) (g.K.Sink.taken c.args.out.now) (g.K.Sink.taken c.list_by.new.out) written) (sym c.in-Rows.is) (c.in_ok-list_by-in-Rows.ensures.takes which file section are)
 
 pub returns-in_err-report_tables-in-Sums-clause-takes : goal.returns-in_err-report_tables-in-Sums-clause-takes
 returns-in_err-report_tables-in-Sums-clause-takes g c = λ which file section are.

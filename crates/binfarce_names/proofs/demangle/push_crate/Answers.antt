@@ -9,7 +9,7 @@ returns-in-Some-clause-crate_found c =
     let old = string_bytes c.args.text.now in
     let new = string_bytes c.push_path_crate.new.text in
     if_ok _ (λ crate_found. GrewByCrate c.args.name.now crate_found old new) c.push_path_crate.result
-    (λ crate_found path. legacy_grew c.args.name.now c.without_llvm-stripped.result.now c.in-Some.part.now is.1 is.0 crate_found old new c.without_llvm-stripped.ensures is.2 path)
+    (λ crate_found path. legacy_grew c.args.name.now c.without_llvm-stripped.result.now c.in-Some.part.now _ is.0 crate_found old new c.without_llvm-stripped.ensures is.1 path)
     c.push_path_crate.ensures.crate_found
 
 pub returns-in-None-clause-crate_found : goal.returns-in-None-clause-crate_found

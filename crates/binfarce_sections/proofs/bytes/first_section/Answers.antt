@@ -1,8 +1,9 @@
+use Rattle.binfarce_tables.proofs.Readings.{err_is}
 use Rattle.binfarce.specs.Format.{format_of}
 use Rattle.binfarce_sections.specs.Section.{sections_of}
 use Rattle.binfarce_sections.specs.declared.error.SectionError.TheVariants.{Parse}
 use Rattle.binfarce_sections.specs.machine.Found.{Finds}
-use Rattle.binfarce_sections.proofs.SourceAnswers.{err_is, found_ok, found_err}
+use Rattle.binfarce_sections.proofs.SourceAnswers.{found_ok, found_err}
 use Rattle.binfarce_sections.proofs.bytes.first_section.Goals as goal
 
 pub returns-in_err-first_in : goal.returns-in_err-first_in

@@ -1,3 +1,4 @@
+use Rattle.binfarce_tables.proofs.Readings.{err_is}
 use Rattle.std.proofs.Common.{Ok, ap, sym, ◌∙◌}
 use Rattle.std.specs.Prelude.{◌≢◌, IfErr}
 use Rattle.binfarce.specs.Format.{format_of}
@@ -5,8 +6,9 @@ use Rattle.binfarce_sections.specs.Named.{bytes_named}
 use Rattle.binfarce_sections.specs.Section.{sections_of}
 use Rattle.binfarce_sections.specs.Results.{TakesRead, Fails}
 use Rattle.binfarce_sections.specs.declared.error.SectionError.TheVariants.{Unreadable}
-use Rattle.binfarce_sections.proofs.SourceAnswers.{err_is, bytes_taken, bytes_untaken, unfailed}
+use Rattle.binfarce_sections.proofs.SourceAnswers.{bytes_taken, bytes_untaken, unfailed}
 use Rattle.binfarce_sections.proofs.Sure.{bytes_surely}
+use Rattle.binfarce_tables.proofs.Sure.{ending}
 use Rattle.binfarce_sections.proofs.bytes.write_section_of.Goals as goal
 
 pub returns-in_err-bytes-clause-takes : goal.returns-in_err-bytes-clause-takes
@@ -28,10 +30,12 @@ returns-in_err-bytes-clause-fails g c =
     let e = c.in_err-bytes.field-0.0 in
     err_is (λ r. Fails old old r) c.from_residual.result e c.from_residual.ensures (unfailed old e c.in_err-bytes.ensures.unwritten)
 
-pub returns-in_err-bytes-clause-nothing_else : goal.returns-in_err-bytes-clause-nothing_else
-returns-in_err-bytes-clause-nothing_else g c = λ file known sure.
-    err_is (λ r. IfErr r (λ s. s ≢ Unreadable)) c.from_residual.result c.in_err-bytes.field-0.0 c.from_residual.ensures (c.in_err-bytes.ensures.nothing_else file known sure)
+pub returns-in_err-bytes-clause-only : goal.returns-in_err-bytes-clause-only
+returns-in_err-bytes-clause-only g c = λ file known.
+    let reads = c.in_err-bytes.ensures.only file known in
+    record { asked = reads.asked; given = λ are. err_is (λ r. IfErr r (λ s. s ≢ Unreadable)) c.from_residual.result c.in_err-bytes.field-0.0 c.from_residual.ensures (reads.given are) }
 
-pub returns-clause-nothing_else : goal.returns-clause-nothing_else
-returns-clause-nothing_else g c = λ file known sure.
-    bytes_surely c.as_slice.result.now (g.S.Sink.taken c.args.out.now) (g.S.Sink.taken c.write_all.new.out) c.write_all.result c.write_all.ensures.takes
+pub returns-clause-only : goal.returns-clause-only
+returns-clause-only g c = λ file known.
+    ending (c.in_ok-bytes.ensures.only file known)
+    (bytes_surely c.as_slice.result.now (g.S.Sink.taken c.args.out.now) (g.S.Sink.taken c.write_all.new.out) c.write_all.result c.write_all.ensures.takes)

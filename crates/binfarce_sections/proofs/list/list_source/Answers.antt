@@ -1,11 +1,13 @@
+use Rattle.binfarce_tables.proofs.Readings.{err_is}
 use Rattle.std.specs.Prelude.{◌≢◌, IfErr}
 use Rattle.binfarce.specs.Format.{format_of}
 use Rattle.binfarce_sections.specs.Section.{sections_of}
 use Rattle.binfarce_sections.specs.Results.{TakesReadLines, Fails, error_of}
 use Rattle.binfarce_sections.specs.Views.{sections_left}
 use Rattle.binfarce_sections.specs.declared.error.SectionError.TheVariants.{Unreadable}
-use Rattle.binfarce_sections.proofs.SourceAnswers.{err_is, lines_opened, lines_unopened, lines_read, lines_unread, unfailed}
-use Rattle.binfarce_sections.proofs.Sure.{read_surely, opened_surely, lines_surely}
+use Rattle.binfarce_sections.proofs.SourceAnswers.{lines_opened, lines_unopened, lines_read, lines_unread, unfailed}
+use Rattle.binfarce_sections.proofs.Sure.{converted_only, opened_surely, lines_surely}
+use Rattle.binfarce_tables.proofs.Sure.{ending}
 use Rattle.binfarce_sections.proofs.list.list_source.Goals as goal
 
 pub returns-in_err-tables-clause-takes : goal.returns-in_err-tables-clause-takes
@@ -38,17 +40,17 @@ returns-in_err-sections-clause-fails g c =
     let e = c.in_err-sections.field-0.0 in
     err_is (λ r. Fails old old r) c.from_residual-in_err-sections.result e c.from_residual-in_err-sections.ensures (unfailed old e c.in_err-sections.ensures.unwritten)
 
-pub returns-in_err-tables-clause-nothing_else : goal.returns-in_err-tables-clause-nothing_else
-returns-in_err-tables-clause-nothing_else g c = λ file known sure.
-    let e = c.in_err-tables.field-0.0 in
-    err_is (λ r. IfErr r (λ s. s ≢ Unreadable)) c.from_residual.result (error_of e) c.from_residual.ensures (read_surely e (c.in_err-tables.ensures.nothing_else file known sure))
+pub returns-in_err-tables-clause-only : goal.returns-in_err-tables-clause-only
+returns-in_err-tables-clause-only g c = λ file known. converted_only _ (c.in_err-tables.ensures.only file known) c.from_residual.ensures
 
-pub returns-in_err-sections-clause-nothing_else : goal.returns-in_err-sections-clause-nothing_else
-returns-in_err-sections-clause-nothing_else g c = λ file known sure.
+pub returns-in_err-sections-clause-only : goal.returns-in_err-sections-clause-only
+returns-in_err-sections-clause-only g c = λ file known.
     let e = c.in_err-sections.field-0.0 in
-    err_is (λ r. IfErr r (λ s. s ≢ Unreadable)) c.from_residual-in_err-sections.result e c.from_residual-in_err-sections.ensures
-    (opened_surely (sections_of (format_of file) file) e (c.in_err-sections.ensures.opens file (c.in_ok-tables.ensures.reads file known)))
+    ending (c.in_ok-tables.ensures.only file known)
+    (err_is (λ r. IfErr r (λ s. s ≢ Unreadable)) c.from_residual-in_err-sections.result e c.from_residual-in_err-sections.ensures
+    (opened_surely (sections_of (format_of file) file) e (c.in_err-sections.ensures.opens file (c.in_ok-tables.ensures.reads file known))))
 
-pub returns-clause-nothing_else : goal.returns-clause-nothing_else
-returns-clause-nothing_else g c = λ file known sure.
-    lines_surely (sections_left c.in_ok-sections.sections) (g.S.Sink.taken c.args.out.now) (g.S.Sink.taken c.write_lines.new.out) c.write_lines.result c.write_lines.ensures.takes
+pub returns-clause-only : goal.returns-clause-only
+returns-clause-only g c = λ file known.
+    ending (c.in_ok-tables.ensures.only file known)
+    (lines_surely (sections_left c.in_ok-sections.sections) (g.S.Sink.taken c.args.out.now) (g.S.Sink.taken c.write_lines.new.out) c.write_lines.result c.write_lines.ensures.takes)

@@ -1,7 +1,7 @@
-use Rattle.std.proofs.Common.{◌≡◌, true, Option, Some, None, Ok, Err, refl, ap, ◌∙◌, length}
+use Rattle.binfarce_tables.proofs.Readings.{err_is}
+use Rattle.std.proofs.Common.{◌≡◌, Option, Some, None, Ok, Err, refl, ap, ◌∙◌, length}
 use Rattle.std.specs.Prelude.{◌≢◌, IfErr}
 use Rattle.std.specs.Option.{option_map}
-use Rattle.binfarce_bytes.specs.Part.{Part}
 use Rattle.binfarce.specs.Format.{format_of}
 use Rattle.binfarce.specs.Refusal.{refusal_of}
 use Rattle.binfarce_sections.specs.declared.sections.Section as code
@@ -11,9 +11,10 @@ use Rattle.binfarce_sections.specs.Results.{error_of}
 use Rattle.binfarce_sections.specs.Views.{section_view}
 use Rattle.binfarce_sections.specs.declared.error.SectionError.TheVariants.{Parse, Unreadable}
 use Rattle.binfarce_sections.specs.machine.Found.{ReadsBytes}
-use Rattle.binfarce_sections.proofs.SourceAnswers.{err_is, bytes_opened, bytes_unopened, bytes_unread, read_same, unwritten}
-use Rattle.binfarce_sections.proofs.Sure.{of_sections, of_bytes, read_surely, opened_surely}
+use Rattle.binfarce_sections.proofs.SourceAnswers.{bytes_opened, bytes_unopened, bytes_unread, read_same, unwritten}
+use Rattle.binfarce_sections.proofs.Sure.{of_sections, of_bytes, converted_only, opened_surely}
 use Rattle.binfarce_sections.proofs.TablesRead.{length_is}
+use Rattle.binfarce_tables.proofs.Sure.{within, next, ending}
 use Rattle.binfarce_sections.proofs.tables.read_named.Goals as goal
 
 pub returns-in_err-tables-clause-reads : goal.returns-in_err-tables-clause-reads
@@ -61,53 +62,30 @@ returns-clause-reads g c = λ file known.
       refl,
     )
 
-pub returns-in_err-tables-clause-nothing_else : goal.returns-in_err-tables-clause-nothing_else
-returns-in_err-tables-clause-nothing_else g c = λ file known sure.
-    let e = c.in_err-tables.field-0.0 in
-    let first = of_sections (λ (p : Part). g.F.Source.is_sure c.args.source.now p ≡ true) file c.args.name.now sure in
-    err_is (λ r. IfErr r (λ s. s ≢ Unreadable)) c.from_residual.result (error_of e) c.from_residual.ensures (read_surely e (c.in_err-tables.ensures.nothing_else file known first))
+pub returns-in_err-tables-clause-only : goal.returns-in_err-tables-clause-only
+returns-in_err-tables-clause-only g c = λ file known. converted_only _ (within (λ P. of_sections P file c.args.name.now) (c.in_err-tables.ensures.only file known)) c.from_residual.ensures
 
-pub returns-in_err-sections-clause-nothing_else : goal.returns-in_err-sections-clause-nothing_else
-returns-in_err-sections-clause-nothing_else g c = λ file known sure.
+pub returns-in_err-sections-clause-only : goal.returns-in_err-sections-clause-only
+returns-in_err-sections-clause-only g c = λ file known.
     let e = c.in_err-sections.field-0.0 in
-    err_is (λ r. IfErr r (λ s. s ≢ Unreadable)) c.from_residual-in_err-sections.result e c.from_residual-in_err-sections.ensures
-    (opened_surely (sections_of (format_of file) file) e (c.in_err-sections.ensures.opens file (c.in_ok-tables.ensures.reads file known)))
+    ending (within (λ P. of_sections P file c.args.name.now) (c.in_ok-tables.ensures.only file known))
+    (err_is (λ r. IfErr r (λ s. s ≢ Unreadable)) c.from_residual-in_err-sections.result e c.from_residual-in_err-sections.ensures
+    (opened_surely (sections_of (format_of file) file) e (c.in_err-sections.ensures.opens file (c.in_ok-tables.ensures.reads file known))))
 
-pub returns-in-Some-clause-nothing_else : goal.returns-in-Some-clause-nothing_else
-returns-in-Some-clause-nothing_else g c = λ file known sure.
+pub returns-in_err-found-clause-only : goal.returns-in_err-found-clause-only
+returns-in_err-found-clause-only g c = λ file known.
+    let e = c.in_err-found.field-0.0 in
+    ending (within (λ P. of_sections P file c.args.name.now) (c.in_ok-tables.ensures.only file known))
+    (err_is (λ r. IfErr r (λ s. s ≢ Unreadable)) c.from_residual-in_err-found.result (Parse e) c.from_residual-in_err-found.ensures (λ is. cc))
+
+pub returns-clause-only : goal.returns-clause-only
+returns-clause-only g c = λ file known. ending (within (λ P. of_sections P file c.args.name.now) (c.in_ok-tables.ensures.only file known)) (λ is. cc)
+
+pub returns-in-Some-clause-only : goal.returns-in-Some-clause-only
+returns-in-Some-clause-only g c = λ file known.
     let are = c.in_ok-tables.ensures.reads file known in
     let opened = c.in_ok-sections.ensures.opens file are in
     let long : c.file_length.result ≡ length file = length_is file c.in_ok-tables.tables c.file_length.result c.in_ok-sections.sections are c.file_length.ensures opened in
     let found = c.in_ok-found.ensures ∙ ap (λ (f : Option code.Section). Ok (option_map section_view f)) c.in-Some.is in
-    c.read_bytes.ensures.nothing_else file known long
-    (of_bytes (λ (p : Part). g.F.Source.is_sure c.args.source.now p ≡ true) c.in_ok-sections.sections file c.args.name.now (section_view c.in-Some.section) opened found sure)
-
-pub returns-in_err-tables-clause-asked : goal.returns-in_err-tables-clause-asked
-returns-in_err-tables-clause-asked g c = λ file known allowed are before.
-    let P : Part → Type 0 = λ p. allowed p ≡ true in
-    c.read.ensures.asked file known allowed (of_sections P file c.args.name.now are) before
-
-pub returns-in_err-sections-clause-asked : goal.returns-in_err-sections-clause-asked
-returns-in_err-sections-clause-asked g c = λ file known allowed are before.
-    let P : Part → Type 0 = λ p. allowed p ≡ true in
-    c.read.ensures.asked file known allowed (of_sections P file c.args.name.now are) before
-
-pub returns-in_err-found-clause-asked : goal.returns-in_err-found-clause-asked
-returns-in_err-found-clause-asked g c = λ file known allowed are before.
-    let P : Part → Type 0 = λ p. allowed p ≡ true in
-    c.read.ensures.asked file known allowed (of_sections P file c.args.name.now are) before
-
-pub returns-clause-asked : goal.returns-clause-asked
-returns-clause-asked g c = λ file known allowed are before.
-    let P : Part → Type 0 = λ p. allowed p ≡ true in
-    c.read.ensures.asked file known allowed (of_sections P file c.args.name.now are) before
-
-pub returns-in-Some-clause-asked : goal.returns-in-Some-clause-asked
-returns-in-Some-clause-asked g c = λ file known allowed are before.
-    let P : Part → Type 0 = λ p. allowed p ≡ true in
-    let tables = c.read.ensures.asked file known allowed (of_sections P file c.args.name.now are) before in
-    let are_read = c.in_ok-tables.ensures.reads file known in
-    let opened = c.in_ok-sections.ensures.opens file are_read in
-    let long : c.file_length.result ≡ length file = length_is file c.in_ok-tables.tables c.file_length.result c.in_ok-sections.sections are_read c.file_length.ensures opened in
-    let found = c.in_ok-found.ensures ∙ ap (λ (f : Option code.Section). Ok (option_map section_view f)) c.in-Some.is in
-    c.read_bytes.ensures.asked file known long allowed (of_bytes P c.in_ok-sections.sections file c.args.name.now (section_view c.in-Some.section) opened found are) tables
+    next (within (λ P. of_sections P file c.args.name.now) (c.in_ok-tables.ensures.only file known))
+    (within (λ P. of_bytes P c.in_ok-sections.sections file c.args.name.now (section_view c.in-Some.section) opened found) (c.read_bytes.ensures.only file known long))

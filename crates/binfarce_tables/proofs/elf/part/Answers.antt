@@ -1,5 +1,7 @@
 use Rattle.std.specs.IoError.{error_kind}
-use Rattle.binfarce_tables.proofs.Readings.{part_read, none_past, unread, no_refusal, surely}
+use Rattle.binfarce_tables.proofs.Readings.{no_refusal, unread, part_read, none_past, surely}
+use Rattle.binfarce_tables.proofs.Sure.{only}
+use Rattle.std.proofs.Common.{◌≡◌, true}
 use Rattle.binfarce_tables.proofs.elf.part.Goals as goal
 
 pub returns-clause-part : goal.returns-clause-part
@@ -15,5 +17,8 @@ returns-in_err-read_part-clause-part g c = λ file known inside.
 pub returns-in_err-read_part-clause-failed : goal.returns-in_err-read_part-clause-failed
 returns-in_err-read_part-clause-failed g c = no_refusal (error_kind c.in_err-read_part.field-0.0) c.from_residual.result c.from_residual.ensures
 
-pub returns-in_err-read_part-clause-nothing_else : goal.returns-in_err-read_part-clause-nothing_else
-returns-in_err-read_part-clause-nothing_else g c = λ sure. surely _ (error_kind c.in_err-read_part.field-0.0) c.from_residual.result sure c.in_err-read_part.ensures.unsure c.from_residual.ensures
+pub returns-in_err-read_part-clause-only : goal.returns-in_err-read_part-clause-only
+returns-in_err-read_part-clause-only g c = record {
+  asked = c.in_err-read_part.ensures.asked;
+  given = λ are. surely _ (error_kind c.in_err-read_part.field-0.0) c.from_residual.result (only (λ p. g.S.Source.is_sure c.args.source.now p ≡ true) _ are) c.in_err-read_part.ensures.unsure c.from_residual.ensures;
+}

@@ -1,5 +1,4 @@
-use Rattle.std.proofs.Common.{◌≡◌, true, Result, Ok, Err, ap, ◌∙◌}
-use Rattle.binfarce_bytes.specs.Part.{Part}
+use Rattle.std.proofs.Common.{Result, Ok, Err, ap, ◌∙◌}
 use Rattle.binfarce_bytes.specs.Refusal.{◌>>=◌, Refusal}
 use Rattle.binfarce_bytes.specs.Selection.{section_of}
 use Rattle.binfarce_elf.specs.Classes.{class_of}
@@ -11,8 +10,8 @@ use Rattle.binfarce_tables.specs.SectionReading.{file_sections, sections_view}
 use Rattle.binfarce_tables.specs.machine.Places.{rows_view}
 use Rattle.binfarce_tables.proofs.ElfSure.{of_sections, of_rows}
 use Rattle.binfarce_tables.proofs.Located.{after_needed, after_sections, from_file, from_seen, from_needed, length_is, table_found}
-use Rattle.binfarce_tables.proofs.Readings.{after_err, instead, passed, passed_surely, converted}
-use Rattle.binfarce_tables.proofs.Sure.{converted_surely}
+use Rattle.binfarce_tables.proofs.Readings.{after_err, instead, converted, passed}
+use Rattle.binfarce_tables.proofs.Sure.{within, next, ending, passed_only, converted_surely}
 use Rattle.binfarce_tables.proofs.elf.read.Goals as goal
 
 pub returns-in_err-sections-clause-answer : goal.returns-in_err-sections-clause-answer
@@ -60,58 +59,35 @@ returns-clause-answer g c = λ file known.
     from_needed c.args.which class c.args.byte_order file section seen given n c.in_ok-needed.ensures
     ∙ ap (λ (a : Result TableRows Refusal). a >>= λ found. Ok (symbols_in seen n.taken found)) (c.in_ok-table.ensures.answer file is_known)
 
-pub returns-in_err-sections-clause-nothing_else : goal.returns-in_err-sections-clause-nothing_else
-returns-in_err-sections-clause-nothing_else g c = λ file known sure.
-    let IsSure : Part → Type 0 = λ p. g.S.Source.is_sure c.args.source.now p ≡ true in
-    passed_surely c.in_err-sections.field-0.0 c.from_residual.result
-    (c.in_err-sections.ensures.nothing_else file known (of_sections IsSure (class_of c.args.width) c.args.byte_order file c.args.which sure)) c.from_residual.ensures
+pub returns-in_err-sections-clause-only : goal.returns-in_err-sections-clause-only
+returns-in_err-sections-clause-only g c = λ file known.
+    passed_only _ (within (λ P. of_sections P (class_of c.args.width) c.args.byte_order file c.args.which) (c.in_err-sections.ensures.only file known)) c.from_residual.ensures
 
-pub returns-in_err-needed-clause-nothing_else : goal.returns-in_err-needed-clause-nothing_else
-returns-in_err-needed-clause-nothing_else g c = λ file known sure. converted_surely c.in_err-needed.field-0.0 c.from_residual-in_err-needed.result c.from_residual-in_err-needed.ensures
+pub returns-in_err-needed-clause-only : goal.returns-in_err-needed-clause-only
+returns-in_err-needed-clause-only g c = λ file known.
+    ending (within (λ P. of_sections P (class_of c.args.width) c.args.byte_order file c.args.which) (c.in_ok-sections.ensures.only file known))
+    (converted_surely c.in_err-needed.field-0.0 c.from_residual-in_err-needed.result c.from_residual-in_err-needed.ensures)
 
-pub returns-in_err-table-clause-nothing_else : goal.returns-in_err-table-clause-nothing_else
-returns-in_err-table-clause-nothing_else g c = λ file known sure.
+pub returns-in_err-table-clause-only : goal.returns-in_err-table-clause-only
+returns-in_err-table-clause-only g c = λ file known.
     let class = class_of c.args.width in
-    let IsSure : Part → Type 0 = λ p. g.S.Source.is_sure c.args.source.now p ≡ true in
     let section = section_of c.args.selection in
     let seen = sections_view c.in_ok-sections.sections in
     let given = c.in_ok-sections.ensures.answer file known in
     let n = needed_view c.in_ok-needed.needed in
     let is_known : Known (g.S.Source.bytes c.args.source.now) c.in_ok-sections.sections.file_length file = (known, length_is c.args.which class c.args.byte_order file section seen given) in
     let found = table_found c.args.which class c.args.byte_order file section seen given n c.in_ok-needed.ensures in
-    passed_surely c.in_err-table.field-0.0 c.from_residual-in_err-table.result
-    (c.in_err-table.ensures.nothing_else file is_known (of_rows IsSure class c.args.byte_order file c.args.which n.table found sure)) c.from_residual-in_err-table.ensures
+    passed_only _ (next (within (λ P. of_sections P class c.args.byte_order file c.args.which) (c.in_ok-sections.ensures.only file known))
+    (within (λ P. of_rows P class c.args.byte_order file c.args.which n.table found) (c.in_err-table.ensures.only file is_known))) c.from_residual-in_err-table.ensures
 
-pub returns-in_err-sections-clause-asked : goal.returns-in_err-sections-clause-asked
-returns-in_err-sections-clause-asked g c = λ file known allowed are before.
-    c.read_sections.ensures.asked file known allowed (of_sections (λ p. allowed p ≡ true) (class_of c.args.width) c.args.byte_order file c.args.which are) before
-
-pub returns-in_err-needed-clause-asked : goal.returns-in_err-needed-clause-asked
-returns-in_err-needed-clause-asked g c = λ file known allowed are before.
-    c.read_sections.ensures.asked file known allowed (of_sections (λ p. allowed p ≡ true) (class_of c.args.width) c.args.byte_order file c.args.which are) before
-
-pub returns-in_err-table-clause-asked : goal.returns-in_err-table-clause-asked
-returns-in_err-table-clause-asked g c = λ file known allowed are before.
+pub returns-clause-only : goal.returns-clause-only
+returns-clause-only g c = λ file known.
     let class = class_of c.args.width in
-    let P : Part → Type 0 = λ p. allowed p ≡ true in
     let section = section_of c.args.selection in
     let seen = sections_view c.in_ok-sections.sections in
     let given = c.in_ok-sections.ensures.answer file known in
     let n = needed_view c.in_ok-needed.needed in
     let is_known : Known (g.S.Source.bytes c.args.source.now) c.in_ok-sections.sections.file_length file = (known, length_is c.args.which class c.args.byte_order file section seen given) in
     let found = table_found c.args.which class c.args.byte_order file section seen given n c.in_ok-needed.ensures in
-    let sections = c.read_sections.ensures.asked file known allowed (of_sections P class c.args.byte_order file c.args.which are) before in
-    c.read_rows.ensures.asked file is_known allowed (of_rows P class c.args.byte_order file c.args.which n.table found are) sections
-
-pub returns-clause-asked : goal.returns-clause-asked
-returns-clause-asked g c = λ file known allowed are before.
-    let class = class_of c.args.width in
-    let P : Part → Type 0 = λ p. allowed p ≡ true in
-    let section = section_of c.args.selection in
-    let seen = sections_view c.in_ok-sections.sections in
-    let given = c.in_ok-sections.ensures.answer file known in
-    let n = needed_view c.in_ok-needed.needed in
-    let is_known : Known (g.S.Source.bytes c.args.source.now) c.in_ok-sections.sections.file_length file = (known, length_is c.args.which class c.args.byte_order file section seen given) in
-    let found = table_found c.args.which class c.args.byte_order file section seen given n c.in_ok-needed.ensures in
-    let sections = c.read_sections.ensures.asked file known allowed (of_sections P class c.args.byte_order file c.args.which are) before in
-    c.read_rows.ensures.asked file is_known allowed (of_rows P class c.args.byte_order file c.args.which n.table found are) sections
+    next (within (λ P. of_sections P class c.args.byte_order file c.args.which) (c.in_ok-sections.ensures.only file known))
+    (within (λ P. of_rows P class c.args.byte_order file c.args.which n.table found) (c.in_ok-table.ensures.only file is_known))

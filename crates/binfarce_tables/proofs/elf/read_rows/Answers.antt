@@ -1,4 +1,4 @@
-use Rattle.std.proofs.Common.{◌≡◌, ℕ, true, Vec, Global, List, Result, Ok, Err, ap, sym, ◌∙◌}
+use Rattle.std.proofs.Common.{◌≡◌, ℕ, Vec, Global, List, Result, Ok, Err, ap, sym, ◌∙◌}
 use Rattle.binfarce_bytes.specs.Refusal.{◌>>=◌, Refusal, refusal_of}
 use Rattle.binfarce_elf.specs.ElfParts.{table_sections_view}
 use Rattle.binfarce_elf.specs.ElfSymbols.{rows_at, section_data, whole_rows}
@@ -6,9 +6,8 @@ use Rattle.binfarce_elf.specs.Classes.{class_of}
 use Rattle.binfarce_tables.specs.ElfReads.{section_parts}
 use Rattle.binfarce_tables.specs.machine.Places.{rows_view}
 use Rattle.binfarce_tables.proofs.Located.{after_strings, after_rows, from_sections, from_strings, from_rows, rows_read}
-use Rattle.binfarce_tables.proofs.Readings.{instead, after_err, passed, converted, passed_surely}
-use Rattle.binfarce_tables.proofs.Sure.{front, back, converted_surely}
-use Rattle.binfarce_bytes.specs.Part.{Part}
+use Rattle.binfarce_tables.proofs.Readings.{after_err, instead, converted, passed}
+use Rattle.binfarce_tables.proofs.Sure.{front, back, within, next, ending, passed_only, converted_surely}
 use Rattle.binfarce_tables.proofs.elf.read_rows.Goals as goal
 
 pub returns-in_err-strings-clause-answer : goal.returns-in_err-strings-clause-answer
@@ -50,38 +49,29 @@ returns-clause-answer g c = λ file known.
     rows_read class file n c.in_ok-strings.strings.items (c.in_ok-strings.ensures.answer file known) c.in_ok-rows.rows.items (c.in_ok-rows.ensures.answer file known)
     c.in_ok-whole_rows.field-0.now (ap (whole_rows class) (sym c.deref.ensures.value) ∙ c.in_ok-whole_rows.ensures)
 
-pub returns-in_err-strings-clause-nothing_else : goal.returns-in_err-strings-clause-nothing_else
-returns-in_err-strings-clause-nothing_else g c = λ file known sure.
+pub returns-in_err-strings-clause-only : goal.returns-in_err-strings-clause-only
+returns-in_err-strings-clause-only g c = λ file known.
     let n = table_sections_view c.args.sections in
-    passed_surely c.in_err-strings.field-0.0 c.from_residual.result
-    (c.in_err-strings.ensures.nothing_else file known (front (λ p. g.S.Source.is_sure c.args.source.now p ≡ true) (section_parts file n.strings) (section_parts file n.symbols) sure)) c.from_residual.ensures
+    passed_only _ (within (λ P. front P (section_parts file n.strings) (section_parts file n.symbols)) (c.in_err-strings.ensures.only file known)) c.from_residual.ensures
 
-pub returns-in_err-rows-clause-nothing_else : goal.returns-in_err-rows-clause-nothing_else
-returns-in_err-rows-clause-nothing_else g c = λ file known sure.
+pub returns-in_err-rows-clause-only : goal.returns-in_err-rows-clause-only
+returns-in_err-rows-clause-only g c = λ file known.
     let n = table_sections_view c.args.sections in
-    passed_surely c.in_err-rows.field-0.0 c.from_residual-in_err-rows.result
-    (c.in_err-rows.ensures.nothing_else file known (back (λ p. g.S.Source.is_sure c.args.source.now p ≡ true) (section_parts file n.strings) (section_parts file n.symbols) sure)) c.from_residual-in_err-rows.ensures
+    let strings = section_parts file n.strings in
+    let rows = section_parts file n.symbols in
+    passed_only _ (next (within (λ P. front P strings rows) (c.in_ok-strings.ensures.only file known)) (within (λ P. back P strings rows) (c.in_err-rows.ensures.only file known))) c.from_residual-in_err-rows.ensures
 
-pub returns-in_err-whole_rows-clause-nothing_else : goal.returns-in_err-whole_rows-clause-nothing_else
-returns-in_err-whole_rows-clause-nothing_else g c = λ file known sure. converted_surely c.in_err-whole_rows.field-0.0 c.from_residual-in_err-whole_rows.result c.from_residual-in_err-whole_rows.ensures
-
-pub returns-in_err-rows-clause-asked : goal.returns-in_err-rows-clause-asked
-returns-in_err-rows-clause-asked g c = λ file known allowed are before.
+pub returns-in_err-whole_rows-clause-only : goal.returns-in_err-whole_rows-clause-only
+returns-in_err-whole_rows-clause-only g c = λ file known.
     let n = table_sections_view c.args.sections in
-    let P : Part → Type 0 = λ p. allowed p ≡ true in
-    let strings = c.read_section.ensures.asked file known allowed (front P (section_parts file n.strings) (section_parts file n.symbols) are) before in
-    c.read_section-2.ensures.asked file known allowed (back P (section_parts file n.strings) (section_parts file n.symbols) are) strings
+    let strings = section_parts file n.strings in
+    let rows = section_parts file n.symbols in
+    ending (next (within (λ P. front P strings rows) (c.in_ok-strings.ensures.only file known)) (within (λ P. back P strings rows) (c.in_ok-rows.ensures.only file known)))
+    (converted_surely c.in_err-whole_rows.field-0.0 c.from_residual-in_err-whole_rows.result c.from_residual-in_err-whole_rows.ensures)
 
-pub returns-in_err-whole_rows-clause-asked : goal.returns-in_err-whole_rows-clause-asked
-returns-in_err-whole_rows-clause-asked g c = λ file known allowed are before.
+pub returns-clause-only : goal.returns-clause-only
+returns-clause-only g c = λ file known.
     let n = table_sections_view c.args.sections in
-    let P : Part → Type 0 = λ p. allowed p ≡ true in
-    let strings = c.read_section.ensures.asked file known allowed (front P (section_parts file n.strings) (section_parts file n.symbols) are) before in
-    c.read_section-2.ensures.asked file known allowed (back P (section_parts file n.strings) (section_parts file n.symbols) are) strings
-
-pub returns-clause-asked : goal.returns-clause-asked
-returns-clause-asked g c = λ file known allowed are before.
-    let n = table_sections_view c.args.sections in
-    let P : Part → Type 0 = λ p. allowed p ≡ true in
-    let strings = c.read_section.ensures.asked file known allowed (front P (section_parts file n.strings) (section_parts file n.symbols) are) before in
-    c.read_section-2.ensures.asked file known allowed (back P (section_parts file n.strings) (section_parts file n.symbols) are) strings
+    let strings = section_parts file n.strings in
+    let rows = section_parts file n.symbols in
+    next (within (λ P. front P strings rows) (c.in_ok-strings.ensures.only file known)) (within (λ P. back P strings rows) (c.in_ok-rows.ensures.only file known))

@@ -1,10 +1,10 @@
-use Rattle.std.proofs.Common.{◌≡◌, ℕ, true, ◌+◌, ◌-◌, ◌<◌, ◌≤◌, ◌^◌, Ok, Err, ap, ap₂, sym, ◌∙◌, arith, length}
+use Rattle.std.proofs.Common.{◌≡◌, ℕ, ◌+◌, ◌-◌, ◌<◌, ◌≤◌, ◌^◌, Ok, Err, ap, ap₂, sym, ◌∙◌, arith, length, subst}
 use Rattle.binfarce_bytes.specs.Number.{bytes_at}
-use Rattle.binfarce_bytes.specs.Part.{Part, part}
+use Rattle.binfarce_bytes.specs.Part.{part}
 use Rattle.binfarce_elf.specs.ElfViews.{section_view}
 use Rattle.binfarce_tables.proofs.Contents.{data_malformed, data_past, data_inside}
 use Rattle.binfarce_tables.proofs.Readings.{instead, converted}
-use Rattle.binfarce_tables.proofs.Sure.{alone, in_file, converted_surely}
+use Rattle.binfarce_tables.proofs.Sure.{in_file, one, nothing, converted_surely}
 use Rattle.binfarce_tables.proofs.elf.read_section.Goals as goal
 
 pub returns-in_err-range-clause-answer : goal.returns-in_err-range-clause-answer
@@ -27,22 +27,12 @@ returns-clause-answer g c = λ file known.
     let is = data_inside file s (omega (arith, inside, known.1, c.ranges.len.fits)) inside in
     instead _ _ _ _ _ (is ∙ ap Ok (sym (ap₂ (λ (a b : ℕ). bytes_at file a b) c.in_ok-range.ensures.0 size))) (c.part.ensures.part file known.0 (omega (arith, inside, size, c.in_ok-range.ensures.0)))
 
-pub returns-in_err-range-clause-nothing_else : goal.returns-in_err-range-clause-nothing_else
-returns-in_err-range-clause-nothing_else g c = λ file known sure. converted_surely c.in_err-range.field-0.0 c.from_residual.result c.from_residual.ensures
+pub returns-in_err-range-clause-only : goal.returns-in_err-range-clause-only
+returns-in_err-range-clause-only g c = λ file known. nothing (converted_surely c.in_err-range.field-0.0 c.from_residual.result c.from_residual.ensures)
 
-pub returns-clause-nothing_else : goal.returns-clause-nothing_else
-returns-clause-nothing_else g c = λ file known sure.
+pub returns-clause-only : goal.returns-clause-only
+returns-clause-only g c = λ file known.
     let s = section_view (λ n. n) c.args.section in
-    let is_sure = g.S.Source.is_sure c.args.source.now in
     let inside : s.offset + s.size ≤ length file = omega (arith, known.1, c.in_ok-range.ensures.1, c.if-range-len.false) in
     let size : c.in_ok-range.range.end - c.in_ok-range.range.start ≡ s.size = omega (arith, c.in_ok-range.ensures.0, c.in_ok-range.ensures.1) in
-    c.part.ensures.nothing_else (ap₂ (λ (a b : ℕ). is_sure (part a b)) c.in_ok-range.ensures.0 size ∙ in_file (λ p. is_sure p ≡ true) file s.offset s.size inside sure)
-
-pub returns-clause-asked : goal.returns-clause-asked
-returns-clause-asked g c = λ file known allowed are before.
-    let s = section_view (λ n. n) c.args.section in
-    let range = c.in_ok-range.range in
-    let inside : s.offset + s.size ≤ length file = omega (arith, known.1, c.in_ok-range.ensures.1, c.if-range-len.false) in
-    let size : range.end - range.start ≡ s.size = omega (arith, c.in_ok-range.ensures.0, c.in_ok-range.ensures.1) in
-    let P : Part → Type 0 = λ p. allowed p ≡ true in
-    c.part.ensures.asked allowed (alone P (part range.start (range.end - range.start)) (ap₂ (λ (a b : ℕ). allowed (part a b)) c.in_ok-range.ensures.0 size ∙ in_file P file s.offset s.size inside are)) before
+    one (λ P all. subst P (sym (ap₂ (λ (a b : ℕ). part a b) c.in_ok-range.ensures.0 size)) (in_file P file s.offset s.size inside all)) c.part.ensures.only

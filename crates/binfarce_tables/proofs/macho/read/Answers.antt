@@ -7,11 +7,10 @@ use Rattle.binfarce_tables.specs.MachoReading.{parts_view, symbols_view}
 use Rattle.binfarce_tables.specs.Reading.{Known}
 use Rattle.binfarce_tables.specs.MachoReads.{command_bytes}
 use Rattle.binfarce_tables.specs.machine.MachoPlaces.{selected_commands, found_view}
-use Rattle.binfarce_tables.proofs.MachoLocated.{after_commands, steps_are, from_found, in_memory}
-use Rattle.binfarce_tables.proofs.Readings.{after_err, instead, passed, passed_surely, length_known, taken}
-use Rattle.binfarce_bytes.specs.Part.{part}
-use Rattle.binfarce_tables.proofs.MachoSure.{Given, header_part, section_parts, symbol_parts, commands_table}
-use Rattle.binfarce_tables.proofs.Sure.{long}
+use Rattle.binfarce_tables.proofs.MachoLocated.{after_commands, steps_are, from_found, in_memory, in_memory_readable}
+use Rattle.binfarce_tables.proofs.Readings.{after_err, instead, length_known, taken, passed}
+use Rattle.binfarce_tables.proofs.MachoSure.{header_part, section_parts, symbol_parts, commands_table}
+use Rattle.binfarce_tables.proofs.Sure.{within, next, ending, unmeasured, passed_only}
 use Rattle.binfarce_tables.proofs.macho.read.Goals as goal
 
 pub returns-in_err-found-clause-answer : goal.returns-in_err-found-clause-answer
@@ -48,55 +47,38 @@ returns-clause-answer g c = λ file known.
     let found = found_view c.in_ok-found.found in
     rw (from_found section file found inside (c.in_ok-found.ensures file inside are), c.in_ok-symbols.ensures.answer file is_known) refl
 
-pub returns-in_err-len-clause-nothing_else : goal.returns-in_err-len-clause-nothing_else
-returns-in_err-len-clause-nothing_else g c = λ file known sure.
-    let is_sure = g.S.Source.is_sure c.args.source.now in
-    long is_sure (part 0 28) c.from_residual.result (header_part (Given is_sure) file (section_parts (Given is_sure) file sure)) c.in_err-len.ensures.unsure
+pub returns-in_err-len-clause-only : goal.returns-in_err-len-clause-only
+returns-in_err-len-clause-only g c = λ file known. unmeasured _ (λ P all. header_part P file (section_parts P file all)) c.in_err-len.ensures.unsure
 
-pub returns-in_err-commands-clause-nothing_else : goal.returns-in_err-commands-clause-nothing_else
-returns-in_err-commands-clause-nothing_else g c = λ file known sure.
+pub returns-in_err-commands-clause-only : goal.returns-in_err-commands-clause-only
+returns-in_err-commands-clause-only g c = λ file known.
     let is_known : Known (g.S.Source.bytes c.args.source.now) c.in_ok-len.len file = (known, length_known _ file c.in_ok-len.len known c.in_ok-len.ensures.length) in
-    passed_surely c.in_err-commands.field-0.0 c.from_residual-in_err-commands.result
-    (c.in_err-commands.ensures.nothing_else file is_known (section_parts (Given (g.S.Source.is_sure c.args.source.now)) file sure)) c.from_residual-in_err-commands.ensures
+    passed_only _ (within (λ P. section_parts P file) (c.in_err-commands.ensures.only file is_known)) c.from_residual-in_err-commands.ensures
 
-pub returns-in_err-symbols-clause-nothing_else : goal.returns-in_err-symbols-clause-nothing_else
-returns-in_err-symbols-clause-nothing_else g c = λ file known sure.
-    let section = section_of c.args.selection in
+pub returns-in_err-found-clause-only : goal.returns-in_err-found-clause-only
+returns-in_err-found-clause-only g c = λ file known.
+    let is_known : Known (g.S.Source.bytes c.args.source.now) c.in_ok-len.len file = (known, length_known _ file c.in_ok-len.len known c.in_ok-len.ensures.length) in
+    let inside : 28 ≤ length file = omega (arith, is_known.1, c.if-len-lt-HEADER.false) in
+    let are : c.deref.result.now ≡ command_bytes file = c.deref.ensures.value ∙ taken (c.in_ok-commands.ensures.answer file is_known) in
+    let e = c.in_err-found.field-0.0 in
+    passed_only _ (ending (within (λ P. section_parts P file) (c.in_ok-commands.ensures.only file is_known))
+    (in_memory_readable found_view (selected_commands (section_of c.args.selection) file) e (c.in_err-found.ensures file inside are))) c.from_residual-in_err-found.ensures
+
+pub returns-in_err-symbols-clause-only : goal.returns-in_err-symbols-clause-only
+returns-in_err-symbols-clause-only g c = λ file known.
     let is_known : Known (g.S.Source.bytes c.args.source.now) c.in_ok-len.len file = (known, length_known _ file c.in_ok-len.len known c.in_ok-len.ensures.length) in
     let inside : 28 ≤ length file = omega (arith, is_known.1, c.if-len-lt-HEADER.false) in
     let are : c.deref.result.now ≡ command_bytes file = c.deref.ensures.value ∙ taken (c.in_ok-commands.ensures.answer file is_known) in
     let found = found_view c.in_ok-found.found in
-    passed_surely c.in_err-symbols.field-0.0 c.from_residual-in_err-symbols.result
-    (c.in_err-symbols.ensures.nothing_else file is_known
-    (symbol_parts (Given (g.S.Source.is_sure c.args.source.now)) file found.table (commands_table section file found (c.in_ok-found.ensures file inside are)) sure))
+    let table = commands_table (section_of c.args.selection) file found (c.in_ok-found.ensures file inside are) in
+    passed_only _ (next (within (λ P. section_parts P file) (c.in_ok-commands.ensures.only file is_known)) (within (λ P. symbol_parts P file found.table table) (c.in_err-symbols.ensures.only file is_known)))
     c.from_residual-in_err-symbols.ensures
 
-pub returns-in_err-commands-clause-asked : goal.returns-in_err-commands-clause-asked
-returns-in_err-commands-clause-asked g c = λ file known allowed are before.
+pub returns-clause-only : goal.returns-clause-only
+returns-clause-only g c = λ file known.
     let is_known : Known (g.S.Source.bytes c.args.source.now) c.in_ok-len.len file = (known, length_known _ file c.in_ok-len.len known c.in_ok-len.ensures.length) in
-    c.read_commands.ensures.asked file is_known allowed (section_parts (Given allowed) file are) before
-
-pub returns-in_err-found-clause-asked : goal.returns-in_err-found-clause-asked
-returns-in_err-found-clause-asked g c = λ file known allowed are before.
-    let is_known : Known (g.S.Source.bytes c.args.source.now) c.in_ok-len.len file = (known, length_known _ file c.in_ok-len.len known c.in_ok-len.ensures.length) in
-    c.read_commands.ensures.asked file is_known allowed (section_parts (Given allowed) file are) before
-
-pub returns-in_err-symbols-clause-asked : goal.returns-in_err-symbols-clause-asked
-returns-in_err-symbols-clause-asked g c = λ file known allowed are before.
-    let section = section_of c.args.selection in
-    let is_known : Known (g.S.Source.bytes c.args.source.now) c.in_ok-len.len file = (known, length_known _ file c.in_ok-len.len known c.in_ok-len.ensures.length) in
-    let commands = c.read_commands.ensures.asked file is_known allowed (section_parts (Given allowed) file are) before in
     let inside : 28 ≤ length file = omega (arith, is_known.1, c.if-len-lt-HEADER.false) in
-    let same : c.deref.result.now ≡ command_bytes file = c.deref.ensures.value ∙ taken (c.in_ok-commands.ensures.answer file is_known) in
+    let are : c.deref.result.now ≡ command_bytes file = c.deref.ensures.value ∙ taken (c.in_ok-commands.ensures.answer file is_known) in
     let found = found_view c.in_ok-found.found in
-    c.read_symbols.ensures.asked file is_known allowed (symbol_parts (Given allowed) file found.table (commands_table section file found (c.in_ok-found.ensures file inside same)) are) commands
-
-pub returns-clause-asked : goal.returns-clause-asked
-returns-clause-asked g c = λ file known allowed are before.
-    let section = section_of c.args.selection in
-    let is_known : Known (g.S.Source.bytes c.args.source.now) c.in_ok-len.len file = (known, length_known _ file c.in_ok-len.len known c.in_ok-len.ensures.length) in
-    let commands = c.read_commands.ensures.asked file is_known allowed (section_parts (Given allowed) file are) before in
-    let inside : 28 ≤ length file = omega (arith, is_known.1, c.if-len-lt-HEADER.false) in
-    let same : c.deref.result.now ≡ command_bytes file = c.deref.ensures.value ∙ taken (c.in_ok-commands.ensures.answer file is_known) in
-    let found = found_view c.in_ok-found.found in
-    c.read_symbols.ensures.asked file is_known allowed (symbol_parts (Given allowed) file found.table (commands_table section file found (c.in_ok-found.ensures file inside same)) are) commands
+    let table = commands_table (section_of c.args.selection) file found (c.in_ok-found.ensures file inside are) in
+    next (within (λ P. section_parts P file) (c.in_ok-commands.ensures.only file is_known)) (within (λ P. symbol_parts P file found.table table) (c.in_ok-symbols.ensures.only file is_known))

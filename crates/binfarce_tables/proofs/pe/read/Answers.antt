@@ -5,13 +5,12 @@ use Rattle.binfarce_pe.specs.PeParts.{places_view}
 use Rattle.binfarce_pe.specs.PeSelection.{symbols_of}
 use Rattle.binfarce_pe.specs.PeSymbols.{SymbolTable}
 use Rattle.binfarce_tables.specs.PeReading.{SelectedTables, selected_view}
-use Rattle.binfarce_tables.specs.PeReads.{pointer_part}
 use Rattle.binfarce_tables.specs.Reading.{Known}
 use Rattle.binfarce_tables.specs.machine.PePlaces.{chosen_at, table_at, read_view, records_view}
 use Rattle.binfarce_tables.proofs.PeSteps.{symbols_at, from_places, from_sections}
 use Rattle.binfarce_tables.proofs.PeSure.{pointer_sure, places_sure, selected_sure, table_sure}
-use Rattle.binfarce_tables.proofs.Readings.{after_err, passed, length_known, passed_surely}
-use Rattle.binfarce_tables.proofs.Sure.{long}
+use Rattle.binfarce_tables.proofs.Readings.{after_err, length_known, passed}
+use Rattle.binfarce_tables.proofs.Sure.{within, next, unmeasured, passed_only}
 use Rattle.binfarce_tables.proofs.pe.read.Goals as goal
 
 pub returns-in_err-sections-clause-answer : goal.returns-in_err-sections-clause-answer
@@ -47,58 +46,38 @@ returns-clause-answer g c = λ file known.
     from_sections (g.S.Source.may_fail c.args.source.now) selected_view (section_of c.args.selection) file (places_view c.in_ok-places.places) chosen (Ok tables) step (c.in_ok-sections.ensures.answer file is_known step)
     (ap (λ (a : Result SymbolTable Refusal). a >>= λ symbols. Ok (symbols_of chosen symbols)) (c.in_ok-records.ensures.answer file is_known))
 
-pub returns-in_err-len-clause-nothing_else : goal.returns-in_err-len-clause-nothing_else
-returns-in_err-len-clause-nothing_else g c = λ file known sure.
-    let is_sure = g.S.Source.is_sure c.args.source.now in
-    long is_sure pointer_part c.from_residual.result (pointer_sure is_sure file (section_of c.args.selection) sure) c.in_err-len.ensures.unsure
+pub returns-in_err-len-clause-only : goal.returns-in_err-len-clause-only
+returns-in_err-len-clause-only g c = λ file known. unmeasured _ (λ P. pointer_sure P file (section_of c.args.selection)) c.in_err-len.ensures.unsure
 
-pub returns-in_err-places-clause-nothing_else : goal.returns-in_err-places-clause-nothing_else
-returns-in_err-places-clause-nothing_else g c = λ file known sure.
+pub returns-in_err-places-clause-only : goal.returns-in_err-places-clause-only
+returns-in_err-places-clause-only g c = λ file known.
     let is_known : Known (g.S.Source.bytes c.args.source.now) c.in_ok-len.len file = (known, length_known _ file c.in_ok-len.len known c.in_ok-len.ensures.length) in
-    passed_surely c.in_err-places.field-0.0 c.from_residual-in_err-places.result
-    (c.in_err-places.ensures.nothing_else file is_known (places_sure (g.S.Source.is_sure c.args.source.now) file (section_of c.args.selection) sure)) c.from_residual-in_err-places.ensures
+    passed_only _ (within (λ P. places_sure P file (section_of c.args.selection)) (c.in_err-places.ensures.only file is_known)) c.from_residual-in_err-places.ensures
 
-pub returns-in_err-sections-clause-nothing_else : goal.returns-in_err-sections-clause-nothing_else
-returns-in_err-sections-clause-nothing_else g c = λ file known sure.
-    let is_known : Known (g.S.Source.bytes c.args.source.now) c.in_ok-len.len file = (known, length_known _ file c.in_ok-len.len known c.in_ok-len.ensures.length) in
-    let parts = selected_sure (g.S.Source.is_sure c.args.source.now) file (section_of c.args.selection) sure (places_view c.in_ok-places.places) (c.in_ok-places.ensures.answer file is_known) in
-    passed_surely c.in_err-sections.field-0.0 c.from_residual-in_err-sections.result (c.in_err-sections.ensures.nothing_else file is_known parts) c.from_residual-in_err-sections.ensures
-
-pub returns-in_err-records-clause-nothing_else : goal.returns-in_err-records-clause-nothing_else
-returns-in_err-records-clause-nothing_else g c = λ file known sure.
-    let is_known : Known (g.S.Source.bytes c.args.source.now) c.in_ok-len.len file = (known, length_known _ file c.in_ok-len.len known c.in_ok-len.ensures.length) in
-    let table = table_sure (g.S.Source.is_sure c.args.source.now) file (section_of c.args.selection) sure (places_view c.in_ok-places.places) (c.in_ok-places.ensures.answer file is_known) in
-    passed_surely c.in_err-records.field-0.0 c.from_residual-in_err-records.result (c.in_err-records.ensures.nothing_else file is_known table) c.from_residual-in_err-records.ensures
-
-pub returns-in_err-places-clause-asked : goal.returns-in_err-places-clause-asked
-returns-in_err-places-clause-asked g c = λ file known allowed are before.
-    let is_known : Known (g.S.Source.bytes c.args.source.now) c.in_ok-len.len file = (known, length_known _ file c.in_ok-len.len known c.in_ok-len.ensures.length) in
-    c.read_places.ensures.asked file is_known allowed (places_sure allowed file (section_of c.args.selection) are) before
-
-pub returns-in_err-sections-clause-asked : goal.returns-in_err-sections-clause-asked
-returns-in_err-sections-clause-asked g c = λ file known allowed are before.
+pub returns-in_err-sections-clause-only : goal.returns-in_err-sections-clause-only
+returns-in_err-sections-clause-only g c = λ file known.
     let is_known : Known (g.S.Source.bytes c.args.source.now) c.in_ok-len.len file = (known, length_known _ file c.in_ok-len.len known c.in_ok-len.ensures.length) in
     let section = section_of c.args.selection in
     let step = c.in_ok-places.ensures.answer file is_known in
-    c.read_selected.ensures.asked file is_known step allowed (selected_sure allowed file section are (places_view c.in_ok-places.places) step)
-    (c.read_places.ensures.asked file is_known allowed (places_sure allowed file section are) before)
+    passed_only _ (next (within (λ P. places_sure P file section) (c.in_ok-places.ensures.only file is_known))
+    (within (λ P all. selected_sure P file section all (places_view c.in_ok-places.places) step) (c.in_err-sections.ensures.only file is_known step))) c.from_residual-in_err-sections.ensures
 
-pub returns-in_err-records-clause-asked : goal.returns-in_err-records-clause-asked
-returns-in_err-records-clause-asked g c = λ file known allowed are before.
+pub returns-in_err-records-clause-only : goal.returns-in_err-records-clause-only
+returns-in_err-records-clause-only g c = λ file known.
     let is_known : Known (g.S.Source.bytes c.args.source.now) c.in_ok-len.len file = (known, length_known _ file c.in_ok-len.len known c.in_ok-len.ensures.length) in
     let section = section_of c.args.selection in
     let places = places_view c.in_ok-places.places in
     let step = c.in_ok-places.ensures.answer file is_known in
-    c.read_records.ensures.asked file is_known allowed (table_sure allowed file section are places step)
-    (c.read_selected.ensures.asked file is_known step allowed (selected_sure allowed file section are places step)
-    (c.read_places.ensures.asked file is_known allowed (places_sure allowed file section are) before))
+    passed_only _ (next (within (λ P. places_sure P file section) (c.in_ok-places.ensures.only file is_known))
+    (next (within (λ P all. selected_sure P file section all places step) (c.in_ok-sections.ensures.only file is_known step))
+    (within (λ P all. table_sure P file section all places step) (c.in_err-records.ensures.only file is_known)))) c.from_residual-in_err-records.ensures
 
-pub returns-clause-asked : goal.returns-clause-asked
-returns-clause-asked g c = λ file known allowed are before.
+pub returns-clause-only : goal.returns-clause-only
+returns-clause-only g c = λ file known.
     let is_known : Known (g.S.Source.bytes c.args.source.now) c.in_ok-len.len file = (known, length_known _ file c.in_ok-len.len known c.in_ok-len.ensures.length) in
     let section = section_of c.args.selection in
     let places = places_view c.in_ok-places.places in
     let step = c.in_ok-places.ensures.answer file is_known in
-    c.read_records.ensures.asked file is_known allowed (table_sure allowed file section are places step)
-    (c.read_selected.ensures.asked file is_known step allowed (selected_sure allowed file section are places step)
-    (c.read_places.ensures.asked file is_known allowed (places_sure allowed file section are) before))
+    next (within (λ P. places_sure P file section) (c.in_ok-places.ensures.only file is_known))
+    (next (within (λ P all. selected_sure P file section all places step) (c.in_ok-sections.ensures.only file is_known step))
+    (within (λ P all. table_sure P file section all places step) (c.in_ok-records.ensures.only file is_known)))

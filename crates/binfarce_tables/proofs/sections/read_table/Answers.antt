@@ -1,4 +1,4 @@
-use Rattle.std.proofs.Common.{◌≡◌, true, ◌+◌, ◌<◌, ◌≤◌, List, Vec, Global, ℕ, Ok, ap, sym, ◌∙◌, arith, length}
+use Rattle.std.proofs.Common.{◌+◌, ◌<◌, ◌≤◌, List, Vec, Global, ℕ, Ok, ap, sym, ◌∙◌, arith, length}
 use Rattle.binfarce_bytes.specs.Number.{bytes_at}
 use Rattle.binfarce_elf.specs.Elf.{walk}
 use Rattle.binfarce_elf.specs.ElfParts.{headers_alone}
@@ -7,17 +7,16 @@ use Rattle.binfarce_tables.specs.machine.Places.{table_at, headers_of}
 use Rattle.binfarce_tables.proofs.Contents.{part_long}
 use Rattle.binfarce_tables.proofs.ElfSure.{of_headers, of_no_header}
 use Rattle.binfarce_tables.proofs.HeadersAlone.{HasWithin, within_of, some_of, headers_walk}
-use Rattle.binfarce_tables.proofs.SectionsRead.{seen_as, walk_outside, walk_of_none}
-use Rattle.binfarce_tables.proofs.Sure.{alone}
-use Rattle.binfarce_bytes.specs.Part.{Part, part}
-use Rattle.binfarce_tables.specs.ElfReads.{headers_size}
+use Rattle.binfarce_tables.proofs.Located.{walk_outside, walk_of_none}
+use Rattle.binfarce_tables.proofs.SectionsRead.{seen_as}
+use Rattle.binfarce_tables.proofs.Sure.{one}
 use Rattle.binfarce_tables.proofs.sections.read_table.Goals as goal
 
 pub returns-then-place-len-clause-answer : goal.returns-then-place-len-clause-answer
 returns-then-place-len-clause-answer g c = λ file known.
     let class = class_of c.args.width in
-    let some : 0 < class.section_length = some_of c.args.width in
-    ap Ok (walk_outside class (table_at file c.args.place) c.new.result.items some (omega (arith, known.1, c.if-place-len.true)) c.new.ensures.items)
+    let none : length c.new.result.items ≤ 0 = omega (arith, ap length c.new.ensures.items) in
+    ap Ok (walk_outside class (table_at file c.args.place) (omega (arith, known.1, c.if-place-len.true)) ∙ sym (walk_outside class (headers_alone c.args.place.byte_order c.new.result.items c.args.place.shnum) none))
 
 pub returns-then-place-eq0-clause-answer : goal.returns-then-place-eq0-clause-answer
 returns-then-place-eq0-clause-answer g c = λ file known.
@@ -27,7 +26,9 @@ returns-then-place-eq0-clause-answer g c = λ file known.
     let there : c.args.place.shoff + 1 ≤ length file = omega (arith, inside) in
     seen_as (g.S.Source.may_fail c.args.source.now) (λ (v : Vec ℕ Global). v.items) (λ (v : Vec ℕ Global). walk class (headers_alone c.args.place.byte_order v.items c.args.place.shnum))
     (bytes_at file c.args.place.shoff 1) (walk class table) c.part.result
-    (λ v is. sym (walk_of_none class table v.items inside c.if-place-eq0.true (ap length is ∙ part_long file c.args.place.shoff 1 there)))
+    (λ v is.
+    let one : 0 < length v.items = omega (arith, ap length is, part_long file c.args.place.shoff 1 there) in
+    walk_of_none class (headers_alone c.args.place.byte_order v.items c.args.place.shnum) one c.if-place-eq0.true ∙ sym (walk_of_none class table inside c.if-place-eq0.true))
     (c.part.ensures.part file known.0 there)
 
 pub returns-clause-answer : goal.returns-clause-answer
@@ -43,24 +44,10 @@ returns-clause-answer g c = λ file known.
     (λ v is. ap (λ (h : List ℕ). walk class (headers_alone c.args.place.byte_order h c.args.place.shnum)) is ∙ headers_walk class table within some inside any)
     (c.read_headers.ensures.answer file known (omega (arith, c.if-place-len.false)))
 
-pub returns-then-place-eq0-clause-nothing_else : goal.returns-then-place-eq0-clause-nothing_else
-returns-then-place-eq0-clause-nothing_else g c = λ file known sure.
-    c.part.ensures.nothing_else (of_no_header (λ p. g.S.Source.is_sure c.args.source.now p ≡ true) (class_of c.args.width) (table_at file c.args.place) (omega (arith, known.1, c.if-place-len.false)) c.if-place-eq0.true sure)
+pub returns-then-place-eq0-clause-only : goal.returns-then-place-eq0-clause-only
+returns-then-place-eq0-clause-only g c = λ file known.
+    one (λ P. of_no_header P (class_of c.args.width) (table_at file c.args.place) (omega (arith, known.1, c.if-place-len.false)) c.if-place-eq0.true) c.part.ensures.only
 
-pub returns-clause-nothing_else : goal.returns-clause-nothing_else
-returns-clause-nothing_else g c = λ file known sure.
-    c.read_headers.ensures.nothing_else file known
-    (of_headers (λ p. g.S.Source.is_sure c.args.source.now p ≡ true) (class_of c.args.width) (table_at file c.args.place) (omega (arith, known.1, c.if-place-len.false)) (omega (arith, c.if-place-eq0.false)) sure)
-
-pub returns-then-place-eq0-clause-asked : goal.returns-then-place-eq0-clause-asked
-returns-then-place-eq0-clause-asked g c = λ file known allowed are before.
-    let P : Part → Type 0 = λ p. allowed p ≡ true in
-    let first = of_no_header P (class_of c.args.width) (table_at file c.args.place) (omega (arith, known.1, c.if-place-len.false)) c.if-place-eq0.true are in
-    c.part.ensures.asked allowed (alone P (part c.args.place.shoff 1) first) before
-
-pub returns-clause-asked : goal.returns-clause-asked
-returns-clause-asked g c = λ file known allowed are before.
-    let P : Part → Type 0 = λ p. allowed p ≡ true in
-    let table = table_at file c.args.place in
-    let headers = of_headers P (class_of c.args.width) table (omega (arith, known.1, c.if-place-len.false)) (omega (arith, c.if-place-eq0.false)) are in
-    c.read_headers.ensures.asked file known allowed (alone P (part table.shoff (headers_size (class_of c.args.width) table)) headers) before
+pub returns-clause-only : goal.returns-clause-only
+returns-clause-only g c = λ file known.
+    one (λ P. of_headers P (class_of c.args.width) (table_at file c.args.place) (omega (arith, known.1, c.if-place-len.false)) (omega (arith, c.if-place-eq0.false))) (c.read_headers.ensures.only file known)

@@ -11,21 +11,21 @@ use Rattle.binfarce_tools.proofs.Reported.{reported_elf, reported_macho, reporte
 use Rattle.binfarce_tools.proofs.Listings.{refused}
 use Rattle.binfarce_tools.proofs.functions.functions_of_file.Goals as goal
 
-pub returns-in_err-functions_of_elf32-in-Elf32 : goal.returns-in_err-functions_of_elf32-in-Elf32
+pub returns-in_err-functions_of_elf-in-Elf32 : goal.returns-in_err-functions_of_elf-in-Elf32
 unfolding symbols_answer NeedsMemory
-returns-in_err-functions_of_elf32-in-Elf32 c =
+returns-in_err-functions_of_elf-in-Elf32 c =
     let file = c.args.file.now in
     let section = c.args.section.now in
     let order = c.in-Elf32.byte_order in
-    refused (Elf32 order) (format_of file) file section (elf_file_answer Symtab elf32 order file section) c.in_err-functions_of_elf32-in-Elf32.field-0.0 c.from_residual.result c.in-Elf32.ensures refl (reported_elf Symtab elf32 order file section) c.in_err-functions_of_elf32-in-Elf32.ensures c.from_residual.ensures.1
+    refused (Elf32 order) (format_of file) file section (elf_file_answer Symtab elf32 order file section) c.in_err-functions_of_elf-in-Elf32.field-0.0 c.from_residual.result c.in-Elf32.ensures refl (reported_elf Symtab elf32 order file section) c.in_err-functions_of_elf-in-Elf32.ensures c.from_residual.ensures.1
 
-pub returns-in_err-functions_of_elf64-in-Elf64 : goal.returns-in_err-functions_of_elf64-in-Elf64
+pub returns-in_err-functions_of_elf-in-Elf64 : goal.returns-in_err-functions_of_elf-in-Elf64
 unfolding symbols_answer NeedsMemory
-returns-in_err-functions_of_elf64-in-Elf64 c =
+returns-in_err-functions_of_elf-in-Elf64 c =
     let file = c.args.file.now in
     let section = c.args.section.now in
     let order = c.in-Elf64.byte_order in
-    refused (Elf64 order) (format_of file) file section (elf_file_answer Symtab elf64 order file section) c.in_err-functions_of_elf64-in-Elf64.field-0.0 c.from_residual-in_err-functions_of_elf64-in-Elf64.result c.in-Elf64.ensures refl (reported_elf Symtab elf64 order file section) c.in_err-functions_of_elf64-in-Elf64.ensures c.from_residual-in_err-functions_of_elf64-in-Elf64.ensures.1
+    refused (Elf64 order) (format_of file) file section (elf_file_answer Symtab elf64 order file section) c.in_err-functions_of_elf-in-Elf64.field-0.0 c.from_residual-in_err-functions_of_elf-in-Elf64.result c.in-Elf64.ensures refl (reported_elf Symtab elf64 order file section) c.in_err-functions_of_elf-in-Elf64.ensures c.from_residual-in_err-functions_of_elf-in-Elf64.ensures.1
 
 pub returns-in_err-functions_of_macho-in-Macho : goal.returns-in_err-functions_of_macho-in-Macho
 unfolding symbols_answer NeedsMemory

@@ -1,11 +1,11 @@
-use Rattle.std.proofs.Common.{◌≡◌, ℕ, true, List, All, Option, sym, subst}
+use Rattle.std.proofs.Common.{◌≡◌, ℕ, List, All, Option, sym, subst}
 use Rattle.std.proofs.lemmas.List.Elements.{All-head, All-tail}
 use Rattle.binfarce_bytes.specs.Part.{Part}
 use Rattle.binfarce.specs.declared.Format.{Format}
 use Rattle.binfarce.specs.Format.{format_of}
 use Rattle.binfarce.specs.declared.SymbolTable.{SymbolTable}
-use Rattle.binfarce_tables.proofs.Readings.{passed_surely, taken}
-use Rattle.binfarce_tables.proofs.Sure.{alone}
+use Rattle.binfarce_tables.proofs.Readings.{taken}
+use Rattle.binfarce_tables.proofs.Sure.{within, one, next, passed_only}
 use Rattle.binfarce_tools.specs.Parts.{head_part, format_parts, parts_in}
 use Rattle.binfarce_bytes.specs.Selection.{section_of}
 use Rattle.binfarce_tools.proofs.tables.read.Goals as goal
@@ -21,23 +21,12 @@ others_are P which section file format format_is all =
 pub returns-clause-answer : goal.returns-clause-answer
 returns-clause-answer g c = λ file known. c.read_tables.ensures.answer file known (taken (c.in_ok-format.ensures.answer file known))
 
-pub returns-in_err-format-clause-nothing_else : goal.returns-in_err-format-clause-nothing_else
-returns-in_err-format-clause-nothing_else g c = λ file known sure.
-    let head = head_is (λ (p : Part). g.S.Source.is_sure c.args.source.now p ≡ true) c.args.which (section_of c.args.selection) file sure in
-    passed_surely c.in_err-format.field-0.0 c.from_residual.result (c.in_err-format.ensures.nothing_else file known head) c.from_residual.ensures
+pub returns-in_err-format-clause-only : goal.returns-in_err-format-clause-only
+returns-in_err-format-clause-only g c = λ file known.
+    passed_only _ (one (λ P. head_is P c.args.which (section_of c.args.selection) file) (c.in_err-format.ensures.only file known)) c.from_residual.ensures
 
-pub returns-clause-nothing_else : goal.returns-clause-nothing_else
-returns-clause-nothing_else g c = λ file known sure.
-    let P : Part → Type 0 = λ p. g.S.Source.is_sure c.args.source.now p ≡ true in
-    c.read_tables.ensures.nothing_else file known (others_are P c.args.which (section_of c.args.selection) file c.in_ok-format.format (taken (c.in_ok-format.ensures.answer file known)) sure)
-
-pub returns-in_err-format-clause-asked : goal.returns-in_err-format-clause-asked
-returns-in_err-format-clause-asked g c = λ file known allowed are before.
-    let P : Part → Type 0 = λ p. allowed p ≡ true in
-    c.in_err-format.ensures.asked file known allowed (alone P (head_part file) (head_is P c.args.which (section_of c.args.selection) file are)) before
-
-pub returns-clause-asked : goal.returns-clause-asked
-returns-clause-asked g c = λ file known allowed are before.
-    let P : Part → Type 0 = λ p. allowed p ≡ true in
-    let head = c.in_ok-format.ensures.asked file known allowed (alone P (head_part file) (head_is P c.args.which (section_of c.args.selection) file are)) before in
-    c.read_tables.ensures.asked file known allowed (others_are P c.args.which (section_of c.args.selection) file c.in_ok-format.format (taken (c.in_ok-format.ensures.answer file known)) are) head
+pub returns-clause-only : goal.returns-clause-only
+returns-clause-only g c = λ file known.
+    let section = section_of c.args.selection in
+    next (one (λ P. head_is P c.args.which section file) (c.in_ok-format.ensures.only file known))
+    (within (λ P. others_are P c.args.which section file c.in_ok-format.format (taken (c.in_ok-format.ensures.answer file known))) (c.read_tables.ensures.only file known))

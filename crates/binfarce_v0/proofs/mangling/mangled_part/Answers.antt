@@ -8,4 +8,4 @@ returns-in_err-part c =
 
 pub returns-else-is_allowed_rest : goal.returns-else-is_allowed_rest
 returns-else-is_allowed_rest c =
-    rest_not_allowed c.args.text.now c.in_ok-part.part.now c.in_ok-part.after c.in_ok-part.ensures (rw (← c.as_bytes.ensures.value, ← c.rest_from.ensures) (sym c.is_allowed_rest.ensures ∙ c.if-is_allowed_rest.false))
+    rest_not_allowed c.args.text.now c.in_ok-part.part.now c.in_ok-part.after c.in_ok-part.ensures (rw (← c.rest_from.ensures, ← c.as_bytes.ensures.value) (sym c.is_allowed_rest.ensures ∙ c.if-is_allowed_rest.false))

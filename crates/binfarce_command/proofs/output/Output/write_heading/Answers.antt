@@ -1,4 +1,5 @@
-use Rattle.binfarce_command.proofs.Streams.{keeps_more, moved_part}
+use Rattle.std.proofs.KnownBytes.{Keeps-trans}
+use Rattle.binfarce_command.proofs.Streams.{moved_part}
 use Rattle.binfarce_command.proofs.output.Output.write_heading.Goals as goal
 
 pub loop-self-preserved : goal.loop-self-preserved
@@ -6,6 +7,6 @@ loop-self-preserved g c =
     let old = g.W.Write.contents c.loop-self.self.writer in
     let new = g.W.Write.contents c.write.new.self in
     record {
-      kept = keeps_more _ _ _ c.loop-self.invariant.kept (moved_part old new c.loop-self.self.heading.items c.deref.result.now c.loop-self.self.done c.in-Ok.n c.deref.ensures.value c.in-Ok.ensures.bytes);
+      kept = Keeps-trans _ _ _ c.loop-self.invariant.kept (moved_part old new c.loop-self.self.heading.items c.deref.result.now c.loop-self.self.done c.in-Ok.n c.deref.ensures.value c.in-Ok.ensures.bytes);
       failed = c.loop-self.invariant.failed;
     }

@@ -8,7 +8,7 @@ use Rattle.binfarce_names.proofs.demangle.Demangler.demangle.Goals as goal
 pub returns-in-Some : goal.returns-in-Some
 returns-in-Some c =
     let is = c.in-Some.ensures in
-    record { named = if_ok _ (λ n. IsNamed c.args.name.now (name_view n)) c.legacy_name.result (λ n e. named_legacy c.args.name.now c.without_llvm-stripped.result.now c.in-Some.part.now is.1 is.0 (name_view n) c.without_llvm-stripped.ensures is.2 (e is.0 is.1 is.2.reads)) c.legacy_name.ensures }
+    record { named = if_ok _ (λ n. IsNamed c.args.name.now (name_view n)) c.legacy_name.result (λ n e. named_legacy c.args.name.now c.without_llvm-stripped.result.now c.in-Some.part.now _ is.0 (name_view n) c.without_llvm-stripped.ensures is.1 (e is.0 _ is.1.reads)) c.legacy_name.ensures }
 
 pub returns-in-Some-2 : goal.returns-in-Some-2
 returns-in-Some-2 c =

@@ -10,7 +10,7 @@ pub returns-in-Some : goal.returns-in-Some
 returns-in-Some c =
     let is = c.in-Some.ensures in
     on_ok _ _ c.short_legacy.result
-    (λ h. (legacy is.0, named_legacy c.args.name.now c.without_llvm-stripped.result.now c.in-Some.part.now is.1 is.0 (legacy is.0) c.without_llvm-stripped.ensures is.2 refl, h is.0 is.1 is.2.reads))
+    (λ h. (legacy is.0, named_legacy c.args.name.now c.without_llvm-stripped.result.now c.in-Some.part.now _ is.0 (legacy is.0) c.without_llvm-stripped.ensures is.1 refl, h is.0 _ is.1.reads))
     c.short_legacy.ensures
 
 pub returns-in_default-candidate : goal.returns-in_default-candidate
@@ -22,7 +22,7 @@ returns-in_default-candidate c =
     let empty : old ≡ [] = search rules in
     let none = no_mangling c.without_llvm-stripped.result.now c.in_default-candidate.ensures in
     pushed c.push_str.result old new name _
-    (λ grown. replaced c.args.full c.args.below name old new empty (unchanged_grows c.args.full (Some c.args.below) name c.without_llvm-stripped.result.now old new other none grown))
+    (λ grown. replaced c.args.full c.args.below name [] old new empty (unchanged_grows c.args.full (Some c.args.below) name c.without_llvm-stripped.result.now old new other none grown))
     c.push_str.ensures.bytes
 
 pub push_candidate-requires-clause-not_legacy : goal.push_candidate-requires-clause-not_legacy
@@ -33,6 +33,4 @@ pub returns : goal.returns
 returns c =
     let old = string_bytes c.clear.new.self in
     let empty : old ≡ [] = search rules in
-    on_ok _ _ c.push_candidate.result
-    (replaced c.args.full c.args.below c.args.name.now old (string_bytes c.push_candidate.new.text) empty)
-    c.push_candidate.ensures.grown
+    replaced c.args.full c.args.below c.args.name.now _ old (string_bytes c.push_candidate.new.text) empty c.in_ok-push_candidate.ensures.grown

@@ -1,14 +1,11 @@
-use Rattle.std.proofs.Common.{◌≡◌, Ok, Err, List, ℕ, Option, Some, ap, refl, subst, ◌∙◌, sym}
+use Rattle.std.proofs.Common.{Ok, subst, ◌∙◌, sym}
 use Rattle.std.specs.Prelude.{◌≢◌, []}
 use Rattle.binfarce.specs.MachoSelection as macho_file
-use Rattle.binfarce.specs.SectionEntries.{SelectedSymbols}
 use Rattle.binfarce_tables.specs.ElfReading as elf
 use Rattle.binfarce_tables.specs.MachoReading as macho
 use Rattle.binfarce_tables.specs.PeReading as pe
-use Rattle.binfarce_tools.specs.ListWords.{list_error_of}
 use Rattle.binfarce_tools.specs.Tables.{AreTablesOf}
 use Rattle.binfarce_tools.specs.declared.tables.Tables.{Tables}
-use Rattle.binfarce_tools.specs.declared.tables.Tables.TheVariants as variants
 use Rattle.binfarce_tools.proofs.Reported.{reported_symbols_of}
 use Rattle.binfarce_tools.proofs.Selected.{macho_made}
 use Rattle.binfarce_tools.proofs.Selections.{none_in, one_in}

@@ -1,0 +1,111 @@
+// From crates/binfarce_text/src/streams.rt, by tools/erase.
+
+//! Streams of bytes that are read in parts, and passed on.
+
+use crate::shim::Vec;
+use crate::shim::alloc::{AllocError, Global};
+use std::error::Error;
+use std::fmt;
+use crate::shim::io::{ErrorKind, Read};
+
+/// Why a stream was not passed to its end.
+#[derive(Debug, Clone, Copy, PartialEq)]
+pub enum StreamError {
+    /// The reader failed.
+    Read,
+    /// A write failed.
+    Write,
+    /// An allocation failed.
+    OutOfMemory,
+}
+
+impl fmt::Display for StreamError {
+    fn fmt(&self, f: &mut fmt::Formatter<'_>) -> fmt::Result {
+        match self {
+            StreamError::Read => write!(f, "read failed"),
+            StreamError::Write => write!(f, "write failed"),
+            StreamError::OutOfMemory => write!(f, "out of memory"),
+        }
+    }
+}
+
+impl Error for StreamError {}
+
+impl From<AllocError> for StreamError {
+    fn from(_: AllocError) -> Self {
+        StreamError::OutOfMemory
+    }
+}
+
+/// Takes a text in parts, makes an output for it, and writes that to `O`.
+pub trait Pass<O> {
+    /// Takes the next part, and appends the output so far to `out`. Don't go on after an error.
+    fn take(&mut self, part: &[u8], out: &mut Vec<u8>) -> Result<(), AllocError>;
+
+    /// Ends the text, or where it didn't end breaks it off, and appends the rest of the output to `out`.
+    fn end(&mut self, ended: bool, out: &mut Vec<u8>) -> Result<(), AllocError>;
+
+    /// Writes the bytes in as many calls as needed.
+    fn write(output: &mut O, bytes: &[u8]) -> Result<(), StreamError>;
+}
+
+/// Passes a stream: writes what the pass makes of all that the reader gives, of so many bytes at a time. The output for
+/// each part is written before the next is read. A read that was interrupted is tried again.
+///
+/// # Errors
+///
+/// `Read` where the reader failed: what came before is passed. `Write` where a write failed, and `OutOfMemory` where an
+/// allocation did: a beginning of the output was written.
+pub fn pass_stream<R: Read, O, P: Pass<O>>(
+    alloc: Global,
+    pass: &mut P,
+    size: usize,
+    input: &mut R,
+    output: &mut O,
+) -> Result<(), StreamError> {
+    let mut chunk = Vec::filled(alloc, 0, size)?;
+    let mut out = Vec::new(alloc);
+    let ended = pass_all(pass, chunk.as_mut_slice(), &mut out, input, output)?;
+    out.clear();
+    pass.end(ended, &mut out)?;
+    P::write(output, out.as_slice())?;
+    if ended {
+        Ok(())
+    } else {
+        Err(StreamError::Read)
+    }
+}
+
+// Passes all that the reader gives. Returns `false` where the reader failed.
+fn pass_all<R: Read, O, P: Pass<O>>(
+    pass: &mut P,
+    chunk: &mut [u8],
+    out: &mut Vec<u8>,
+    input: &mut R,
+    output: &mut O,
+) -> Result<bool, StreamError> {
+    for _ in 0..u64::MAX {
+        match input.read(chunk) {
+            Ok(0) => return Ok(true),
+            Ok(n) => pass_part(pass, &chunk[..n], out, output)?,
+            Err(e) => {
+                if e.kind() != ErrorKind::Interrupted {
+                    return Ok(false);
+                }
+            }
+        }
+    }
+    Ok(false)
+}
+
+// Passes the next part.
+fn pass_part<O, P: Pass<O>>(
+    pass: &mut P,
+    part: &[u8],
+    out: &mut Vec<u8>,
+    output: &mut O,
+) -> Result<(), StreamError> {
+    out.clear();
+    pass.take(part, out)?;
+    P::write(output, out.as_slice())
+}

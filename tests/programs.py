@@ -155,7 +155,8 @@ for line, *words in (("no command; binfarce --help shows them",), ("no command l
                      ("--section has no value", "list", sample, "--section"), ("one argument too many: more", "section", sample, ".text", "more"),
                      ("--all and --section exclude each other", "list", "--all", "--section=.text", sample),
                      ("one argument too many: 1005", "at", "--annotate", sample, "1005"), ("not an address: 10g", "at", sample, "1000", "10g"),
-                     (f"not an address: {sample}", "at", "--base", sample, "1000")):
+                     (f"not an address: {sample}", "at", "--base", sample, "1000"), ("--sort does not take foo", "list", "--sort=foo", sample),
+                     ("--first does not take x", "list", "-n", "x"), ("--raw and --full exclude each other", "list", "--raw", "--full", sample)):
     ends(2, "", f"binfarce: {line}", "binfarce", *words)
 
 # The bytes of a section; a file without its end.
@@ -221,11 +222,8 @@ for order, key in (("address", lambda row: row[0]), ("size", lambda row: (-row[1
     listed = [(it[0], int(it[1]), it[3]) for it in map(str.split, lines) if it[1] != "0"]
     assert sorted(listed) == sorted(rows) and [*map(key, listed)] == sorted(map(key, rows)), f"another order by {order} than that of nm"
     ends(0, "".join(lines[:9]), "", "binfarce", "list", "--dynamic", "--all", "--raw", f"--sort={order}", "-n", "9", library)
-for name, *words in (("foo", "--no-total"), ("foo", "-n", "1"), ("_ZN3foo3barE", "--first=9", "--raw"), ("foo::bar", "--sort", "name", "--full")):
-    ends(0, f"{0x1000:016x} {16:10} {name}\n", "", "binfarce", "list", *words, sample)
-ends(0, "", "", "binfarce", "list", "-n", "0", sample)
-for line, *words in (("--sort does not take foo", "--sort=foo"), ("--first does not take x", "-n", "x"), ("--raw and --full exclude each other", "--raw", "--full")):
-    ends(2, "", f"binfarce: {line}", "binfarce", "list", *words, sample)
+for name, *words in (("foo", "--no-total"), ("foo", "-n", "1"), ("_ZN3foo3barE", "--first=9", "--raw"), ("foo::bar", "--sort", "name", "--full"), ("", "-n", "0")):
+    ends(0, f"{0x1000:016x} {16:10} {name}\n" if name else "", "", "binfarce", "list", *words, sample)
 
 # The symbols of all sections, in an object file with a section for each function, as nm has them.
 file, functions = f"{scratch}/functions.o", "int f(int x) { return x; } int g(int x) { return x * x; } int h(int x) { return f(x) - g(x); }"
@@ -244,9 +242,8 @@ for option in ((), ("--all",)):
 # What follows a mangling, such as `.cold`, is shown at an address and in a text, and isn't listed.
 file, name = f"{scratch}/cold.o", "_RNvC1a1b.cold"
 printed("gcc", "-c", "-o", file, "-x", "assembler", "-", given=f'.type "{name}",@function\n"{name}": nop\n.size "{name}", 1\n'.encode())
-ends(0, f"{0:016x} {1:10} a::b\ntext 1\n", "", "binfarce", "list", file)
-ends(0, f"{0:016x} a::b.cold+0x0\n", "", "binfarce", "at", "--section=.text", file, "0")
-ends(0, "at 0x0000 <a::b.cold+0x0>\n", "", "binfarce", "at", "--section=.text", "--annotate", file, given=b"at 0x0000\n")
+for line, *words in ((f"{0:016x} {1:10} a::b\ntext 1", "list"), (f"{0:016x} a::b.cold+0x0", "at"), ("0x0000 <a::b.cold+0x0>", "at", "--annotate")):
+    ends(0, f"{line}\n", "", "binfarce", *words, "--section=.text", file, given=b"0x0000\n")
 
 # A PE image, of PE32+ at 0x140000000 with `.text` at 0x1000: an external and a static function, at their addresses in memory.
 image = "rust/samples/pe-image.bin"

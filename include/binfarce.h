@@ -56,7 +56,7 @@
 #include <stdint.h>
 
 /* The version of the library that this header belongs to. */
-#define BINFARCE_VERSION "0.2.1"
+#define BINFARCE_VERSION "0.3.0"
 
 #ifdef __cplusplus
 extern "C" {

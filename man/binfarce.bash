@@ -1,21 +1,32 @@
-# Completion for binfarce: its commands, their options, and files.
+# Completion for binfarce: commands, options and their values, files, and the names of a file's sections.
 _binfarce() {
-    local word=${COMP_WORDS[COMP_CWORD]} options=
-    if [ "$COMP_CWORD" -eq 1 ]; then
-        COMPREPLY=($(compgen -W "list size map filter at section help --help --version" -- "$word"))
-        return
-    fi
-    case ${COMP_WORDS[1]} in
-        list) options="--sort --first --no-total --full --raw --dynamic --section --all --help" ;;
-        size | map) options="--dynamic --section --all --help" ;;
+    local word=${COMP_WORDS[COMP_CWORD]} before=${COMP_WORDS[COMP_CWORD - 1]} command=${COMP_WORDS[1]} options= values=
+    local commands="list size diff map filter at section" symbols="--dynamic --section --all --help"
+    local sums="--by --std --percent --first --json"
+    [ "$before" != = ] || before=${COMP_WORDS[COMP_CWORD - 2]}
+    [ "$word" != = ] || word=
+    case $command in
+        list) options="--sort --first --no-total --full --raw --json $symbols" ;;
+        size) options="$sums $symbols" ;;
+        diff) options="$sums --fail-above $symbols" ;;
+        map) options="--folded $symbols" ;;
         filter) options="--full --help" ;;
-        at) options="--return --annotate --base --dynamic --section --all --help" ;;
-        section) options="--help" ;;
-        help) COMPREPLY=($(compgen -W "list size map filter at section" -- "$word")) && return ;;
+        at) options="--return --annotate --base $symbols" ;;
+        section) options="--json --help" ;;
+        help) values=$commands ;;
     esac
+    case $before in
+        --sort) values="address size name" ;;
+        --by) values="crate function generic section" ;;
+    esac
+    [ "$COMP_CWORD" -ne 1 ] || values="$commands help --help --version"
+    case $command,$COMP_CWORD in section,3) values=$(binfarce section "$before" 2>/dev/null | awk '{ print $4 }') ;; esac
     case $word in
-        -*) COMPREPLY=($(compgen -W "$options" -- "$word")) ;;
-        *) compopt -o filenames && COMPREPLY=($(compgen -f -- "$word")) ;;
+        -*) COMPREPLY=($(compgen -W "$options $values" -- "$word")) ;;
+        *)
+            COMPREPLY=($(compgen -W "$values" -- "$word"))
+            [ -n "$values" ] || { compopt -o filenames && COMPREPLY=($(compgen -f -- "$word")); }
+            ;;
     esac
 }
 complete -F _binfarce binfarce

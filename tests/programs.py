@@ -8,6 +8,7 @@ arguments and streams, the same in every run. A closed standard stream isn't com
 """
 import concurrent.futures
 import errno
+import json
 import os
 import pathlib
 import random
@@ -23,12 +24,13 @@ def printed(*command, given=None):
     return subprocess.run(command, input=given, capture_output=True, check=True).stdout.decode()
 
 def ends(status, output, line, program, *words, given="/dev/null", to=subprocess.PIPE, under=()):
-    """It must end with this status, this output, and this line or none on standard error. Given is a file, or bytes in a pipe."""
+    """It must end with this status, this output, in which {path} is the last word, and this line or none on standard error. Given is a file,
+    or bytes in a pipe."""
     if is_static and "env" in under:
         return
     streams = {"input": given} if isinstance(given, bytes) else {"stdin": os.open(given, os.O_RDONLY)}
     run = subprocess.run([*under, folder / program, *words], stdout=to, stderr=subprocess.PIPE, **streams)
-    output = output.encode() if isinstance(output, str) else output
+    output = output.replace("{path}", str((words or ("",))[-1])).encode() if isinstance(output, str) else output
     ended, wanted = (run.returncode, run.stdout or b"", run.stderr), (status, output, f"{line}\n".lstrip("\n").encode())
     if ended != wanted:
         sys.exit(f"programs.py: {program} {words}, given {given}: ended with\n{ended}, and must with\n{wanted}")
@@ -92,6 +94,7 @@ same = (sample, large, blanks, of_proc)
 answered = pathlib.Path("crates/test_formats/stdout").read_text()
 outputs = {command: pathlib.Path(f"crates/binfarce_{command}/stdout").read_text() for command in ("list", "size")}
 unknown, ended, unread, exhausted = "unknown file format", "unexpected end of file", "cannot read file", "out of memory"
+no_section = "no such section; binfarce section lists those of the file"
 lacks, not_there, is_folder = "symbols section is missing", "No such file or directory", "Is a directory"
 for command, output in outputs.items():
     program = f"binfarce-{command}"
@@ -130,7 +133,8 @@ for command, output in outputs.items():
     assert re.search(f"^usage: binfarce {command} ", usage, re.M), usage
     if command != "section":
         ends(0, output, "", *call, "--section", ".text", sample)
-        ends(1, "", f"binfarce: {sample}: {lacks}", *call, sample, "--section=.data")
+        ends(1, "", f"binfarce: {sample}: {no_section}", *call, sample, "--section=.data")
+    if command in ("list", "size"):
         ends(1, "".join(f"\n{path}:\n{output}" for path in (sample, blanks)), lost, *call, sample, missing, blanks)
         shown = f"\n{sample}:\n{output}"
         ends(0, shown * 2, "", *call, sample, sample)
@@ -213,7 +217,10 @@ assert {"strlen", "memset"} <= {row[2] for row in rows}, "readelf shows no indir
 for option, starts in (((), [it[0] for it in rows if it[1] == code] + ["text"]), (("--all",), [it[0] for it in rows])):
     lines = printed(folder / "binfarce", "list", "--dynamic", *option, stripped).splitlines()
     assert [it.split()[0] for it in lines] == starts, "other dynamic symbols than those of readelf"
-ends(1, "", f"binfarce: {stripped}: no symbol table (.symtab); --dynamic lists its dynamic symbols", "binfarce", "list", stripped)
+build_id = re.search("Build ID: (..)(.*)", printed("readelf", "-n", stripped))
+printed("objcopy", "--remove-section=.gnu_debuglink", stripped)
+line = f"no symbol table (.symtab); --dynamic lists its dynamic symbols\nbinfarce: {stripped}: its debug symbols may be in /usr/lib/debug/.build-id/"
+ends(1, "", f"binfarce: {stripped}: {line}{build_id[1]}/{build_id[2]}.debug", "binfarce", "list", stripped)
 
 # Listings in an order, of the first lines, and with stored names, as nm has the symbols.
 rows = [(address, int(size, 16), name) for address, size, name in re.findall(r"(?m)^(\w+) (\w+) [TtWwi] ([^@\s]+)", printed("nm", "-D", "-S", library))]
@@ -238,6 +245,69 @@ shared = f"binfarce: {file}: its sections share addresses; --section=NAME takes 
 for option in ((), ("--all",)):
     ends(1, "", shared, "binfarce", "at", *option, file, "2")
     ends(1, "", shared, "binfarce", "at", *option, file, given=b"2\n")
+
+# Hints, beside a result and beside a refusal.
+hint = f"binfarce: {file}: no function symbols in the section; --all takes 3 of other sections"
+for command, output in (("list", "text 0\n"), ("size", "sum 0\ntext 0\n")):
+    ends(0, output, hint, "binfarce", command, file)
+for magic, line, hint in ((b"!<arch>\n", unknown, "an archive; `ar x FILE` extracts its members"), (b"\xce\xfa\xed\xfe", no_section, "a Mach-O file of 32 bits"),
+                          (b"\xca\xfe\xba\xbe\0\0\0\2", no_section, "a universal Mach-O file; `lipo -thin ARCHITECTURE FILE` extracts a part")):
+    pathlib.Path(cut_off := f"{scratch}/other").write_bytes(magic + bytes(64))
+    ends(1, "", f"binfarce: {cut_off}: {line}\nbinfarce: {cut_off}: {hint}", "binfarce", "list", cut_off)
+
+def assembled(path, *rows):
+    """An object file of these function symbols, by name, address and size, in 40 bytes of .text."""
+    lines = [f'.type "{name}",@function\n.set "{name}", .text + {at}\n.size "{name}", {size}\n' for name, at, size in rows]
+    printed("gcc", "-c", "-o", path, "-x", "assembler", "-", given=(".text\n.skip 40\n" + "".join(lines)).encode())
+    return path
+
+# Sums by a key, in which each byte counts once: of functions that overlap, and of a generic function.
+rows = [("_RNvC1a1f", 0, 16), ("_RNvC1a1g", 8, 16), ("_RNvC3std1h", 24, 4), ("c", 28, 2), ("_RINvC1b1fhE", 30, 4), ("_RINvC1b1ftE", 34, 5)]
+old, new = assembled(f"{scratch}/old.o", *rows), assembled(f"{scratch}/new.o", *rows[:3], ("_RNvC1a1i", 28, 8))
+for lines, *words in (("24 a|9 b|4 std|2 [unknown]", "--by=crate"), ("16 a::f|8 a::g|5 b::f::<u16>|4 b::f::<u8>|4 std::h|2 c", "--by=function"),
+                      ("16      1 a::f|9      2 b::f::<..>|14      3 [3 others]", "--by=generic", "-n", "2"), ("39 text", "--by=section", "--section=.text"),
+                      ("24  60.00% a|15  37.50% [3 others]", "--percent", "--first=1"), ("24 a|9 b|4 [std]|2 [unknown]", "--std")):
+    lines = "".join(f"{size:>10} {name}\n" for size, name in (it.split(" ", 1) for it in lines.split("|")))
+    ends(0, lines + "sum 39\ntext 40\n", "", "binfarce", "size", *words, old)
+ends(0, f"{39:10} .text\nsum 39\n", "", "binfarce", "size", "--by=section", old)
+lines = "".join(f"{size:10} {name}\n" for size, name in ((2, "[unknown]"), (32, "a"), (9, "b"), (4, "std"))) + "sum 47\ntext 40\n"
+ends(0, lines, f"binfarce: {old}: symbols overlap; --by=crate counts each byte once", "binfarce", "size", old)
+# The same of a library by section, from readelf's rows.
+ranges = sorted((int(section), int(address, 16), int(size)) for address, size, section in
+                re.findall(r": (\w+) +(\d+) I?FUNC +\w+ +\w+ +(\d+) ", printed("readelf", "-W", "--dyn-syms", library)))
+names, sums, end = re.findall(r"\[ *\d+\] (\S*)", printed("readelf", "-SW", library))[1:], {}, (0, 0)
+for section, address, size in ranges:
+    end, start = max(end, (section, address + size)), max(end, (section, address))
+    sums[names[section - 1]] = sums.get(names[section - 1], 0) + max(0, address + size - start[1])
+lines = "".join(f"{size:10} {name}\n" for name, size in sorted(sums.items(), key=lambda it: (-it[1], it[0]))) + f"sum {sum(sums.values())}\n"
+ends(0, lines, "", "binfarce", "size", "--by=section", "--dynamic", library)
+
+# The changes of these sums, and a limit for their growth.
+changes = (("b", 9, 0, "-9", "-100.00%"), ("a", 24, 32, "+8", "+33.33%"), ("[unknown]", 2, 0, "-2", "-100.00%"), ("[total]", 39, 36, "-3", "-7.69%"))
+for words, percent in (((), "{0:.0}"), (("--percent",), "{0:>10} ")):
+    lines = "".join(f"{was:10} {now:10} {change:>11} {percent.format(growth)}{name}\n" for name, was, now, change, growth in changes)
+    ends(0, lines, "", "binfarce", "diff", *words, "--fail-above=0", old, new)
+lines = f"{0:10} {9:10} {'+9':>11} b\n{32:10} {26:10} {'-6':>11} [2 others]\n{36:10} {39:10} {'+3':>11} [total]\n"
+for limit, status, line in ((3, 0, ""), (2, 3, "binfarce: the sum grew by 3 bytes")):
+    ends(status, lines, line, "binfarce", "diff", "-n", "1", "--fail-above", str(limit), new, old)
+for call, line in (((old, missing), lost), ((missing, old), lost), ((old, of_sys), f"binfarce: {of_sys}: {unknown}"), ((of_sys, old), f"binfarce: {of_sys}: {unknown}")):
+    ends(1, "", line, "binfarce", "diff", *call)
+
+# Stacks; JSON objects, as the lines have them, also of a name with characters that JSON escapes.
+stacks = ("a;f 16", "a;g 16", "std;h 4", "[unknown];c 2", "b;f;<u8> 4", "b;f;<u16> 5")
+assert sorted(printed(folder / "binfarce", "map", "--folded", old).splitlines()) == sorted(stacks), "other stacks"
+def objects(*words):
+    return [json.loads(it) for it in printed(folder / "binfarce", *words, "--json").splitlines()]
+hostile = f"{scratch}/escaped"
+pathlib.Path(hostile).write_bytes(data.replace(b"_ZN3foo3barE", b'a"\\\n\x01\x7f\xc3\xa9;:<>'))
+assert objects("list", hostile)[0]["raw"] == 'a"\\\n\x01\x7f\xe9;:<>', "another name in JSON"
+for path in (folder / "binfarce", library, old):
+    listed = objects("list", "--all", "--dynamic" if path == library else "--all", path)
+    lines = [f"{int(it['address'], 16):016x} {it['size']:10} {it['section']} {it['name']}" for it in listed]
+    assert lines == printed(folder / "binfarce", "list", "--all", "--dynamic" if path == library else "--all", path).splitlines(), f"{path}: other objects than lines"
+assert objects("size", "--by=generic", old)[1] == {"file": old, "name": "b::f::<..>", "size": 9, "copies": 2}
+assert objects("diff", old, new)[0] == {"file": new, "name": "b", "old": 9, "new": 0, "change": -9}
+assert objects("section", sample)[1] == {"file": sample, "segment": None, "section": ".text", "address": f"0x{0:016x}", "offset": 64, "size": 32}
 
 # What follows a mangling, such as `.cold`, is shown at an address and in a text, and isn't listed.
 file, name = f"{scratch}/cold.o", "_RNvC1a1b.cold"

@@ -117,6 +117,17 @@ mod tables;
 #[cfg(test)]
 mod tests;
 
+/// Listings in an order, sums by a key, and how they differ between two files: what [`Tables::rows_to`], [`Tables::figures_to`] and
+/// [`Tables::changes_to`] take and return.
+pub mod figures {
+    pub use crate::erased::binfarce_figures::diff::Growth;
+    pub use crate::erased::binfarce_figures::key::{Grouping, Key};
+    pub use crate::erased::binfarce_figures::order::Order;
+    pub use crate::erased::binfarce_figures::rows::{Naming, Shown};
+    pub use crate::erased::binfarce_figures::sums::Figures;
+    pub use crate::erased::binfarce_tools::json::Form;
+}
+
 pub use any::{Functions, Sections, functions, list, read_section, report, section_bytes, sections};
 pub use erased::binfarce_bytes::ByteOrder;
 pub use erased::binfarce_bytes::format::{Format, detect_format};

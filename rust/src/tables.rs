@@ -3,6 +3,7 @@
 use crate::any::Functions;
 use crate::erased::binfarce_addresses::at::Places;
 use crate::erased::binfarce_addresses::lookup::Lookup;
+use crate::erased::binfarce_figures::{diff::diff, rows::list_by, stacks::fold_tables, sums::sum_by};
 use crate::erased::binfarce_tables::ReadError;
 use crate::erased::binfarce_tools::functions::{self as functions_of, Selected};
 use crate::erased::binfarce_tools::list::list_tables;
@@ -10,6 +11,7 @@ use crate::erased::binfarce_tools::map::map_tables;
 use crate::erased::binfarce_tools::report::{ReportError, report_tables, sums_of_tables};
 use crate::erased::binfarce_tools::tables;
 use crate::error::{Error, ParseError};
+use crate::figures::{Figures, Form, Growth, Shown};
 use crate::shim::{self, alloc::Global};
 use crate::streams::Kept;
 use crate::{FunctionSymbol, SectionFunction, SymbolTable};
@@ -145,14 +147,71 @@ impl<'a> Tables<'a> {
         write_to(output, |sink| report_tables(Global, &self.0, sink))
     }
 
-    /// Writes the sums of [`Tables::sums_by_crate`] as a picture: an SVG document with a bar for each crate, the greatest
-    /// first.
+    /// Writes the sums of [`Tables::sums_by_crate`] as a picture: an SVG document with this title, such as the file's name,
+    /// and a bar for each crate, the greatest first.
     ///
     /// # Errors
     ///
     /// Those of [`Tables::report_to`].
-    pub fn map_to<W: Write>(&self, output: W) -> io::Result<()> {
-        write_to(output, |sink| map_tables(Global, &self.0, sink))
+    pub fn map_to<W: Write>(&self, title: &str, output: W) -> io::Result<()> {
+        write_to(output, |sink| map_tables(Global, title, &self.0, sink))
+    }
+
+    /// Writes a listing in an order, of the first rows, or with other names, as lines or as JSON objects.
+    ///
+    /// # Errors
+    ///
+    /// Those of [`Tables::list_to`].
+    pub fn rows_to<W: Write>(&self, shown: &Shown, form: Form<'_>, output: W) -> io::Result<()> {
+        write_to(output, |sink| Ok(list_by(Global, &self.0, shown, form, sink)?))
+    }
+
+    /// Writes sums by a key, the greatest first, as lines or as JSON objects. A byte of several function symbols counts once.
+    ///
+    /// # Errors
+    ///
+    /// Those of [`Tables::report_to`].
+    ///
+    /// # Examples
+    ///
+    /// ```
+    /// use binfarce::figures::{Figures, Form, Grouping, Key};
+    /// use binfarce::{Selection, SymbolTable, Tables};
+    ///
+    /// # let path = concat!(env!("CARGO_MANIFEST_DIR"), "/samples/elf64-little.bin");
+    /// let file = std::fs::read(path)?;
+    /// let tables = Tables::new(&file, Selection::Section(".text"), SymbolTable::Symtab)?;
+    /// let grouping = Grouping { key: Key::Function, joins_std: false };
+    /// let mut text = Vec::new();
+    /// tables.figures_to(&Figures { grouping, first: None, has_percent: true }, Form::Lines, &mut text)?;
+    /// assert_eq!(text, b"        16  50.00% foo\nsum 16\ntext 32\n");
+    /// # Ok::<(), Box<dyn std::error::Error>>(())
+    /// ```
+    pub fn figures_to<W: Write>(&self, figures: &Figures, form: Form<'_>, output: W) -> io::Result<()> {
+        write_to(output, |sink| sum_by(Global, &self.0, figures, form, sink))
+    }
+
+    /// Writes how the sums of [`Tables::figures_to`] differ from those of an older file, the greatest change first, and returns
+    /// the sums of all sizes.
+    ///
+    /// # Errors
+    ///
+    /// Those of [`Tables::report_to`], first for the older file.
+    pub fn changes_to<W>(&self, old: &Tables<'_>, figures: &Figures, form: Form<'_>, output: W) -> io::Result<Growth>
+    where
+        W: Write,
+    {
+        write_to(output, |sink| diff(Global, &old.0, &self.0, figures, form, sink))
+    }
+
+    /// Writes a line for each function symbol, as tools for flame graphs read it: its crate and the parts of its name, with `;`
+    /// between them, and its size.
+    ///
+    /// # Errors
+    ///
+    /// Those of [`Tables::list_to`].
+    pub fn stacks_to<W: Write>(&self, output: W) -> io::Result<()> {
+        write_to(output, |sink| Ok(fold_tables(Global, &self.0, sink)?))
     }
 
     /// Returns how many bytes each crate takes: the sums of [`report`](crate::report).
@@ -254,14 +313,15 @@ impl Tables<'static> {
     }
 }
 
-fn write_to<W, F>(output: W, write: F) -> io::Result<()>
+fn write_to<T, W, F>(output: W, write: F) -> io::Result<T>
 where
     W: Write,
-    F: FnOnce(&mut Kept<W>) -> Result<(), ReportError>,
+    F: FnOnce(&mut Kept<W>) -> Result<T, ReportError>,
 {
     let mut output = Kept::new(output);
-    match write(&mut output) {
-        Ok(()) => Ok(()),
+    let written = write(&mut output);
+    match written {
+        Ok(value) => Ok(value),
         Err(ReportError::Write) => Err(output.into_error(ErrorKind::WriteZero)),
         Err(e) => Err(Error::from(e).into()),
     }

@@ -2,6 +2,7 @@
 //! `Debug` output is what the original prints of the samples.
 
 use crate::demangle::{Demangler, Kind, SymbolData, SymbolName, trimmed};
+use crate::figures::{self, Figures, Grouping, Key, Naming, Order, Shown};
 use crate::shim::test::refusing;
 use crate::*;
 use std::collections::HashSet;
@@ -114,8 +115,17 @@ fn tables_in_memory_and_read_at_offsets() {
                 if selection == Selection::All { String::new() } else { format!("text {}\n", sums.section_size) };
             let reported = format!("{lines}sum {}\n{size}", sums.total);
             assert_eq!(written(|output| read.report_to(output)), reported);
-            let picture = written(|output| read.map_to(output));
+            let picture = written(|output| read.map_to("file", output));
             assert!(picture.starts_with("<svg ") && sums.rows.iter().all(|(name, _)| picture.contains(name)));
+            let stacks = written(|output| read.stacks_to(output));
+            assert!(stacks.lines().count() == found.len() && stacks.lines().all(|line| line.contains(';')));
+            let shown = Shown { order: Some(Order::Size), first: Some(1), naming: Naming::Stored, has_total: false };
+            let objects = written(|output| read.rows_to(&shown, figures::Form::Objects("a", ".text"), output));
+            assert_eq!(objects.matches("{\"file\":\"a\"").count(), found.len().min(1));
+            let by_crate =
+                Figures { grouping: Grouping { key: Key::Crate, joins_std: false }, first: None, has_percent: false };
+            let total = read.changes_to(&tables, &by_crate, figures::Form::Lines, io::sink()).unwrap();
+            assert_eq!(total.old, total.new);
             if selection == Selection::All {
                 assert_eq!(text.lines().count(), found.len());
                 assert_eq!(sums.section_size, sums.total);
@@ -345,7 +355,7 @@ fn a_failed_allocation_is_an_error() {
             refuses_each(|| Symbolizer::new(&read()?).map(|_| ()));
             refuses_each(|| read()?.sums_by_crate());
             refuses_each(|| read()?.sums_by(|function| Ok(function.size)));
-            refuses_each(|| read()?.map_to(io::sink()).map_err(refused));
+            refuses_each(|| read()?.map_to("file", io::sink()).map_err(refused));
         }
     }
     refuses_each(|| elf64::parse(ELF64_LITTLE, ByteOrder::LittleEndian)?.try_symbols(".text"));
@@ -470,7 +480,7 @@ fn tables_give_the_error_of_their_stream() {
     let tables = Tables::new(ELF64_LITTLE, Selection::All, SymbolTable::Symtab).unwrap();
     assert_eq!(tables.list_to(Broken { calls: 0 }).unwrap_err().to_string(), "cable pulled");
     assert_eq!(tables.report_to(&mut [0; 1][..]).unwrap_err().kind(), ErrorKind::WriteZero);
-    assert_eq!(tables.map_to(Counting).unwrap_err().kind(), ErrorKind::InvalidData);
+    assert_eq!(tables.map_to("file", Counting).unwrap_err().kind(), ErrorKind::InvalidData);
 }
 
 #[test]

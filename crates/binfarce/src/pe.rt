@@ -23,7 +23,7 @@ use binfarce_names::demangle::SymbolData;
 use binfarce_pe::functions::functions_of_file;
 pub use binfarce_pe::header::PeHeader;
 use binfarce_pe::header::parse_header;
-use binfarce_pe::parts::{Places, places_after};
+use binfarce_pe::parts::{TableOffsets, places_after};
 pub use binfarce_pe::sections::{Section, Sections};
 use binfarce_pe::sections::{self, first_of_file};
 use std::alloc::Global;
@@ -208,7 +208,7 @@ impl<'a> Pe<'a> {
     }
 
     // The places of the tables.
-    fn places(&self) -> Places
+    fn places(&self) -> TableOffsets
         ensures { places_view result ≡ places_of self.now }
     {
         places_after(self.pe_pointer, self.header)

@@ -1,7 +1,7 @@
 -- The lines of addresses, one after the other.
-use Rattle.std.proofs.Common.{◌≡◌, inl, inr, ℕ, ◌+◌, ◌-◌, false, ◌<◌, ◌≤◌, List, [], ◌∷◌, ◌++◌, length, get_or, take, Option, Some, None, Result, Ok, Err, refl, sym, ap, subst, ◌∙◌, append-nil, append_assoc}
+use Rattle.std.proofs.Common.{◌≡◌, inl, inr, ℕ, ◌+◌, ◌-◌, false, ◌<◌, List, [], ◌∷◌, ◌++◌, length, get_or, take, Option, Some, None, Result, Ok, Err, refl, sym, ap, subst, ◌∙◌, append-nil, append_assoc}
 use Rattle.std.specs.List.{AllZip, concat}
-use Rattle.std.proofs.lemmas.List.{take_more, take_all}
+use Rattle.std.proofs.lemmas.List.{take_more}
 use Rattle.std.specs.Bool.{if◌then◌else◌}
 use Rattle.std.specs.Result.{IsErrAnd, OnOk, is_ok}
 use Rattle.std.specs.Fmt.{digits}
@@ -38,16 +38,9 @@ one_line entries lookup addresses i line text new lt are is grown =
     subst P (sym (take_more addresses i 0 lt))
     (are.0 ++ line ∷ [], all_zip_push (IsLineAt entries lookup) (take i addresses) are.0 (get_or addresses i 0) line are.1 is, grown ∙ ap (λ (xs : List ℕ). xs ++ line) are.2 ∙ sym (concat_push are.0 line))
 
--- all addresses
-pub whole : (entries : List Entry) (lookup : Lookup) (addresses : List ℕ) (i : ℕ) (text : List ℕ) → length addresses ≤ i → AreLinesOf entries lookup (take i addresses) text → AreLinesOf entries lookup addresses text
-whole entries lookup addresses i text le are = let P : List ℕ → Type 0 = λ xs. AreLinesOf entries lookup xs text in subst P (take_all i addresses le) are
-
 -- the answers of lines follow a text
 abbrev pub AreBehind : List Entry → Lookup → List (Option ℕ) → List ℕ → List ℕ → Type 0
 AreBehind entries lookup addresses old new = (answers : List ℕ) × AreAnswersOf entries lookup addresses answers × (new ≡ old ++ answers)
-
-pub none_behind : (entries : List Entry) (lookup : Lookup) (addresses : List (Option ℕ)) (old : List ℕ) → AreBehind entries lookup (take 0 addresses) old old
-none_behind entries lookup addresses old = ([], ([], tt, refl), sym (append-nil old))
 
 pub one_behind : (entries : List Entry) (lookup : Lookup) (addresses : List (Option ℕ)) (i : ℕ) (address : Option ℕ) (answer old mid new : List ℕ) → i < length addresses → AreBehind entries lookup (take i addresses) old mid → address ≡ get_or addresses i None → IsAnswerOf entries lookup address answer
     → new ≡ mid ++ answer → AreBehind entries lookup (take (i + 1) addresses) old new
@@ -62,9 +55,6 @@ one_behind entries lookup addresses i address answer old mid new lt are here is 
       ),
       grown ∙ ap (λ (xs : List ℕ). xs ++ answer) are.2 ∙ append_assoc old are.0 answer,
     )
-
-pub whole_behind : (entries : List Entry) (lookup : Lookup) (addresses : List (Option ℕ)) (i : ℕ) (old new : List ℕ) → length addresses ≤ i → AreBehind entries lookup (take i addresses) old new → AreBehind entries lookup addresses old new
-whole_behind entries lookup addresses i old new le are = subst (λ (xs : List (Option ℕ)). AreBehind entries lookup xs old new) (take_all i addresses le) are
 
 -- how the writing of the lines of what a file lists ended
 pub outcome : (memory : Result Listed Refusal → Type 0) (listed : Listed) (text : List ℕ) (old new : Option (List ℕ)) (result : Result (Unit {0}) ListError) → Writes old new text result → EndsAs ListingFits memory (Some (Ok listed)) (outcome_of result)

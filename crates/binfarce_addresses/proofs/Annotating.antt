@@ -54,20 +54,12 @@ decided_more is_last (b ∷ []) some is more follows = absurd (omega (arith, som
 decided_more is_last (b ∷ c ∷ text) some is more follows =
     decided_front (starts_with nat_eq (b ∷ c ∷ text) (codes "0x")) text more (λ first all. let long = is first (omega (arith, all)) in omega (arith, long))
 
-pub decided_last : (text : List ℕ) → IsDecided true text
-decided_last text more follows = ap address_len (ap (λ (x : List ℕ). text ++ x) (follows refl) ∙ append-nil text)
-
 -- a byte other than `0` begins no address
 pub no_address : (b : ℕ) (text : List ℕ) → b ≢ 48 → address_len (b ∷ text) ≡ 0
 no_address b text ne = rw (other b ne) refl
   where
     other : (b : ℕ) → b ≢ 48 → (48 == b) ≡ false
     other b ne = grind (arith, nat_tests)
-
-pub decided_one : (is_last : Bool) (text : List ℕ) → length text ≡ 1 → get_or text 0 0 ≢ 48 → IsDecided is_last text
-decided_one is_last [] one ne more follows = absurd (omega (arith, one))
-decided_one is_last (b ∷ []) one ne more follows = no_address b more ne ∙ sym (no_address b [] ne)
-decided_one is_last (b ∷ c ∷ text) one ne more follows = absurd (omega (arith, one))
 
 others_stay : (entries : List Entry) (lookup : Lookup) (text : List ℕ) (n : ℕ) → n ≤ length text → ((k : ℕ) → k < n → get_or text k 0 ≢ 48) → (more annotated : List ℕ) → IsAnnotated entries lookup (drop n text ++ more) annotated
     → IsAnnotated entries lookup (text ++ more) (take n text ++ annotated)
@@ -122,11 +114,6 @@ adds_place entries lookup given address offset entry old new is found into writt
       subst Q (sym is) (subst P (sym found) (place, (name, written.1, refl), refl)),
       written.2 ∙ ap (λ (n : ℕ). old ++ (codes " <" ++ (name ++ (codes "+0x" ++ (digits 16 false n ++ codes ">"))))) into ∙ ap (λ (x : List ℕ). old ++ (codes " <" ++ x)) same,
     )
-
--- a name, and what comes after it, are written behind others
-pub place_written : (old front first new name bytes text shown end : List ℕ) → first ≡ old ++ front → new ≡ first ++ bytes → bytes ≡ text → text ≡ shown ++ end → shown ≡ name → new ≡ old ++ (front ++ (name ++ end))
-place_written old front first new name bytes text shown end one two same is named =
-    two ∙ ap (λ (x : List ℕ). x ++ bytes) one ∙ ap (λ (x : List ℕ). (old ++ front) ++ x) (same ∙ is ∙ ap (λ (x : List ℕ). x ++ end) named) ∙ append_assoc old front (name ++ end)
 
 -- too few digits up to the end
 pub too_few : (digits n : ℕ) → nat_lt digits n ≡ true → digits ≡ n → ⊥

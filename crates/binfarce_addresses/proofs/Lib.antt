@@ -6,7 +6,6 @@ pub mod Streams
 pub mod Answering
 pub mod Annotating
 pub mod Rows
-pub mod HexNumbers
-pub mod HexLines
+pub mod Kept
 pub mod Sweep
 pub mod Spans

@@ -1,10 +1,9 @@
 -- The hexadecimal digits of a number, put one by one from the last on.
-use Rattle.std.proofs.Common.{◌≡◌, ℕ, zero, suc, ◌+◌, ◌-◌, ◌/◌, ◌%◌, ◌^◌, ◌<◌, ◌≤◌, List, [], ◌∷◌, ◌++◌, length, set, drop, take, false, eqb, inl, inr, refl, ap, sym, subst, ◌∙◌, arith, replicate}
+use Rattle.std.proofs.Common.{◌≡◌, ℕ, zero, suc, ◌+◌, ◌/◌, ◌%◌, ◌^◌, ◌<◌, ◌≤◌, List, ◌∷◌, length, set, drop, take, false, eqb, refl, ap, sym, ◌∙◌, arith, replicate}
 use Rattle.std.specs.Fmt.{digit_glyph, digits, digits_onto}
 use Rattle.std.proofs.lemmas.List.{drop-set, take-set-le, take-take, take-replicate}
-use Rattle.std.proofs.lemmas.Bool.{cases_lt, cond-true, cond-false, eq-eqb, ne_eqb}
+use Rattle.std.proofs.lemmas.Bool.{cond-true, cond-false, eq-eqb, ne_eqb}
 use Rattle.std.proofs.lemmas.Grind.{pow_more}
-use Rattle.binfarce_tools.specs.Listing.{address_text}
 
 one_digit : (k n : ℕ) (text : List ℕ) → n < 16 → digits_onto (suc k) 16 false n text ≡ digit_glyph false (n % 16) ∷ text
 one_digit k n text small = cond-true (eqb (n / 16) 0) _ _ (eq-eqb (n / 16) 0 (omega arith))
@@ -41,66 +40,3 @@ module _ (at n number digit : ℕ) (ds : List ℕ) (whole : length ds ≡ 16) (w
   -- the last digit is put: the number begins there
   pub number_put : drop at (set ds at digit) ≡ digits 16 false number
   number_put = rw (drop-set ds at digit (omega arith)) (sym shown)
-
--- so many digits of a number, before a text
-pub digits_before : ℕ → ℕ → List ℕ → List ℕ
-digits_before zero n text = text
-digits_before (suc k) n text = digits_before k (n / 16) (digit_glyph false (n % 16) ∷ text)
-
-zeros_before : (k : ℕ) (text : List ℕ) → digits_before k 0 text ≡ replicate k 48 ++ text
-unfolding digits_before
-zeros_before zero text = refl
-zeros_before (suc k) text = zeros_before k (48 ∷ text) ∙ zero_more k text
-  where
-    zero_more : (k : ℕ) (text : List ℕ) → replicate k 48 ++ (48 ∷ text) ≡ 48 ∷ (replicate k 48 ++ text)
-    zero_more zero text = refl
-    zero_more (suc k) text = ap (λ (xs : List ℕ). 48 ∷ xs) (zero_more k text)
-
--- they are the number's own digits, with zeros before them
-padded : (k fuel n : ℕ) (text : List ℕ) → n < 16 ^ k → 0 < k → k ≤ fuel
-    → digits_before k n text ≡ replicate (k + length text - length (digits_onto fuel 16 false n text)) 48 ++ digits_onto fuel 16 false n text
-unfolding digits_before
-padded zero fuel n text small some fits = absurd (omega arith)
-padded (suc k) zero n text small some fits = absurd (omega arith)
-padded (suc k) (suc fuel) n text small some fits = elim (cases_lt n 16) [
-  | inl one ↦
-      let last : n / 16 ≡ 0 = omega arith in
-      let own = one_digit fuel n text one in
-      let count : k ≡ suc k + length text - length (digits_onto (suc fuel) 16 false n text) = omega (arith, ap (length {A = ℕ}) own) in
-      ap (λ m. digits_before k m (digit_glyph false (n % 16) ∷ text)) last ∙ zeros_before k (digit_glyph false (n % 16) ∷ text)
-      ∙ ap (λ (xs : List ℕ). replicate k 48 ++ xs) (sym own) ∙ ap (λ m. replicate m 48 ++ digits_onto (suc fuel) 16 false n text) count
-  | inr more ↦
-      let next : suc k ≡ k + 1 = omega arith in
-      let left = digits_left k n (subst (λ m. n < 16 ^ m) next small) more in
-      let own = more_digits fuel n text more in
-      let more_text = digit_glyph false (n % 16) ∷ text in
-      let count : k + length more_text - length (digits_onto fuel 16 false (n / 16) more_text) ≡ suc k + length text - length (digits_onto (suc fuel) 16 false n text) = omega (arith, ap (length {A = ℕ}) own) in
-      padded k fuel (n / 16) more_text left.1 left.0 (omega arith)
-      ∙ ap (λ (xs : List ℕ). replicate (k + length more_text - length (digits_onto fuel 16 false (n / 16) more_text)) 48 ++ xs) (sym own) ∙ ap (λ m. replicate m 48 ++ digits_onto (suc fuel) 16 false n text) count
-]
-
--- all 16 digits are the address
-pub all_digits : (n : ℕ) → n < 2 ^ 64 → digits_before 16 n [] ≡ address_text n
-unfolding digits
-all_digits n fits = padded 16 64 n [] (omega arith) (omega arith) (omega arith)
-
--- before a text
-pub digits_onward : (k n : ℕ) (text : List ℕ) → digits_before k n text ≡ digits_before k n [] ++ text
-unfolding digits_before
-digits_onward k n text = from k n [] text
-  where
-    from : (k n : ℕ) (front text : List ℕ) → digits_before k n (front ++ text) ≡ digits_before k n front ++ text
-    from zero n front text = refl
-    from (suc k) n front text = from k (n / 16) (digit_glyph false (n % 16) ∷ front) text
-
--- one digit more is put before those behind it
-pub digit_before : (k n digit : ℕ) (ds : List ℕ) → k < length ds → digit ≡ digit_glyph false (n % 16) → digits_before k (n / 16) (drop k (set ds k digit)) ≡ digits_before (suc k) n (drop (suc k) ds)
-unfolding digits_before
-digit_before k n digit ds within is =
-    let next : k + 1 ≡ suc k = omega arith in
-    ap (digits_before k (n / 16)) (drop-set ds k digit within ∙ ap (λ d. d ∷ drop (k + 1) ds) is ∙ ap (λ m. digit_glyph false (n % 16) ∷ drop m ds) next)
-
--- none is left
-pub none_left : (n : ℕ) (ds : List ℕ) → digits_before 0 n (drop 0 ds) ≡ ds
-unfolding digits_before
-none_left n ds = refl

@@ -1,5 +1,5 @@
 -- The range that is found at an address is that of the entry that the address symbolizes to.
-use Rattle.std.proofs.Common.{◌≡◌, ℕ, zero, suc, ◌+◌, ◌^◌, ◌<◌, ◌≤◌, ◌⊎◌, inl, inr, Bool, true, false, cond, ◌&&◌, max, List, [], ◌∷◌, map, filter, length, get_or, Option, Some, None, MatchOption, refl, sym, ap, subst, ◌∙◌, arith, nat_lt, nat_le}
+use Rattle.std.proofs.Common.{◌≡◌, ℕ, zero, suc, ◌^◌, ◌<◌, ◌≤◌, ◌⊎◌, inl, inr, Bool, true, false, cond, List, [], ◌∷◌, map, filter, length, get_or, Option, Some, None, MatchOption, refl, sym, ap, subst, ◌∙◌, arith}
 use Rattle.std.proofs.lemmas.Bool.Decides.{nat_tests}
 use Rattle.std.proofs.lemmas.List.{get_or-map, length-map}
 use Rattle.std.proofs.lemmas.List.Elements.{All-head, All-tail}
@@ -15,18 +15,12 @@ use Rattle.binfarce_addresses.specs.declared.lookup.Lookup.{Lookup}
 use Rattle.binfarce_addresses.specs.declared.ranges.Span.{Span}
 use Rattle.binfarce_addresses.specs.machine.Places.{range_of, ranges_of, IsAtPlace}
 
-lies_in : (low high address : ℕ) → low ≤ address → address < high → (nat_le low address && nat_lt address high) ≡ true
-lies_in low high address a b = grind (arith, nat_tests)
-
-lies_in_means : (low high address : ℕ) → (nat_le low address && nat_lt address high) ≡ true → (low ≤ address) × (address < high)
-lies_in_means low high address e = grind (arith, nat_tests)
-
 -- the test says whether the range holds the address
 held : (address : ℕ) (entry : Entry) → Holds (range_of entry) address → holds address entry ≡ true
-held address entry h = lies_in entry.address (entry.address + max entry.size 1) address h.0 h.1
+held address entry h = grind (arith, nat_tests)
 
 held_means : (address : ℕ) (entry : Entry) → holds address entry ≡ true → Holds (range_of entry) address
-held_means address entry e = lies_in_means entry.address (entry.address + max entry.size 1) address e
+held_means address entry e = grind (arith, nat_tests)
 
 -- there is none, or its address isn't above the bound
 abbrev NotAbove : ℕ → Option Entry → Type 0
@@ -37,13 +31,9 @@ abbrev AllNotAbove : ℕ → List Entry → Type 0
 AllNotAbove bound [] = Unit {0}
 AllNotAbove bound (entry ∷ others) = (entry.address ≤ bound) × AllNotAbove bound others
 
-not_above_if : (bound : ℕ) (b : Bool) (x y : Entry) → x.address ≤ bound → y.address ≤ bound → (cond b x y).address ≤ bound
-not_above_if bound true x y p q = p
-not_above_if bound false x y p q = q
-
 higher_not_above : (bound : ℕ) (entry : Entry) (other : Option Entry) → entry.address ≤ bound → NotAbove bound other → (higher_of entry other).address ≤ bound
 higher_not_above bound entry None low lows = low
-higher_not_above bound entry (Some other) low lows = not_above_if bound (nat_lt entry.address other.address) other entry lows low
+higher_not_above bound entry (Some other) low lows = grind (arith, nat_tests)
 
 highest_not_above : (bound : ℕ) (entries : List Entry) → AllNotAbove bound entries → NotAbove bound (highest entries)
 unfolding highest
@@ -53,17 +43,11 @@ highest_not_above bound (entry ∷ others) low = higher_not_above bound entry (h
 -- no other is above it
 stays : (entry : Entry) (other : Option Entry) → NotAbove entry.address other → higher_of entry other ≡ entry
 stays entry None low = refl
-stays entry (Some other) low = rw (not_less entry.address other.address low) refl
-  where
-    not_less : (a b : ℕ) → b ≤ a → nat_lt a b ≡ false
-    not_less a b le = grind (arith, nat_tests)
+stays entry (Some other) low = grind (arith, nat_tests)
 
 -- another is above it
 gives_way : (entry other : Entry) → entry.address < other.address → higher_of entry (Some other) ≡ other
-gives_way entry other lt = rw (less entry.address other.address lt) refl
-  where
-    less : (a b : ℕ) → a < b → nat_lt a b ≡ true
-    less a b lt = grind (arith, nat_tests)
+gives_way entry other lt = grind (arith, nat_tests)
 
 kept_not_above : (bound : ℕ) (b : Bool) (entry : Entry) (others : List Entry) → (b ≡ true → entry.address ≤ bound) → AllNotAbove bound others → AllNotAbove bound (cond b (entry ∷ others) others)
 kept_not_above bound true entry others low lows = (low refl, lows)
@@ -161,10 +145,6 @@ module _ (functions : List FunctionSymbol) (ranges : List AddressRange) (entries
       ∙ get_or-map (λ (g : FunctionSymbol). range_of (function_view g)) functions place f (range_of (function_view f)) (omega (arith, found.within, ap (length {A = AddressRange}) are, length-map functions (λ (g : FunctionSymbol). range_of (function_view g))))
       ∙ ap (λ (g : FunctionSymbol). range_of (function_view g)) (sym is)
 
-  -- it doesn't begin behind the address
-  pub begins_before : (place : ℕ) (f : FunctionSymbol) → IsFoundAt ranges x place → f ≡ get_or functions place f → f.address ≤ x
-  begins_before place f found is = omega (arith, (found.holds (range_of (function_view f))).0, ap (λ (r : AddressRange). r.address) (range_is place f found is))
-
   -- the address symbolizes to that function symbol
   pub found_some : (place : ℕ) (f : FunctionSymbol) → IsFoundAt ranges x place → f ≡ get_or functions place f → found_at entries (looked_up lookup address) ≡ Some (function_view f)
   found_some place f found is =
@@ -191,9 +171,3 @@ none_by_spans ranges spans are x place fits at is = let P : Option ℕ → Type 
 
 pub found_by_spans : (ranges : List AddressRange) (spans : List Span) → AreSpansOf ranges spans → (x : ℕ) (place : Option ℕ) (p : ℕ) → x < 2 ^ 64 → (k : ℕ) × IsSpanAt spans x k × (place ≡ (span_at spans k).place) → place ≡ Some p → IsFoundAt ranges x p
 found_by_spans ranges spans are x place p fits at is = let P : Option ℕ → Type 0 = λ o. MatchOption o (NoneHolds ranges x) (IsFoundAt ranges x) in subst P is (by_spans ranges spans are x place fits at)
-
--- the function symbol at the place of an entry
-pub entry_is : (functions : List FunctionSymbol) (entries : List Entry) (place : ℕ) (entry : Entry) (f : FunctionSymbol) → map function_view functions ≡ entries → IsAtPlace entries place entry → f ≡ get_or functions place f → function_view f ≡ entry
-entry_is functions entries place entry f seen at is =
-    let lt : place < length functions = omega (arith, at.0, ap (length {A = Entry}) seen, length-map functions function_view) in
-    ap function_view is ∙ sym (get_or-map function_view functions place f entry lt) ∙ ap (λ (es : List Entry). get_or es place entry) seen ∙ at.1

@@ -1,82 +1,46 @@
 -- The spans of ranges, and the search among them.
-use Rattle.std.proofs.Common.{◌≡◌, ℕ, ◌+◌, ◌-◌, ◌^◌, ◌<◌, ◌≤◌, inl, inr, true, false, leb, List, length, length-take, length-drop, get_or, take, drop, Option, Some, None, MatchOption, sym, ap, subst, ◌∙◌, arith}
+use Rattle.std.proofs.Common.{◌≡◌, ℕ, ◌+◌, ◌-◌, ◌^◌, ◌<◌, ◌≤◌, inl, inr, true, false, leb, List, length, get_or, Option, Some, None, MatchOption, sym, ap, subst, ◌∙◌, arith}
 use Rattle.std.specs.List.Sorted.{IsNonDecreasingBy, IsPartitionPoint}
 use Rattle.std.proofs.lemmas.Bool.Decides.{nat_tests}
 use Rattle.std.proofs.lemmas.Bool.{cases_lt}
-use Rattle.std.proofs.lemmas.List.{get_or_default, get_or-take, get_or-drop}
+use Rattle.std.proofs.lemmas.List.{get_or_default}
 use Rattle.std.proofs.lemmas.List.Elements.{All-from_get_or}
 use Rattle.binfarce_addresses.specs.Range.{AreSpans, AreSpansOf, Holds, IsFoundAt, IsSpanAt, NoneHolds, no_span, span_at}
 use Rattle.binfarce_addresses.specs.declared.ranges.AddressRange.{AddressRange}
 use Rattle.binfarce_addresses.specs.declared.ranges.Row.{Row}
 use Rattle.binfarce_addresses.specs.declared.ranges.Span.{Span}
-use Rattle.binfarce_addresses.specs.machine.Sweep.{AreInOrder, AreRowsOf, AreSwept, HoldsAt, IsAround, IsLastAt, no_range, range_at, row_at}
+use Rattle.binfarce_addresses.specs.machine.Sweep.{AreRowsOf, AreSwept, HoldsAt, IsLastAt, no_range, range_at, row_at}
 
--- where a search among spans ends
-abbrev pub EndsAmong : List Span → ℕ → ℕ → Type 0
-EndsAmong spans address place = IsPartitionPoint (λ (s : Span). leb s.start address ≡ true) (λ (s : Span). leb s.start address ≡ false) spans place
+-- where a search among the spans ends, the span of the address is the one before
+pub span_there : (spans : List Span) (address next : ℕ) → AreSpans spans → next ≤ length spans → IsPartitionPoint (λ (s : Span). leb s.start address ≡ true) (λ (s : Span). leb s.start address ≡ false) spans next
+    → (1 ≤ next) × IsSpanAt spans address (next - 1)
+span_there spans address next are bound among = elim (cases_lt 0 next) [
+  | inr none ↦ absurd (omega (arith, behind 0 none are.some, are.first))
+  | inl some ↦ (
+    omega arith,
+    (
+      omega arith,
+      begins (next - 1) (omega arith),
+      λ lt. let here : next - 1 + 1 ≡ next = omega arith in omega (arith, behind next (omega arith) (omega (arith, lt)), ap (λ k. (span_at spans k).start) here),
+    ),
+  )
+]
+  where
+    begins : (k : ℕ) → k < next → (span_at spans k).start ≤ address
+    begins k lt = is (span_at spans k).start address (among.0 k no_span (omega arith) lt)
+      where
+        is : (a b : ℕ) → leb a b ≡ true → a ≤ b
+        is a b e = grind (arith, nat_tests)
 
-at_most : (a b : ℕ) → leb a b ≡ true → a ≤ b
-at_most a b e = grind (arith, nat_tests)
+    behind : (k : ℕ) → next ≤ k → k < length spans → address < (span_at spans k).start
+    behind k le lt = is (span_at spans k).start address (among.1 k no_span le lt)
+      where
+        is : (a b : ℕ) → leb a b ≡ false → b < a
+        is a b e = grind (arith, nat_tests)
 
-above : (a b : ℕ) → leb a b ≡ false → b < a
-above a b e = grind (arith, nat_tests)
-
--- a part of the spans
-pub part_at : (spans : List Span) (from to k : ℕ) → to ≤ length spans → k < to - from → span_at (take (to - from) (drop from spans)) k ≡ span_at spans (from + k)
-part_at spans from to k within lt = get_or-take (to - from) (drop from spans) k no_span lt ∙ get_or-drop from spans k no_span
-
-pub part_len : (spans : List Span) (from to : ℕ) → to ≤ length spans → length (take (to - from) (drop from spans)) ≡ to - from
-part_len spans from to within = simp (length-take, length-drop) (omega arith)
-
-pub part_rises : (spans : List Span) (from to : ℕ) → AreSpans spans → to ≤ length spans → IsNonDecreasingBy (λ (s : Span). s.start) (take (to - from) (drop from spans))
-part_rises spans from to are within i j d le lt =
-    let part = take (to - from) (drop from spans) in
-    let count = part_len spans from to within in
-    let a : get_or part i d ≡ span_at spans (from + i) = sym (get_or_default part i no_span d (omega (arith, count))) ∙ part_at spans from to i within (omega (arith, count)) in
-    let b : get_or part j d ≡ span_at spans (from + j) = sym (get_or_default part j no_span d lt) ∙ part_at spans from to j within (omega (arith, count)) in
-    omega (arith, are.rise (from + i) (from + j) (omega arith) (omega (arith, count)), ap (λ (s : Span). s.start) a, ap (λ (s : Span). s.start) b)
-
-module _ (spans part : List Span) (address from to next : ℕ) (around : IsAround spans address from to) (is : part ≡ take (to - from) (drop from spans)) (among : EndsAmong part address next) (bound : next ≤ length part) where
-  count : length part ≡ to - from
-  count = ap (length {A = Span}) is ∙ part_len spans from to around.within
-
-  here : (k : ℕ) → k < to - from → (span_at part k).start ≡ (span_at spans (from + k)).start
-  here k lt = ap (λ (ss : List Span). (span_at ss k).start) is ∙ ap (λ (s : Span). s.start) (part_at spans from to k around.within lt)
-
-  -- the first of the part begins there or before
-  pub some_begin : 1 ≤ next
-  some_begin = elim (cases_lt 0 next) [
-    | inl lt ↦ lt
-    | inr ge ↦ absurd (omega (arith, around.low, here 0 (omega (arith, around.some)), ap (λ (k : ℕ). (span_at spans k).start) from_0, above (span_at part 0).start address (among.1 0 no_span (omega arith) (omega (arith, count, around.some)))))
-  ]
-    where
-      from_0 : from + 0 ≡ from
-      from_0 = omega arith
-
-  -- and the last of these is that of the address
-  pub span_there : IsSpanAt spans address (from + next - 1)
-  span_there =
-      let some = some_begin in
-      let k = next - 1 in
-      let at : from + next - 1 ≡ from + k = omega arith in
-      let behind : from + next - 1 + 1 ≡ from + next = omega arith in
-      let low : (span_at part k).start ≤ address = at_most (span_at part k).start address (among.0 k no_span (omega arith) (omega arith)) in (
-        omega (arith, bound, count, around.within),
-        omega (arith, low, here k (omega (arith, bound, count)), ap (λ (i : ℕ). (span_at spans i).start) at),
-        λ lt. elim (cases_lt next (to - from)) [
-          | inl inner ↦ omega (arith, above (span_at part next).start address (among.1 next no_span (omega arith) (omega (arith, count))), here next inner, ap (λ (i : ℕ). (span_at spans i).start) behind)
-          | inr ge ↦
-              let end : from + next - 1 + 1 ≡ to = omega (arith, bound, count, around.some) in
-              omega (arith, around.high (omega (arith, end)), ap (λ (i : ℕ). (span_at spans i).start) end)
-        ],
-      )
-
--- rows are in order
-pub in_order : (ranges : List AddressRange) (rows : List Row) → AreRowsOf ranges rows → AreInOrder rows
-in_order ranges rows are = record {
-  rise = λ i j le lt. elim (are.rise i j le lt) [ inl lower ↦ omega arith | inr same ↦ omega (arith, same.0) ];
-  hold = are.hold;
-}
+pub rises : (spans : List Span) → AreSpans spans → IsNonDecreasingBy (λ (s : Span). s.start) spans
+rises spans are i j d le lt =
+    omega (arith, are.rise i j le lt, ap (λ (s : Span). s.start) (get_or_default spans i no_span d (omega arith)), ap (λ (s : Span). s.start) (get_or_default spans j no_span d lt))
 
 module _ (ranges : List AddressRange) (rows : List Row) (are : AreRowsOf ranges rows) (address : ℕ) (fits : address < 2 ^ 64) where
   -- a row holds an address as its range does

@@ -6,15 +6,8 @@ use Rattle.std.proofs.Math.Seq.{drop-append-add}
 use Rattle.std.proofs.lemmas.List.{drop-drop, take_all, length-drop, length-take-le, get_or-take, take-append-drop}
 use Rattle.std.proofs.lemmas.List.Elements.{All-from_get_or}
 use Rattle.std.proofs.lemmas.List.Sums.{sum_by_push}
-use Rattle.binfarce_addresses.specs.Address.{address_of}
-use Rattle.binfarce_addresses.specs.Stream.{missing, with_line_feeds, Begins, HasNoLineFeed, Writes}
-use Rattle.binfarce_addresses.specs.machine.Answering.{IsFirst}
+use Rattle.binfarce_addresses.specs.Stream.{line_address, missing, with_line_feeds, Begins, HasNoLineFeed, Writes}
 use Rattle.binfarce_addresses.proofs.AddressLines.{all_zip_push}
-use Rattle.binfarce_addresses.proofs.Trimmed.{word_line, word_part}
-
--- no line is read yet
-pub begun : (bytes : List ℕ) → Begins bytes [] (drop 0 bytes)
-begun bytes = record { lines = []; each = tt; are = refl }
 
 feeds_push : (lines : List (List ℕ)) (line : List ℕ) → with_line_feeds (lines ++ line ∷ []) ≡ with_line_feeds lines ++ (line ++ 10 ∷ [])
 feeds_push [] line = append-nil (line ++ 10 ∷ [])
@@ -41,38 +34,12 @@ line_before bytes i lt is before = (
     rest : (i : ℕ) → i < length bytes → get_or bytes i 0 ≡ 10 → drop i bytes ≡ 10 ∷ drop (i + 1) bytes
     rest i lt is = rw (add-one, drop-cons bytes i 0, is) refl
 
-pub no_line : (bytes : List ℕ) → ((k : ℕ) → k < length bytes → get_or bytes k 0 ≡ 10 → ⊥) → HasNoLineFeed bytes
-no_line bytes none = All-from_get_or (λ byte. byte ≢ 10) bytes 0 none
-
--- from its first line feed on
-feed_at : (bytes : List ℕ) (i : ℕ) → i < length bytes → get_or bytes i 0 ≡ 10 → bytes ≡ take i bytes ++ 10 ∷ drop (i + 1) bytes
-feed_at bytes i lt is = sym (take-append-drop i bytes) ∙ ap (λ (xs : List ℕ). take i bytes ++ xs) (rw (add-one, drop-cons bytes i 0 lt, is) refl)
-
--- the first line is digits alone
-pub first_of_digits : (bytes : List ℕ) (len address : ℕ) → len < length bytes → get_or bytes len 0 ≡ 10 → address_of (take len bytes) ≡ Some address → IsFirst bytes (Some address) (len + 1)
-first_of_digits bytes len address lt feed writes = record {
-  line = take len bytes;
-  others = drop (len + 1) bytes;
-  are = feed_at bytes len lt feed;
-  part = word_part (take len bytes) address writes;
-  writes = word_line (take len bytes) address writes;
-  count = omega (arith, length-take-le len bytes (omega arith));
-}
-
 -- the lines of a text up to a place write these addresses
 pub record ReadTo (bytes : List ℕ) (addresses : List (Option ℕ)) (len count : ℕ) : Type 0 where
   pub within : len ≤ length bytes
   pub few : count ≤ len
   pub begins : Begins bytes addresses (drop len bytes)
   pub counts : count ≡ missing addresses
-
-pub nothing_read : (bytes : List ℕ) (addresses : List (Option ℕ)) → addresses ≡ [] → ReadTo bytes addresses 0 0
-nothing_read bytes addresses none = subst (λ (xs : List (Option ℕ)). ReadTo bytes xs 0 0) (sym none) (record { within = omega arith; few = omega arith; begins = begun bytes; counts = refl })
-
--- a first line that is found ends within the text
-pub first_within : (bytes part : List ℕ) (address : Option ℕ) (len line_len : ℕ) → len ≤ length bytes → part ≡ take (length bytes - len) (drop len bytes) → IsFirst part address line_len → len + line_len ≤ length bytes
-first_within bytes part address len line_len le is first =
-    omega (arith, line_within bytes first.line first.others len le (sym (left_of bytes len) ∙ sym is ∙ first.are), first.count)
 
 -- one line more
 pub one_more : (bytes : List ℕ) (addresses : List (Option ℕ)) (line others : List ℕ) (len : ℕ) (address : Option ℕ) → Begins bytes addresses (drop len bytes) → drop len bytes ≡ line ++ 10 ∷ others → Writes line address → Begins bytes (addresses ++ address ∷ []) (drop (len + (length line + 1)) bytes)
@@ -91,15 +58,17 @@ one_more bytes addresses line others len address begins is writes =
     regroup a l f o = simp append_assoc
 
 -- the first line of what is left is read
-pub line_read : (bytes part : List ℕ) (addresses new : List (Option ℕ)) (len count line_len next : ℕ) (address : Option ℕ) → ReadTo bytes addresses len count → part ≡ take (length bytes - len) (drop len bytes) → IsFirst part address line_len
-    → new ≡ addresses ++ address ∷ [] → next ≡ count + cond (is_none address) 1 0 → ReadTo bytes new (len + line_len) next
-line_read bytes part addresses new len count line_len next address so_far is first grown counted = subst (λ (xs : List (Option ℕ)). ReadTo bytes xs (len + line_len) next) (sym grown) (record {
-  within = first_within bytes part address len line_len so_far.within is first;
-  few = omega (arith, so_far.few, counted, first.count, one (is_none address));
-  begins = subst (λ n. Begins bytes (addresses ++ address ∷ []) (drop (len + n) bytes)) (sym first.count)
-      (one_more bytes addresses first.line first.others len address so_far.begins (sym (left_of bytes len) ∙ sym is ∙ first.are) (first.part, first.writes));
-  counts = counted ∙ ap (λ n. n + cond (is_none address) 1 0) so_far.counts ∙ sym (sum_by_push (λ (x : Option ℕ). cond (is_none x) 1 0) addresses address);
-})
+pub line_read : (bytes line : List ℕ) (addresses new : List (Option ℕ)) (len count next : ℕ) (address : Option ℕ) → ReadTo bytes addresses len count
+    → HasNoLineFeed line × ((others : List ℕ) × (take (length bytes - len) (drop len bytes) ≡ line ++ 10 ∷ others)) → line_address line ≡ address
+    → new ≡ addresses ++ address ∷ [] → next ≡ count + cond (is_none address) 1 0 → ReadTo bytes new (len + (length line + 1)) next
+line_read bytes line addresses new len count next address so_far first writes grown counted =
+    let is : drop len bytes ≡ line ++ 10 ∷ first.1.0 = sym (left_of bytes len) ∙ first.1.1 in
+    subst (λ (xs : List (Option ℕ)). ReadTo bytes xs (len + (length line + 1)) next) (sym grown) (record {
+      within = line_within bytes line first.1.0 len so_far.within is;
+      few = omega (arith, so_far.few, counted, one (is_none address));
+      begins = one_more bytes addresses line first.1.0 len address so_far.begins is (first.0, writes);
+      counts = counted ∙ ap (λ n. n + cond (is_none address) 1 0) so_far.counts ∙ sym (sum_by_push (λ (x : Option ℕ). cond (is_none x) 1 0) addresses address);
+    })
   where
     one : (b : Bool) → cond b 1 0 ≤ 1
     one true = omega arith

@@ -1,9 +1,7 @@
 -- The steps of a sweep.
-use Rattle.std.proofs.Common.{◌≡◌, ℕ, ◌+◌, ◌-◌, ◌^◌, ◌<◌, ◌≤◌, inl, inr, true, false, List, [], ◌∷◌, ◌++◌, length, take, Option, Some, None, refl, sym, ap, subst, ◌∙◌, arith, length-append, length-take}
+use Rattle.std.proofs.Common.{◌≡◌, ℕ, ◌+◌, ◌-◌, ◌^◌, ◌<◌, ◌≤◌, inl, inr, List, [], ◌∷◌, ◌++◌, length, take, Option, Some, None, refl, sym, ap, subst, ◌∙◌, arith, length-append, length-take}
 use Rattle.std.proofs.Math.ListN.{get_or-append}
 use Rattle.std.proofs.Math.Seq.{get_or-append_seam}
-use Rattle.std.specs.Prelude.{◌==◌}
-use Rattle.std.proofs.lemmas.Bool.Decides.{nat_tests}
 use Rattle.std.proofs.lemmas.Bool.{cases_lt}
 use Rattle.std.proofs.lemmas.List.{get_or-take}
 use Rattle.binfarce_addresses.specs.declared.ranges.Row.{Row}
@@ -225,13 +223,6 @@ swept rows spans stack sweep reach = record {
         subst Q (sym is) (right_here rows (length rows) spans stack sweep address (omega (arith, at.1, ap (λ (i : ℕ). (span_at spans i).start) is)) (λ m lt. omega (arith, reach m lt)))
   ];
 }
-
--- some are open
-pub are_some : (n : ℕ) → (n == 0) ≡ false → 0 < n
-are_some n e = grind (arith, nat_tests)
-
-pub are_none : (n : ℕ) → (n == 0) ≡ true → n ≡ 0
-are_none n e = grind (arith, nat_tests)
 
 -- the open rows that are left reach further where the last of them does
 pub do_reach : (rows : List Row) (n : ℕ) (spans : List Span) (stack kept : List ℕ) (address : ℕ) → IsSweep rows n spans stack → length kept ≤ length stack → kept ≡ take (length kept) stack → (0 < length kept → address ≤ end_at rows kept (length kept - 1))

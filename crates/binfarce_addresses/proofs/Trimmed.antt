@@ -1,5 +1,5 @@
 -- Lines with white space around an address, and what is kept of a line's first part.
-use Rattle.std.proofs.Common.{◌≡◌, ◌≢◌, inl, inr, ◌⊎◌, ℕ, zero, suc, ◌+◌, ◌-◌, ◌<◌, ◌≤◌, min, Bool, true, false, cond, ◌&&◌, ◌||◌, eqb, true≢false, nat_eq, List, [], ◌∷◌, ◌++◌, length, drop, take, reverse, get_or, Option, Some, None, if◌then◌else◌, refl, sym, ap, subst, ◌∙◌, arith, length-append, length-drop}
+use Rattle.std.proofs.Common.{◌≡◌, ◌≢◌, inl, inr, ◌⊎◌, ℕ, zero, suc, ◌+◌, ◌-◌, ◌<◌, ◌≤◌, min, Bool, true, false, cond, ◌&&◌, ◌||◌, eqb, true≢false, nat_eq, List, [], ◌∷◌, ◌++◌, length, drop, take, reverse, get_or, Some, None, if◌then◌else◌, refl, sym, ap, subst, ◌∙◌, arith, length-append, length-drop}
 use Rattle.std.specs.Prelude.{◌==◌, IfOk, Result, Ok, Err}
 use Rattle.std.specs.Global.{Vec}
 use Rattle.std.specs.Char.{is_ascii_hexdigit, is_ascii_whitespace}
@@ -11,9 +11,9 @@ use Rattle.std.proofs.Math.Seq.{drop-append-add, take-append-add}
 use Rattle.std.proofs.lemmas.Bool.{cases_lt}
 use Rattle.std.proofs.lemmas.Bool.Decides.{nat_tests}
 use Rattle.std.proofs.lemmas.List.{drop-append-le, take-append-le, take_all, take-append-drop, length-take-le, length-reverse, reverse-append, get_or-take, get_or-drop, get_or_append_left}
-use Rattle.std.proofs.lemmas.List.Elements.{All-nil, All-cons, All-take, All-drop, All-from_get_or}
+use Rattle.std.proofs.lemmas.List.Elements.{All-nil, All-cons, All-take, All-drop}
 use Rattle.std.proofs.lemmas.List.Folds.{list_all_at, prefix_len-append}
-use Rattle.std.proofs.lemmas.List.Sums.{prefix_len_is, prefix_len_stops, prefix_len_passes, prefix_len-le-length, suffix_len_is, suffix_len-le-length}
+use Rattle.std.proofs.lemmas.List.Sums.{prefix_len_stops, prefix_len_passes, prefix_len-le-length, suffix_len_is, suffix_len-le-length}
 use Rattle.std.proofs.lemmas.Str.Ascii.{trim_ascii_end_is}
 use Rattle.binfarce_addresses.specs.Address.{address_of, has_prefix, hexadecimal}
 use Rattle.binfarce_addresses.specs.Stream.{line_address, trim_start, trim_end, HasNoLineFeed}
@@ -53,29 +53,6 @@ white_none (a ∷ b ∷ others) i lt e = by (has_prefix (a ∷ b ∷ others)) re
       | inr x ↦ absurd (true≢false (sym e ∙ ap is_ascii_whitespace x))
     ]
     by true is (suc (suc i)) lt e = white_digits others i (omega arith) e
-
-not_white : (word : List ℕ) (address i : ℕ) → address_of word ≡ Some address → i < length word → is_ascii_whitespace (get_or word i 0) ≡ false
-not_white word address i is lt = by (is_ascii_whitespace (get_or word i 0)) refl
-  where
-    by : (b : Bool) → is_ascii_whitespace (get_or word i 0) ≡ b → b ≡ false
-    by false e = refl
-    by true e = let never : Path (Option ℕ) None (Some address) = sym (white_none word i lt e) ∙ is in absurd cc
-
--- a word that writes an address has no white space at its ends
-trimmed : (word : List ℕ) (address : ℕ) → address_of word ≡ Some address → trim_end (trim_start word) ≡ word
-trimmed word address is =
-    let first : prefix_len is_ascii_whitespace word ≡ 0 = prefix_len_is is_ascii_whitespace word 0 0 (omega arith) (λ k lt. absurd (omega arith)) (λ lt. not_white word address 0 is lt) in
-    let last : suffix_len is_ascii_whitespace word ≡ length word - length word =
-    suffix_len_is is_ascii_whitespace word (length word) 0 (omega arith) (λ k le lt. absurd (omega arith)) (λ lt. not_white word address (length word - 1) is (omega arith)) in
-    ap trim_end (ap (λ n. drop n word) first) ∙ take_all (length word - suffix_len is_ascii_whitespace word) word (omega (arith, last))
-
--- and a line of it alone writes the same
-pub word_line : (word : List ℕ) (address : ℕ) → address_of word ≡ Some address → line_address word ≡ Some address
-word_line word address is = ap address_of (trimmed word address is) ∙ is
-
--- it has no line feed
-pub word_part : (word : List ℕ) (address : ℕ) → address_of word ≡ Some address → HasNoLineFeed word
-word_part word address is = All-from_get_or (λ byte. byte ≢ 10) word 0 (λ i lt feed. true≢false (sym (ap is_ascii_whitespace feed) ∙ not_white word address i is lt))
 
 -- an address is no longer than `0x` and 16 digits
 long_none : (word : List ℕ) → 18 < length word → address_of word ≡ None

@@ -3,4 +3,3 @@ pub mod Places
 pub mod Answering
 pub mod Annotating
 pub mod Sweep
-pub mod Digits

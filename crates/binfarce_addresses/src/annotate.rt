@@ -3,8 +3,6 @@
 ghost use Rattle.std.specs.Prelude.{◌≡◌, ◌++◌, ◌+◌, ◌<◌, ◌≤◌, ◌≢◌, [], ℕ, List, Some, true, false, codes, length, slice_index, IfOk, OnOk};
 ghost use Rattle.std.specs.Fmt.{digits};
 ghost use Rattle.std.specs.String.{string_bytes};
-ghost use Rattle.binfarce.specs.Named.{IsShown};
-ghost use Rattle.binfarce.specs.SymbolViews.{function_view};
 ghost use Rattle.binfarce_addresses.specs.Annotated.{address_len, digits_len, AnnotatesAll, IsAddedAfter, IsAnnotated};
 ghost use Rattle.binfarce_text.specs.Streams.{Fails};
 ghost use Rattle.binfarce_addresses.specs.machine.Annotating.{Annotates, IsDecided, ShowsFirst, ShowsTo};
@@ -12,9 +10,8 @@ ghost use Rattle.binfarce_addresses.specs.machine.Annotating.{Annotates, IsDecid
 use crate::address::parse_address;
 use crate::at::Places;
 use crate::lookup::Lookup;
-use crate::names::name_of;
-use crate::stream::{CHUNK, write_all};
-use binfarce::FunctionSymbol;
+use crate::stream::{CHUNK, LONGEST, write_all};
+use binfarce::demangle::push_shown;
 use binfarce_text::streams::{Pass, StreamError, pass_stream};
 use binfarce_tools::list::Sink;
 use std::alloc::{AllocError, Global};
@@ -25,9 +22,6 @@ use std::io::Read;
 const FEWEST: usize = 4;
 
 const MOST: usize = 16;
-
-// The most bytes of one: `0x` and 16 digits.
-const LONGEST: usize = 18;
 
 /// Appends the text with ` <name+0x1f>` after each address that a function symbol holds: its readable name, and the offset
 /// of the address into it, by this lookup. An address is `0x` and 4 to 16 hexadecimal digits, in upper or lower case,
@@ -207,7 +201,7 @@ fn push_first(
     Ok(len)
 }
 
-// Appends what is added after an address.
+// Appends what is added after an address: the readable name of its function symbol and the offset, in angle brackets.
 fn push_added(
     alloc: Global,
     places: &Places<'_>,
@@ -218,31 +212,16 @@ fn push_added(
     ensures { OnOk result
         ((added : List ℕ) × IsAddedAfter places.now lookup address added × (out.new.items ≡ out.old.items ++ added)) }
 {
-    if let Some(address) = address {
-        if let Some(found) = places.find(lookup, address) {
-            push_place(alloc, found.0, found.1, out)?;
-        }
-    }
-    Ok(())
-}
-
-// Appends a function symbol's readable name and an offset in angle brackets.
-fn push_place(
-    alloc: Global,
-    function: FunctionSymbol<'_>,
-    offset: u64,
-    out: &mut Vec<u8>,
-) -> Result<(), AllocError>
-    ensures { OnOk result
-        ((name : List ℕ) × IsShown (function_view function.entry).name name
-        × (out.new.items ≡ out.old.items ++ (codes " <" ++ (name
-        ++ (codes "+0x" ++ (digits 16 false offset ++ codes ">")))))) }
-{
-    let mut place = name_of(alloc, function)?;
+    let Some(address) = address else {
+        return Ok(());
+    };
+    let Some((function, offset)) = places.find(lookup, address) else {
+        return Ok(());
+    };
+    let mut place = String::from_str(alloc, " <")?;
+    push_shown(alloc, &mut place, function.name)?;
     push_end(&mut place, offset)?;
-    out.extend_from_slice(b" <")?;
-    out.extend_from_slice(place.as_bytes())?;
-    Ok(())
+    out.extend_from_slice(place.as_bytes())
 }
 
 fn push_end(text: &mut String, offset: u64) -> Result<(), AllocError>
@@ -272,11 +251,7 @@ fn digits_len(text: &[u8]) -> usize
     ensures within { result ≤ length text.now }
     ensures len { result ≡ digits_len text.now }
 {
-    let mut len = 0;
-    while len < text.len() && text[len].is_ascii_hexdigit() {
-        len += 1;
-    }
-    len
+    text.iter().take_while(|b| b.is_ascii_hexdigit()).count()
 }
 
 // How many bytes the first one and those before the next `0` are.
@@ -285,9 +260,5 @@ fn others_len(text: &[u8]) -> usize
     ensures within { (0 < result) × (result ≤ length text.now) }
     ensures others { (k : ℕ) → 0 < k → k < result → slice_index text.now k ≢ 48 }
 {
-    let mut len = 1;
-    while len < text.len() && text[len] != b'0' {
-        len += 1;
-    }
-    len
+    1 + text[1..].iter().take_while(|b| **b != b'0').count()
 }

@@ -1,6 +1,6 @@
 //! Symbolizes addresses in an executable, a line for each.
 
-ghost use Rattle.std.specs.Prelude.{◌≡◌, ◌≢◌, ◌++◌, ◌-◌, ◌<◌, ℕ, List, Option, length, Some, None, Ok, map, IfErr, IfOk, MatchOption, OnOk, string_bytes};
+ghost use Rattle.std.specs.Prelude.{◌≡◌, ◌≢◌, ◌++◌, ◌-◌, ◌<◌, ℕ, List, Option, length, Some, None, Ok, map, IfErr, IfOk, MatchOption, OnOk};
 ghost use Rattle.binfarce.specs.Symbol.{Entry, Listed};
 ghost use Rattle.binfarce.specs.SymbolViews.{function_view};
 ghost use Rattle.binfarce_tools.specs.Answer.{file_answer, FileNeedsMemory};
@@ -16,10 +16,10 @@ ghost use Rattle.binfarce_addresses.specs.Lookup.{looked_up};
 ghost use Rattle.binfarce_addresses.specs.Lines.{found_at, IsLineAt, AreLinesOf, AreLinesAt};
 ghost use Rattle.binfarce_addresses.specs.PlacesViews.{IsMadeOf};
 ghost use Rattle.binfarce_addresses.specs.Stream.{AreAnswersOf, IsAnswerOf};
-ghost use Rattle.binfarce_addresses.specs.machine.Places.{AreFoundFor, ArePlacesOf, IsFoundFor, IsNamedAt};
+ghost use Rattle.binfarce_addresses.specs.machine.Places.{AreFoundFor, ArePlacesOf, IsAtPlace, IsFoundFor};
 
 use crate::lookup::Lookup;
-use crate::names::{Names, name_of};
+use crate::names::Names;
 use crate::ranges::{AddressRange, Ranges};
 use binfarce::FunctionSymbol;
 use binfarce_tools::functions::{Functions, functions_of_file};
@@ -103,16 +103,17 @@ impl<'a> Places<'a> {
     {
         let address = address?;
         let place = self.ranges.find(lookup.in_file(address)?)?;
-        let offset = address - lookup.base - self.functions[place].address;
+        let offset = lookup.offset_in(address, self.functions[place].address);
         Some(Found { place, offset })
     }
 
-    /// The readable name of the function symbol at a place.
-    pub(crate) fn name(&self, alloc: Global, place: usize) -> Result<String, AllocError>
+    // The function symbol at a place.
+    #[inline(always)]
+    pub(crate) fn at(&self, place: usize) -> FunctionSymbol<'a>
         requires { place < length self.now }
-        ensures { IfOk result (λ t. IsNamedAt self.now place (string_bytes t)) }
+        ensures { IsAtPlace self.now place (function_view result) }
     {
-        name_of(alloc, self.functions[place])
+        self.functions[place]
     }
 
     /// Appends the line of an address to the text: the address, the symbol that it symbolizes to by this lookup, and the
@@ -132,8 +133,7 @@ impl<'a> Places<'a> {
             ((line : List ℕ) × IsLineAt self.now lookup address line × (text.new.items ≡ text.old.items ++ line)) }
     {
         let found = self.find_place(lookup, Some(address));
-        let mut names = Names::none(alloc, self);
-        names.push_answer(alloc, text, lookup, Some(address), found)
+        Names::new(alloc, self, 0)?.push_answer(text, lookup, Some(address), found)
     }
 
     // What each address symbolizes to.
@@ -145,11 +145,10 @@ impl<'a> Places<'a> {
     ) -> Result<Vec<Option<Found>>, AllocError>
         ensures { IfOk result (λ v. AreFoundFor self.now lookup addresses.now v.items) }
     {
-        let mut found = Vec::with_capacity(alloc, addresses.len())?;
-        for address in addresses {
-            found.push(self.find_place(lookup, *address))?;
-        }
-        Ok(found)
+        addresses
+            .iter()
+            .map(|address| self.find_place(lookup, *address))
+            .collect(alloc)
     }
 }
 

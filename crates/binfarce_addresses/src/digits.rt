@@ -1,18 +1,20 @@
 //! Numbers in hexadecimal digits.
 
 ghost use Rattle.std.specs.Prelude.{◌≡◌, ◌<◌, ◌++◌, OnOk, false, codes, drop, length, replicate};
-ghost use Rattle.std.specs.Fmt.{digits, digit_glyph};
+ghost use Rattle.std.specs.Fmt.{digits};
 ghost use Rattle.binfarce_tools.specs.Listing.{address_text};
 
+use binfarce_text::digits::hex_digit;
 use std::alloc::AllocError;
 
 /// Appends an address and a blank to the text.
 pub(crate) fn push_address(text: &mut Vec<u8>, address: u64) -> Result<(), AllocError>
     ensures { OnOk result (text.new.items ≡ text.old.items ++ (address_text address ++ codes " ")) }
 {
-    let mut shown = [b' '; 17];
+    let mut shown = [b'0'; 16];
     put_all_digits(&mut shown, address);
     text.extend_from_slice(&shown)?;
+    text.push(b' ')?;
     Ok(())
 }
 
@@ -28,10 +30,10 @@ pub(crate) fn push_offset(text: &mut Vec<u8>, offset: u64) -> Result<(), AllocEr
     Ok(())
 }
 
-// Puts all 16 digits of a number before a last byte: the number of steps is fixed, so no branch is mispredicted.
+// Puts all 16 digits of a number: the number of steps is fixed, so no branch is mispredicted.
 fn put_all_digits(shown: &mut [u8], number: u64)
-    requires { length shown.old ≡ 17 }
-    ensures { shown.new ≡ address_text number ++ drop 16 shown.old }
+    requires { length shown.old ≡ 16 }
+    ensures { shown.new ≡ address_text number }
 {
     let mut rest = number;
     for k in 0..16 {
@@ -55,14 +57,4 @@ fn put_digits(shown: &mut [u8], number: u64) -> usize
     }
     shown[at] = hex_digit(rest);
     at
-}
-
-// A lower-case hexadecimal digit.
-#[inline(always)]
-fn hex_digit(value: u64) -> u8
-    requires { value < 16 }
-    ensures { result ≡ digit_glyph false value }
-{
-    const DIGITS: [u8; 16] = *b"0123456789abcdef";
-    DIGITS[value as usize]
 }

@@ -1,6 +1,6 @@
 //! What is looked up of an address.
 
-ghost use Rattle.std.specs.Prelude.{◌≡◌, ◌+◌, ◌≤◌, IfSome};
+ghost use Rattle.std.specs.Prelude.{◌≡◌, ◌-◌};
 ghost use Rattle.binfarce_addresses.specs.Lookup.{looked_up};
 
 /// How addresses are looked up.
@@ -16,10 +16,16 @@ pub struct Lookup {
 impl Lookup {
     /// The address in the file that is looked up. `None` for an address below the base, and for the return address 0 in the file.
     pub(crate) fn in_file(self, address: u64) -> Option<u64>
-        ensures value { result ≡ looked_up self address }
-        ensures within { IfSome result (λ x. self.base + x ≤ address) }
+        ensures { result ≡ looked_up self address }
     {
         let given = address.checked_sub(self.base)?;
         given.checked_sub(u64::from(self.is_return))
+    }
+
+    /// The offset of an address into what begins at `start` in the file, or 0 where it begins behind the address.
+    pub(crate) fn offset_in(self, address: u64, start: u64) -> u64
+        ensures { result ≡ address - self.base - start }
+    {
+        address.saturating_sub(self.base).saturating_sub(start)
     }
 }

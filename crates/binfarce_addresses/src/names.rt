@@ -1,16 +1,15 @@
 //! The readable names of function symbols, each made at most once.
 
-ghost use Rattle.std.specs.Prelude.{◌≡◌, ◌<◌, ◌++◌, ℕ, List, Option, None, All, length, IfOk, IfSome, OnOk};
+ghost use Rattle.std.specs.Prelude.{◌≡◌, ◌<◌, ◌++◌, ℕ, List, All, length, slice_set, IfOk, IfSome, OnOk};
 ghost use Rattle.std.specs.String.{string_bytes};
 ghost use Rattle.binfarce.specs.Symbol.{Entry};
-ghost use Rattle.binfarce_addresses.specs.Stream.{AreAnswersOf, IsAnswerOf};
-ghost use Rattle.binfarce_addresses.specs.machine.Places.{AreKept, IsFoundFor, IsNamedAt, IsNameOf};
+ghost use Rattle.binfarce_addresses.specs.Stream.{IsAnswerOf};
+ghost use Rattle.binfarce_addresses.specs.machine.Places.{AreKept, IsFoundFor, IsNamedAt};
 
 use crate::at::{Found, Places};
 use crate::digits::{push_address, push_offset};
 use crate::lookup::Lookup;
-use binfarce::FunctionSymbol;
-use binfarce::demangle::push_shown;
+use binfarce::demangle::Demangler;
 use std::alloc::{AllocError, Global};
 use std::marker::Model;
 
@@ -18,7 +17,11 @@ use std::marker::Model;
 #[derive(Drop)]
 pub(crate) struct Names<'b, 'a> {
     pub(crate) places: &'b Places<'a>,
-    kept: Vec<Option<String>>,
+    demangler: Demangler,
+    // The names, one after the other.
+    text: String,
+    // Where in it the name of a place begins and ends. A name that ends where it begins is not there.
+    kept: Vec<(usize, usize)>,
 }
 
 impl<'b, 'a> Model for Names<'b, 'a> {
@@ -26,73 +29,52 @@ impl<'b, 'a> Model for Names<'b, 'a> {
 
     ghost view = { λ s. s.places.now };
 
-    ghost invariant = { λ s. AreKept s.places.now s.kept.items };
+    ghost invariant = { λ s. AreKept s.places.now (string_bytes s.text) s.kept.items };
 }
 
 impl<'b, 'a> Names<'b, 'a> {
-    /// No name so far, with room for all.
-    pub(crate) fn new(alloc: Global, places: &'b Places<'a>) -> Result<Names<'b, 'a>, AllocError>
+    /// No name so far, with room for so many.
+    pub(crate) fn new(
+        alloc: Global,
+        places: &'b Places<'a>,
+        room: usize,
+    ) -> Result<Names<'b, 'a>, AllocError>
         ensures { IfOk result (λ n. n ≡ places.entry.now) }
     {
-        let kept = no_names(alloc, places.functions.len())?;
-        Ok(Names { places, kept })
-    }
-
-    /// No name, and room for none.
-    pub(crate) fn none(alloc: Global, places: &'b Places<'a>) -> Names<'b, 'a>
-        ensures { result ≡ places.entry.now }
-    {
-        Names {
+        Ok(Names {
             places,
-            kept: Vec::new(alloc),
-        }
+            demangler: Demangler::new(alloc),
+            text: String::new(alloc),
+            kept: vec![in alloc; (0, 0); room]?,
+        })
     }
 
-    // Appends the answers of lines with these addresses, or none, to the text. All are looked up before the first answer
-    // is written, so that cache misses overlap.
-    pub(crate) fn push_all(
-        &mut self,
-        alloc: Global,
-        text: &mut Vec<u8>,
-        lookup: Lookup,
-        addresses: &[Option<u64>],
-    ) -> Result<(), AllocError>
-        ensures answers { OnOk result
-            ((answers : List ℕ) × AreAnswersOf self.old lookup addresses.now answers
-            × (text.new.items ≡ text.old.items ++ answers)) }
-        ensures same { self.new ≡ self.old }
-    {
-        let found = self.places.find_all(alloc, lookup, addresses)?;
-        self.read_ahead(alloc, &found)?;
-        for k in 0..addresses.len() {
-            self.push_answer(alloc, text, lookup, addresses[k], found[k])?;
-        }
-        Ok(())
-    }
-
-    // Reads the first and the last byte of each kept name: a prefetch, without which random addresses take a quarter more.
-    fn read_ahead(
+    // Reads the first and the last byte of each name, or of the symbol's own where none is kept: a prefetch, without which
+    // random addresses take a fifth more.
+    pub(crate) fn read_ahead(
         &self,
         alloc: Global,
         found: &[Option<Found>],
     ) -> Result<Vec<(u8, u8)>, AllocError> {
-        let mut ends = Vec::with_capacity(alloc, found.len())?;
-        for found in found {
-            ends.push(self.ends_at(*found).unwrap_or((0, 0)))?;
-        }
-        Ok(ends)
+        found
+            .iter()
+            .map(|found| self.ends_at(*found).unwrap_or((0, 0)))
+            .collect(alloc)
     }
 
-    // The first and the last byte of a kept name.
     fn ends_at(&self, found: Option<Found>) -> Option<(u8, u8)> {
-        let name = self.name_at(found?.place)?.as_bytes();
+        let place = found?.place;
+        let places = self.places;
+        let name = match self.name_at(place) {
+            Some(name) => name,
+            None => places.functions.get(place)?.name.as_bytes(),
+        };
         Some((*name.first()?, *name.last()?))
     }
 
     // Appends the answer of a line to the text: the line of its address, for which this is found, or `??` without one.
     pub(crate) fn push_answer(
         &mut self,
-        alloc: Global,
         text: &mut Vec<u8>,
         lookup: Lookup,
         address: Option<u64>,
@@ -110,20 +92,15 @@ impl<'b, 'a> Names<'b, 'a> {
         }
         match found {
             Some(found) => {
-                self.push_name(alloc, text, found.place)?;
+                self.push_name(text, found.place)?;
                 push_offset(text, found.offset)
             }
             None => text.extend_from_slice(b"??\n"),
         }
     }
 
-    // Appends the readable name of the function symbol at a place to the text, and keeps it.
-    fn push_name(
-        &mut self,
-        alloc: Global,
-        text: &mut Vec<u8>,
-        place: usize,
-    ) -> Result<(), AllocError>
+    // Appends the readable name of the function symbol at a place to the text, and keeps it, if there is room for it.
+    fn push_name(&mut self, text: &mut Vec<u8>, place: usize) -> Result<(), AllocError>
         requires { place < length self.old }
         ensures name { OnOk result
             ((name : List ℕ) × IsNamedAt self.old place name
@@ -131,52 +108,33 @@ impl<'b, 'a> Names<'b, 'a> {
         ensures same { self.new ≡ self.old }
     {
         if let Some(name) = self.name_at(place) {
-            return text.extend_from_slice(name.as_bytes());
+            return text.extend_from_slice(name);
         }
-        let name = self.places.name(alloc, place)?;
-        text.extend_from_slice(name.as_bytes())?;
-        self.keep(place, name);
-        Ok(())
+        let from = self.text.as_str().len();
+        self.demangler
+            .push_shown(&mut self.text, self.places.at(place).name)?;
+        let to = self.text.as_str().len();
+        keep(&mut self.kept, place, (from, to));
+        text.extend_from_slice(&self.text.as_bytes()[from..])
     }
 
     // The name that is kept at a place.
     #[inline(always)]
-    fn name_at(&self, place: usize) -> Option<&str>
+    fn name_at(&self, place: usize) -> Option<&[u8]>
         ensures { IfSome result (λ name. IsNamedAt self.now place name.now) }
     {
         match self.kept.get(place) {
-            Some(Some(name)) => Some(name.as_str()),
+            Some((from, to)) if from < to => self.text.as_bytes().get(*from..*to),
             _ => None,
         }
     }
-
-    // Keeps a name at its place, if there is room for it.
-    fn keep(&mut self, place: usize, name: String)
-        requires { IsNamedAt self.old place (string_bytes name) }
-        ensures { self.new ≡ self.old }
-    {
-        if let Some(slot) = self.kept.get_mut(place) {
-            *slot = Some(name);
-        }
-    }
 }
 
-// Room for so many names.
-fn no_names(alloc: Global, count: usize) -> Result<Vec<Option<String>>, AllocError>
-    ensures { IfOk result (λ v. All (λ name. name ≡ None) v.items) }
+// Keeps a part of the text as the name at a place, if there is room for it.
+fn keep(kept: &mut Vec<(usize, usize)>, place: usize, part: (usize, usize))
+    ensures { kept.new.items ≡ slice_set kept.old.items place part }
 {
-    let mut names = Vec::with_capacity(alloc, count)?;
-    for _ in 0..count {
-        names.push(None)?;
+    if let Some(slot) = kept.get_mut(place) {
+        *slot = part;
     }
-    Ok(names)
-}
-
-/// The readable name of a function symbol.
-pub(crate) fn name_of(alloc: Global, function: FunctionSymbol<'_>) -> Result<String, AllocError>
-    ensures { IfOk result (λ t. IsNameOf function.entry t) }
-{
-    let mut name = String::new(alloc);
-    push_shown(alloc, &mut name, function.name)?;
-    Ok(name)
 }

@@ -1,9 +1,9 @@
 //! Lookup of the range that holds an address.
 
-ghost use Rattle.std.specs.Prelude.{◌≡◌, ◌+◌, ◌-◌, ◌<◌, ◌≤◌, ◌^◌, ℕ, List, length, IfOk, OnOk};
+ghost use Rattle.std.specs.Prelude.{◌≡◌, ◌+◌, ◌-◌, ◌<◌, ◌≤◌, ◌^◌, ℕ, List, true, length, IfOk, OnOk};
 ghost use Rattle.binfarce_addresses.specs.Range.{AreSpans, AreSpansOf, IsSpanAt, span_at};
 ghost use Rattle.binfarce_addresses.specs.declared.ranges.Span.{Span};
-ghost use Rattle.binfarce_addresses.specs.machine.Sweep.{AreInOrder, AreRowsOf, AreSwept, DoReach, IsAround, IsInnermost, IsSweep, here, last_of, stack_at, row_at};
+ghost use Rattle.binfarce_addresses.specs.machine.Sweep.{AreInOrder, AreRowsOf, AreSwept, DoReach, IsInnermost, IsSweep, here, last_of, stack_at, row_at};
 
 use crate::slices::Slices;
 use std::alloc::{AllocError, Global};
@@ -61,29 +61,34 @@ impl Ranges {
         Ok(Ranges { spans, slices })
     }
 
-    /// The place of the span at an address.
+    /// The place of the range that is found at an address.
     pub fn find(&self, address: u64) -> Option<usize>
         ensures { (k : ℕ) × IsSpanAt self.now address k × (result ≡ (span_at self.now k).place) }
     {
-        let (from, to) = self.around(address);
-        let next = self.spans[from..to].partition_point(|span| span.start <= address);
-        self.spans[from + next - 1].place
+        self.spans[self.place_at(address)].place
     }
 
-    // Spans among which that of the address is: from one that begins there or before, up to one that begins behind it.
+    // The place of the span at an address.
     #[inline(always)]
-    fn around(&self, address: u64) -> (usize, usize)
-        ensures { IsAround self.now address result.0 result.1 }
+    fn place_at(&self, address: u64) -> usize
+        ensures { IsSpanAt self.now address result }
     {
-        let (from, to) = self.slices.near(address);
-        if from < to
-            && to < self.spans.len()
-            && self.spans[from].start <= address
-            && address < self.spans[to].start
-        {
-            return (from, to);
+        if let Some(place) = self.slices.near(&self.spans, address) {
+            if self.is_at(place, address) {
+                return place;
+            }
         }
-        (0, self.spans.len())
+        self.spans.partition_point(|span| span.start <= address) - 1
+    }
+
+    // Whether the span at the place is that at the address.
+    #[inline(always)]
+    fn is_at(&self, place: usize, address: u64) -> bool
+        ensures { result ≡ true → IsSpanAt self.now address place }
+    {
+        place < self.spans.len()
+            && self.spans[place].start <= address
+            && (place + 1 == self.spans.len() || address < self.spans[place + 1].start)
     }
 }
 
@@ -169,10 +174,7 @@ fn begin_of(rows: &[Row], row: usize) -> u64
     ensures next { row < length rows.now → result ≡ (row_at rows.now row).address }
     ensures last { length rows.now ≤ row → result ≡ 2 ^ 64 - 1 }
 {
-    match rows.get(row) {
-        Some(row) => row.address,
-        None => u64::MAX,
-    }
+    rows.get(row).map_or(u64::MAX, |row| row.address)
 }
 
 // The place of the last open row.
@@ -180,10 +182,7 @@ fn innermost(rows: &[Row], stack: &[usize]) -> Option<usize>
     requires { (m : ℕ) → m < length stack.now → stack_at stack.now m < length rows.now }
     ensures { IsInnermost rows.now stack.now result }
 {
-    if stack.is_empty() {
-        return None;
-    }
-    Some(rows[stack[stack.len() - 1]].place.0)
+    Some(rows[*stack.last()?].place.0)
 }
 
 // Opens the next row. Open rows that it outlives are dropped: none of their addresses from here on finds them.

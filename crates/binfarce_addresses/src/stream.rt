@@ -4,10 +4,10 @@ ghost use Rattle.std.specs.Prelude.{◌≡◌, ◌≤◌, ◌<◌, ◌++◌, ◌
 ghost use Rattle.binfarce_text.specs.Streams.{Fails};
 ghost use Rattle.binfarce_text.specs.machine.Passing.{WritesAll};
 ghost use Rattle.binfarce_addresses.specs.Answered.{AnswersOf};
-ghost use Rattle.binfarce_addresses.specs.Stream.{line_address, HasNoLineFeed, Streams};
-ghost use Rattle.binfarce_addresses.specs.machine.Answering.{AreAddressesOf, Answers, IsFirst, IsKeptOf};
+ghost use Rattle.binfarce_addresses.specs.Stream.{HasNoLineFeed, Streams};
+ghost use Rattle.binfarce_addresses.specs.machine.Answering.{AreAddressesOf, Answers, IsKeptOf};
 
-use crate::address::{hex_line, parse_address};
+use crate::address::parse_address;
 use crate::at::Places;
 use crate::lookup::Lookup;
 use crate::names::Names;
@@ -23,7 +23,7 @@ use std::io::Read;
 pub(crate) const CHUNK: usize = 1 << 13;
 
 // The most bytes of a line with an address: `0x` and 16 digits.
-const LONGEST: usize = 18;
+pub(crate) const LONGEST: usize = 18;
 
 /// How much of a text was answered.
 #[derive(Debug, Clone, Copy, PartialEq)]
@@ -49,10 +49,12 @@ pub fn push_lines(
 ) -> Result<Answered, AllocError>
     ensures { IfOk result (AnswersOf places.now lookup bytes.now text.old.items text.new.items) }
 {
-    push_answers(alloc, &mut Names::none(alloc, places), lookup, bytes, text)
+    let mut names = Names::new(alloc, places, 0)?;
+    push_answers(alloc, &mut names, lookup, bytes, text)
 }
 
-// As `push_lines`, with the names that are known.
+// As `push_lines`, with the names that are known. All addresses are looked up before the first answer is written, so that
+// cache misses overlap.
 fn push_answers(
     alloc: Global,
     names: &mut Names<'_, '_>,
@@ -65,7 +67,11 @@ fn push_answers(
     ensures same { names.new ≡ names.old }
 {
     let (addresses, answered) = addresses_of(alloc, bytes)?;
-    names.push_all(alloc, text, lookup, &addresses)?;
+    let found = names.places.find_all(alloc, lookup, &addresses)?;
+    names.read_ahead(alloc, &found)?;
+    for k in 0..addresses.len() {
+        names.push_answer(text, lookup, addresses[k], found[k])?;
+    }
     Ok(answered)
 }
 
@@ -76,30 +82,13 @@ fn addresses_of(alloc: Global, bytes: &[u8]) -> Result<(Vec<Option<u64>>, Answer
     let mut addresses = Vec::with_capacity(alloc, bytes.len() / 8)?;
     let mut len = 0;
     let mut missing = 0;
-    while let Some((address, line_len)) = first_address(&bytes[len..]) {
+    while let Some(line) = first_line(&bytes[len..]) {
+        let address = parse_address(line.trim_ascii());
         addresses.push(address)?;
-        len += line_len;
+        len += line.len() + 1;
         missing += u64::from(address.is_none());
     }
     Ok((addresses, Answered { len, missing }))
-}
-
-// The address of the first line of the bytes, or none, and how many bytes that line has with its line feed.
-fn first_address(bytes: &[u8]) -> Option<(Option<u64>, usize)>
-    ensures { MatchOption result (HasNoLineFeed bytes.now) (λ r. IsFirst bytes.now r.0 r.1) }
-{
-    if let Some((address, len)) = hex_line(bytes) {
-        return Some((Some(address), len + 1));
-    }
-    let line = first_line(bytes)?;
-    Some((parse_line(line), line.len() + 1))
-}
-
-// The address of a line.
-fn parse_line(line: &[u8]) -> Option<u64>
-    ensures { result ≡ line_address line.now }
-{
-    parse_address(line.trim_ascii())
 }
 
 // The bytes before the first line feed.
@@ -107,12 +96,8 @@ fn first_line(bytes: &[u8]) -> Option<&[u8]>
     ensures { MatchOption result (HasNoLineFeed bytes.now)
         (λ line. HasNoLineFeed line.now × ((others : List ℕ) × (bytes.now ≡ line.now ++ 10 ∷ others))) }
 {
-    for (len, byte) in bytes.iter().enumerate() {
-        if *byte == b'\n' {
-            return Some(&bytes[..len]);
-        }
-    }
-    None
+    let len = bytes.iter().position(|byte| *byte == b'\n')?;
+    Some(&bytes[..len])
 }
 
 /// Answers the lines of `input` until it ends, each as soon as its line feed has come, and returns how many of them
@@ -136,7 +121,7 @@ pub fn answer_lines<R: Read, S: Sink>(
 {
     let mut lines = Lines {
         alloc,
-        names: Names::new(alloc, places)?,
+        names: Names::new(alloc, places, places.functions.len())?,
         lookup,
         line: Vec::new(alloc),
         missing: 0,

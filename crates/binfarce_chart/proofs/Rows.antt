@@ -1,5 +1,5 @@
 -- Rows, one after the other.
-use Rattle.std.proofs.Common.{◌≡◌, ℕ, ◌+◌, ◌-◌, ◌*◌, ◌<◌, ◌≤◌, Bool, cond, List, [], ◌∷◌, ◌++◌, length, map, drop, take, reverse, get_or, is_lt, min, nat_cmp, nat_le, true, false, refl, sym, ap, ◌∙◌, arith, append_assoc, append-nil, codes}
+use Rattle.std.proofs.Common.{◌≡◌, ℕ, ◌+◌, ◌-◌, ◌*◌, ◌<◌, ◌≤◌, Bool, cond, List, [], ◌∷◌, ◌++◌, length, map, drop, take, reverse, get_or, is_lt, max, nat_cmp, nat_le, true, false, refl, sym, ap, ◌∙◌, arith, append_assoc, append-nil, codes}
 use Rattle.std.specs.List.{filter}
 use Rattle.std.specs.List.Sorted.{IsNonDecreasingBy, IsStableByKey, ties}
 use Rattle.std.proofs.lemmas.List.{drop_more, get_or-map, get_or-reverse, length-append, length-map, length-reverse, length-take, reverse-append, reverse-reverse, take-append-drop}
@@ -7,9 +7,8 @@ use Rattle.std.proofs.lemmas.List.Elements.{filter-append}
 use Rattle.std.proofs.lemmas.List.Sums.{sum_by-append, sum_by-cons}
 use Rattle.std.proofs.lemmas.Bool.Decides.{nat_tests}
 use Rattle.binfarce_chart.specs.declared.bars.Bar.{Bar}
-use Rattle.binfarce_chart.specs.Chart.{Row, Falls, KeepsOrder, bar_length, others, shown, total}
-use Rattle.binfarce_chart.specs.Svg.{head, picture, row, rows}
-use Rattle.binfarce_chart.specs.machine.Rows.{last_row}
+use Rattle.binfarce_chart.specs.Chart.{Row, Falls, KeepsOrder, bar_length, largest_after, others, shown, total, width}
+use Rattle.binfarce_chart.specs.Svg.{foot, head, picture, row, rows}
 use Rattle.binfarce_chart.specs.Views.{bar_view}
 
 -- the sum over what is left, with the first of it
@@ -18,16 +17,16 @@ left_sum bars i d low =
     ap (λ (xs : List Bar). total (map bar_view xs)) (drop_more bars i d low) ∙ sum_by-cons (λ (r : Row). r.size) (bar_view (get_or bars i d)) (map bar_view (drop (i + 1) bars))
 
 -- the row of the first that is left was written
-pub one_row : (bars : List Bar) (i : ℕ) (d : Bar) (sum before top : ℕ) (old new all : List ℕ) → i < length bars
-    → new ≡ old ++ row top (bar_view (get_or bars i d)) (bar_length sum before (get_or bars i d).size)
-    → old ++ rows sum before top (map bar_view (drop i bars)) ≡ all
-    → new ++ rows sum (before + (get_or bars i d).size) (top + 24) (map bar_view (drop (i + 1) bars)) ≡ all
-one_row bars i d sum before top old new all low grown is =
+pub one_row : (bars : List Bar) (i : ℕ) (d : Bar) (sum largest before top : ℕ) (old new all : List ℕ) → i < length bars
+    → new ≡ old ++ row top (bar_view (get_or bars i d)) (bar_length sum before (get_or bars i d).size) (width largest (get_or bars i d).size)
+    → old ++ rows sum largest before top (map bar_view (drop i bars)) ≡ all
+    → new ++ rows sum largest (before + (get_or bars i d).size) (top + 24) (map bar_view (drop (i + 1) bars)) ≡ all
+one_row bars i d sum largest before top old new all low grown is =
     let b = get_or bars i d in
-    let line = row top (bar_view b) (bar_length sum before b.size) in
-    let others = rows sum (before + b.size) (top + 24) (map bar_view (drop (i + 1) bars)) in
+    let line = row top (bar_view b) (bar_length sum before b.size) (width largest b.size) in
+    let others = rows sum largest (before + b.size) (top + 24) (map bar_view (drop (i + 1) bars)) in
     ap (λ (x : List ℕ). x ++ others) grown ∙ append_assoc old line others
-    ∙ sym (ap (λ (xs : List Bar). old ++ rows sum before top (map bar_view xs)) (drop_more bars i d low)) ∙ is
+    ∙ sym (ap (λ (xs : List Bar). old ++ rows sum largest before top (map bar_view xs)) (drop_more bars i d low)) ∙ is
 
 -- sizes that don't fall, turned round
 pub falls : (bars : List Bar) → IsNonDecreasingBy (λ (b : Bar). b.size) bars → Falls (map bar_view (reverse bars))
@@ -66,22 +65,6 @@ keeps bars sorted stable r =
     ∙ ap (map bar_view) (filter-reverse bar_ties sorted ∙ ap reverse (stable bar ∙ filter-reverse bar_ties bars) ∙ reverse-reverse (filter bar_ties bars))
     ∙ sym (filter-map row_ties bar_view bars)
 
--- a row after the others
-rows_and_one : (xs : List Row) (r : Row) (all before top : ℕ) → rows all before top (xs ++ r ∷ []) ≡ rows all before top xs ++ row (top + 24 * length xs) r (bar_length all (before + total xs) r.size)
-rows_and_one [] r all before top =
-    let top_is : top + 24 * 0 ≡ top = omega arith in
-    let before_is : before + 0 ≡ before = omega arith in
-    rw (top_is, before_is, append-nil (row top r (bar_length all before r.size))) refl
-rows_and_one (x ∷ xs) r all before top =
-    let line = row top x (bar_length all before x.size) in
-    let others = rows all (before + x.size) (top + 24) xs in
-    let top_is : top + 24 + 24 * length xs ≡ top + 24 * length (x ∷ xs) = omega arith in
-    let before_is : before + x.size + total xs ≡ before + total (x ∷ xs) = omega (arith, sum_by-cons (λ (r : Row). r.size) x xs) in
-    ap (λ (t : List ℕ). line ++ t) (rows_and_one xs r all (before + x.size) (top + 24))
-    ∙ ap (λ (n : ℕ). line ++ (others ++ row n r (bar_length all (before + x.size + total xs) r.size))) top_is
-    ∙ ap (λ (n : ℕ). line ++ (others ++ row (top + 24 * length (x ∷ xs)) r (bar_length all n r.size))) before_is
-    ∙ sym (append_assoc line others (row (top + 24 * length (x ∷ xs)) r (bar_length all (before + total (x ∷ xs)) r.size)))
-
 -- the sum over both parts
 pub both_parts : (bars : List Row) (n : ℕ) → total (take n bars) + total (drop n bars) ≡ total bars
 both_parts bars n = sym (sum_by-append (λ (r : Row). r.size) (take n bars) (drop n bars)) ∙ ap total (take-append-drop n bars)
@@ -89,33 +72,34 @@ both_parts bars n = sym (sum_by-append (λ (r : Row). r.size) (take n bars) (dro
 pub few : (bars : List Row) → length bars ≤ 40 → shown bars ≡ bars
 few bars le = let test : nat_le (length bars) 40 ≡ true = grind (arith, nat_tests) in rw test refl
 
-pub many : (bars : List Row) (sum : ℕ) → 40 < length bars → total bars ≡ sum → rows sum 0 40 (shown bars) ≡ rows sum 0 40 (take 39 bars) ++ last_row sum (drop 39 bars)
-many bars sum lt is =
-    let test : nat_le (length bars) 40 ≡ false = grind (arith, nat_tests) in
-    let top : 40 + 24 * length (take 39 bars) ≡ 976 = omega (arith, length-take 39 bars) in
-    let before : 0 + total (take 39 bars) ≡ sum - total (drop 39 bars) = omega (arith, both_parts bars 39, is) in
-    let r = others (drop 39 bars) in
-    rw test (rows_and_one (take 39 bars) r sum 0 40
-    ∙ ap (λ (n : ℕ). rows sum 0 40 (take 39 bars) ++ row n r (bar_length sum (0 + total (take 39 bars)) r.size)) top
-    ∙ ap (λ (n : ℕ). rows sum 0 40 (take 39 bars) ++ row 976 r (bar_length sum n r.size)) before)
+pub many : (bars : List Row) → 40 < length bars → shown bars ≡ take 39 bars ++ others (drop 39 bars) ∷ []
+many bars lt = let test : nat_le (length bars) 40 ≡ false = grind (arith, nat_tests) in rw test refl
 
-pub count_few : (bars : List Row) → length bars ≤ 40 → length (shown bars) ≡ length bars
-count_few bars le = ap (λ (xs : List Row). length xs) (few bars le)
+-- the rows that are shown have the sum of all
+pub shown_sum : (bars : List Row) → total (shown bars) ≡ total bars
+shown_sum bars = by_test (nat_le (length bars) 40)
+  where
+    by_test : (b : Bool) → total (cond b bars (take 39 bars ++ others (drop 39 bars) ∷ [])) ≡ total bars
+    by_test true = refl
+    by_test false = omega (
+      arith,
+      sum_by-append (λ (r : Row). r.size) (take 39 bars) (others (drop 39 bars) ∷ []),
+      sum_by-cons (λ (r : Row). r.size) (others (drop 39 bars)) [],
+      both_parts bars 39,
+    )
 
-pub count_many : (bars : List Row) → 40 < length bars → length (shown bars) ≡ 40
-count_many bars lt =
-    let test : nat_le (length bars) 40 ≡ false = grind (arith, nat_tests) in
-    rw test (omega (arith, length-append (take 39 bars) (others (drop 39 bars) ∷ []), length-take 39 bars))
-
-pub count_is : (bars : List Row) → min (length bars) 40 ≡ length (shown bars)
-count_is bars = grind (arith, count_few bars, count_many bars)
+-- the greatest, with the first of what is left
+pub largest_next : (bars : List Bar) (i : ℕ) (d : Bar) (most : ℕ) → i < length bars
+    → largest_after most (map bar_view (drop i bars)) ≡ largest_after (max (get_or bars i d).size most) (map bar_view (drop (i + 1) bars))
+largest_next bars i d most low = ap (λ (xs : List Bar). largest_after most (map bar_view xs)) (drop_more bars i d low)
 
 -- a picture, written in parts
-pub picture_is : (bars : List Row) (n sum size : ℕ) (none start more all : List ℕ) → none ≡ [] → n ≡ length (shown bars) → sum ≡ total bars
-    → start ≡ none ++ head n sum size → more ≡ start ++ rows sum 0 40 (shown bars) → all ≡ more ++ codes "</svg>\n" → all ≡ picture (shown bars) (total bars) size
-picture_is bars n sum size none start more all empty count whole first second third =
-    let tail = codes "</svg>\n" in
-    third ∙ ap (λ (t : List ℕ). t ++ tail) (second ∙ ap (λ (t : List ℕ). t ++ rows sum 0 40 (shown bars)) (first ∙ ap (λ (t : List ℕ). t ++ head n sum size) empty))
-    ∙ append_assoc (head n sum size) (rows sum 0 40 (shown bars)) tail
-    ∙ ap (λ (k : ℕ). head k sum size ++ (rows sum 0 40 (shown bars) ++ tail)) count
-    ∙ ap (λ (k : ℕ). head (length (shown bars)) k size ++ (rows k 0 40 (shown bars) ++ tail)) whole
+pub picture_is : (title : List ℕ) (bars : List Row) (n sum largest size y : ℕ) (none start more all : List ℕ) → none ≡ [] → n ≡ length bars → sum ≡ total bars → largest ≡ largest_after 0 bars
+    → y ≡ 24 * n + 81 → start ≡ none ++ head title n sum size → more ≡ start ++ rows sum largest 0 64 bars → all ≡ more ++ foot y → all ≡ picture title bars size
+picture_is title bars n sum largest size y none start more all empty count whole greatest low first second third =
+    third ∙ ap (λ (t : List ℕ). t ++ foot y) (second ∙ ap (λ (t : List ℕ). t ++ rows sum largest 0 64 bars) (first ∙ ap (λ (t : List ℕ). t ++ head title n sum size) empty))
+    ∙ append_assoc (head title n sum size) (rows sum largest 0 64 bars) (foot y)
+    ∙ ap (λ (k : ℕ). head title n sum size ++ (rows sum largest 0 64 bars ++ foot k)) low
+    ∙ ap (λ (k : ℕ). head title k sum size ++ (rows sum largest 0 64 bars ++ foot (24 * k + 81))) count
+    ∙ ap (λ (k : ℕ). head title (length bars) k size ++ (rows k largest 0 64 bars ++ foot (24 * length bars + 81))) whole
+    ∙ ap (λ (k : ℕ). head title (length bars) (total bars) size ++ (rows (total bars) k 0 64 bars ++ foot (24 * length bars + 81))) greatest

@@ -1,5 +1,5 @@
 -- The bars of a picture: which are shown, and how long they are.
-use Rattle.std.specs.Prelude.{ℕ, ◌+◌, ◌-◌, ◌*◌, ◌/◌, ◌%◌, ◌<◌, ◌≤◌, List, [], ◌∷◌, ◌++◌, length, take, drop, codes, nat_le, if◌then◌else◌, slice_index_or}
+use Rattle.std.specs.Prelude.{ℕ, zero, suc, ◌+◌, ◌-◌, ◌*◌, ◌/◌, ◌%◌, ◌<◌, ◌≤◌, List, [], ◌∷◌, ◌++◌, length, max, take, drop, codes, nat_le, nat_lt, if◌then◌else◌, slice_index_or}
 use Rattle.std.specs.Fmt.{decimal}
 use Rattle.std.specs.List.{sum_by}
 use Rattle.std.specs.List.Sorted.{IsStableByKey}
@@ -50,6 +50,15 @@ abbrev pub lengths : ℕ → ℕ → List Row → List ℕ
 lengths total before [] = []
 lengths total before (row ∷ others) = bar_length total before row.size ∷ lengths total (before + row.size) others
 
+-- the greatest of a number and the sizes of rows
+abbrev pub largest_after : ℕ → List Row → ℕ
+largest_after most [] = most
+largest_after most (row ∷ others) = largest_after (max row.size most) others
+
+-- the width of a bar: the whole for the largest
+abbrev pub width : (largest size : ℕ) → ℕ
+width largest size = (whole * size) / largest
+
 -- the length differs by less than one unit from the row's share of the whole
 abbrev pub IsWithinOne : ℕ → Row → ℕ → Type 0
 IsWithinOne total row length = (length * total < whole * row.size + total) × (whole * row.size < (length + 1) * total)
@@ -57,3 +66,20 @@ IsWithinOne total row length = (length * total < whole * row.size + total) × (w
 -- hundredths of a per cent, as per cents with two decimals
 unfoldable pub percents : ℕ → List ℕ
 percents n = decimal (n / 100) ++ (codes "." ++ (decimal (n / 10 % 10) ++ decimal (n % 10)))
+
+-- the last group of three digits, after a comma
+abbrev pub last_group : ℕ → List ℕ
+last_group n = codes "," ++ (decimal (n / 100 % 10) ++ (decimal (n / 10 % 10) ++ decimal (n % 10)))
+
+-- a number in decimal digits, with a comma before each of its last groups of three, at most so many
+abbrev pub groups : (most : ℕ) → ℕ → List ℕ
+groups zero n = decimal n
+groups (suc most) n = if nat_lt n 1000 then decimal n else (groups most (n / 1000) ++ last_group n)
+
+-- a size in tenths of a KiB, rounded to the nearest
+abbrev pub tenths_of_kib : ℕ → ℕ
+tenths_of_kib size = (size * 10 + 512) / 1024
+
+-- a size in KiB with one decimal; 2^64 bytes have fewer than 18 digits before it
+unfoldable pub kib : ℕ → List ℕ
+kib size = groups 6 (tenths_of_kib size / 10) ++ (codes "." ++ (decimal (tenths_of_kib size % 10) ++ codes " KiB"))

@@ -1,4 +1,3 @@
 pub mod Chart
 pub mod Views
 pub mod Svg
-pub mod machine

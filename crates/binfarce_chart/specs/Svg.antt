@@ -1,9 +1,9 @@
 -- The text of a picture, as SVG.
-use Rattle.std.specs.Prelude.{◌≡◌, ◌≢◌, ℕ, ◌+◌, ◌*◌, ◌/◌, ◌%◌, ◌≤◌, false, ◌&&◌, List, [], ◌∷◌, ◌++◌, length, codes, nat_eq, nat_le, if◌then◌else◌, IsPermutation}
+use Rattle.std.specs.Prelude.{◌≡◌, ◌≢◌, ℕ, ◌+◌, ◌*◌, ◌/◌, ◌%◌, ◌≤◌, false, ◌&&◌, List, [], ◌∷◌, ◌++◌, length, take, codes, nat_eq, nat_le, if◌then◌else◌, IsPermutation}
 use Rattle.std.specs.Fmt.{decimal, digit_glyph}
 use Rattle.std.specs.List.{flat_map}
 use Rattle.std.specs.Str.{byte}
-use Rattle.binfarce_chart.specs.Chart.{Row, Falls, KeepsOrder, bar_length, percents, shown, total}
+use Rattle.binfarce_chart.specs.Chart.{Row, Falls, KeepsOrder, bar_length, kib, largest_after, percents, shown, total, width}
 
 -- `\x` and two hexadecimal digits
 abbrev pub hex_byte : ℕ → List ℕ
@@ -30,39 +30,58 @@ IsPlain b = (byte " " ≤ b) × (b ≤ byte "~") × (b ≢ byte "<") × (b ≢ b
 unfoldable pub row_start : ℕ → List ℕ
 row_start top = codes "<svg y=\"" ++ (decimal top ++ codes "\" height=\"24\"><svg width=\"236\"><text x=\"8\" y=\"17\">")
 
--- a bar of this length, over that of the whole
+-- a bar of this width, over the whole width
 unfoldable pub bar : ℕ → List ℕ
 bar n = codes "</text></svg><svg x=\"240\" width=\"360\"><rect y=\"3\" width=\"100%\" height=\"18\" fill=\"#e6e6e6\"/><rect y=\"3\" width=\"" ++ (percents n ++ codes "%\" height=\"18\" fill=\"#245\"/></svg>")
 
--- the share and the size
-unfoldable pub figures : ℕ → ℕ → List ℕ
-figures n size = codes "<text x=\"672\" y=\"17\" text-anchor=\"end\">" ++ (percents n ++ (codes "%</text><text x=\"792\" y=\"17\" text-anchor=\"end\">" ++ (decimal size ++ codes "</text></svg>\n")))
+-- the share, and the size at the end of the row
+unfoldable pub share_text : ℕ → List ℕ
+share_text share = codes "<text x=\"664\" y=\"17\" text-anchor=\"end\">" ++ (percents share ++ codes "%</text>")
+
+unfoldable pub size_text : ℕ → List ℕ
+size_text size = codes "<text x=\"792\" y=\"17\" text-anchor=\"end\">" ++ (kib size ++ codes "</text></svg>\n")
+
+-- a name of at most so many bytes; of a longer one the whole as a title, its beginning, and an ellipsis
+unfoldable pub label : (most : ℕ) → List ℕ → List ℕ
+label most name = if nat_le (length name) most then escaped name else (codes "<title>" ++ (escaped name ++ (codes "</title>" ++ (escaped (take most name) ++ codes "&#8230;"))))
 
 -- a row so far from the top: its name, its bar, its share and its size
-unfoldable pub row : ℕ → Row → ℕ → List ℕ
-row top r n = row_start top ++ (escaped r.name ++ (bar n ++ figures n r.size))
+unfoldable pub row : (top : ℕ) → Row → (share width : ℕ) → List ℕ
+row top r share width = row_start top ++ (label 30 r.name ++ (bar width ++ (share_text share ++ size_text r.size)))
 
--- the rows below each other, with so much before the first one's bar
-abbrev pub rows : ℕ → ℕ → ℕ → List Row → List ℕ
-rows total before top [] = []
-rows total before top (r ∷ others) = row top r (bar_length total before r.size) ++ rows total (before + r.size) (top + 24) others
+-- the rows below each other, with so much of the sum before the first
+abbrev pub rows : (sum largest before top : ℕ) → List Row → List ℕ
+rows sum largest before top [] = []
+rows sum largest before top (r ∷ others) = row top r (bar_length sum before r.size) (width largest r.size) ++ rows sum largest (before + r.size) (top + 24) others
 
 -- a document of this height
 unfoldable pub opening : ℕ → List ℕ
 opening height = codes "<svg xmlns=\"http://www.w3.org/2000/svg\" width=\"800\" height=\"" ++ (decimal height ++ (codes "\" viewBox=\"0 0 800 " ++ (decimal height ++ codes "\" font-family=\"sans-serif\" font-size=\"14\">\n")))
 
--- a title, a white background, and a line with the sum and the section's size
-unfoldable pub caption : ℕ → ℕ → List ℕ
-caption sum size = codes "<title>Size by crate</title>\n<rect width=\"800\" height=\"100%\" fill=\"#fff\"/>\n<text x=\"8\" y=\"25\">sum " ++ (decimal sum ++ (codes ", text " ++ (decimal size ++ codes ": bytes and share of the sum by crate</text>\n")))
+-- the document's title, and a white background
+unfoldable pub document_title : List ℕ → List ℕ
+document_title title = codes "<title>Size by crate: " ++ (escaped title ++ codes "</title>\n<rect width=\"800\" height=\"100%\" fill=\"#fff\"/>\n")
+
+-- the title as the first line
+unfoldable pub heading : List ℕ → List ℕ
+heading title = codes "<text x=\"8\" y=\"25\" font-weight=\"bold\">" ++ (label 90 title ++ codes "</text>\n")
+
+-- a line with the sum and the section's size
+unfoldable pub caption : (sum size : ℕ) → List ℕ
+caption sum size = codes "<text x=\"8\" y=\"49\">sum " ++ (kib sum ++ (codes ", text " ++ (kib size ++ codes ": share of the sum and size by crate</text>\n")))
 
 -- the text before so many rows
-unfoldable pub head : ℕ → ℕ → ℕ → List ℕ
-head count sum size = opening (24 * count + 48) ++ caption sum size
+unfoldable pub head : List ℕ → (count sum size : ℕ) → List ℕ
+head title count sum size = opening (24 * count + 96) ++ (document_title title ++ (heading title ++ caption sum size))
+
+-- a line that says what `[unknown]` is, so far from the top, and the end of the document
+unfoldable pub foot : ℕ → List ℕ
+foot y = codes "<text x=\"8\" y=\"" ++ (decimal y ++ codes "\" fill=\"#666\">[unknown]: names that are no Rust names, such as those of C, C++ and assembly</text>\n</svg>\n")
 
 -- the picture that shows these rows
-abbrev pub picture : List Row → ℕ → ℕ → List ℕ
-picture bars sum size = head (length bars) sum size ++ (rows sum 0 40 bars ++ codes "</svg>\n")
+abbrev pub picture : List ℕ → List Row → ℕ → List ℕ
+picture title bars size = head title (length bars) (total bars) size ++ (rows (total bars) (largest_after 0 bars) 0 64 bars ++ foot (24 * length bars + 81))
 
 -- text is the picture of the section's size and of the rows: the largest first, rows of one size in their given order
-abbrev pub IsChartOf : List Row → ℕ → List ℕ → Type 0
-IsChartOf all size text = (falling : List Row) × IsPermutation all falling × Falls falling × KeepsOrder all falling × (text ≡ picture (shown falling) (total falling) size)
+abbrev pub IsChartOf : List ℕ → List Row → ℕ → List ℕ → Type 0
+IsChartOf title all size text = (falling : List Row) × IsPermutation all falling × Falls falling × KeepsOrder all falling × (text ≡ picture title (shown falling) size)

@@ -1,8 +1,8 @@
 //! The bars that a picture shows, their order, and their lengths.
 
-ghost use Rattle.std.specs.Prelude.{◌≡◌, ◌+◌, ◌<◌, ◌≤◌, ◌^◌, map, IfOk, IsPermutation};
+ghost use Rattle.std.specs.Prelude.{◌≡◌, ◌+◌, ◌-◌, ◌<◌, ◌≤◌, ◌^◌, length, map, IfOk, IsPermutation};
 ghost use Rattle.std.specs.String.{string_bytes};
-ghost use Rattle.binfarce_chart.specs.Chart.{Falls, KeepsOrder, bar_length, others_label, total};
+ghost use Rattle.binfarce_chart.specs.Chart.{Falls, KeepsOrder, bar_length, largest_after, others_label, shown, total, width};
 ghost use Rattle.binfarce_chart.specs.Views.{bar_view};
 
 use std::alloc::{AllocError, Global};
@@ -45,6 +45,39 @@ pub(crate) fn others(alloc: Global, count: usize) -> Result<String, AllocError>
     Ok(label)
 }
 
+// The bars that are shown of these: of more than 40, the first 39, and one with this label for the others.
+pub(crate) fn shown_of<'a>(
+    alloc: Global,
+    bars: &[Bar<'a>],
+    label: &'a str,
+) -> Result<Vec<Bar<'a>>, AllocError>
+    requires sum { total (map bar_view bars.now) < 2 ^ 64 }
+    requires label { label.now ≡ others_label (length bars.now - 39) }
+    ensures { IfOk result (λ v. map bar_view v.items ≡ shown (map bar_view bars.now)) }
+{
+    if bars.len() <= MOST_BARS {
+        return Vec::from_slice(alloc, bars);
+    }
+    let (first, rest) = bars.split_at(MOST_BARS - 1);
+    let mut shown = Vec::from_slice(alloc, first)?;
+    shown.push(Bar {
+        name: label,
+        size: size_of_all(rest),
+    })?;
+    Ok(shown)
+}
+
+// The greatest of the sizes.
+pub(crate) fn largest(bars: &[Bar<'_>]) -> u64
+    ensures { result ≡ largest_after 0 (map bar_view bars.now) }
+{
+    let mut most = 0;
+    for bar in bars {
+        most = bar.size.max(most);
+    }
+    most
+}
+
 // The sum of the sizes.
 pub(crate) fn size_of_all(bars: &[Bar<'_>]) -> u64
     requires { total (map bar_view bars.now) < 2 ^ 64 }
@@ -63,6 +96,16 @@ pub(crate) fn length_of(total: u64, before: u64, size: u64) -> u64
     ensures { result ≡ bar_length total before size }
 {
     edge(total, before + size) - edge(total, before)
+}
+
+// The width of a bar of this size beside the largest.
+pub(crate) fn width_of(largest: u64, size: u64) -> u128
+    ensures { result ≡ width largest size }
+{
+    if largest == 0 {
+        return 0;
+    }
+    WHOLE * u128::from(size) / u128::from(largest)
 }
 
 // The share of the whole before this point.

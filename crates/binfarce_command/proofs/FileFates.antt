@@ -21,7 +21,7 @@ use Rattle.binfarce_command.specs.Output.{pending, taken, writer_of}
 use Rattle.binfarce_command.specs.Input.{IsReadOf}
 use Rattle.binfarce_command.specs.Show.{Fits, IsAskedText, IsShownText, MayEnd, MemoryFor, TakesText, answer_for}
 use Rattle.binfarce_command.specs.declared.fault.Fault.{Fault}
-use Rattle.binfarce_command.specs.declared.fault.Fault.TheVariants.{Unreadable, Input, OutOfMemory, Write, Unknown, Parse, TooLarge, NoSection, NoBytes, PastEnd, SharedAddresses, Missing}
+use Rattle.binfarce_command.specs.declared.fault.Fault.TheVariants.{Unreadable, Input, OutOfMemory, Write, Unknown, Parse, TooLarge, NoSection, NoBytes, PastEnd, SharedAddresses, Missing, Grown}
 use Rattle.binfarce_command.specs.declared.output.Output.{Output}
 use Rattle.binfarce_command.specs.declared.show.Request.{Request}
 
@@ -42,10 +42,10 @@ no_shown : (asked : Request) (file : List ℕ) → format_of file ≡ formats.Un
 no_shown asked file is = no_answer asked.symbols.which file (section_of asked.symbols.selection) is
 
 -- a text of what was read of a file is one of the file
-pub text_of_file : (asked : Request) (file bytes text : List ℕ) → IsReadOf file bytes → IsShownText asked bytes text → IsShownText asked file text
-text_of_file asked file bytes text (inl same) is = subst (λ (f : List ℕ). IsShownText asked f text) same is
-text_of_file asked file bytes text (inr (unknown, first)) is =
-    absurd (subst (λ (answer : Option (Result Listed Refusal)). IsDue (IsAskedText asked bytes) answer text) (no_shown asked bytes (unknown_too file bytes unknown first)) is)
+pub text_of_file : (asked : Request) (path file bytes text : List ℕ) → IsReadOf file bytes → IsShownText asked path bytes text → IsShownText asked path file text
+text_of_file asked path file bytes text (inl same) is = subst (λ (f : List ℕ). IsShownText asked path f text) same is
+text_of_file asked path file bytes text (inr (unknown, first)) is =
+    absurd (subst (λ (answer : Option (Result Listed Refusal)). IsDue (IsAskedText asked path bytes) answer text) (no_shown asked bytes (unknown_too file bytes unknown first)) is)
 
 -- of a file of an unknown format that is reported, and nothing else
 ends_of_file : (asked : Request) (file bytes : List ℕ) (o : Outcome) → IsReadOf file bytes → Ends asked bytes o → Ends asked file o
@@ -106,10 +106,10 @@ whole_taken old mid taken left text took kept = (left ++ text, [], sym (append-n
 abbrev pub failed : Fault → Result (Unit {0}) Fault
 failed fault = Err fault
 
-module _ {W : Type 0} (contents : W → Option (List ℕ)) (asked : Request) (MayFail : Type 0) (file : List ℕ) (old mid : Output W) where
+module _ {W : Type 0} (contents : W → Option (List ℕ)) (asked : Request) (path : List ℕ) (MayFail : Type 0) (file : List ℕ) (old mid : Output W) where
   -- a file whose showing failed
-  pub unshown : (e : Fault) → e ≢ Input → MayEnd MayFail asked file (outcome_of (Err e)) → TakesText asked file (taken contents old) (taken contents mid) (outcome_of (Err e)) → Leaves old mid (outcome_of (Err e))
-      → ShowsSource asked MayFail file (pending old) (contents (writer_of old)) (contents (writer_of mid)) (taken contents mid) (Err e)
+  pub unshown : (e : Fault) → e ≢ Input → MayEnd MayFail asked file (outcome_of (Err e)) → TakesText asked path file (taken contents old) (taken contents mid) (outcome_of (Err e)) → Leaves old mid (outcome_of (Err e))
+      → ShowsSource asked path MayFail file (pending old) (contents (writer_of old)) (contents (writer_of mid)) (taken contents mid) (Err e)
   unshown Write other ends (text, due, begins) leaves = (text, due, beginning_after (contents (writer_of old)) (taken contents mid) (pending old) text begins)
   unshown Unreadable other ends takes leaves = (other, ends, ap (λ (s : Output W). contents (writer_of s)) leaves)
   unshown Input other ends takes leaves = (other, ends, ap (λ (s : Output W). contents (writer_of s)) leaves)
@@ -122,30 +122,31 @@ module _ {W : Type 0} (contents : W → Option (List ℕ)) (asked : Request) (Ma
   unshown PastEnd other ends takes leaves = (other, ends, ap (λ (s : Output W). contents (writer_of s)) leaves)
   unshown SharedAddresses other ends takes leaves = (other, ends, ap (λ (s : Output W). contents (writer_of s)) leaves)
   unshown (Missing count) other ends takes leaves = (other, ends, ap (λ (s : Output W). contents (writer_of s)) leaves)
+  unshown (Grown by) other ends takes leaves = (other, ends, ap (λ (s : Output W). contents (writer_of s)) leaves)
 
   -- a file that is shown, and its heading written
-  pub ended : (new : Output W) → (text : List ℕ) × IsShownText asked file text × Appends (taken contents old) (taken contents mid) text → Keeps (taken contents mid) (taken contents new) → pending new ≡ []
-      → (x : Unit {0}) → ShowsSource asked MayFail file (pending old) (contents (writer_of old)) (contents (writer_of new)) (taken contents new) (Ok x)
+  pub ended : (new : Output W) → (text : List ℕ) × IsShownText asked path file text × Appends (taken contents old) (taken contents mid) text → Keeps (taken contents mid) (taken contents new) → pending new ≡ []
+      → (x : Unit {0}) → ShowsSource asked path MayFail file (pending old) (contents (writer_of old)) (contents (writer_of new)) (taken contents new) (Ok x)
   ended new (text, due, took) kept none x = (text, due, whole (contents (writer_of old)) (taken contents mid) (contents (writer_of new)) (pending old) (pending new) text took kept none)
 
   -- the same, where the writing of the heading failed
-  pub broke_off : (new : Output W) (e : Fault) → (text : List ℕ) × IsShownText asked file text × Appends (taken contents old) (taken contents mid) text → Keeps (taken contents mid) (taken contents new) → e ≡ Write
-      → ShowsSource asked MayFail file (pending old) (contents (writer_of old)) (contents (writer_of new)) (taken contents new) (Err e)
+  pub broke_off : (new : Output W) (e : Fault) → (text : List ℕ) × IsShownText asked path file text × Appends (taken contents old) (taken contents mid) text → Keeps (taken contents mid) (taken contents new) → e ≡ Write
+      → ShowsSource asked path MayFail file (pending old) (contents (writer_of old)) (contents (writer_of new)) (taken contents new) (Err e)
   broke_off new e (text, due, took) kept is =
-      subst (λ (e : Fault). ShowsSource asked MayFail file (pending old) (contents (writer_of old)) (contents (writer_of new)) (taken contents new) (Err e)) (sym is)
+      subst (λ (e : Fault). ShowsSource asked path MayFail file (pending old) (contents (writer_of old)) (contents (writer_of new)) (taken contents new) (Err e)) (sym is)
       (text, due, whole_taken (contents (writer_of old)) (taken contents mid) (taken contents new) (pending old) text took kept)
 
   abbrev pub Held : Output W → Result (Unit {0}) Fault → Type 0
-  Held new result = ShowsSource asked MayFail file (pending old) (contents (writer_of old)) (contents (writer_of new)) (taken contents new) result
+  Held new result = ShowsSource asked path MayFail file (pending old) (contents (writer_of old)) (contents (writer_of new)) (taken contents new) result
 
   -- the same, as `?` passes the fault on
-  pub show_failed : (e : Fault) (result : Result (Unit {0}) Fault) → IsErrAnd result (λ f. f ≡ e) → failed e ≢ failed Input → MayEnd MayFail asked file (outcome_of (Err e)) → TakesText asked file (taken contents old) (taken contents mid) (outcome_of (Err e)) → Leaves old mid (outcome_of (Err e))
+  pub show_failed : (e : Fault) (result : Result (Unit {0}) Fault) → IsErrAnd result (λ f. f ≡ e) → failed e ≢ failed Input → MayEnd MayFail asked file (outcome_of (Err e)) → TakesText asked path file (taken contents old) (taken contents mid) (outcome_of (Err e)) → Leaves old mid (outcome_of (Err e))
       → Held mid result
   show_failed e (Ok x) is other ends takes leaves = absurd is
   show_failed e (Err f) is other ends takes leaves = subst (λ (f : Fault). Held mid (Err f)) (sym is) (unshown e (λ same. other (ap failed same)) ends takes leaves)
 
   -- a file that is shown, by how the writing of its heading ended
-  pub was_shown : (new : Output W) (P Q : Type 0) (result : Result (Unit {0}) Fault) → (text : List ℕ) × IsShownText asked file text × Appends (taken contents old) (taken contents mid) text → Keeps (taken contents mid) (taken contents new)
+  pub was_shown : (new : Output W) (P Q : Type 0) (result : Result (Unit {0}) Fault) → (text : List ℕ) × IsShownText asked path file text × Appends (taken contents old) (taken contents mid) text → Keeps (taken contents mid) (taken contents new)
       → OnOk result ((pending new ≡ []) × P) → IfErr result (λ e. (e ≡ Write) × Q) → Held new result
   was_shown new P Q (Ok x) took kept done failed = ended new took kept done.0 x
   was_shown new P Q (Err e) took kept done failed = broke_off new e took kept failed.0
@@ -174,13 +175,14 @@ module _ (files : Files) (path : List ℕ) (old new : State) where
 
   -- a file that is read, by how its showing ended
   pub came_to : (bytes left : List ℕ) (MayFail : Type 0) → IsReadOf (files.held path) bytes → (MayFail → files.may_fail path ≡ true) → left ≡ heading files.are_several path
-      → (done : Result (Unit {0}) Fault) (result : Result Bool Fault) → ShowsSource files.asked MayFail bytes left old.bytes new.bytes new.taken done → ReportsWhy path old.reports new.reports done result → One result
+      → (done : Result (Unit {0}) Fault) (result : Result Bool Fault) → ShowsSource files.asked path MayFail bytes left old.bytes new.bytes new.taken done → ReportsWhy path old.reports new.reports done result → One result
   came_to bytes left MayFail read more is (Ok x) result (text, due, wrote) (ok, answered_lines) =
-      subst One (sym ok) (shown text, text_of_file files.asked (files.held path) bytes text read due, refl, subst (λ (h : List ℕ). Appends old.bytes new.bytes (h ++ text)) is wrote, answered_lines)
+      subst One (sym ok) (shown text, text_of_file files.asked path (files.held path) bytes text read due, refl, subst (λ (h : List ℕ). Appends old.bytes new.bytes (h ++ text)) is wrote, answered_lines)
   came_to bytes left MayFail read more is (Err Write) result (text, due, wrote) (err, answered_lines) =
-      subst One (sym err) (inl (refl, (text, text_of_file files.asked (files.held path) bytes text read due, subst (λ (h : List ℕ). AppendsBeginning old.bytes new.taken (h ++ text)) is wrote)), answered_lines)
+      subst One (sym err) (inl (refl, (text, text_of_file files.asked path (files.held path) bytes text read due, subst (λ (h : List ℕ). AppendsBeginning old.bytes new.taken (h ++ text)) is wrote)), answered_lines)
   came_to bytes left MayFail read more is (Err Input) result (other, ends, same) answered_lines = absurd (other refl)
   came_to bytes left MayFail read more is (Err (Missing count)) result (other, ends, same) answered_lines = absurd (never_wrong MayFail files.asked bytes ends)
+  came_to bytes left MayFail read more is (Err (Grown by)) result (other, ends, same) answered_lines = absurd (never_wrong MayFail files.asked bytes ends)
   came_to bytes left MayFail read more is (Err Unreadable) result (other, ends, same) answered_lines = was_refused Unreadable result (λ e. cc) (as_file bytes MayFail read more Unreadable ends) same answered_lines
   came_to bytes left MayFail read more is (Err OutOfMemory) result (other, ends, same) answered_lines = was_refused OutOfMemory result (λ e. cc) (as_file bytes MayFail read more OutOfMemory ends) same answered_lines
   came_to bytes left MayFail read more is (Err Unknown) result (other, ends, same) answered_lines = was_refused Unknown result (λ e. cc) (as_file bytes MayFail read more Unknown ends) same answered_lines

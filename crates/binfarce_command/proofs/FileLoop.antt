@@ -42,7 +42,7 @@ module _ (asked : Files) where
   none_shown old = record {
     fates = [];
     paths_are = refl;
-    each = All-nil (λ (f : List ℕ × Fate). MayComeTo asked.asked (asked.may_fail f.0) (asked.held f.0) f.1);
+    each = All-nil (λ (f : List ℕ × Fate). MayComeTo asked.asked f.0 (asked.may_fail f.0) (asked.held f.0) f.1);
     written_are = nothing_more old.bytes;
     reported_are = no_report old.reports;
     all_is = refl;
@@ -50,7 +50,7 @@ module _ (asked : Files) where
 
   -- one file more
   pub one_shown : (paths : List (List ℕ)) (path : List ℕ) (old mid new : State) (all this : Bool) → Shows asked paths old mid all
-      → (fate : Fate) → MayComeTo asked.asked (asked.may_fail path) (asked.held path) fate → this ≡ is_shown fate → Appends mid.bytes new.bytes (written asked.are_several path fate) → Reports mid.reports new.reports (reported path fate)
+      → (fate : Fate) → MayComeTo asked.asked path (asked.may_fail path) (asked.held path) fate → this ≡ is_shown fate → Appends mid.bytes new.bytes (written asked.are_several path fate) → Reports mid.reports new.reports (reported path fate)
       → Shows asked (paths ++ path ∷ []) old new (all && this)
   one_shown paths path old mid new all this shows fate may this_is wrote answered_lines =
       let f : List ℕ × Fate = (path, fate) in
@@ -60,7 +60,7 @@ module _ (asked : Files) where
       record {
         fates = shows.fates ++ f ∷ [];
         paths_are = map-append (λ (f : List ℕ × Fate). f.0) shows.fates (f ∷ []) ∙ ap (λ (xs : List (List ℕ)). xs ++ path ∷ []) shows.paths_are;
-        each = All-push (λ (f : List ℕ × Fate). MayComeTo asked.asked (asked.may_fail f.0) (asked.held f.0) f.1) shows.fates f shows.each may;
+        each = All-push (λ (f : List ℕ × Fate). MayComeTo asked.asked f.0 (asked.may_fail f.0) (asked.held f.0) f.1) shows.fates f shows.each may;
         written_are = subst (Appends old.bytes new.bytes) (sym (flat_map-push text shows.fates f)) (appends_more old.bytes mid.bytes new.bytes (flat_map text shows.fates) (text f) shows.written_are wrote);
         reported_are = subst (Reports old.reports new.reports) (sym (flat_map-push report shows.fates f)) (reports_more old.reports mid.reports new.reports (flat_map report shows.fates) (report f) shows.reported_are answered_lines);
         all_is = ap (λ (b : Bool). b && this) shows.all_is ∙ ap (λ (b : Bool). list_all test shows.fates && b) (this_is ∙ last (is_shown fate)) ∙ sym (list_all-append test shows.fates (f ∷ []));

@@ -15,7 +15,7 @@ use Rattle.binfarce_tools.specs.Writing.{Fails}
 use Rattle.binfarce_command.specs.At.{HasPlaces, IsShared, lines_outcome}
 use Rattle.binfarce_command.specs.Faults.{list_fault, outcome_of, read_fault}
 use Rattle.binfarce_command.specs.declared.fault.Fault.{Fault}
-use Rattle.binfarce_command.specs.declared.fault.Fault.TheVariants.{Unreadable, Input, OutOfMemory, Write, Unknown, Parse, TooLarge, NoSection, NoBytes, PastEnd, SharedAddresses, Missing}
+use Rattle.binfarce_command.specs.declared.fault.Fault.TheVariants.{Unreadable, Input, OutOfMemory, Write, Unknown, Parse, TooLarge, NoSection, NoBytes, PastEnd, SharedAddresses, Missing, Grown}
 
 -- a fault other than a failed write leaves it as it was that a write has failed
 still : (failed : Bool) (e : Fault) → e ≢ Write → Fails failed failed (outcome_of (Err e))
@@ -31,6 +31,7 @@ still failed NoBytes other = refl
 still failed PastEnd other = refl
 still failed SharedAddresses other = refl
 still failed (Missing count) other = refl
+still failed (Grown by) other = refl
 
 pub still_so : (failed : Bool) (e : Fault) (result : Result (Unit {0}) Fault) → IsErrAnd result (λ f. f ≡ e) → e ≢ Write → Fails failed failed (outcome_of result)
 still_so failed e (Ok x) is other = absurd is

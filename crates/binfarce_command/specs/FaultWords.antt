@@ -2,9 +2,9 @@
 use Rattle.std.specs.Prelude.{ℕ, List, ◌++◌, codes, nat_eq, if◌then◌else◌}
 use Rattle.std.specs.Fmt.{decimal}
 use Rattle.std.specs.Str.{bytes_eq}
-use Rattle.binfarce_bytes.specs.Refusal.{Refusal, refusal_of, section_is_missing, words}
+use Rattle.binfarce_bytes.specs.Refusal.{Refusal, refusal_of, section_is_missing, symbols_section_is_missing, words}
 use Rattle.binfarce_command.specs.declared.fault.Fault.{Fault}
-use Rattle.binfarce_command.specs.declared.fault.Fault.TheVariants.{Unreadable, Input, OutOfMemory, Write, Unknown, Parse, TooLarge, NoSection, NoBytes, PastEnd, SharedAddresses, Missing}
+use Rattle.binfarce_command.specs.declared.fault.Fault.TheVariants.{Unreadable, Input, OutOfMemory, Write, Unknown, Parse, TooLarge, NoSection, NoBytes, PastEnd, SharedAddresses, Missing, Grown}
 
 -- of a refusal: an ELF file without a symbol table may have a dynamic one
 abbrev pub refused_words : Refusal → List ℕ
@@ -12,6 +12,7 @@ refused_words (section_is_missing name) =
     if bytes_eq name (codes ".symtab") then codes "no symbol table (.symtab); --dynamic lists its dynamic symbols"
     else if bytes_eq name (codes ".dynsym") then codes "no dynamic symbol table (.dynsym)"
     else words (section_is_missing name)
+refused_words symbols_section_is_missing = codes "no such section; binfarce section lists those of the file"
 refused_words refusal = words refusal
 
 -- of so many lines without an address
@@ -31,4 +32,5 @@ fault_words NoSection = codes "no section of this name"
 fault_words NoBytes = codes "section has no bytes in the file"
 fault_words PastEnd = codes "section reaches past the end of the file"
 fault_words SharedAddresses = codes "its sections share addresses; --section=NAME takes one of them"
+fault_words (Grown by) = codes "the sum grew by " ++ (decimal by ++ codes " bytes")
 fault_words (Missing count) = missing_words count

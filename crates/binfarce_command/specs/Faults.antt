@@ -15,7 +15,7 @@ use Rattle.binfarce_filtering.specs.declared.stream.StreamError.TheVariants as s
 use Rattle.binfarce_sections.specs.declared.error.SectionError.{SectionError}
 use Rattle.binfarce_sections.specs.declared.error.SectionError.TheVariants as sections
 use Rattle.binfarce_command.specs.declared.fault.Fault.{Fault}
-use Rattle.binfarce_command.specs.declared.fault.Fault.TheVariants.{Unreadable, Input, OutOfMemory, Write, Unknown, Parse, TooLarge, NoSection, NoBytes, PastEnd, SharedAddresses, Missing}
+use Rattle.binfarce_command.specs.declared.fault.Fault.TheVariants.{Unreadable, Input, OutOfMemory, Write, Unknown, Parse, TooLarge, NoSection, NoBytes, PastEnd, SharedAddresses, Missing, Grown}
 
 -- a failed allocation is `OutOfMemory`, and any other error of a read is an unreadable file
 abbrev pub io_fault : ErrorKind → Fault
@@ -70,3 +70,4 @@ outcome_of (Err NoBytes) = writing.wrong_usage
 outcome_of (Err PastEnd) = writing.wrong_usage
 outcome_of (Err SharedAddresses) = writing.wrong_usage
 outcome_of (Err (Missing count)) = writing.wrong_usage
+outcome_of (Err (Grown by)) = writing.wrong_usage

@@ -24,10 +24,10 @@ pub data Fate : Type 0 where
   shown : (text : List ℕ) → Fate
   refused : (fault : Fault) → Fate
 
--- a file that may fail to be read, or not, and that holds these bytes, may come to this: it shows what is asked for, or is refused for a reason that it gives
-abbrev pub MayComeTo : Request → (may_fail : Bool) → (file : List ℕ) → Fate → Type 0
-MayComeTo asked may_fail file (shown text) = IsShownText asked file text
-MayComeTo asked may_fail file (refused fault) = (fault ≢ Write) × MayEnd ((may_fail ≡ true) ⊎ (file ≡ [])) asked file (outcome_of (Err fault))
+-- the file at a path, which may fail to be read, or not, and holds these bytes, may come to this: it shows what is asked for, or is refused for a reason that it gives
+abbrev pub MayComeTo : Request → (path : List ℕ) → (may_fail : Bool) → (file : List ℕ) → Fate → Type 0
+MayComeTo asked path may_fail file (shown text) = IsShownText asked path file text
+MayComeTo asked path may_fail file (refused fault) = (fault ≢ Write) × MayEnd ((may_fail ≡ true) ⊎ (file ≡ [])) asked file (outcome_of (Err fault))
 
 -- what precedes a file's text: of several files a blank line, and a line with its name
 abbrev pub heading : (are_several : Bool) → (path : List ℕ) → List ℕ
@@ -66,7 +66,7 @@ pub record State : Type 0 where
 pub record Shows (files : Files) (paths : List (List ℕ)) (old new : State) (all : Bool) : Type 0 where
   pub fates : List (List ℕ × Fate)
   pub paths_are : map (λ f. f.0) fates ≡ paths
-  pub each : All (λ f. MayComeTo files.asked (files.may_fail f.0) (files.held f.0) f.1) fates
+  pub each : All (λ f. MayComeTo files.asked f.0 (files.may_fail f.0) (files.held f.0) f.1) fates
   pub written_are : Appends old.bytes new.bytes (flat_map (λ f. written files.are_several f.0 f.1) fates)
   pub reported_are : Reports old.reports new.reports (flat_map (λ f. reported f.0 f.1) fates)
   pub all_is : all ≡ list_all (λ f. is_shown f.1) fates
@@ -81,7 +81,7 @@ pub record BreaksOff (files : Files) (paths : List (List ℕ)) (old new : State)
   pub all : Bool
   pub shows : Shows files first old (record new { bytes = between }) all
   pub text : List ℕ
-  pub is : IsShownText files.asked (files.held next) text
+  pub is : IsShownText files.asked next (files.held next) text
   pub begins : AppendsBeginning between new.taken (heading files.are_several next ++ text)
 
 -- all was written of the first of these paths, and then the memory for a heading was refused
@@ -104,17 +104,17 @@ AreHeld bytes_at held paths = All (λ path. bytes_at path ≡ Some (held path)) 
 -- how the showing of the file at a path ended: with what it came to; or a write failed; or the memory for its heading was refused, before anything was written
 abbrev pub ShowsOne : Files → (path : List ℕ) → (old new : State) → Result Bool Fault → Type 0
 ShowsOne files path old new (Ok all) =
-    (fate : Fate) × MayComeTo files.asked (files.may_fail path) (files.held path) fate × (all ≡ is_shown fate)
+    (fate : Fate) × MayComeTo files.asked path (files.may_fail path) (files.held path) fate × (all ≡ is_shown fate)
     × Appends old.bytes new.bytes (written files.are_several path fate) × Reports old.reports new.reports (reported path fate)
 ShowsOne files path old new (Err e) =
-    (((e ≡ Write) × ((text : List ℕ) × IsShownText files.asked (files.held path) text × AppendsBeginning old.bytes new.taken (heading files.are_several path ++ text))) ⊎ ((e ≡ OutOfMemory) × Appends old.bytes new.bytes []))
+    (((e ≡ Write) × ((text : List ℕ) × IsShownText files.asked path (files.held path) text × AppendsBeginning old.bytes new.taken (heading files.are_several path ++ text))) ⊎ ((e ≡ OutOfMemory) × Appends old.bytes new.bytes []))
     × Reports old.reports new.reports []
 
 -- how the showing of a file that is read ended: its text is written after what was left of the heading; or a write failed; or it was refused, and nothing written
-abbrev pub ShowsSource : Request → (MayFail : Type 0) → (file : List ℕ) → (heading : List ℕ) → (old new taken : Option (List ℕ)) → Result (Unit {0}) Fault → Type 0
-ShowsSource asked MayFail file heading old new taken (Ok x) = (text : List ℕ) × IsShownText asked file text × Appends old new (heading ++ text)
-ShowsSource asked MayFail file heading old new taken (Err Write) = (text : List ℕ) × IsShownText asked file text × AppendsBeginning old taken (heading ++ text)
-ShowsSource asked MayFail file heading old new taken (Err fault) = (fault ≢ Input) × MayEnd MayFail asked file (outcome_of (Err fault)) × (new ≡ old)
+abbrev pub ShowsSource : Request → (path : List ℕ) → (MayFail : Type 0) → (file : List ℕ) → (heading : List ℕ) → (old new taken : Option (List ℕ)) → Result (Unit {0}) Fault → Type 0
+ShowsSource asked path MayFail file heading old new taken (Ok x) = (text : List ℕ) × IsShownText asked path file text × Appends old new (heading ++ text)
+ShowsSource asked path MayFail file heading old new taken (Err Write) = (text : List ℕ) × IsShownText asked path file text × AppendsBeginning old taken (heading ++ text)
+ShowsSource asked path MayFail file heading old new taken (Err fault) = (fault ≢ Input) × MayEnd MayFail asked file (outcome_of (Err fault)) × (new ≡ old)
 
 -- a file that may fail to be read, or not, and that holds these bytes, can't be opened or read for this reason
 abbrev pub IsUnreadable : (may_fail : Bool) → (file : List ℕ) → Fault → Type 0

@@ -3,6 +3,7 @@ pub mod Faults
 pub mod FaultWords
 pub mod Show
 pub mod Files
+pub mod Hints
 pub mod Output
 pub mod Section
 pub mod Filter

@@ -1,12 +1,13 @@
 -- The output of the command `section`.
 use Rattle.std.specs.Prelude.{ℕ, Bool, List, Option, Some, None, Result}
 use Rattle.binfarce.specs.Format.{format_of}
+use Rattle.binfarce_tools.specs.Json.{Style}
 use Rattle.binfarce_sections.specs.Named.{bytes_named}
 use Rattle.binfarce_sections.specs.Section.{sections_of}
 use Rattle.binfarce_sections.specs.Results.{TakesRead, TakesReadLines}
 use Rattle.binfarce_sections.specs.declared.error.SectionError.{SectionError}
 
 -- the bytes of the section of this name were taken, or the lines of all sections where none is named
-abbrev pub TakesAsked : (may_fail : Bool) (file : List ℕ) (name : Option (List ℕ)) (old new : Option (List ℕ)) → Result (Unit {0}) SectionError → Type 0
-TakesAsked may_fail file (Some name) old new result = TakesRead may_fail (bytes_named (sections_of (format_of file) file) file name) old new result
-TakesAsked may_fail file None old new result = TakesReadLines may_fail (sections_of (format_of file) file) old new result
+abbrev pub TakesAsked : Style → (may_fail : Bool) (file : List ℕ) (name : Option (List ℕ)) (old new : Option (List ℕ)) → Result (Unit {0}) SectionError → Type 0
+TakesAsked style may_fail file (Some name) old new result = TakesRead may_fail (bytes_named (sections_of (format_of file) file) file name) old new result
+TakesAsked style may_fail file None old new result = TakesReadLines style may_fail (sections_of (format_of file) file) old new result

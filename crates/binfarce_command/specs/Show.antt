@@ -1,9 +1,12 @@
 -- How function symbols are shown.
-use Rattle.std.specs.Prelude.{ℕ, List, Option, Result}
+use Rattle.std.specs.Prelude.{ℕ, List, [], Option, Some, None, Result, if◌then◌else◌}
 use Rattle.binfarce.specs.Refusal.{Refusal}
 use Rattle.binfarce.specs.Symbol.{Listed}
-use Rattle.binfarce_tools.specs.RowListing.{IsListingBy}
+use Rattle.binfarce_figures.specs.Figures.{AreFiguresBy}
+use Rattle.binfarce_figures.specs.RowListing.{IsListingBy}
+use Rattle.binfarce_figures.specs.Stacks.{AreStacksIn}
 use Rattle.binfarce_tools.specs.AllListing.{IsListingIn}
+use Rattle.binfarce_tools.specs.Json.{Style, lines, objects}
 use Rattle.binfarce_tools.specs.Map.{IsMapOf}
 use Rattle.binfarce_tools.specs.Listing.{ListingFits}
 use Rattle.binfarce_tools.specs.Report.{IsReportIn, ReportFits}
@@ -13,22 +16,35 @@ use Rattle.binfarce_tools.specs.Writing.{Outcome, IsDue, ProgramEndsAs, Takes}
 use Rattle.binfarce_tools.specs.declared.SymbolTable.{SymbolTable}
 use Rattle.binfarce_command.specs.declared.show.Request.{Request}
 use Rattle.binfarce_command.specs.declared.show.Kind.{Kind}
-use Rattle.binfarce_command.specs.declared.show.Kind.TheVariants.{Listing, Rows, Sums, Picture}
+use Rattle.binfarce_command.specs.declared.show.Kind.TheVariants.{Listing, Rows, Sums, Figures, Picture, Stacks}
 use Rattle.binfarce_command.specs.declared.show.Symbols.{Symbols}
 
--- text shows a file's answer for a section, or for all sections
-abbrev pub IsTextOf : Kind → SymbolTable → (file : List ℕ) → (section : Option (List ℕ)) → Listed → List ℕ → Type 0
-IsTextOf Listing which file section = IsListingIn which file section
-IsTextOf (Rows shown) which file section = IsListingBy shown which file section
-IsTextOf Sums which file section = IsReportIn section
-IsTextOf Picture which file section = IsMapOf
+-- text shows the answer of the file at a path for a section, or for all sections
+abbrev pub IsTextOf : Kind → (path : List ℕ) → Style → SymbolTable → (file : List ℕ) → (section : Option (List ℕ)) → Listed → List ℕ → Type 0
+IsTextOf Listing path style which file section = IsListingIn which file section
+IsTextOf (Rows shown) path style which file section = IsListingBy shown style which file section
+IsTextOf Sums path style which file section = IsReportIn section
+IsTextOf (Figures figures) path style which file section = AreFiguresBy figures style which file section
+IsTextOf Picture path style which file section = IsMapOf path
+IsTextOf Stacks path style which file section = AreStacksIn which file section
+
+-- the name of the section that is selected; empty for all sections
+abbrev pub selected_name : Option (List ℕ) → List ℕ
+selected_name (Some name) = name
+selected_name None = []
+
+-- how rows are written: as objects with the path of the file and the name of the section, if that is asked for
+abbrev pub style_for : Request → (path : List ℕ) → Style
+style_for asked path = if asked.is_json then objects path (selected_name (section_of asked.symbols.selection)) else lines
 
 -- such a text can be made
 abbrev pub Fits : Kind → Listed → Type 0
 Fits Listing = ListingFits
 Fits (Rows shown) = ListingFits
 Fits Sums = ReportFits
+Fits (Figures figures) = ReportFits
 Fits Picture = ReportFits
+Fits Stacks = ListingFits
 
 -- what a file answers for the function symbols that are taken
 abbrev pub answer_for : Symbols → (file : List ℕ) → Option (Result Listed Refusal)
@@ -39,16 +55,16 @@ abbrev pub MemoryFor : Symbols → (file : List ℕ) → Result Listed Refusal �
 MemoryFor symbols file = MemoryIn file (section_of symbols.selection)
 
 -- text shows what is asked for of an answer
-abbrev pub IsAskedText : Request → (file : List ℕ) → Listed → List ℕ → Type 0
-IsAskedText asked file = IsTextOf asked.kind asked.symbols.which file (section_of asked.symbols.selection)
+abbrev pub IsAskedText : Request → (path file : List ℕ) → Listed → List ℕ → Type 0
+IsAskedText asked path file = IsTextOf asked.kind path (style_for asked path) asked.symbols.which file (section_of asked.symbols.selection)
 
 -- what was taken of the text that is asked for of a file
-abbrev pub TakesText : Request → (file : List ℕ) → (old new : Option (List ℕ)) → Outcome → Type 0
-TakesText asked file old new outcome = Takes (IsAskedText asked file) (answer_for asked.symbols file) old new outcome
+abbrev pub TakesText : Request → (path file : List ℕ) → (old new : Option (List ℕ)) → Outcome → Type 0
+TakesText asked path file old new outcome = Takes (IsAskedText asked path file) (answer_for asked.symbols file) old new outcome
 
 -- text is what is asked for of a file
-abbrev pub IsShownText : Request → (file text : List ℕ) → Type 0
-IsShownText asked file text = IsDue (IsAskedText asked file) (answer_for asked.symbols file) text
+abbrev pub IsShownText : Request → (path file text : List ℕ) → Type 0
+IsShownText asked path file text = IsDue (IsAskedText asked path file) (answer_for asked.symbols file) text
 
 -- the showing of a file may end so; that the file can't be read is reported only where MayFail says so, and that an allocation failed of any file
 abbrev pub MayEnd : (MayFail : Type 0) → Request → (file : List ℕ) → Outcome → Type 0

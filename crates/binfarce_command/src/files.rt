@@ -6,6 +6,7 @@ ghost use Rattle.binfarce_command.specs.Output.{pending, state_of, taken, writer
 ghost use Rattle.binfarce_command.specs.Input.{IsReadOf, bytes_of, may_fail_of};
 
 use crate::fault::Fault;
+use crate::hint::{Hint, completed, refusal_hint};
 use crate::input::OpenFile;
 use crate::output::Output;
 use crate::show::{Request, show};
@@ -34,6 +35,12 @@ pub trait System<F: Read + Source<Log = ()>> {
     /// Reports why the file at this path is refused. `reason` is the system's, if a read failed.
     fn report(&mut self, path: &str, fault: Fault, reason: Option<Error>)
         ensures reports { Reports (reports self.old) (reports self.new) ((path.now, fault) ∷ []) }
+        ensures bytes { bytes_at self.new ≡ bytes_at self.old }
+        ensures may_fail { may_fail_at self.new ≡ may_fail_at self.old };
+
+    /// Gives a hint on the file at this path.
+    fn hint(&mut self, path: &str, hint: Hint)
+        ensures reports { reports self.new ≡ reports self.old }
         ensures bytes { bytes_at self.new ≡ bytes_at self.old }
         ensures may_fail { may_fail_at self.new ≡ may_fail_at self.old };
 }
@@ -82,10 +89,35 @@ fn show_file<F: Read + Source<Log = ()> + Drop, Y: System<F>, W: Write>(
     out.begin(heading(alloc, path, are_several)?);
     match open_input(alloc, system, path) {
         Some(input) => {
-            let shown = show_source(alloc, asked, &input, out);
-            reported(system, path, &input, shown)
+            let mut hint = None;
+            let shown = show_source(alloc, asked, path, &input, &mut hint, out);
+            give_hint(alloc, system, asked, path, &input, shown.is_ok(), hint);
+            reported(alloc, system, path, &input, shown)
         }
         None => Ok(false),
+    }
+}
+
+// Gives the hint on a file that is shown, if there is one.
+fn give_hint<F: Read + Source<Log = ()>, Y: System<F>>(
+    alloc: Global,
+    system: &mut Y,
+    asked: &Request<'_>,
+    path: &str,
+    input: &OpenFile<F>,
+    is_shown: bool,
+    hint: Option<Hint>,
+)
+    ensures reports { Y.reports system.new ≡ Y.reports system.old }
+    ensures bytes { Y.bytes_at system.new ≡ Y.bytes_at system.old }
+    ensures may_fail { Y.may_fail_at system.new ≡ Y.may_fail_at system.old }
+{
+    match hint {
+        Some(hint) if is_shown => {
+            let which = asked.symbols.which;
+            system.hint(path, completed(alloc, input, which, hint));
+        }
+        _ => {}
     }
 }
 
@@ -105,14 +137,16 @@ fn heading(alloc: Global, path: &str, are_several: bool) -> Result<Vec<u8>, Allo
 fn show_source<S: Source<Log = ()>, W: Write>(
     alloc: Global,
     asked: &Request<'_>,
+    path: &str,
     source: &S,
+    hint: &mut Option<Hint>,
     out: &mut Output<W>,
 ) -> Result<(), Fault>
     ensures { (file : List ℕ) → S.bytes source.now ≡ Some file
-        → ShowsSource asked.now (S.may_fail source.now ≡ true) file (pending out.old)
+        → ShowsSource asked.now path.now (S.may_fail source.now ≡ true) file (pending out.old)
         (W.contents (writer_of out.old)) (W.contents (writer_of out.new)) (taken W.contents out.new) result }
 {
-    show(alloc, asked, source, out)?;
+    show(alloc, asked, path, source, hint, out)?;
     out.end()
 }
 
@@ -155,6 +189,7 @@ pub fn open_input<F: Read + Source<Log = ()> + Drop, Y: System<F>>(
 ///
 /// Faults that aren't the file's: `Write` and `Missing`.
 pub fn reported<F: Read + Source<Log = ()>, Y: System<F>>(
+    alloc: Global,
     system: &mut Y,
     path: &str,
     input: &OpenFile<F>,
@@ -171,6 +206,9 @@ pub fn reported<F: Read + Source<Log = ()>, Y: System<F>>(
         Err(Fault::Input) => Ok(false),
         Err(fault) => {
             system.report(path, fault, input.take_reason());
+            if let Some(hint) = refusal_hint(alloc, input, fault) {
+                system.hint(path, hint);
+            }
             Ok(false)
         }
     }

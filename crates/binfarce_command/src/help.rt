@@ -3,7 +3,7 @@
 use binfarce_words::words::Command;
 
 /// The program's version.
-pub const VERSION: &str = "binfarce 0.2.1\n";
+pub const VERSION: &str = "binfarce 0.3.0\n";
 
 const PROGRAM: &str = "\
 binfarce reads ELF, Mach-O and PE files, and makes mangled Rust names readable.
@@ -12,7 +12,8 @@ usage: binfarce COMMAND [OPTION..] ..
 
   list [OPTION..] FILE..             function symbols: address, size, name
   size [OPTION..] FILE..             the sum of their sizes by crate
-  map [OPTION..] FILE..              these sums as a picture (SVG)
+  diff [OPTION..] OLD NEW            how these sums differ between two files
+  map [OPTION..] FILE                these sums as a picture (SVG)
   filter [--full] [NAME..]           standard input, or the names, with readable names
   at [OPTION..] FILE [ADDRESS..]
                                      the function symbol at each address, and the offset in it
@@ -25,7 +26,7 @@ usage: binfarce COMMAND [OPTION..] ..
 
 `--` ends the options, and `-` as a FILE is standard input. Status: 0; 1 if a file
 was refused, or a read or a write failed; 2 for a wrong call, or for lines without
-an address.
+an address; 3 where `diff --fail-above` found more growth.
 ";
 
 const LIST: &str = "\
@@ -49,11 +50,39 @@ line with the file's name.
 ";
 
 const SIZE: &str = "\
-usage: binfarce size [--dynamic] [--section=NAME | --all] FILE..
+usage: binfarce size [OPTION..] FILE..
 
 Writes a line for each crate: the sum of the sizes of its function symbols, and its
 name; last the sum of all, and the size of the section.
 
+  --by=KEY         sums by crate, function, generic (functions that differ by their
+                   generic arguments, with their number) or section
+  --std            the crates of Rust's standard library as one, [std]
+  --percent        each sum's share of the section, or of the sum of all sections
+  -n N, --first=N  the N largest sums, and one of all others
+                   (with one of these four the largest sum comes first, and each
+                   byte counts once; without, overlapping symbols count twice)
+  --json           each sum as a JSON object
+  --dynamic        by the dynamic symbol table of an ELF file (.dynsym)
+  --section=NAME   the section of an ELF file, by default .text; of Mach-O and PE
+                   files the code section is taken
+  --all            the symbols of all sections
+  --help           this text
+";
+
+const DIFF: &str = "\
+usage: binfarce diff [OPTION..] OLD NEW
+
+Writes a line for each crate whose sum differs: its size in OLD and in NEW, the
+change, and its name; the largest change first, and last the sums of all. Each byte
+counts once.
+
+  --by=KEY         sums by crate, function, generic or section
+  --std            the crates of Rust's standard library as one, [std]
+  --percent        each change in per cent of the old sum
+  -n N, --first=N  the N largest changes, and one of all others
+  --fail-above=N   status 3 where the sum of all grew by more than N bytes
+  --json           each change as a JSON object
   --dynamic        by the dynamic symbol table of an ELF file (.dynsym)
   --section=NAME   the section of an ELF file, by default .text; of Mach-O and PE
                    files the code section is taken
@@ -62,13 +91,16 @@ name; last the sum of all, and the size of the section.
 ";
 
 const MAP: &str = "\
-usage: binfarce map [--dynamic] [--section=NAME | --all] FILE..
+usage: binfarce map [OPTION..] FILE
 
-Draws the sums of `binfarce size` as an SVG picture with a bar for each crate.
+Draws the sums of `binfarce size` as an SVG picture, the largest first.
 
+  --folded         no picture, but a line for each function symbol: its crate,
+                   modules and name, separated by `;`, and its size, as tools for
+                   flame graphs read it
   --dynamic        by the dynamic symbol table of an ELF file (.dynsym)
   --section=NAME   the section of an ELF file, by default .text; of Mach-O and PE
-                   files the code section is taken
+                   files the code section is drawn
   --all            the symbols of all sections
   --help           this text
 ";
@@ -117,6 +149,7 @@ pub fn help(topic: Option<Command>) -> &'static str {
         Some(Command::List) => LIST,
         Some(Command::Size) => SIZE,
         Some(Command::Map) => MAP,
+        Some(Command::Diff) => DIFF,
         Some(Command::Filter) => FILTER,
         Some(Command::At) => AT,
         Some(Command::Section) => SECTION,

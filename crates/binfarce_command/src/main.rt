@@ -6,6 +6,7 @@ mod fault;
 mod files;
 mod filter;
 mod help;
+mod hint;
 mod input;
 mod output;
 mod report;
@@ -17,17 +18,23 @@ use crate::fault::Fault;
 use crate::files::{System, open_input, reported, show_files};
 use crate::filter::lines_of;
 use crate::help::{VERSION, help};
+use crate::hint::Hint;
 use crate::input::{FileOrStdin, OpenFile};
 use crate::output::Output;
-use crate::report::{ended, refuse, report};
+use crate::report::{ended, judged, refuse, report, report_hint};
 use crate::section::write_or_list;
 use crate::show::{Kind, Request, Symbols};
 use binfarce_addresses::Lookup;
 use binfarce_bytes::source::Source;
+use binfarce_figures::diff::diff;
+use binfarce_figures::key::{Grouping, Key};
+use binfarce_figures::rows::{Naming, Shown};
+use binfarce_figures::sums::Figures;
 use binfarce_filtering::stream::{StreamError, filter_stream};
 use binfarce_tools::SymbolTable;
-use binfarce_tools::rows::{Naming, Shown};
-use binfarce_tools::tables::Selection;
+use binfarce_tools::json::Form;
+use binfarce_tools::report::{ReportError, sums_of_tables};
+use binfarce_tools::tables::{Selection, Tables, read};
 use binfarce_words::words::{Arguments, Call, Command, Flag, Wrong, read_call};
 use std::alloc::Global;
 use std::env;
@@ -116,8 +123,10 @@ fn work<W: Write>(
 ) -> Result<bool, Fault> {
     match command {
         Command::List => show_all(rt, listing_of(given), given, out),
-        Command::Size => show_all(rt, Kind::Sums, given, out),
+        Command::Size => show_all(rt, sums_of(given), given, out),
+        Command::Map if given.has(Flag::Folded) => show_all(rt, Kind::Stacks, given, out),
         Command::Map => show_all(rt, Kind::Picture, given, out),
+        Command::Diff => compare(rt, given, out),
         Command::Filter => filter_text(rt, given, out),
         Command::At => symbolize(rt, given, addresses, out),
         Command::Section => write_section(rt, given, out),
@@ -137,10 +146,95 @@ fn listing_of(given: &Arguments<'_>) -> Kind {
         naming,
         has_total: !given.has(Flag::Sort) && !given.has(Flag::First) && !given.has(Flag::NoTotal),
     };
-    if shown.has_total && naming == Naming::Trimmed {
+    if shown.has_total && naming == Naming::Trimmed && !given.has(Flag::Json) {
         return Kind::Listing;
     }
     Kind::Rows(shown)
+}
+
+// How sizes are summed: by crate, as `binfarce-size` does, unless something else is asked for.
+fn sums_of(given: &Arguments<'_>) -> Kind {
+    if given.has(Flag::By)
+        || given.has(Flag::First)
+        || given.has(Flag::Percent)
+        || given.has(Flag::Std)
+        || given.has(Flag::Json)
+    {
+        return Kind::Figures(figures_of(given));
+    }
+    Kind::Sums
+}
+
+// What sizes are summed by, and how the sums are shown.
+fn figures_of(given: &Arguments<'_>) -> Figures {
+    Figures {
+        grouping: Grouping {
+            key: given.key().unwrap_or(Key::Crate),
+            joins_std: given.has(Flag::Std),
+        },
+        first: given.count(Flag::First),
+        has_percent: given.has(Flag::Percent),
+    }
+}
+
+// The text section, but all sections for sums by section.
+fn default_of(given: &Arguments<'_>) -> Selection<'static> {
+    match given.key() {
+        Some(Key::Section) => Selection::All,
+        _ => Selection::Section(".text"),
+    }
+}
+
+// Compares the sizes of two files. `false` where one is refused.
+fn compare<W: Write>(
+    rt: &HostRuntime,
+    given: &Arguments<'_>,
+    out: &mut Output<W>,
+) -> Result<bool, Fault> {
+    let paths = (first(given), others(given).first().copied().unwrap_or(""));
+    let (Some(old), Some(new)) = (
+        tables_at(rt, given, paths.0)?,
+        tables_at(rt, given, paths.1)?,
+    ) else {
+        return Ok(false);
+    };
+    let form = form_of(given, paths.1);
+    match diff(rt.alloc(), &old, &new, &figures_of(given), form, out) {
+        Ok(growth) => judged(growth, given.count(Flag::FailAbove)),
+        Err(ReportError::Write) => Err(Fault::Write),
+        Err(e) => {
+            let is_old = sums_of_tables(rt.alloc(), &old).is_err();
+            let path = if is_old { paths.0 } else { paths.1 };
+            report(rt, path, Fault::from(e), None);
+            Ok(false)
+        }
+    }
+}
+
+// The tables of the file at this path. `None` where it is refused, which is reported.
+fn tables_at(
+    rt: &HostRuntime,
+    given: &Arguments<'_>,
+    path: &str,
+) -> Result<Option<Tables<'static>>, Fault> {
+    let symbols = symbols_of(given, default_of(given));
+    let mut system = rt;
+    let Some(input) = open_input(rt.alloc(), &mut system, path) else {
+        return Ok(None);
+    };
+    match read(
+        rt.alloc(),
+        &input,
+        &mut (),
+        symbols.which,
+        symbols.selection,
+    ) {
+        Ok(tables) => Ok(Some(tables)),
+        Err(e) => {
+            reported(rt.alloc(), &mut system, path, &input, Err(Fault::from(e)))?;
+            Ok(None)
+        }
+    }
 }
 
 // Shows the function symbols of all files that are given.
@@ -152,9 +246,18 @@ fn show_all<W: Write>(
 ) -> Result<bool, Fault> {
     let asked = Request {
         kind,
-        symbols: symbols_of(given, Selection::Section(".text")),
+        symbols: symbols_of(given, default_of(given)),
+        is_json: given.has(Flag::Json),
     };
     let mut system = rt;
+    if asked.is_json {
+        // Objects have the names of their files, and need no headings.
+        let mut are_shown = true;
+        for path in &given.operands {
+            are_shown &= show_files(rt.alloc(), &mut system, &asked, &[*path], out)?;
+        }
+        return Ok(are_shown);
+    }
     show_files(
         rt.alloc(),
         &mut system,
@@ -216,7 +319,7 @@ fn symbolize<W: Write>(
             } else {
                 answer_all(rt.alloc(), &input, &symbols, lookup, addresses, out)
             };
-            reported(&mut system, path, &input, done)
+            reported(rt.alloc(), &mut system, path, &input, done)
         }
         None => Ok(false),
     }
@@ -255,10 +358,25 @@ fn write_section<W: Write>(
     match open_input(rt.alloc(), &mut system, path) {
         Some(input) => {
             let name = others(given).first().copied();
-            let written = write_or_list(rt.alloc(), &input, name, out).map_err(Fault::from);
-            reported(&mut system, path, &input, written)
+            let written = write_or_list(
+                rt.alloc(),
+                &input,
+                name,
+                form_of(given, path),
+                out,
+            ).map_err(Fault::from);
+            reported(rt.alloc(), &mut system, path, &input, written)
         }
         None => Ok(false),
+    }
+}
+
+// How rows are written.
+fn form_of<'a>(given: &Arguments<'_>, path: &'a str) -> Form<'a> {
+    if given.has(Flag::Json) {
+        Form::Objects(path, "")
+    } else {
+        Form::Lines
     }
 }
 
@@ -295,5 +413,9 @@ impl System<FileOrStdin> for &HostRuntime {
 
     fn report(&mut self, path: &str, fault: Fault, reason: Option<Error>) {
         report(self, path, fault, reason);
+    }
+
+    fn hint(&mut self, path: &str, hint: Hint) {
+        report_hint(self, path, hint);
     }
 }

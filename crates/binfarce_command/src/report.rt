@@ -3,9 +3,11 @@
 ghost use Rattle.std.specs.Prelude.{◌≡◌};
 ghost use Rattle.std.specs.IoError.{error_kind};
 ghost use Rattle.std.specs.Option.{option_map};
-ghost use Rattle.binfarce_command.specs.Status.{fault_status, is_broken_pipe, status_of, write_status, wrong_status};
+ghost use Rattle.binfarce_command.specs.Status.{fault_status, is_broken_pipe, judged, status_of, write_status, wrong_status};
 
 use crate::fault::Fault;
+use crate::hint::Hint;
+use binfarce_figures::diff::Growth;
 use binfarce_words::words::Wrong;
 use std::io::{Error, ErrorKind};
 
@@ -42,7 +44,23 @@ fn status(fault: Fault) -> u8
 {
     match fault {
         Fault::Missing(_) => 2,
+        Fault::Grown(_) => 3,
         _ => 1,
+    }
+}
+
+/// Whether the growth from one sum to another is allowed: it is no more than this limit, if there is one.
+///
+/// # Errors
+///
+/// `Grown` with the growth where it is more.
+pub fn judged(growth: Growth, limit: Option<usize>) -> Result<bool, Fault>
+    ensures { result ≡ judged growth limit }
+{
+    let by = growth.new.saturating_sub(growth.old);
+    match limit {
+        Some(limit) if by > limit as u64 => Err(Fault::Grown(by)),
+        _ => Ok(true),
     }
 }
 
@@ -79,6 +97,11 @@ pub fn report(rt: &HostRuntime, name: &str, fault: Fault, reason: Option<Error>)
             let _ = eprintln!(rt; "binfarce: {name}: {fault}");
         }
     }
+}
+
+/// Prints a hint on a file.
+pub fn report_hint(rt: &HostRuntime, name: &str, hint: Hint) {
+    let _ = eprintln!(rt; "binfarce: {name}: {hint}");
 }
 
 fn print_reason(rt: &HostRuntime, name: &str, e: &Error) {

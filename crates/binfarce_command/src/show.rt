@@ -1,21 +1,26 @@
 //! Shows the function symbols of a file: as a listing, as sums by crate, or as a picture.
 
 ghost use Rattle.std.specs.Prelude.{◌≡◌, ◌≢◌, ℕ, List, Option, true, Some, Err};
+ghost use Rattle.binfarce_tools.specs.Json.{style_of};
 ghost use Rattle.binfarce_tools.specs.Selection.{answer_in, MemoryIn};
 ghost use Rattle.binfarce_tools.specs.Tables.{AreTablesOf};
 ghost use Rattle.binfarce_tools.specs.declared.SymbolTable.{SymbolTable};
 ghost use Rattle.binfarce_tools.specs.Writing.{EndsAs, Takes, Fails, Leaves};
 ghost use Rattle.binfarce_command.specs.Faults.{outcome_of};
-ghost use Rattle.binfarce_command.specs.Show.{Fits, IsTextOf, MayEnd, TakesText};
+ghost use Rattle.binfarce_command.specs.Show.{Fits, IsTextOf, MayEnd, TakesText, style_for};
 ghost use Rattle.binfarce_command.specs.declared.fault.Fault.TheVariants.{Input};
 
 use crate::fault::Fault;
+use crate::hint::{Hint, hint_of, note_overlap};
 use binfarce_bytes::source::Source;
+use binfarce_figures::rows::{Shown, list_by};
+use binfarce_figures::stacks::fold_tables;
+use binfarce_figures::sums::{Figures, sum_by};
 use binfarce_tools::SymbolTable;
+use binfarce_tools::json::Form;
 use binfarce_tools::list::{Sink, list_tables};
 use binfarce_tools::map::map_tables;
-use binfarce_tools::report::report_tables;
-use binfarce_tools::rows::{Shown, list_by};
+use binfarce_tools::report::report_noted;
 use binfarce_tools::tables::{Selection, Tables, read};
 use std::alloc::Global;
 
@@ -28,8 +33,12 @@ pub enum Kind {
     Rows(Shown),
     /// As sums by crate.
     Sums,
+    /// As sums by a key, in an order, of the first lines, or with shares.
+    Figures(Figures),
     /// As a picture of these sums.
     Picture,
+    /// As stacks.
+    Stacks,
 }
 
 /// Which function symbols of a file are taken.
@@ -48,9 +57,23 @@ pub struct Request<'a> {
     pub kind: Kind,
     /// Which they are.
     pub symbols: Symbols<'a>,
+    /// Whether they are shown as JSON objects.
+    pub is_json: bool,
 }
 
-/// Shows the function symbols of the source that are asked for. Of the source it reads the headers, the symbol table and the names
+// The form in which the file at this path is shown.
+fn form_for<'a>(asked: &Request<'a>, path: &'a str) -> Form<'a>
+    ensures { style_of result ≡ style_for asked.entry.now path.entry.now }
+{
+    match asked.symbols.selection {
+        _ if !asked.is_json => Form::Lines,
+        Selection::Section(section) => Form::Objects(path, section),
+        Selection::All => Form::Objects(path, ""),
+    }
+}
+
+/// Shows the function symbols of the source that are asked for, and says if there is a hint on them; a picture has the path
+/// as its title. Of the source it reads the headers, the symbol table and the names
 /// alone.
 ///
 /// # Errors
@@ -60,13 +83,15 @@ pub struct Request<'a> {
 pub fn show<S: Source<Log = ()>, K: Sink>(
     alloc: Global,
     asked: &Request<'_>,
+    path: &str,
     source: &S,
+    hint: &mut Option<Hint>,
     out: &mut K,
 ) -> Result<(), Fault>
     ensures outcome { (file : List ℕ) → S.bytes source.now ≡ Some file
         → MayEnd (S.may_fail source.now ≡ true) asked.now file (outcome_of result) }
     ensures takes { (file : List ℕ) → S.bytes source.now ≡ Some file
-        → TakesText asked.now file (K.taken out.old) (K.taken out.new) (outcome_of result) }
+        → TakesText asked.now path.now file (K.taken out.old) (K.taken out.new) (outcome_of result) }
     ensures of_file { result ≢ Err Input }
     ensures fails { Fails (K.has_failed out.old) (K.has_failed out.new) (outcome_of result) }
     ensures leaves { Leaves out.old out.new (outcome_of result) }
@@ -78,21 +103,33 @@ pub fn show<S: Source<Log = ()>, K: Sink>(
         asked.symbols.which,
         asked.symbols.selection,
     )?;
-    show_tables(alloc, asked.kind, &tables, out)
+    *hint = hint_of(alloc, &tables);
+    show_tables(
+        alloc,
+        asked.kind,
+        path,
+        form_for(asked, path),
+        &tables,
+        hint,
+        out,
+    )
 }
 
 // The same, of the tables of the source.
 fn show_tables<K: Sink>(
     alloc: Global,
     kind: Kind,
+    path: &str,
+    form: Form<'_>,
     tables: &Tables<'_>,
+    hint: &mut Option<Hint>,
     out: &mut K,
 ) -> Result<(), Fault>
     ensures outcome { (which : SymbolTable) (file : List ℕ) (section : Option (List ℕ))
         → AreTablesOf which file section tables.now
         → EndsAs (Fits kind) (MemoryIn file section) (answer_in which file section) (outcome_of result) }
     ensures takes { (which : SymbolTable) (file : List ℕ) (section : Option (List ℕ))
-        → AreTablesOf which file section tables.now → Takes (IsTextOf kind which file section)
+        → AreTablesOf which file section tables.now → Takes (IsTextOf kind path.now (style_of form.entry) which file section)
         (answer_in which file section) (K.taken out.old) (K.taken out.new) (outcome_of result) }
     ensures of_file { result ≢ Err Input }
     ensures fails { Fails (K.has_failed out.old) (K.has_failed out.new) (outcome_of result) }
@@ -100,8 +137,15 @@ fn show_tables<K: Sink>(
 {
     match kind {
         Kind::Listing => Ok(list_tables(alloc, tables, out)?),
-        Kind::Rows(shown) => Ok(list_by(alloc, tables, &shown, out)?),
-        Kind::Sums => Ok(report_tables(alloc, tables, out)?),
-        Kind::Picture => Ok(map_tables(alloc, tables, out)?),
+        Kind::Rows(shown) => Ok(list_by(alloc, tables, &shown, form, out)?),
+        Kind::Sums => {
+            let mut exceeds = false;
+            report_noted(alloc, tables, &mut exceeds, out)?;
+            note_overlap(hint, exceeds);
+            Ok(())
+        }
+        Kind::Figures(figures) => Ok(sum_by(alloc, tables, &figures, form, out)?),
+        Kind::Picture => Ok(map_tables(alloc, path, tables, out)?),
+        Kind::Stacks => Ok(fold_tables(alloc, tables, out)?),
     }
 }

@@ -4,7 +4,7 @@ use Rattle.binfarce_bytes.specs.declared.ByteOrder.{ByteOrder}
 use Rattle.binfarce_elf.specs.declared.symbols.Needed.{Needed}
 use Rattle.binfarce_elf.specs.declared.symbols.TableSections as code
 use Rattle.binfarce_bytes.specs.Walk.{Walk}
-use Rattle.binfarce_elf.specs.declared.parts.Place.{Place}
+use Rattle.binfarce_elf.specs.declared.parts.HeaderTable.{HeaderTable}
 use Rattle.binfarce_elf.specs.declared.parts.AnySections.{AnySections}
 use Rattle.binfarce_elf.specs.declared.parts.AnySections.TheVariants.{Narrow, Wide}
 use Rattle.binfarce_elf.specs.Elf.{ElfClass, SectionTable, Section, header_of}
@@ -24,7 +24,7 @@ abbrev pub needed_view : Needed → NeededSections
 needed_view n = record { taken = taken_view n.taken; table = table_sections_view n.table }
 
 -- the header of a file states this place of its section headers, and its type
-abbrev pub IsPlaceOf : ElfClass → ByteOrder → List ℕ → Place → Type 0
+abbrev pub IsPlaceOf : ElfClass → ByteOrder → List ℕ → HeaderTable → Type 0
 IsPlaceOf class order file p =
     let header = header_of class order file in
     (p.byte_order ≡ order) × (p.shoff ≡ header.shoff) × (p.shnum ≡ header.shnum) × (p.shstrndx ≡ header.shstrndx) × (p.elf_type ≡ header.elf_type)

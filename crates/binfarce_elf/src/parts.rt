@@ -24,7 +24,7 @@ use binfarce_bytes::{ByteOrder, ParseError};
 
 /// Where the section headers of a file are, and the file's type, as its header states.
 #[derive(Clone, Copy)]
-pub struct Place {
+pub struct HeaderTable {
     pub byte_order: ByteOrder,
     pub shoff: usize,
     pub shnum: Half,
@@ -33,7 +33,7 @@ pub struct Place {
 }
 
 /// The place that the header of a file of this class states. `UnexpectedEof` where the header is truncated.
-pub fn place_in(file: &[u8], width: Width, byte_order: ByteOrder) -> Result<Place, ParseError>
+pub fn place_in(file: &[u8], width: Width, byte_order: ByteOrder) -> Result<HeaderTable, ParseError>
     ensures { MatchResult result
         (λ p. ((class_of width).header_length ≤ length file.now)
         × IsPlaceOf (class_of width) byte_order file.now p)
@@ -45,13 +45,13 @@ pub fn place_in(file: &[u8], width: Width, byte_order: ByteOrder) -> Result<Plac
     }
 }
 
-fn place_of<C: Class>(file: &[u8], byte_order: ByteOrder) -> Result<Place, ParseError>
+fn place_of<C: Class>(file: &[u8], byte_order: ByteOrder) -> Result<HeaderTable, ParseError>
     ensures { MatchResult result
         (λ p. (C.table.header_length ≤ length file.now) × IsPlaceOf C.table byte_order file.now p)
         (λ e. (length file.now < C.table.header_length) × (refusal_of e ≡ unexpected_eof)) }
 {
     let header = parse_header::<C>(file, byte_order)?;
-    Ok(Place {
+    Ok(HeaderTable {
         byte_order,
         shoff: header.shoff.widened() as usize,
         shnum: header.shnum,
@@ -87,7 +87,7 @@ pub fn section_at(
 pub fn needed_in(
     headers: &[u8],
     width: Width,
-    place: Place,
+    place: HeaderTable,
     names: Option<&[u8]>,
     which: SymbolTable,
     selection: Selection<'_>,

@@ -3,7 +3,7 @@ use Rattle.std.specs.Prelude.{ℕ, ◌+◌, ◌-◌, ◌*◌, ◌/◌, ◌&&◌,
 use Rattle.std.specs.List.{range_with_len, filter_map}
 use Rattle.binfarce_bytes.specs.Refusal.{◌>>=◌, Refusal, required, symbols_section_is_missing, unexpected_eof}
 use Rattle.binfarce_bytes.specs.Walk.{Walk, first}
-use Rattle.binfarce_pe.specs.declared.parts.Places.{Places}
+use Rattle.binfarce_pe.specs.declared.parts.TableOffsets.{TableOffsets}
 use Rattle.binfarce_pe.specs.declared.parts.Text.{Text}
 use Rattle.binfarce_pe.specs.declared.sections.Table.{Table}
 use Rattle.binfarce_pe.specs.declared.symbols.SymbolTable as code
@@ -34,8 +34,8 @@ places_after signature header = record {
 abbrev pub places_of : List ℕ → TablePlaces
 places_of file = places_after (signature_offset file) (header_of file)
 
--- a `Places`
-abbrev pub places_view : Places → TablePlaces
+-- a `TableOffsets`
+abbrev pub places_view : TableOffsets → TablePlaces
 places_view p = record { optional_header = p.optional_header; optional_header_size = p.optional_header_size; sections = p.sections; section_count = p.section_count; symbols = p.symbols; symbols_size = p.symbols_size }
 
 -- section headers: the bytes that hold them, their offset in these bytes, and their number

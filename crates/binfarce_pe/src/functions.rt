@@ -17,7 +17,7 @@ ghost use Rattle.binfarce_pe.specs.PeSymbols.{entries_of, size_members};
 ghost use Rattle.binfarce_pe.specs.machine.RawPe.{symbol_view, function_in, AllOrNone, HoldsRows, HoldsSections, IsAdded, SomeKept};
 
 use crate::header::image_base;
-use crate::parts::{Places, SECTION_LENGTH, Text, text_in};
+use crate::parts::{SECTION_LENGTH, TableOffsets, Text, text_in};
 use crate::sections::{Table, section_at, section_table};
 use crate::symbols::{
     SYMBOL_LENGTH, SymbolRow, SymbolTable, is_function, name_of, symbol_of, symbol_table,
@@ -61,7 +61,7 @@ impl SelectedSections<'_> {
 pub fn functions_of_file<'a>(
     alloc: Global,
     file: &'a [u8],
-    places: Places,
+    places: TableOffsets,
     selection: Selection<'_>,
 ) -> Result<(Vec<SectionFunction<'a>>, Option<u64>), ParseError>
     requires { places_view places ≡ places_of file.now }
@@ -76,7 +76,7 @@ pub fn functions_of_file<'a>(
 // What a selection chooses of a file, or the first refusal.
 fn selected_sections<'a>(
     file: &'a [u8],
-    places: Places,
+    places: TableOffsets,
     selection: Selection<'_>,
 ) -> Result<SelectedSections<'a>, ParseError>
     requires { places_view places ≡ places_of file.now }
@@ -90,7 +90,10 @@ fn selected_sections<'a>(
 }
 
 // All sections of a file, none of whose headers is truncated.
-fn all_sections<'a>(file: &'a [u8], places: Places) -> Result<SelectedSections<'a>, ParseError>
+fn all_sections<'a>(
+    file: &'a [u8],
+    places: TableOffsets,
+) -> Result<SelectedSections<'a>, ParseError>
     requires { places_view places ≡ places_of file.now }
     ensures answer { Gives refusal_of sections_view (sections_in None file.entry.now) result }
     ensures whole { IfOk result (λ c. IsWhole (sections_view c)) }

@@ -28,7 +28,7 @@ pub const SECTION_LENGTH: usize = 40;
 
 /// Where the tables of a file are, in bytes from its beginning.
 #[derive(Clone, Copy)]
-pub struct Places {
+pub struct TableOffsets {
     /// Where the optional header begins.
     pub optional_header: usize,
     /// How many of its first 32 bytes it has; they state the image base.
@@ -61,7 +61,7 @@ pub fn signature_in(pointer: &[u8]) -> Result<u32, ParseError>
 
 /// The places that a file header states: `headers` begins with the signature, which is at this offset of the file.
 /// Refused where the file header is truncated.
-pub fn places_in(headers: &[u8], signature: u32) -> Result<Places, ParseError>
+pub fn places_in(headers: &[u8], signature: u32) -> Result<TableOffsets, ParseError>
     ensures { MatchResult result
         (λ p. (24 ≤ length headers.now) × (places_view p ≡ places_after signature (header_after headers.now 0)))
         (λ e. (length headers.now < 24) × (refusal_of e ≡ unexpected_eof)) }
@@ -71,12 +71,12 @@ pub fn places_in(headers: &[u8], signature: u32) -> Result<Places, ParseError>
 }
 
 /// The places that this file header states, where the signature is at this offset of the file.
-pub fn places_after(signature: u32, header: PeHeader) -> Places
+pub fn places_after(signature: u32, header: PeHeader) -> TableOffsets
     ensures { places_view result ≡ places_after signature (header_view header) }
 {
     let optional_header = signature as usize + HEADERS_LENGTH;
     let size = header.size_of_optional_header as usize;
-    Places {
+    TableOffsets {
         optional_header,
         optional_header_size: size.min(OPTIONAL_HEADER_LENGTH),
         sections: optional_header + size,

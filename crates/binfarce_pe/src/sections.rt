@@ -10,7 +10,7 @@ ghost use Rattle.binfarce_pe.specs.PeParts.{headers_view, section_table, table_w
 ghost use Rattle.binfarce_pe.specs.PeViews.{section_view};
 ghost use Rattle.binfarce_pe.specs.machine.RawPe.{header_count, walk_from};
 
-use crate::parts::{Places, SECTION_LENGTH};
+use crate::parts::{SECTION_LENGTH, TableOffsets};
 use binfarce_bytes::parser::{Stream, UnexpectedEof, range, up_to_nul, utf8_text};
 use binfarce_bytes::{ByteOrder, ParseError};
 use std::marker::Model;
@@ -92,7 +92,7 @@ impl<'a> Model for Sections<'a> {
 }
 
 /// All sections of a file whose tables are at these places.
-pub fn sections_of<'a>(file: &'a [u8], places: Places) -> Sections<'a>
+pub fn sections_of<'a>(file: &'a [u8], places: TableOffsets) -> Sections<'a>
     requires { places_view places ≡ places_of file.now }
     ensures { result ≡ walk file.now }
 {
@@ -103,7 +103,7 @@ pub fn sections_of<'a>(file: &'a [u8], places: Places) -> Sections<'a>
 }
 
 /// The section headers of a file.
-pub(crate) fn section_table<'a>(file: &'a [u8], places: Places) -> Table<'a>
+pub(crate) fn section_table<'a>(file: &'a [u8], places: TableOffsets) -> Table<'a>
     requires { places_view places ≡ places_of file.now }
     ensures { headers_view result ≡ section_table file.now }
 {
@@ -167,7 +167,7 @@ fn section_left(table: Table<'_>, from: u16) -> Result<Option<(Section<'_>, u16)
 /// The first section of the file that the callback accepts.
 pub fn first_of_file<'a, F: Fn(Section<'a>) -> bool>(
     file: &'a [u8],
-    places: Places,
+    places: TableOffsets,
     callback: F,
 ) -> Result<Option<Section<'a>>, UnexpectedEof>
     requires places { places_view places ≡ places_of file.now }
@@ -207,7 +207,7 @@ fn first_section<'a, F: Fn(Section<'a>) -> bool>(
 /// The first section with this name.
 pub fn section_with_name<'a>(
     file: &'a [u8],
-    places: Places,
+    places: TableOffsets,
     name: &str,
 ) -> Result<Option<Section<'a>>, UnexpectedEof>
     requires { places_view places ≡ places_of file.now }

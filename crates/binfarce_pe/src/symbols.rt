@@ -7,7 +7,7 @@ ghost use Rattle.binfarce_pe.specs.PeParts.{places_of, places_view, table_view};
 ghost use Rattle.binfarce_pe.specs.PeSymbols.{symbol_table, is_function, symbol_at, record_count, symbol_of, name_of};
 ghost use Rattle.binfarce_pe.specs.machine.RawPe.{symbol_view};
 
-use crate::parts::Places;
+use crate::parts::TableOffsets;
 use crate::sections::short_name;
 use binfarce_bytes::parser::{Stream, UnexpectedEof, parse_null_string, slice_at};
 use binfarce_bytes::{ByteOrder, ParseError};
@@ -40,7 +40,7 @@ pub(crate) struct SymbolRow {
 #[tactic(auto, unfolding(crate::specs::PeSymbols::symbol_table))]
 pub(crate) fn symbol_table<'a>(
     file: &'a [u8],
-    places: Places,
+    places: TableOffsets,
 ) -> Result<SymbolTable<'a>, ParseError>
     requires { places_view places ≡ places_of file.now }
     ensures { Gives refusal_of table_view (symbol_table file.now) result }

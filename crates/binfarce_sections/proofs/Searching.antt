@@ -7,6 +7,7 @@ use Rattle.binfarce_sections.specs.declared.error.SectionError.{SectionError}
 use Rattle.binfarce_sections.specs.declared.error.SectionError.TheVariants.{Parse, OutOfMemory}
 use Rattle.binfarce_sections.specs.Named.{bytes_found, bytes_named, unknown_format, refused}
 use Rattle.binfarce_sections.specs.Section.{Section}
+use Rattle.binfarce_tools.specs.Json.{Style}
 use Rattle.binfarce_sections.specs.Results.{Hands, TakesLines}
 use Rattle.binfarce_sections.specs.declared.sections.Sections.{Sections}
 use Rattle.binfarce_sections.specs.Views.{Opens}
@@ -28,8 +29,8 @@ hands_on {X = X} view walk file word e (Err f) found is =
     subst P (sym is) (found_not view walk file word e found)
 
 -- where an allocation fails before the first write, nothing was taken
-pub untaken : (walk : Option (Walk Section)) (sections : Sections) (taken : Option (List ℕ)) (result : Result (Unit {0}) SectionError)
-    → Opens walk (Ok sections) → IsErrAnd result (λ f. f ≡ OutOfMemory) → TakesLines walk taken taken result
-untaken None sections taken result opened is = absurd opened
-untaken (Some walk) sections taken (Ok x) opened is = absurd is
-untaken (Some walk) sections taken (Err e) opened is = subst (λ (f : SectionError). TakesLines (Some walk) taken taken (Err f)) (sym is) (nothing taken)
+pub untaken : (style : Style) (walk : Option (Walk Section)) (sections : Sections) (taken : Option (List ℕ)) (result : Result (Unit {0}) SectionError)
+    → Opens walk (Ok sections) → IsErrAnd result (λ f. f ≡ OutOfMemory) → TakesLines style walk taken taken result
+untaken style None sections taken result opened is = absurd opened
+untaken style (Some walk) sections taken (Ok x) opened is = absurd is
+untaken style (Some walk) sections taken (Err e) opened is = subst (λ (f : SectionError). TakesLines style (Some walk) taken taken (Err f)) (sym is) (nothing taken)

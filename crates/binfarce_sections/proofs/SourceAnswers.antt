@@ -14,6 +14,7 @@ use Rattle.binfarce_sections.specs.declared.error.SectionError.{SectionError}
 use Rattle.binfarce_sections.specs.declared.error.SectionError.TheVariants.{Unknown, Parse, OutOfMemory, Write, Unreadable}
 use Rattle.binfarce_sections.specs.declared.sections.Section as code
 use Rattle.binfarce_sections.specs.declared.sections.Sections.{Sections}
+use Rattle.binfarce_tools.specs.Json.{Style}
 use Rattle.binfarce_sections.specs.Lines.{section_lines}
 use Rattle.binfarce_sections.specs.Named.{Lack, unknown_format, refused, is_named, bytes_found, bytes_named}
 use Rattle.binfarce_sections.specs.Section.{Section, sections_of}
@@ -36,34 +37,34 @@ found_err None sections word e opened is = absurd opened
 found_err (Some walk) sections word e opened is = ap (first (is_named word)) (sym opened) ∙ is
 
 -- the lines of the sections that were opened
-pub lines_opened : (walk : Option (Walk Section)) (sections : Sections) (old new : Option (List ℕ)) (r : Result (Unit {0}) SectionError)
-    → Opens walk (Ok sections) → TakesLines (Some (sections_left sections)) old new r → TakesLines walk old new r
-lines_opened None sections old new r opened takes = absurd opened
-lines_opened (Some walk) sections old new r opened takes = subst (λ (w : Walk Section). TakesLines (Some w) old new r) opened takes
+pub lines_opened : (style : Style) (walk : Option (Walk Section)) (sections : Sections) (old new : Option (List ℕ)) (r : Result (Unit {0}) SectionError)
+    → Opens walk (Ok sections) → TakesLines style (Some (sections_left sections)) old new r → TakesLines style walk old new r
+lines_opened style None sections old new r opened takes = absurd opened
+lines_opened style (Some walk) sections old new r opened takes = subst (λ (w : Walk Section). TakesLines style (Some w) old new r) opened takes
 
-ended_lines : (walk : Walk Section) (p : ParseError) (old : Option (List ℕ)) → walk ≡ ended (Some (refusal_of p)) → TakesLines (Some walk) old old (Err (Parse p))
-ended_lines walk p old stop = (ap (λ (w : Walk Section). w.refusal) stop, subst (λ (w : Walk Section). Appends old old (section_lines w.items)) (sym stop) (nothing old))
+ended_lines : (style : Style) (walk : Walk Section) (p : ParseError) (old : Option (List ℕ)) → walk ≡ ended (Some (refusal_of p)) → TakesLines style (Some walk) old old (Err (Parse p))
+ended_lines style walk p old stop = (ap (λ (w : Walk Section). w.refusal) stop, subst (λ (w : Walk Section). Appends old old (section_lines style w.items)) (sym stop) (nothing old))
 
 -- where the sections weren't opened, no line is taken
-pub lines_unopened : (may_fail : Bool) (walk : Option (Walk Section)) (e : SectionError) (old : Option (List ℕ)) → Opens walk (Err e) → TakesReadLines may_fail walk old old (Err e)
-lines_unopened may_fail None e old is = subst (λ (s : SectionError). TakesReadLines may_fail None old old (Err s)) (sym is) (refl, nothing old)
-lines_unopened may_fail (Some walk) e old is =
-    subst (λ (s : SectionError). TakesReadLines may_fail (Some walk) old old (Err s)) (sym is.2) (ended_lines walk is.0 old is.1)
+pub lines_unopened : (style : Style) (may_fail : Bool) (walk : Option (Walk Section)) (e : SectionError) (old : Option (List ℕ)) → Opens walk (Err e) → TakesReadLines style may_fail walk old old (Err e)
+lines_unopened style may_fail None e old is = subst (λ (s : SectionError). TakesReadLines style may_fail None old old (Err s)) (sym is) (refl, nothing old)
+lines_unopened style may_fail (Some walk) e old is =
+    subst (λ (s : SectionError). TakesReadLines style may_fail (Some walk) old old (Err s)) (sym is.2) (ended_lines style walk is.0 old is.1)
 
 -- what is taken of bytes in memory may be taken of a source
-pub lines_read : (may_fail : Bool) (walk : Option (Walk Section)) (old new : Option (List ℕ)) (r : Result (Unit {0}) SectionError) → TakesLines walk old new r → TakesReadLines may_fail walk old new r
-lines_read may_fail None old new (Err OutOfMemory) takes = let e : Path (Result (Unit {0}) SectionError) (Err OutOfMemory) (Err Unknown) = takes.0 in absurd cc
-lines_read may_fail None old new (Err Unreadable) takes = let e : Path (Result (Unit {0}) SectionError) (Err Unreadable) (Err Unknown) = takes.0 in absurd cc
-lines_read may_fail (Some walk) old new (Err OutOfMemory) takes = takes
-lines_read may_fail (Some walk) old new (Err Unreadable) takes = absurd takes
-lines_read may_fail walk old new r takes = takes
+pub lines_read : (style : Style) (may_fail : Bool) (walk : Option (Walk Section)) (old new : Option (List ℕ)) (r : Result (Unit {0}) SectionError) → TakesLines style walk old new r → TakesReadLines style may_fail walk old new r
+lines_read style may_fail None old new (Err OutOfMemory) takes = let e : Path (Result (Unit {0}) SectionError) (Err OutOfMemory) (Err Unknown) = takes.0 in absurd cc
+lines_read style may_fail None old new (Err Unreadable) takes = let e : Path (Result (Unit {0}) SectionError) (Err Unreadable) (Err Unknown) = takes.0 in absurd cc
+lines_read style may_fail (Some walk) old new (Err OutOfMemory) takes = takes
+lines_read style may_fail (Some walk) old new (Err Unreadable) takes = absurd takes
+lines_read style may_fail walk old new r takes = takes
 
 -- where nothing was read, no line is taken
-pub lines_unread : (may_fail : Bool) (file : List ℕ) (e : ReadError) (old : Option (List ℕ)) → ReadsTables may_fail file (Err e) → TakesReadLines may_fail (sections_of (format_of file) file) old old (Err (error_of e))
-lines_unread may_fail file (reading.Refused p) old has =
-    subst (λ (w : Option (Walk Section)). TakesLines w old old (Err (Parse p))) (sym has) (ended_lines (ended (Some (refusal_of p))) p old refl)
-lines_unread may_fail file reading.Unreadable old has = (has, nothing old)
-lines_unread may_fail file reading.OutOfMemory old has = nothing old
+pub lines_unread : (style : Style) (may_fail : Bool) (file : List ℕ) (e : ReadError) (old : Option (List ℕ)) → ReadsTables may_fail file (Err e) → TakesReadLines style may_fail (sections_of (format_of file) file) old old (Err (error_of e))
+lines_unread style may_fail file (reading.Refused p) old has =
+    subst (λ (w : Option (Walk Section)). TakesLines style w old old (Err (Parse p))) (sym has) (ended_lines style (ended (Some (refusal_of p))) p old refl)
+lines_unread style may_fail file reading.Unreadable old has = (has, nothing old)
+lines_unread style may_fail file reading.OutOfMemory old has = nothing old
 
 -- the bytes of a section of the sections that were opened
 pub bytes_opened : (walk : Option (Walk Section)) (sections : Sections) (file word : List ℕ) (found : Result (Option Section) Refusal)

@@ -18,6 +18,7 @@ use Rattle.binfarce_tools.specs.Parts.{head_part}
 use Rattle.binfarce_sections.specs.Named.{is_named}
 use Rattle.binfarce_sections.specs.Parts.{section_parts_of, format_parts, bytes_parts, found_parts, first_parts, named_parts_of}
 use Rattle.binfarce_sections.specs.Section.{Section, sections_of}
+use Rattle.binfarce_tools.specs.Json.{Style}
 use Rattle.binfarce_sections.specs.Results.{TakesBytes, TakesLines, error_of}
 use Rattle.binfarce_sections.specs.Views.{Opens, sections_left}
 use Rattle.binfarce_sections.specs.declared.error.SectionError.{SectionError}
@@ -73,9 +74,9 @@ opened_surely None e is unreadable = let never : Unknown ≡ Unreadable = sym is
 opened_surely (Some walk) e is unreadable = let never : Parse is.0 ≡ Unreadable = sym is.2 ∙ unreadable in absurd cc
 
 -- nor is it so of a call that writes lines, or bytes that were read
-pub lines_surely : (walk : Walk Section) (old new : Option (List ℕ)) (r : Result (Unit {0}) SectionError) → TakesLines (Some walk) old new r → IfErr r (λ e. e ≢ Unreadable)
-lines_surely walk old new (Ok x) takes = tt
-lines_surely walk old new (Err e) takes = λ is. subst (λ (s : SectionError). TakesLines (Some walk) old new (Err s)) is takes
+pub lines_surely : (style : Style) (walk : Walk Section) (old new : Option (List ℕ)) (r : Result (Unit {0}) SectionError) → TakesLines style (Some walk) old new r → IfErr r (λ e. e ≢ Unreadable)
+lines_surely style walk old new (Ok x) takes = tt
+lines_surely style walk old new (Err e) takes = λ is. subst (λ (s : SectionError). TakesLines style (Some walk) old new (Err s)) is takes
 
 pub bytes_surely : (bytes : List ℕ) (old new : Option (List ℕ)) (r : Result (Unit {0}) SectionError) → TakesBytes (Ok bytes) old new r → IfErr r (λ e. e ≢ Unreadable)
 bytes_surely bytes old new (Ok x) takes = tt

@@ -1,6 +1,7 @@
 -- The text that lists sections.
 use Rattle.std.specs.Prelude.{ℕ, List, [], ◌∷◌, ◌++◌, codes, Option, Some, None}
-use Rattle.std.specs.List.{flat_map}
+use Rattle.std.specs.List.{concat, flat_map}
+use Rattle.binfarce_tools.specs.Json.{Style, lines, objects, address_member, number_member, object_start, text_member}
 use Rattle.binfarce_tools.specs.Listing.{address_text, size_text}
 use Rattle.binfarce_sections.specs.Section.{Section}
 use Rattle.binfarce_sections.specs.Named.{full_name}
@@ -19,6 +20,17 @@ line_head address offset size = address_text address ++ (codes " " ++ (size_text
 abbrev pub section_line : Section → List ℕ
 section_line s = line_head s.address s.offset s.size ++ (name_text s.segment s.name ++ 10 ∷ [])
 
--- a line for each section, in order
-abbrev pub section_lines : List Section → List ℕ
-section_lines sections = flat_map section_line sections
+-- a section as a JSON object: its file, its segment and its name, or null where it has none; its address, its offset in the file and its size in bytes
+abbrev pub section_object : (file : List ℕ) → Section → List ℕ
+section_object file s = concat (
+    object_start file ∷ text_member (codes "segment") s.segment ∷ text_member (codes "section") s.name
+    ∷ address_member s.address ∷ number_member (codes "offset") s.offset ∷ number_member (codes "size") s.size ∷ codes "}\n" ∷ []
+    )
+
+abbrev pub section_row : Style → Section → List ℕ
+section_row lines s = section_line s
+section_row (objects file section) s = section_object file s
+
+-- a row for each section, in order
+abbrev pub section_lines : Style → List Section → List ℕ
+section_lines style sections = flat_map (section_row style) sections

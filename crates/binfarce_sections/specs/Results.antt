@@ -6,6 +6,7 @@ use Rattle.binfarce.specs.Walk.{Walk}
 use Rattle.binfarce_tables.specs.declared.error.ReadError as reading
 use Rattle.binfarce_tables.specs.declared.error.ReadError.TheVariants as read_errors
 use Rattle.binfarce_tools.specs.Writing.{AppendsBeginning}
+use Rattle.binfarce_tools.specs.Json.{Style}
 use Rattle.binfarce_sections.specs.declared.error.SectionError.{SectionError}
 use Rattle.binfarce_sections.specs.declared.error.SectionError.TheVariants.{Unknown, Parse, NoSection, NoBytes, PastEnd, OutOfMemory, Write, Unreadable}
 use Rattle.binfarce_sections.specs.Lines.{section_lines}
@@ -53,13 +54,13 @@ TakesBytes answer old new (Err e) = (lack : Lack) × (answer ≡ Err lack) × Is
 
 -- the lines of the sections were taken, and then the walk's refusal is returned, if any; where a write failed, a beginning of the lines was taken;
 -- where an allocation failed, or the format is unknown, nothing
-abbrev pub TakesLines : Option (Walk Section) → Option (List ℕ) → Option (List ℕ) → Result (Unit {0}) SectionError → Type 0
-TakesLines None old new result = (result ≡ Err Unknown) × Appends old new []
-TakesLines (Some walk) old new (Ok x) = (walk.refusal ≡ None) × Appends old new (section_lines walk.items)
-TakesLines (Some walk) old new (Err (Parse e)) = (walk.refusal ≡ Some (refusal_of e)) × Appends old new (section_lines walk.items)
-TakesLines (Some walk) old new (Err OutOfMemory) = Appends old new []
-TakesLines (Some walk) old new (Err Write) = AppendsBeginning old new (section_lines walk.items)
-TakesLines (Some walk) old new (Err e) = ⊥
+abbrev pub TakesLines : Style → Option (Walk Section) → Option (List ℕ) → Option (List ℕ) → Result (Unit {0}) SectionError → Type 0
+TakesLines style None old new result = (result ≡ Err Unknown) × Appends old new []
+TakesLines style (Some walk) old new (Ok x) = (walk.refusal ≡ None) × Appends old new (section_lines style walk.items)
+TakesLines style (Some walk) old new (Err (Parse e)) = (walk.refusal ≡ Some (refusal_of e)) × Appends old new (section_lines style walk.items)
+TakesLines style (Some walk) old new (Err OutOfMemory) = Appends old new []
+TakesLines style (Some walk) old new (Err Write) = AppendsBeginning old new (section_lines style walk.items)
+TakesLines style (Some walk) old new (Err e) = ⊥
 
 -- the same for a source's bytes. A source that may fail can be unreadable; then, and where an allocation failed, nothing was taken
 abbrev pub TakesRead : Bool → Result (List ℕ) Lack → Option (List ℕ) → Option (List ℕ) → Result (Unit {0}) SectionError → Type 0
@@ -68,10 +69,10 @@ TakesRead may_fail answer old new (Err OutOfMemory) = Appends old new []
 TakesRead may_fail answer old new result = TakesBytes answer old new result
 
 -- the same for the lines of its sections
-abbrev pub TakesReadLines : Bool → Option (Walk Section) → Option (List ℕ) → Option (List ℕ) → Result (Unit {0}) SectionError → Type 0
-TakesReadLines may_fail sections old new (Err Unreadable) = (may_fail ≡ true) × Appends old new []
-TakesReadLines may_fail sections old new (Err OutOfMemory) = Appends old new []
-TakesReadLines may_fail sections old new result = TakesLines sections old new result
+abbrev pub TakesReadLines : Style → Bool → Option (Walk Section) → Option (List ℕ) → Option (List ℕ) → Result (Unit {0}) SectionError → Type 0
+TakesReadLines style may_fail sections old new (Err Unreadable) = (may_fail ≡ true) × Appends old new []
+TakesReadLines style may_fail sections old new (Err OutOfMemory) = Appends old new []
+TakesReadLines style may_fail sections old new result = TakesLines style sections old new result
 
 -- whether the sink has failed afterwards: it has where a write failed; otherwise this is unchanged
 abbrev pub Fails : Bool → Bool → Result (Unit {0}) SectionError → Type 0

@@ -5,7 +5,8 @@ ghost use Rattle.std.specs.Option.{option_map};
 ghost use Rattle.std.specs.String.{string_bytes};
 ghost use Rattle.binfarce.specs.Format.{format_of};
 ghost use Rattle.binfarce_bytes.specs.Source.{ReadsOnly};
-ghost use Rattle.binfarce_sections.specs.Lines.{section_line, line_head, name_text};
+ghost use Rattle.binfarce_sections.specs.Lines.{section_line, section_object, section_row, line_head, name_text};
+ghost use Rattle.binfarce_tools.specs.Json.{lines, style_of};
 ghost use Rattle.binfarce_sections.specs.Parts.{section_parts_of};
 ghost use Rattle.binfarce_sections.specs.Section.{sections_of};
 ghost use Rattle.binfarce_sections.specs.Results.{TakesLines, TakesReadLines, Fails};
@@ -18,6 +19,9 @@ use crate::sections::{Section, Sections, sections_of};
 use crate::tables::read;
 use binfarce::ParseError;
 use binfarce_bytes::source::Source;
+use binfarce_tools::json::{
+    Form, push_address_member, push_number_member, push_start, push_text_member,
+};
 use binfarce_tools::list::Sink;
 use binfarce_tools::writing::write_whole;
 use std::alloc::{AllocError, Global};
@@ -35,17 +39,18 @@ use std::fmt::Write;
 /// `Parse` where the reader refuses the next section: the lines of those before are written. `Write` where a write
 /// failed: a beginning of the lines may then be written.
 pub fn list_sections<S: Sink>(alloc: Global, file: &[u8], out: &mut S) -> Result<(), SectionError>
-    ensures takes { TakesLines (sections_of (format_of file.now) file.now) (S.taken out.old) (S.taken out.new) result }
+    ensures takes { TakesLines lines (sections_of (format_of file.now) file.now) (S.taken out.old) (S.taken out.new) result }
     ensures fails { Fails (S.has_failed out.old) (S.has_failed out.new) result }
 {
     let sections = match sections_of(file) {
         Ok(sections) => sections,
         Err(e) => return Err(e),
     };
-    write_lines(alloc, sections, out)
+    write_lines(alloc, sections, Form::Lines, out)
 }
 
-/// The same for a source, of which only these bytes are read: the first 8 bytes, and those that `read_sections` of
+/// The same for a source, in either form; an object has the members `file`, `segment`, `section`, `address`, `offset` and
+/// `size`, and `null` for a name that isn't there. Of the source only these bytes are read: the first 8 bytes, and those that `read_sections` of
 /// `binfarce_tables` reads of a file of that format.
 ///
 /// # Errors
@@ -56,10 +61,11 @@ pub fn list_source<F: Source, S: Sink>(
     alloc: Global,
     source: &F,
     log: &mut F::Log,
+    form: Form<'_>,
     out: &mut S,
 ) -> Result<(), SectionError>
     ensures takes { (file : List ℕ) → F.bytes source.now ≡ Some file
-        → TakesReadLines (F.may_fail source.now) (sections_of (format_of file) file) (S.taken out.old)
+        → TakesReadLines (style_of form.entry) (F.may_fail source.now) (sections_of (format_of file) file) (S.taken out.old)
         (S.taken out.new) result }
     ensures fails { Fails (S.has_failed out.old) (S.has_failed out.new) result }
     ensures only { (file : List ℕ) → F.bytes source.now ≡ Some file
@@ -68,19 +74,20 @@ pub fn list_source<F: Source, S: Sink>(
 {
     let tables = read(alloc, source, log)?;
     let sections = tables.sections()?;
-    write_lines(alloc, sections, out)
+    write_lines(alloc, sections, form, out)
 }
 
 // Writes the lines of all sections that are left.
 fn write_lines<S: Sink>(
     alloc: Global,
     sections: Sections<'_>,
+    form: Form<'_>,
     out: &mut S,
 ) -> Result<(), SectionError>
-    ensures takes { TakesLines (Some (sections_left sections.entry)) (S.taken out.old) (S.taken out.new) result }
+    ensures takes { TakesLines (style_of form.entry) (Some (sections_left sections.entry)) (S.taken out.old) (S.taken out.new) result }
     ensures fails { Fails (S.has_failed out.old) (S.has_failed out.new) result }
 {
-    let (text, refusal) = lines_of(alloc, sections)?;
+    let (text, refusal) = lines_of(alloc, sections, form)?;
     write_whole(out, text.as_bytes()).map_err(|_| SectionError::Write)?;
     match refusal {
         Some(e) => Err(SectionError::Parse(e)),
@@ -92,17 +99,44 @@ fn write_lines<S: Sink>(
 fn lines_of(
     alloc: Global,
     sections: Sections<'_>,
+    form: Form<'_>,
 ) -> Result<(String, Option<ParseError>), AllocError>
-    ensures { IfOk result (Lists (sections_left sections.entry)) }
+    ensures { IfOk result (Lists (style_of form.entry) (sections_left sections.entry)) }
 {
     let mut text = String::new(alloc);
     for section in sections {
         match section {
-            Ok(section) => push_line(&mut text, section)?,
+            Ok(section) => push_row(&mut text, form, section)?,
             Err(e) => return Ok((text, Some(e))),
         }
     }
     Ok((text, None))
+}
+
+// Appends a section to the text.
+fn push_row(text: &mut String, form: Form<'_>, section: Section<'_>) -> Result<(), AllocError>
+    ensures { OnOk result
+        (string_bytes text.new ≡ string_bytes text.old ++ section_row (style_of form.entry) (section_view section.entry)) }
+{
+    match form {
+        Form::Lines => push_line(text, section),
+        Form::Objects(file, _) => push_object(text, file, section),
+    }
+}
+
+// Appends a section as a JSON object.
+fn push_object(text: &mut String, file: &str, section: Section<'_>) -> Result<(), AllocError>
+    ensures { OnOk result
+        (string_bytes text.new ≡ string_bytes text.old ++ section_object file.now (section_view section.entry)) }
+{
+    push_start(text, file)?;
+    push_text_member(text, "segment", section.segment)?;
+    push_text_member(text, "section", section.name)?;
+    push_address_member(text, section.address)?;
+    push_number_member(text, "offset", section.offset)?;
+    push_number_member(text, "size", section.size)?;
+    text.push_str("}\n")?;
+    Ok(())
 }
 
 // Appends the line of a section to the text.

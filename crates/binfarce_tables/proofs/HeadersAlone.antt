@@ -14,7 +14,7 @@ use Rattle.binfarce_elf.specs.Classes.{class_of}
 use Rattle.binfarce_elf.specs.ElfParts.{IsPlaceOf, headers_alone}
 use Rattle.binfarce_elf.specs.declared.class.Width.{Width}
 use Rattle.binfarce_elf.specs.declared.class.Width.TheVariants.{Bits32, Bits64}
-use Rattle.binfarce_elf.specs.declared.parts.Place.{Place}
+use Rattle.binfarce_elf.specs.declared.parts.HeaderTable.{HeaderTable}
 use Rattle.binfarce_elf.specs.machine.RawElf.{fields_of_header, fields_of_section}
 use Rattle.binfarce_tables.specs.machine.Places.{headers_of}
 
@@ -114,7 +114,7 @@ type_is class order file size header within is same =
     ap (λ (h : Header ℕ). h.elf_type) same ∙ value_in order file 0 size 0 class.header.elf_type (omega (arith, is, within.elf_type))
 
 -- the table at the place that was read from the file header alone
-pub table_is : (class : ElfClass) (order : ByteOrder) (file header : List ℕ) (place : Place) → HasWithin class → header ≡ bytes_at file 0 class.header_length → IsPlaceOf class order header place
+pub table_is : (class : ElfClass) (order : ByteOrder) (file header : List ℕ) (place : HeaderTable) → HasWithin class → header ≡ bytes_at file 0 class.header_length → IsPlaceOf class order header place
     → section_table class (record { order = order; bytes = file }) ≡ record { order = place.byte_order; file = file; shoff = place.shoff; shnum = place.shnum; shstrndx = place.shstrndx }
 table_is class order file header place within same states =
     place_is class order file class.header_length (header_of class order header) within refl (ap (λ (b : List ℕ). header_of class order b) same)

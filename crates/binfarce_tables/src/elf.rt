@@ -26,7 +26,7 @@ use binfarce_bytes::functions::Selection;
 use binfarce_bytes::source::{Source, read_part};
 use binfarce_bytes::{ByteOrder, ParseError};
 use binfarce_elf::class::{Half, Width};
-use binfarce_elf::parts::{Place, needed_in, place_in, section_at};
+use binfarce_elf::parts::{HeaderTable, needed_in, place_in, section_at};
 use binfarce_elf::sections::Section;
 use binfarce_elf::symbol_table::SymbolTable;
 use binfarce_elf::symbols::{Functions, Needed, TableSections, Taken, functions_in, whole_rows};
@@ -141,7 +141,7 @@ pub(crate) fn read_place<S: Source>(
     len: usize,
     width: Width,
     byte_order: ByteOrder,
-) -> Result<Place, ReadError>
+) -> Result<HeaderTable, ReadError>
     ensures table { (file : List ℕ) → Known (S.bytes source.now) len file
         → Reads (S.may_fail source.now) (table_at file) (table_step (class_of width) byte_order file) result }
     ensures type_is { (file : List ℕ) → Known (S.bytes source.now) len file
@@ -173,7 +173,7 @@ pub(crate) fn read_headers<S: Source>(
     log: &mut S::Log,
     len: usize,
     width: Width,
-    place: Place,
+    place: HeaderTable,
 ) -> Result<Vec<u8>, ReadError>
     ensures answer { (file : List ℕ) → Known (S.bytes source.now) len file → place.shoff ≤ len
         → Reads (S.may_fail source.now) (λ v. v.items) (Ok (headers_of (class_of width) (table_at file place))) result }
@@ -195,7 +195,7 @@ pub(crate) fn read_names<S: Source>(
     log: &mut S::Log,
     len: usize,
     width: Width,
-    place: Place,
+    place: HeaderTable,
 ) -> Result<Option<Vec<u8>>, ReadError>
     ensures answer { (file : List ℕ) → Known (S.bytes source.now) len file
         → Reads (S.may_fail source.now) (option_map (λ v. v.items))

@@ -25,7 +25,7 @@ use binfarce_bytes::source::Source;
 use binfarce_pe::functions::{SelectedSections, functions_of, section_name};
 use binfarce_pe::header::image_base;
 use binfarce_pe::parts::{
-    HEADERS_LENGTH, Places, SECTION_LENGTH, SIGNATURE_POINTER, Text, places_in, signature_in,
+    HEADERS_LENGTH, SECTION_LENGTH, SIGNATURE_POINTER, TableOffsets, Text, places_in, signature_in,
     text_in,
 };
 use binfarce_pe::sections::Table;
@@ -165,7 +165,7 @@ fn read_selected<S: Source>(
     source: &S,
     log: &mut S::Log,
     len: usize,
-    places: Places,
+    places: TableOffsets,
     selection: Selection<'_>,
 ) -> Result<Sections, ReadError>
     ensures answer { (file : List ℕ) → Known (S.bytes source.now) len file → places_step file ≡ Ok (places_view places)
@@ -190,7 +190,7 @@ fn read_all_sections<S: Source>(
     source: &S,
     log: &mut S::Log,
     len: usize,
-    places: Places,
+    places: TableOffsets,
 ) -> Result<Sections, ReadError>
     ensures answer { (file : List ℕ) → Known (S.bytes source.now) len file → places_step file ≡ Ok (places_view places)
         → Reads (S.may_fail source.now) read_view (chosen_at None file (places_view places)) result }
@@ -248,7 +248,7 @@ fn read_places<S: Source>(
     source: &S,
     log: &mut S::Log,
     len: usize,
-) -> Result<Places, ReadError>
+) -> Result<TableOffsets, ReadError>
     ensures answer { (file : List ℕ) → Known (S.bytes source.now) len file
         → Reads (S.may_fail source.now) places_view (places_step file) result }
     ensures only { (file : List ℕ) → Known (S.bytes source.now) len file
@@ -288,7 +288,7 @@ fn read_text<S: Source>(
     source: &S,
     log: &mut S::Log,
     len: usize,
-    places: Places,
+    places: TableOffsets,
 ) -> Result<Text, ReadError>
     ensures answer { (file : List ℕ) → Known (S.bytes source.now) len file
         → Reads (S.may_fail source.now) text_view (text_at file (places_view places)) result }
@@ -319,7 +319,7 @@ fn read_headers<S: Source>(
     source: &S,
     log: &mut S::Log,
     len: usize,
-    places: Places,
+    places: TableOffsets,
 ) -> Result<Vec<u8>, ReadError>
     ensures answer { (file : List ℕ) → Known (S.bytes source.now) len file
         → Reads (S.may_fail source.now) (λ v. headers_alone v.items places.section_count)
@@ -356,7 +356,7 @@ fn read_records<S: Source>(
     source: &S,
     log: &mut S::Log,
     len: usize,
-    places: Places,
+    places: TableOffsets,
 ) -> Result<Records, ReadError>
     ensures answer { (file : List ℕ) → Known (S.bytes source.now) len file
         → Reads (S.may_fail source.now) records_view (table_at file (places_view places)) result }

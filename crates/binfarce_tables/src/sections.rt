@@ -19,7 +19,7 @@ use crate::error::ReadError;
 use binfarce_bytes::ByteOrder;
 use binfarce_bytes::source::Source;
 use binfarce_elf::class::Width;
-use binfarce_elf::parts::{AnySections, Place, name_of_index, sections_in};
+use binfarce_elf::parts::{AnySections, HeaderTable, name_of_index, sections_in};
 use std::alloc::Global;
 
 /// The section headers of a file and the section names, in memory, and the file's length.
@@ -28,7 +28,7 @@ pub struct SectionParts {
     pub(crate) headers: Vec<u8>,
     pub(crate) names: Option<Vec<u8>>,
     pub(crate) width: Width,
-    pub(crate) place: Place,
+    pub(crate) place: HeaderTable,
     pub(crate) file_length: u64,
 }
 
@@ -116,7 +116,7 @@ fn read_table<S: Source>(
     log: &mut S::Log,
     len: usize,
     width: Width,
-    place: Place,
+    place: HeaderTable,
 ) -> Result<Vec<u8>, ReadError>
     ensures answer { (file : List ℕ) → Known (S.bytes source.now) len file
         → Reads (S.may_fail source.now)

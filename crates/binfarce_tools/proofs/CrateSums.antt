@@ -9,8 +9,7 @@ use Rattle.std.specs.Str.{bytes_eq}
 use Rattle.std.proofs.lemmas.List.Sums.{sum_by-cons}
 use Rattle.binfarce.specs.Symbol.{Entry}
 use Rattle.binfarce_tools.specs.Report.{Share, IsShareOf, total, sum_of}
-use Rattle.binfarce_tools.specs.Sums.{sum_at, occurs}
-use Rattle.binfarce_tools.specs.machine.Shares.{Adds}
+use Rattle.binfarce_tools.specs.Sums.{sum_at, occurs, Adds}
 
 pub total-cons : (s : Share) (others : List Share) → total (s ∷ others) ≡ s.size + total others
 total-cons s others = sum_by-cons (λ (s : Share). s.size) s others
@@ -98,19 +97,19 @@ module _ {Y : Type 0} where
       by_test true = refl
       by_test false = refl
 
+  -- the first of the others was added
+  pub one_added : (shares others : List Share) (s : Share) (old new : BTreeMap (String Y) ℕ) → Adds old s new → Sums shares (s ∷ others) old → Sums shares others new
+  one_added shares others s old new adds w = record {
+    sums_are = λ name. omega (arith, w.sums_are name, sum_of-cons s others name, sum_added old new s name adds);
+    crates_are = λ name. w.crates_are name ∙ swapped (is_some (get_by_text old name)) (bytes_eq s.name name) (occurs others name)
+        ∙ ap (λ (b : Bool). b || occurs others name) (sym (crate_added old new s name adds));
+  }
+
   -- the share of the first entry that was left was added
   pub one_share : (all before left : List Entry) (entry : Entry) (s : Share) (old new : BTreeMap (String Y) ℕ) → before ≡ entry ∷ left → IsShareOf entry s → Adds old s new → Completes all before old → Completes all left new
   one_share all before left entry s old new first is adds w others are =
       let P : List Entry → Type 0 = λ x. Completes all x old in
-      let c = subst P first w (s ∷ others) (is, are) in (
-        c.0,
-        c.1,
-        record {
-          sums_are = λ name. omega (arith, c.2.sums_are name, sum_of-cons s others name, sum_added old new s name adds);
-          crates_are = λ name. c.2.crates_are name ∙ swapped (is_some (get_by_text old name)) (bytes_eq s.name name) (occurs others name)
-              ∙ ap (λ (b : Bool). b || occurs others name) (sym (crate_added old new s name adds));
-        },
-      )
+      let c = subst P first w (s ∷ others) (is, are) in (c.0, c.1, one_added c.0 others s old new adds c.2)
 
   -- no sum is greater than that of all
   abbrev pub Fit : BTreeMap (String Y) ℕ → ℕ → Type 0

@@ -1,6 +1,3 @@
-pub mod Growing
-pub mod Ordered
-pub mod RowListings
 pub mod Pads
 pub mod Heads
 pub mod Reported
@@ -16,5 +13,6 @@ pub mod TablesGive
 pub mod Totals
 pub mod Maps
 pub mod Selections
+pub mod Objects
 mod Decided
 mod SymbolLaws

@@ -35,7 +35,7 @@ rows_fit shares sums rows are seen =
     subst P (sym (ap (λ (rs : List Row). chart.total rs) seen.2 ∙ totals_add_up shares seen.0 seen.1 ∙ are.total_is)) are.fits
 
 -- the picture of the rows of all crates
-pub of_chart : (shares : List Share) (sums : CrateSums) (rows : List Row) (text : List ℕ) → (names : List (List ℕ)) × AreCratesOf shares names × (rows ≡ crate_rows shares names) → IsChartOf rows sums.section_size text → IsMapOfShares shares sums.section_size text
-of_chart shares sums rows text seen drawn =
-    let P : List Row → Type 0 = λ rs. IsChartOf rs sums.section_size text in
+pub of_chart : (title : List ℕ) (shares : List Share) (sums : CrateSums) (rows : List Row) (text : List ℕ) → (names : List (List ℕ)) × AreCratesOf shares names × (rows ≡ crate_rows shares names) → IsChartOf title rows sums.section_size text → IsMapOfShares title shares sums.section_size text
+of_chart title shares sums rows text seen drawn =
+    let P : List Row → Type 0 = λ rs. IsChartOf title rs sums.section_size text in
     (seen.0, seen.1, subst P seen.2 drawn)

@@ -12,9 +12,8 @@ use Rattle.binfarce_tools.specs.declared.report.ReportError.TheVariants.{OutOfMe
 use Rattle.binfarce_tools.specs.Report.{Share, IsShareOf, ReportFits}
 use Rattle.binfarce_tools.specs.ReportWords.{outcome_of}
 use Rattle.binfarce_tools.specs.Sums.{AreSumsOf, AreSumsOfFile, GetsSums}
-use Rattle.binfarce_tools.specs.Writing.{Outcome, EndsAs, Takes, written, write_failed, no_memory}
+use Rattle.binfarce_tools.specs.Writing.{Outcome, EndsAs, Takes, written, write_failed, no_memory, WritesMade}
 use Rattle.binfarce_tools.specs.Entries.{GetsAs}
-use Rattle.binfarce_tools.specs.machine.Shares.{WritesMade}
 use Rattle.binfarce_tools.proofs.CrateSums.{total_is}
 use Rattle.binfarce_tools.proofs.Lines.{nothing}
 

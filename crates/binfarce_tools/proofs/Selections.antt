@@ -28,8 +28,8 @@ use Rattle.binfarce_tools.specs.Report.{Share, IsReportIn, IsReportOfShares, IsS
 use Rattle.binfarce_tools.specs.Selection.{addresses_are_shared, answer_in, MemoryIn, share_in}
 use Rattle.binfarce_tools.specs.Sums.{AreSumsOf, GetsSums}
 use Rattle.binfarce_tools.specs.Tables.{AreTablesOf, section_names, shares_addresses_of}
-use Rattle.binfarce_tools.specs.Writing.{Outcome, Takes}
-use Rattle.binfarce_tools.specs.machine.Shares.{IsReportWith, WritesMade}
+use Rattle.binfarce_tools.specs.Writing.{Outcome, Takes, WritesMade}
+use Rattle.binfarce_tools.specs.machine.Shares.{IsReportWith}
 use Rattle.binfarce_tools.proofs.Lines.{AreLines}
 use Rattle.binfarce_tools.proofs.Reports.{HoldsList, size_of_all, takes}
 use Rattle.binfarce_tools.proofs.Selected.{in_is, sized_in, macho_made}

@@ -7,9 +7,6 @@ pub mod Writing
 pub mod Sink
 pub mod Listing
 pub mod ListWords
-pub mod Rows
-pub mod Order
-pub mod RowListing
 pub mod Report
 pub mod ReportWords
 pub mod Sums
@@ -18,4 +15,5 @@ pub mod machine
 pub mod Map
 pub mod Parts
 pub mod Given
+pub mod Json
 pub mod Status

@@ -10,10 +10,10 @@ use Rattle.binfarce_tools.specs.Report.{Share, AreCratesOf, IsShareOf, sum_of}
 abbrev pub crate_rows : List Share → List (List ℕ) → List Row
 crate_rows shares names = map (λ name. record { name = name; size = sum_of shares name }) names
 
--- text is the picture of the crates of these shares, and of their section's size
-abbrev pub IsMapOfShares : List Share → ℕ → List ℕ → Type 0
-IsMapOfShares shares size text = (names : List (List ℕ)) × AreCratesOf shares names × IsChartOf (crate_rows shares names) size text
+-- text is the picture with this title of the crates of these shares, and of their section's size
+abbrev pub IsMapOfShares : List ℕ → List Share → ℕ → List ℕ → Type 0
+IsMapOfShares title shares size text = (names : List (List ℕ)) × AreCratesOf shares names × IsChartOf title (crate_rows shares names) size text
 
 -- text is the picture of a file's answer: each entry adds its share
-abbrev pub IsMapOf : Listed → List ℕ → Type 0
-IsMapOf listed text = (shares : List Share) × AllZip IsShareOf listed.entries shares × IsMapOfShares shares listed.section_size text
+abbrev pub IsMapOf : List ℕ → Listed → List ℕ → Type 0
+IsMapOf title listed text = (shares : List Share) × AllZip IsShareOf listed.entries shares × IsMapOfShares title shares listed.section_size text

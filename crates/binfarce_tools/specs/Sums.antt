@@ -1,7 +1,8 @@
 -- The sums of sizes by crate, which a report shows.
-use Rattle.std.specs.Prelude.{◌≡◌, ◌≢◌, ℕ, ◌<◌, ◌^◌, List, Bool, Option, Some, Result, Ok, Err, String}
+use Rattle.std.specs.Prelude.{◌≡◌, ◌≢◌, ℕ, ◌+◌, ◌<◌, ◌^◌, List, Bool, Option, Some, Result, Ok, Err, String}
 use Rattle.std.specs.BTreeMap.{BTreeMap, get_by_text}
 use Rattle.std.specs.List.{AllZip, list_any}
+use Rattle.std.specs.Map.{update}
 use Rattle.std.specs.Option.{is_some, unwrap_or}
 use Rattle.std.specs.Str.{bytes_eq}
 use Rattle.binfarce.specs.Refusal.{Refusal}
@@ -36,3 +37,7 @@ AreSumsOfFile listed sums = (sums.section_size ≡ listed.section_size) × ((sha
 abbrev pub GetsSums : (Result Listed Refusal → Type 0) → Option (Result Listed Refusal) → Result CrateSums ReportError → Type 0
 GetsSums NeedsMemory answer (Ok sums) = (listed : Listed) × (answer ≡ Some (Ok listed)) × AreSumsOfFile listed sums
 GetsSums NeedsMemory answer (Err e) = (e ≢ Write) × EndsAs ReportFits NeedsMemory answer (outcome_of (Err e))
+
+-- the share was added at its crate's name
+abbrev pub Adds : {Y : Type 0} → BTreeMap (String Y) ℕ → Share → BTreeMap (String Y) ℕ → Type 0
+Adds old share new = (name : List ℕ) → get_by_text new name ≡ update bytes_eq (get_by_text old) share.name (Some (sum_at old share.name + share.size)) name

@@ -1,6 +1,7 @@
 -- The result and the effect of a call that makes a text from a file's answer and then writes it, for any text and any error type.
-use Rattle.std.specs.Prelude.{◌≡◌, ◌⊎◌, ◌++◌, ℕ, List, [], Bool, true, Option, Some, None, Result, Ok, Err}
+use Rattle.std.specs.Prelude.{◌≡◌, ◌⊎◌, ◌++◌, ℕ, List, [], Bool, true, Option, Some, None, Result, Ok, Err, String}
 use Rattle.std.specs.Io.KnownBytes.{Appends}
+use Rattle.std.specs.String.{string_bytes}
 use Rattle.binfarce.specs.Refusal.{Refusal}
 
 -- the outcome of a call: its text was written; a write of its sink failed; or, before its first write: the file's format is unknown, the reader
@@ -55,3 +56,8 @@ abbrev pub Leaves : {S : Type 0} → S → S → Outcome → Type 0
 Leaves old new written = Unit {0}
 Leaves old new write_failed = Unit {0}
 Leaves old new outcome = new ≡ old
+
+-- the text that was made was taken whole, or where a write failed a beginning of it; nothing was taken if no text was made
+abbrev pub WritesMade : {Y E : Type 0} → Result (String Y) E → Option (List ℕ) → Option (List ℕ) → Outcome → Type 0
+WritesMade (Ok text) old new outcome = ((outcome ≡ written) × Appends old new (string_bytes text)) ⊎ ((outcome ≡ write_failed) × AppendsBeginning old new (string_bytes text))
+WritesMade (Err e) old new outcome = (outcome ≡ no_memory) × Appends old new []

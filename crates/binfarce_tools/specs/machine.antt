@@ -1,4 +1,3 @@
 -- Definitions that only private contracts cite.
-pub mod SelectedList
 pub mod Shares
 pub mod Symbols

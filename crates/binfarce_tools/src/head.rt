@@ -8,7 +8,11 @@ use binfarce_text::digits::hex_digit;
 use std::alloc::AllocError;
 use std::fmt::Write;
 
-/// Appends the head of a line to the text.
+/// Appends the head of a line to the text: `{address:016x} {size:>10} `.
+///
+/// # Errors
+///
+/// `AllocError` where an allocation failed. The text is then unspecified.
 #[tactic(auto, using(crate::proofs::Pads::address_padded, crate::proofs::Pads::size_padded))]
 pub fn push_head(text: &mut String, address: u64, size: u64) -> Result<(), AllocError>
     ensures { OnOk result (string_bytes text.new ≡ string_bytes text.old ++ line_head address size) }

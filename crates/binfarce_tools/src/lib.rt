@@ -2,14 +2,13 @@
 #![tactic(auto)]
 
 pub mod functions;
-mod head;
+pub mod head;
+pub mod json;
 pub mod laws;
 pub mod list;
 pub mod map;
-pub mod order;
 pub mod program;
 pub mod report;
-pub mod rows;
 pub mod tables;
 pub mod writing;
 

@@ -289,12 +289,12 @@ fn push_section_line(
     text.push_str("\n")
 }
 
-// Appends a section's name, or its number in brackets where it has none, to the text.
-pub(crate) fn push_section(
-    text: &mut String,
-    tables: &Tables<'_>,
-    number: u32,
-) -> Result<(), AllocError>
+/// Appends a section's name, or its number in brackets where it has none, to the text.
+///
+/// # Errors
+///
+/// `AllocError` where an allocation failed. The text is then unspecified.
+pub fn push_section(text: &mut String, tables: &Tables<'_>, number: u32) -> Result<(), AllocError>
     ensures { OnOk result
         (string_bytes text.new ≡ string_bytes text.old ++ section_text (section_names tables.now number) number) }
 {

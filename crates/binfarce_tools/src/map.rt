@@ -23,8 +23,9 @@ use std::alloc::{AllocError, Global};
 /// Draws the sizes of the function symbols of a file's section by crate: an SVG document with a bar for each crate, the
 /// greatest first.
 ///
-/// The sums are those that `report` shows, and the picture is that of `binfarce_chart::svg::chart`: of more than 40
-/// crates, the last bar sums up all from the 40th on. The picture is made before its first byte is written.
+/// The sums are those that `report` shows, and the picture is that of `binfarce_chart::svg::chart`, with this title, such as
+/// the file's name: of more than 40 crates, the last bar sums up all from the 40th on. The picture is made before its first
+/// byte is written.
 ///
 /// # Errors
 ///
@@ -32,18 +33,19 @@ use std::alloc::{AllocError, Global};
 #[tactic(auto, unfolding(crate::specs::Selection::answer_in, crate::specs::Selection::MemoryIn))]
 pub fn map<S: Sink>(
     alloc: Global,
+    title: &str,
     file: &[u8],
     section: &str,
     out: &mut S,
 ) -> Result<(), ReportError>
     ensures outcome { EndsAs ReportFits (FileNeedsMemory file.now)
         (file_answer file.now section.now) (outcome_of result) }
-    ensures takes { Takes IsMapOf (file_answer file.now section.now) (S.taken out.old)
+    ensures takes { Takes (IsMapOf title.now) (file_answer file.now section.now) (S.taken out.old)
         (S.taken out.new) (outcome_of result) }
     ensures fails { Fails (S.has_failed out.old) (S.has_failed out.new) (outcome_of result) }
     ensures leaves { Leaves out.old out.new (outcome_of result) }
 {
-    map_tables(alloc, &Tables::whole(file, section), out)
+    map_tables(alloc, title, &Tables::whole(file, section), out)
 }
 
 /// As `map`, from the tables of a file: for the selection that they were read for. The whole of all sections is the sum of
@@ -54,6 +56,7 @@ pub fn map<S: Sink>(
 /// As `map`.
 pub fn map_tables<S: Sink>(
     alloc: Global,
+    title: &str,
     tables: &Tables<'_>,
     out: &mut S,
 ) -> Result<(), ReportError>
@@ -61,24 +64,24 @@ pub fn map_tables<S: Sink>(
         → AreTablesOf which file section tables.now
         → EndsAs ReportFits (MemoryIn file section) (answer_in which file section) (outcome_of result) }
     ensures takes { (which : SymbolTable) (file : List ℕ) (section : Option (List ℕ))
-        → AreTablesOf which file section tables.now → Takes IsMapOf
+        → AreTablesOf which file section tables.now → Takes (IsMapOf title.now)
         (answer_in which file section) (S.taken out.old) (S.taken out.new) (outcome_of result) }
     ensures fails { Fails (S.has_failed out.old) (S.has_failed out.new) (outcome_of result) }
     ensures leaves { Leaves out.old out.new (outcome_of result) }
 {
     let sums = sums_of_tables(alloc, tables)?;
-    write_made(out, picture(alloc, &sums))
+    write_made(out, picture(alloc, title, &sums))
 }
 
 // The whole picture.
-fn picture(alloc: Global, sums: &CrateSums) -> Result<String, AllocError>
+fn picture(alloc: Global, title: &str, sums: &CrateSums) -> Result<String, AllocError>
     requires { (shares : List Share) × AreSumsOf shares sums.now }
     ensures { IfOk result
         (λ t. (shares : List Share) → AreSumsOf shares sums.now
-        → IsMapOfShares shares sums.now.section_size (string_bytes t)) }
+        → IsMapOfShares title.now shares sums.now.section_size (string_bytes t)) }
 {
     let bars = bars_of(alloc, sums)?;
-    chart(alloc, bars.as_slice(), sums.section_size)
+    chart(alloc, title, bars.as_slice(), sums.section_size)
 }
 
 // A bar for each crate, in the order of the crates' bytes.

@@ -10,13 +10,13 @@ ghost use Rattle.binfarce.specs.declared.SymbolTable.{SymbolTable};
 ghost use Rattle.binfarce_tools.specs.Answer.{file_answer, FileNeedsMemory};
 ghost use Rattle.binfarce_tools.specs.Report.{Share, IsShareOf, IsReportIn, IsReportOf, IsSumsOfShares, ReportFits, crate_text, crate_line};
 ghost use Rattle.binfarce_tools.specs.ReportWords.{outcome_of};
-ghost use Rattle.binfarce_tools.specs.Writing.{EndsAs, Takes, Fails, Leaves};
+ghost use Rattle.binfarce_tools.specs.Writing.{EndsAs, Takes, Fails, Leaves, WritesMade};
 ghost use Rattle.binfarce_tools.specs.declared.report.ReportError.TheVariants.{OutOfMemory, TooLarge, Write};
 ghost use Rattle.binfarce_tools.specs.Entries.{functions_left};
 ghost use Rattle.binfarce_tools.specs.Selection.{answer_in, MemoryIn};
 ghost use Rattle.binfarce_tools.specs.Tables.{AreTablesOf};
-ghost use Rattle.binfarce_tools.specs.Sums.{AreSumsOf, GetsSums, sum_at};
-ghost use Rattle.binfarce_tools.specs.machine.Shares.{Adds, IsReportWith, WritesMade};
+ghost use Rattle.binfarce_tools.specs.Sums.{AreSumsOf, GetsSums, sum_at, Adds};
+ghost use Rattle.binfarce_tools.specs.machine.Shares.{IsReportWith};
 
 use crate::functions::Functions;
 use crate::list::{ListError, Sink};
@@ -141,8 +141,32 @@ pub fn report_tables<S: Sink>(
     ensures fails { Fails (S.has_failed out.old) (S.has_failed out.new) (outcome_of result) }
     ensures leaves { Leaves out.old out.new (outcome_of result) }
 {
+    report_noted(alloc, tables, &mut false, out)
+}
+
+/// As `report_tables`, and sets whether the sum of all sizes exceeds the section's, which it does where symbols overlap.
+///
+/// # Errors
+///
+/// Those of `report_tables`.
+pub fn report_noted<S: Sink>(
+    alloc: Global,
+    tables: &Tables<'_>,
+    exceeds: &mut bool,
+    out: &mut S,
+) -> Result<(), ReportError>
+    ensures outcome { (which : SymbolTable) (file : List ℕ) (section : Option (List ℕ))
+        → AreTablesOf which file section tables.now
+        → EndsAs ReportFits (MemoryIn file section) (answer_in which file section) (outcome_of result) }
+    ensures takes { (which : SymbolTable) (file : List ℕ) (section : Option (List ℕ))
+        → AreTablesOf which file section tables.now → Takes (IsReportIn section)
+        (answer_in which file section) (S.taken out.old) (S.taken out.new) (outcome_of result) }
+    ensures fails { Fails (S.has_failed out.old) (S.has_failed out.new) (outcome_of result) }
+    ensures leaves { Leaves out.old out.new (outcome_of result) }
+{
     let (functions, size) = tables.functions(alloc)?.into_list();
     let sums = crate_sums(alloc, functions, size)?;
+    *exceeds = sums.total > sums.section_size;
     write_made(out, report_text(alloc, &sums, size))
 }
 
@@ -230,18 +254,22 @@ fn add_function(
     add_size(alloc, crates, text.as_str(), function.size)
 }
 
-// Adds a size to the sum of a crate. Its name is copied where there is no sum yet.
-fn add_size(
+/// Adds a size to the sum of a name, up to 2^64 - 1. The name is copied where there is no sum yet.
+///
+/// # Errors
+///
+/// `AllocError` where an allocation failed. The sums are then unspecified.
+pub fn add_size(
     alloc: Global,
     crates: &mut BTreeMap<String, u64>,
     name: &str,
     size: u64,
 ) -> Result<(), AllocError>
-    requires { sum_at crates.old name.now + size < 2 ^ 64 }
-    ensures { OnOk result (Adds crates.old (record { name = name.now; size = size }) crates.new) }
+    ensures { sum_at crates.old name.now + size < 2 ^ 64
+        → OnOk result (Adds crates.old (record { name = name.now; size = size }) crates.new) }
 {
     match crates.get_mut(name) {
-        Some(sum) => *sum += size,
+        Some(sum) => *sum = sum.saturating_add(size),
         None => {
             let _ = crates.insert(String::from_str(alloc, name)?, size)?;
         }
@@ -249,8 +277,12 @@ fn add_size(
     Ok(())
 }
 
-// Overwrites the text by the crate that a function of this name is counted for.
-fn put_crate(alloc: Global, text: &mut String, name: &str) -> Result<(), AllocError>
+/// Overwrites the text by the crate that a function of this name is counted for.
+///
+/// # Errors
+///
+/// `AllocError` where an allocation failed. The text is then unspecified.
+pub fn put_crate(alloc: Global, text: &mut String, name: &str) -> Result<(), AllocError>
     ensures { OnOk result ((n : Name) × IsNamed name.now n × (string_bytes text.new ≡ crate_text n)) }
 {
     text.clear();
@@ -261,11 +293,12 @@ fn put_crate(alloc: Global, text: &mut String, name: &str) -> Result<(), AllocEr
     }
 }
 
-// Writes a text whole, if it was made.
-pub(crate) fn write_made<S: Sink>(
-    out: &mut S,
-    made: Result<String, AllocError>,
-) -> Result<(), ReportError>
+/// Writes a text whole, if it was made.
+///
+/// # Errors
+///
+/// `OutOfMemory` where it wasn't made, and `Write` where a write failed.
+pub fn write_made<S: Sink>(out: &mut S, made: Result<String, AllocError>) -> Result<(), ReportError>
     ensures takes { WritesMade made (S.taken out.old) (S.taken out.new) (outcome_of result) }
     ensures fails { Fails (S.has_failed out.old) (S.has_failed out.new) (outcome_of result) }
     ensures leaves { Leaves out.old out.new (outcome_of result) }

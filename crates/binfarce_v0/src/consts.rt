@@ -7,13 +7,13 @@ ghost use Rattle.binfarce_v0_state.specs.machine.Printing.{with_state, readers, 
 use crate::productions::{print, print_target};
 use binfarce_v0_grammar::forms::{ConstForm, ConstValue, const_form};
 use binfarce_v0_state::fragments::Production;
-use binfarce_v0_state::place::Place;
+use binfarce_v0_state::nesting::Nesting;
 use binfarce_v0_state::state::Printer;
 use std::alloc::AllocError;
 
 /// `<const>`. It is kept where a back reference may name it.
 #[cycle(printing)]
-pub fn print_const(printer: &mut Printer<'_>, here: Place) -> Result<(), AllocError>
+pub fn print_const(printer: &mut Printer<'_>, here: Nesting) -> Result<(), AllocError>
     ensures { OnOk result
         (printer.new ≡ with_state ((readers printer.old.part here.levels_left).constant printer.old.state).1 printer.old) }
 {
@@ -26,7 +26,7 @@ pub fn print_const(printer: &mut Printer<'_>, here: Place) -> Result<(), AllocEr
 #[tactic(auto, unfolding(binfarce_v0_state::specs::machine::Printing::const_rule))]
 pub(crate) fn print_const_by_letter(
     printer: &mut Printer<'_>,
-    here: Place,
+    here: Nesting,
 ) -> Result<(), AllocError>
     ensures { OnOk result
         (printer.new ≡ with_state

@@ -11,7 +11,7 @@ use crate::types::print_type;
 use binfarce_v0_grammar::forms::{Listed, lifetime_form};
 use binfarce_v0_grammar::identifiers::undisambiguated_at;
 use binfarce_v0_grammar::positions::{eat, list_end, required_end};
-use binfarce_v0_state::place::Place;
+use binfarce_v0_state::nesting::Nesting;
 use binfarce_v0_state::position::Position;
 use binfarce_v0_state::state::Printer;
 use binfarce_v0_state::text::ArgumentLifetime;
@@ -22,7 +22,7 @@ use std::alloc::AllocError;
 #[tactic(auto, using(crate::proofs::ListLemmas::items_step, crate::proofs::ListLemmas::items_none))]
 pub fn print_items(
     printer: &mut Printer<'_>,
-    here: Place,
+    here: Nesting,
     listed: Listed,
     between: &'static str,
 ) -> Result<usize, AllocError>
@@ -51,7 +51,7 @@ pub fn print_items(
 // An item of a list.
 #[cycle(printing)]
 #[tactic(auto, unfolding(binfarce_v0_state::specs::machine::Printing::item_rule))]
-fn print_item(printer: &mut Printer<'_>, here: Place, listed: Listed) -> Result<(), AllocError>
+fn print_item(printer: &mut Printer<'_>, here: Nesting, listed: Listed) -> Result<(), AllocError>
     ensures { OnOk result
         (printer.new ≡ with_state
         ((item_rule printer.old.part (readers printer.old.part here.levels_left) here.binder_depth (listed_view listed)
@@ -70,7 +70,7 @@ fn print_item(printer: &mut Printer<'_>, here: Place, listed: Listed) -> Result<
 // `<generic-arg>`
 #[cycle(printing)]
 #[tactic(auto, unfolding(binfarce_v0_state::specs::machine::Printing::item_rule))]
-fn print_argument(printer: &mut Printer<'_>, here: Place) -> Result<(), AllocError>
+fn print_argument(printer: &mut Printer<'_>, here: Nesting) -> Result<(), AllocError>
     ensures { OnOk result
         (printer.new ≡ with_state
         ((item_rule printer.old.part (readers printer.old.part here.levels_left) here.binder_depth Arguments printer.old.state).1)
@@ -100,7 +100,7 @@ fn print_argument(printer: &mut Printer<'_>, here: Place) -> Result<(), AllocErr
 #[tactic(auto, using(crate::proofs::ListLemmas::bindings_step, crate::proofs::ListLemmas::bindings_none))]
 fn print_bindings(
     printer: &mut Printer<'_>,
-    here: Place,
+    here: Nesting,
     mut opened: bool,
 ) -> Result<(), AllocError>
     ensures { OnOk result

@@ -20,7 +20,7 @@ use binfarce_v0_grammar::limits::MAX_LEVELS;
 use binfarce_v0_grammar::numbers::byte_at;
 use binfarce_v0_grammar::reading::read_path;
 use binfarce_v0_state::memory::Memory;
-use binfarce_v0_state::place::Place;
+use binfarce_v0_state::nesting::Nesting;
 use binfarce_v0_state::position::Position;
 use binfarce_v0_state::state::{Buffers, Printer};
 use binfarce_v0_state::text::Leaf;
@@ -97,7 +97,7 @@ pub fn print(printer: &mut Printer<'_>) -> Result<bool, AllocError>
         ((tree : PathTree) → UnfoldsTo printer.old.part tree → ⊥)) }
 {
     printer.prepare()?;
-    let whole = Place {
+    let whole = Nesting {
         levels_left: MAX_LEVELS,
         binder_depth: 0,
     };

@@ -16,7 +16,7 @@ use crate::types::print_type;
 use binfarce_v0_grammar::forms::Listed;
 use binfarce_v0_grammar::numbers::{back_reference, byte_at, skip_optional_base_62_number};
 use binfarce_v0_state::fragments::Production;
-use binfarce_v0_state::place::Place;
+use binfarce_v0_state::nesting::Nesting;
 use binfarce_v0_state::position::{Position, closing, is_open_trait, parent, value_mark};
 use binfarce_v0_state::state::Printer;
 use std::alloc::AllocError;
@@ -34,7 +34,7 @@ fn is_namespace(letter: u8) -> bool
 #[cycle(printing)]
 pub fn print_path(
     printer: &mut Printer<'_>,
-    here: Place,
+    here: Nesting,
     position: Position,
 ) -> Result<bool, AllocError>
     ensures printed { OnOk result
@@ -55,7 +55,7 @@ pub fn print_path(
 #[tactic(auto, unfolding(binfarce_v0_state::specs::machine::Printing::path_rule, binfarce_v0_grammar::specs::Forms::path_form))]
 pub(crate) fn print_path_by_letter(
     printer: &mut Printer<'_>,
-    here: Place,
+    here: Nesting,
     position: Position,
 ) -> Result<bool, AllocError>
     ensures printed { OnOk result
@@ -100,7 +100,7 @@ pub(crate) fn print_path_by_letter(
 #[tactic(auto, using(crate::proofs::Shown::root_state), unfolding(binfarce_v0_state::specs::machine::Printing::path_rule, binfarce_v0_grammar::specs::Forms::path_form))]
 fn print_closed_path(
     printer: &mut Printer<'_>,
-    here: Place,
+    here: Nesting,
     position: Position,
     at: usize,
 ) -> Result<(), AllocError>
@@ -129,7 +129,7 @@ fn print_closed_path(
 #[tactic(auto, unfolding(binfarce_v0_state::specs::machine::Printing::path_rule))]
 fn print_nested(
     printer: &mut Printer<'_>,
-    here: Place,
+    here: Nesting,
     position: Position,
     at: usize,
 ) -> Result<(), AllocError>
@@ -153,7 +153,7 @@ fn print_nested(
 #[tactic(auto, unfolding(binfarce_v0_state::specs::machine::Printing::path_rule))]
 fn print_inherent_impl(
     printer: &mut Printer<'_>,
-    here: Place,
+    here: Nesting,
     position: Position,
     at: usize,
 ) -> Result<(), AllocError>
@@ -179,7 +179,7 @@ fn print_inherent_impl(
 #[tactic(auto, unfolding(binfarce_v0_state::specs::machine::Printing::path_rule))]
 fn print_trait_impl(
     printer: &mut Printer<'_>,
-    here: Place,
+    here: Nesting,
     position: Position,
     at: usize,
 ) -> Result<(), AllocError>
@@ -202,7 +202,7 @@ fn print_trait_impl(
 #[cycle(printing)]
 fn print_impl_path(
     printer: &mut Printer<'_>,
-    here: Place,
+    here: Nesting,
     position: Position,
     after: usize,
 ) -> Result<(), AllocError>
@@ -222,7 +222,7 @@ fn print_impl_path(
 
 // `<T as Trait>`
 #[cycle(printing)]
-fn print_qualified(printer: &mut Printer<'_>, here: Place) -> Result<(), AllocError>
+fn print_qualified(printer: &mut Printer<'_>, here: Nesting) -> Result<(), AllocError>
     ensures { OnOk result
         (printer.new ≡ with_state ((qualified (readers printer.old.part here.levels_left) here.binder_depth printer.old.state).1)
         printer.old) }
@@ -238,7 +238,7 @@ fn print_qualified(printer: &mut Printer<'_>, here: Place) -> Result<(), AllocEr
 #[cycle(printing)]
 fn print_generic(
     printer: &mut Printer<'_>,
-    here: Place,
+    here: Nesting,
     position: Position,
     after: usize,
 ) -> Result<(), AllocError>

@@ -9,7 +9,7 @@ use crate::consts::print_const_by_letter;
 use crate::paths::print_path_by_letter;
 use crate::types::print_type_by_letter;
 use binfarce_v0_state::fragments::{FragmentKey, Production};
-use binfarce_v0_state::place::Place;
+use binfarce_v0_state::nesting::Nesting;
 use binfarce_v0_state::state::Printer;
 use std::alloc::AllocError;
 
@@ -18,7 +18,7 @@ use std::alloc::AllocError;
 #[inline(always)]
 pub fn print(
     printer: &mut Printer<'_>,
-    here: Place,
+    here: Nesting,
     production: Production,
 ) -> Result<bool, AllocError>
     ensures printed { OnOk result
@@ -41,7 +41,7 @@ pub fn print(
 #[tactic(auto, using(crate::proofs::Anew::read_anew))]
 fn print_and_keep(
     printer: &mut Printer<'_>,
-    here: Place,
+    here: Nesting,
     production: Production,
     at: usize,
 ) -> Result<bool, AllocError>
@@ -72,7 +72,7 @@ fn print_and_keep(
 #[tactic(auto, using(crate::proofs::Anew::read_at, crate::proofs::Anew::nothing_closed))]
 fn print_anew(
     printer: &mut Printer<'_>,
-    here: Place,
+    here: Nesting,
     production: Production,
 ) -> Result<bool, AllocError>
     ensures printed { OnOk result
@@ -94,7 +94,7 @@ fn print_anew(
 #[inline(always)]
 fn print_by_letter(
     printer: &mut Printer<'_>,
-    here: Place,
+    here: Nesting,
     production: Production,
 ) -> Result<bool, AllocError>
     requires entered { WithinLevels (here.levels_left + 1) here.binder_depth }
@@ -121,7 +121,7 @@ fn print_by_letter(
 #[cycle(printing)]
 pub fn print_target(
     printer: &mut Printer<'_>,
-    here: Place,
+    here: Nesting,
     production: Production,
     target: usize,
     after: usize,

@@ -18,7 +18,7 @@ use binfarce_v0_grammar::forms::{
 use binfarce_v0_grammar::numbers::{back_reference, byte_at, optional_base_62_number};
 use binfarce_v0_grammar::positions::{bound_end, eat, required_end};
 use binfarce_v0_state::fragments::Production;
-use binfarce_v0_state::place::Place;
+use binfarce_v0_state::nesting::Nesting;
 use binfarce_v0_state::position::Position;
 use binfarce_v0_state::state::Printer;
 use binfarce_v0_state::text::{Binder, DynLifetime, ReferenceLifetime};
@@ -26,7 +26,7 @@ use std::alloc::AllocError;
 
 /// `<type>`. It is kept where a back reference may name it.
 #[cycle(printing)]
-pub fn print_type(printer: &mut Printer<'_>, here: Place) -> Result<(), AllocError>
+pub fn print_type(printer: &mut Printer<'_>, here: Nesting) -> Result<(), AllocError>
     ensures { OnOk result
         (printer.new ≡ with_state (((readers printer.old.part here.levels_left).ty here.binder_depth printer.old.state).1)
         printer.old) }
@@ -39,7 +39,10 @@ pub fn print_type(printer: &mut Printer<'_>, here: Place) -> Result<(), AllocErr
 #[cycle(printing)]
 #[inline(always)]
 #[tactic(auto, unfolding(binfarce_v0_state::specs::machine::Printing::type_rule, binfarce_v0_grammar::specs::Forms::type_form))]
-pub(crate) fn print_type_by_letter(printer: &mut Printer<'_>, here: Place) -> Result<(), AllocError>
+pub(crate) fn print_type_by_letter(
+    printer: &mut Printer<'_>,
+    here: Nesting,
+) -> Result<(), AllocError>
     requires entered { WithinLevels (here.levels_left + 1) here.binder_depth }
     ensures { OnOk result
         (printer.new ≡ with_state
@@ -64,7 +67,7 @@ pub(crate) fn print_type_by_letter(printer: &mut Printer<'_>, here: Place) -> Re
 // A type that isn't a basic type.
 #[cycle(printing)]
 #[tactic(auto, unfolding(binfarce_v0_state::specs::machine::Printing::type_rule, binfarce_v0_grammar::specs::Forms::type_form_by))]
-fn print_other_type(printer: &mut Printer<'_>, here: Place, at: usize) -> Result<(), AllocError>
+fn print_other_type(printer: &mut Printer<'_>, here: Nesting, at: usize) -> Result<(), AllocError>
     requires entered { WithinLevels (here.levels_left + 1) here.binder_depth }
     requires within { at < length printer.now.part }
     ensures { OnOk result
@@ -102,7 +105,7 @@ fn print_other_type(printer: &mut Printer<'_>, here: Place, at: usize) -> Result
 // `"S" <type>`, after the letter.
 #[cycle(printing)]
 #[tactic(auto, unfolding(binfarce_v0_state::specs::machine::Printing::type_rule))]
-fn print_slice(printer: &mut Printer<'_>, here: Place, after: usize) -> Result<(), AllocError>
+fn print_slice(printer: &mut Printer<'_>, here: Nesting, after: usize) -> Result<(), AllocError>
     ensures { OnOk result
         (printer.new ≡ with_state
         ((type_rule printer.old.part (readers printer.old.part here.levels_left) here.binder_depth printer.old.state
@@ -117,7 +120,7 @@ fn print_slice(printer: &mut Printer<'_>, here: Place, after: usize) -> Result<(
 // `"D" ..`, after the letter.
 #[cycle(printing)]
 #[tactic(auto, unfolding(binfarce_v0_state::specs::machine::Printing::type_rule))]
-fn print_dyn_form(printer: &mut Printer<'_>, here: Place, at: usize) -> Result<(), AllocError>
+fn print_dyn_form(printer: &mut Printer<'_>, here: Nesting, at: usize) -> Result<(), AllocError>
     requires entered { WithinLevels (here.levels_left + 1) here.binder_depth }
     ensures { OnOk result
         (printer.new ≡ with_state
@@ -138,7 +141,7 @@ fn print_dyn_form(printer: &mut Printer<'_>, here: Place, at: usize) -> Result<(
 #[cycle(printing)]
 fn print_pointer(
     printer: &mut Printer<'_>,
-    here: Place,
+    here: Nesting,
     mark: &'static str,
     after: usize,
 ) -> Result<(), AllocError>
@@ -155,7 +158,11 @@ fn print_pointer(
 // `"F" ..`, after the letter.
 #[cycle(printing)]
 #[tactic(auto, unfolding(binfarce_v0_state::specs::machine::Printing::type_rule))]
-fn print_function_form(printer: &mut Printer<'_>, here: Place, at: usize) -> Result<(), AllocError>
+fn print_function_form(
+    printer: &mut Printer<'_>,
+    here: Nesting,
+    at: usize,
+) -> Result<(), AllocError>
     requires entered { WithinLevels (here.levels_left + 1) here.binder_depth }
     ensures { OnOk result
         (printer.new ≡ with_state
@@ -180,7 +187,7 @@ fn print_function_form(printer: &mut Printer<'_>, here: Place, at: usize) -> Res
 
 // `"A" <type> <const>`
 #[cycle(printing)]
-fn print_array(printer: &mut Printer<'_>, here: Place, after: usize) -> Result<(), AllocError>
+fn print_array(printer: &mut Printer<'_>, here: Nesting, after: usize) -> Result<(), AllocError>
     ensures { OnOk result
         (printer.new ≡ with_state
         ((array_rule (readers printer.old.part here.levels_left)
@@ -198,7 +205,7 @@ fn print_array(printer: &mut Printer<'_>, here: Place, after: usize) -> Result<(
 // `"T" {<type>} "E"`
 #[cycle(printing)]
 #[tactic(auto, using(crate::proofs::ListLemmas::single_mark_count))]
-fn print_tuple(printer: &mut Printer<'_>, here: Place, after: usize) -> Result<(), AllocError>
+fn print_tuple(printer: &mut Printer<'_>, here: Nesting, after: usize) -> Result<(), AllocError>
     ensures { OnOk result
         (printer.new ≡ with_state
         (tuple_end (items_from printer.old.part (readers printer.old.part here.levels_left) here.binder_depth Types (codes ", ")
@@ -216,7 +223,7 @@ fn print_tuple(printer: &mut Printer<'_>, here: Place, after: usize) -> Result<(
 #[tactic(auto, unfolding(binfarce_v0_state::specs::machine::Printing::type_rule))]
 fn print_reference(
     printer: &mut Printer<'_>,
-    here: Place,
+    here: Nesting,
     mutable: bool,
     at: usize,
 ) -> Result<(), AllocError>
@@ -247,7 +254,7 @@ fn print_reference(
 #[cycle(printing)]
 fn print_function<'a>(
     printer: &mut Printer<'a>,
-    here: Place,
+    here: Nesting,
     signature: Signature<'a>,
     after: usize,
 ) -> Result<(), AllocError>
@@ -286,7 +293,7 @@ fn print_function<'a>(
 #[cycle(printing)]
 fn print_dyn(
     printer: &mut Printer<'_>,
-    here: Place,
+    here: Nesting,
     binder: u64,
     after: usize,
 ) -> Result<(), AllocError>

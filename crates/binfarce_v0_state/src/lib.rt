@@ -5,7 +5,7 @@
 mod disambiguators;
 pub mod fragments;
 pub mod memory;
-pub mod place;
+pub mod nesting;
 pub mod position;
 pub mod state;
 pub mod targets;

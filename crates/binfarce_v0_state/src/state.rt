@@ -10,7 +10,7 @@ ghost use Rattle.binfarce_v0_state.specs.machine.Counted.{counted, is_whole};
 ghost use Rattle.binfarce_v0_state.specs.machine.Printing.{with_state, first_printing, write, disambiguate, seek, after_invalid_syntax, stopped, take, entered, rooted, into, back_to, set_muted, has_room};
 
 use crate::fragments::{Fragments, or_forget, share};
-use crate::place::Place;
+use crate::nesting::Nesting;
 use crate::text::{Disambiguator, Leaf};
 use binfarce_v0_grammar::forms::Lifetime;
 use binfarce_v0_grammar::identifiers::UndisambiguatedIdentifier;
@@ -361,7 +361,7 @@ impl<'a> Printer<'a> {
 
     /// Takes a level and a step, where one of each is left. Returns the place below.
     #[inline(always)]
-    pub fn enter(&mut self, here: Place) -> Option<Place>
+    pub fn enter(&mut self, here: Nesting) -> Option<Nesting>
         ensures entered { self.new
             ≡ with_state (if nat_le 1 here.levels_left && nat_le 1 self.old.state.steps_left then entered
             (here.levels_left - 1) self.old.state else stopped self.old.state) self.old }

@@ -8,7 +8,7 @@ use Rattle.binfarce_words.specs.declared.words.Call.TheVariants as calls
 use Rattle.binfarce_words.specs.declared.words.Arguments.{Arguments}
 use Rattle.binfarce_words.specs.declared.words.Reading.{Reading}
 use Rattle.binfarce_words.specs.declared.words.Wrong.{Wrong}
-use Rattle.binfarce_words.specs.declared.words.Wrong.TheVariants.{NoCommand, UnknownCommand, UnknownOption, NoValue, Exclusive, NoAddress, BadValue, NoFile, TooMany, NotUtf8, OutOfMemory}
+use Rattle.binfarce_words.specs.declared.words.Wrong.TheVariants.{NoCommand, UnknownCommand, UnknownOption, NoValue, Exclusive, NoAddress, BadValue, NoFile, NoSecondFile, TooMany, NotUtf8, OutOfMemory}
 
 abbrev pub given_view : Arguments → words.Arguments
 given_view g = record { options = map (λ it. (it.0, it.1.now)) g.options.items; operands = map (λ t. t.now) g.operands.items }
@@ -35,6 +35,7 @@ wrong_words (Exclusive one other) = flag_name one ++ (codes " and " ++ (flag_nam
 wrong_words (NoAddress word) = codes "not an address: " ++ word.now
 wrong_words (BadValue flag word) = flag_name flag ++ (codes " does not take " ++ word.now)
 wrong_words (NoFile command) = codes "no file; binfarce " ++ (command_name command ++ codes " --help shows how it is called")
+wrong_words NoSecondFile = codes "diff compares two files, and has one"
 wrong_words (TooMany word) = codes "one argument too many: " ++ word.now
 wrong_words NotUtf8 = codes "an argument is not UTF-8"
 wrong_words OutOfMemory = codes "out of memory"
@@ -49,6 +50,7 @@ wrong_view (Exclusive one other) = words.exclusive one other
 wrong_view (NoAddress word) = words.no_address word.now
 wrong_view (BadValue flag word) = words.not_taken flag word.now
 wrong_view (NoFile command) = words.no_file command
+wrong_view NoSecondFile = words.no_second_file
 wrong_view (TooMany word) = words.too_many word.now
 wrong_view NotUtf8 = words.not_utf8
 wrong_view OutOfMemory = words.no_memory

@@ -7,34 +7,38 @@ use Rattle.std.specs.Str.{byte, bytes_eq}
 use Rattle.std.specs.Str.Parse.{digits_value, without_leading_plus}
 use Rattle.binfarce_addresses.specs.Address.{address_of}
 use Rattle.binfarce_words.specs.declared.words.Command.{Command}
-use Rattle.binfarce_words.specs.declared.words.Command.TheVariants.{List as Listing, Size, Map, Filter, At, Section}
+use Rattle.binfarce_words.specs.declared.words.Command.TheVariants.{List as Listing, Size, Map, Diff, Filter, At, Section}
 use Rattle.binfarce_words.specs.declared.words.Flag.{Flag}
 use Rattle.binfarce_words.specs.declared.words.Flag.TheVariants as flags
 use Rattle.binfarce_words.specs.declared.words.Takes.{Takes}
-use Rattle.binfarce_words.specs.declared.words.Takes.TheVariants.{Nothing, Text, Address, Count, Order as TakesOrder}
-use Rattle.binfarce_tools.specs.declared.order.Order.{Order}
-use Rattle.binfarce_tools.specs.declared.order.Order.TheVariants as orders
+use Rattle.binfarce_words.specs.declared.words.Takes.TheVariants.{Nothing, Text, Address, Count, Order as TakesOrder, Key as TakesKey}
+use Rattle.binfarce_figures.specs.declared.key.Key.{Key}
+use Rattle.binfarce_figures.specs.declared.key.Key.TheVariants as keys
+use Rattle.binfarce_figures.specs.declared.order.Order.{Order}
+use Rattle.binfarce_figures.specs.declared.order.Order.TheVariants as orders
 
 -- the commands, and the name of each
 abbrev pub commands : List Command
-commands = Listing ∷ Size ∷ Map ∷ Filter ∷ At ∷ Section ∷ []
+commands = Listing ∷ Size ∷ Map ∷ Diff ∷ Filter ∷ At ∷ Section ∷ []
 
 abbrev pub command_name : Command → List ℕ
 command_name Listing = codes "list"
 command_name Size = codes "size"
 command_name Map = codes "map"
+command_name Diff = codes "diff"
 command_name Filter = codes "filter"
 command_name At = codes "at"
 command_name Section = codes "section"
 
 -- the options of a command
 abbrev pub flags_of : Command → List Flag
-flags_of Listing = flags.Help ∷ flags.Section ∷ flags.Dynamic ∷ flags.All ∷ flags.Sort ∷ flags.First ∷ flags.NoTotal ∷ flags.Raw ∷ flags.Full ∷ []
-flags_of Size = flags.Help ∷ flags.Section ∷ flags.Dynamic ∷ flags.All ∷ []
-flags_of Map = flags.Help ∷ flags.Section ∷ flags.Dynamic ∷ flags.All ∷ []
+flags_of Listing = flags.Help ∷ flags.Section ∷ flags.Dynamic ∷ flags.All ∷ flags.Sort ∷ flags.First ∷ flags.NoTotal ∷ flags.Raw ∷ flags.Full ∷ flags.Json ∷ []
+flags_of Size = flags.Help ∷ flags.Section ∷ flags.Dynamic ∷ flags.All ∷ flags.By ∷ flags.First ∷ flags.Percent ∷ flags.Std ∷ flags.Json ∷ []
+flags_of Map = flags.Help ∷ flags.Section ∷ flags.Dynamic ∷ flags.All ∷ flags.Folded ∷ []
+flags_of Diff = flags.Help ∷ flags.Section ∷ flags.Dynamic ∷ flags.All ∷ flags.By ∷ flags.First ∷ flags.Percent ∷ flags.Std ∷ flags.Json ∷ flags.FailAbove ∷ []
 flags_of Filter = flags.Help ∷ flags.Full ∷ []
 flags_of At = flags.Help ∷ flags.Section ∷ flags.Return ∷ flags.Annotate ∷ flags.Base ∷ flags.Dynamic ∷ flags.All ∷ []
-flags_of Section = flags.Help ∷ []
+flags_of Section = flags.Help ∷ flags.Json ∷ []
 
 -- how an option is written: its name, its short name if it has one, and what it takes
 abbrev pub form_of : Flag → List ℕ × List ℕ × Takes
@@ -50,6 +54,12 @@ form_of flags.Sort = (codes "--sort", [], TakesOrder)
 form_of flags.First = (codes "--first", codes "-n", Count)
 form_of flags.NoTotal = (codes "--no-total", [], Nothing)
 form_of flags.Raw = (codes "--raw", [], Nothing)
+form_of flags.By = (codes "--by", [], TakesKey)
+form_of flags.Percent = (codes "--percent", [], Nothing)
+form_of flags.Std = (codes "--std", [], Nothing)
+form_of flags.Json = (codes "--json", [], Nothing)
+form_of flags.FailAbove = (codes "--fail-above", [], Count)
+form_of flags.Folded = (codes "--folded", [], Nothing)
 
 -- the orders of lines, and the name of each
 abbrev pub all_orders : List Order
@@ -64,6 +74,20 @@ order_name orders.Name = codes "name"
 abbrev pub order_named : List ℕ → Option Order
 order_named name = find (λ order. bytes_eq (order_name order) name) all_orders
 
+-- the keys of sums, and the name of each
+abbrev pub all_keys : List Key
+all_keys = keys.Crate ∷ keys.Function ∷ keys.Generic ∷ keys.Section ∷ []
+
+abbrev pub key_name : Key → List ℕ
+key_name keys.Crate = codes "crate"
+key_name keys.Function = codes "function"
+key_name keys.Generic = codes "generic"
+key_name keys.Section = codes "section"
+
+-- the key of this name
+abbrev pub key_named : List ℕ → Option Key
+key_named name = find (λ key. bytes_eq (key_name key) name) all_keys
+
 abbrev pub flag_name : Flag → List ℕ
 flag_name flag = (form_of flag).0
 
@@ -77,6 +101,7 @@ pub data Wrong : Type 0 where
   no_address : (word : List ℕ) → Wrong
   not_taken : (flag : Flag) (word : List ℕ) → Wrong
   no_file : (command : Command) → Wrong
+  no_second_file : Wrong
   too_many : (word : List ℕ) → Wrong
   not_utf8 : Wrong
   no_memory : Wrong
@@ -124,6 +149,10 @@ count_given flag given = option_and_then count_in (value_given flag given)
 abbrev pub order_given : Arguments → Option Order
 order_given given = option_and_then order_named (value_given flags.Sort given)
 
+-- the key that is asked for
+abbrev pub key_given : Arguments → Option Key
+key_given given = option_and_then key_named (value_given flags.By given)
+
 -- whether an option that takes this takes the value
 abbrev pub is_met_by : Takes → (value : List ℕ) → Bool
 is_met_by Nothing value = true
@@ -131,6 +160,7 @@ is_met_by Text value = true
 is_met_by Address value = is_some (address_of value)
 is_met_by Count value = is_some (count_in value)
 is_met_by TakesOrder value = is_some (order_named value)
+is_met_by TakesKey value = is_some (key_named value)
 
 -- why an option doesn't take the value
 abbrev pub bad_value_of : Takes → Flag → (value : List ℕ) → Wrong
@@ -244,7 +274,10 @@ help_call (word ∷ others) = command_named word >>= λ command. Ok (show_help (
 abbrev pub operands_checked : Command → (annotates : Bool) → List (List ℕ) → Result (Unit {0}) Wrong
 operands_checked Filter annotates operands = Ok tt
 operands_checked command annotates [] = Err (no_file command)
+operands_checked Diff annotates (file ∷ []) = Err no_second_file
+operands_checked Diff annotates (old ∷ new ∷ more ∷ others) = Err (too_many more)
 operands_checked Section annotates (file ∷ section ∷ more ∷ others) = Err (too_many more)
+operands_checked Map annotates (file ∷ more ∷ others) = Err (too_many more)
 operands_checked command true (file ∷ more ∷ others) = Err (too_many more)
 operands_checked command annotates operands = Ok tt
 

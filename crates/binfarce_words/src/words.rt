@@ -4,12 +4,13 @@ ghost use Rattle.std.specs.Prelude.{◌≡◌, ◌∷◌, find, map, reverse, is
 ghost use Rattle.std.specs.Option.{option_map};
 ghost use Rattle.std.specs.String.{string_bytes};
 ghost use Rattle.std.specs.Str.{bytes_eq};
-ghost use Rattle.binfarce_words.specs.Words.{after_word, are_given, asks_help, asks_version, bad_value, call_of, checked, command_named, count_given, count_in, flag_name, flag_named, flags_of, form_of, given_of, help_call, is_met_by, is_named, is_option, number_given, operands_checked, order_given, parts_of, unknown_option, value_given, with_operand, with_option};
+ghost use Rattle.binfarce_words.specs.Words.{after_word, are_given, asks_help, asks_version, bad_value, call_of, checked, command_named, count_given, count_in, flag_name, flag_named, flags_of, form_of, given_of, help_call, is_met_by, is_named, is_option, key_given, number_given, operands_checked, order_given, parts_of, unknown_option, value_given, with_operand, with_option};
 ghost use Rattle.binfarce_words.specs.WordViews.{Gives, Changes, HasNearest, given_view, reading_view, call_view, wrong_view};
 
 use crate::named::{Named, find_named, nearest};
 use binfarce_addresses::address::parse_address;
-use binfarce_tools::order::Order;
+use binfarce_figures::key::Key;
+use binfarce_figures::order::Order;
 use std::alloc::Global;
 use std::fmt;
 
@@ -22,6 +23,8 @@ pub enum Command {
     Size,
     /// Draws sizes by crate.
     Map,
+    /// Compares the sizes of two files.
+    Diff,
     /// Makes names in text readable.
     Filter,
     /// Symbolizes addresses.
@@ -31,10 +34,11 @@ pub enum Command {
 }
 
 /// All commands.
-pub const COMMANDS: [Command; 6] = [
+pub const COMMANDS: [Command; 7] = [
     Command::List,
     Command::Size,
     Command::Map,
+    Command::Diff,
     Command::Filter,
     Command::At,
     Command::Section,
@@ -50,6 +54,7 @@ impl Named for Command {
             Command::List => "list",
             Command::Size => "size",
             Command::Map => "map",
+            Command::Diff => "diff",
             Command::Filter => "filter",
             Command::At => "at",
             Command::Section => "section",
@@ -84,6 +89,18 @@ pub enum Flag {
     NoTotal,
     /// Shows names as they are stored.
     Raw,
+    /// What sizes are summed by.
+    By,
+    /// Shows shares in per cent.
+    Percent,
+    /// Joins the crates of Rust's standard library.
+    Std,
+    /// Writes JSON objects.
+    Json,
+    /// The growth in bytes from which on the comparison fails.
+    FailAbove,
+    /// Writes stacks.
+    Folded,
 }
 
 /// What an option takes.
@@ -99,6 +116,8 @@ pub enum Takes {
     Count,
     /// What lines are sorted by.
     Order,
+    /// What sizes are summed by.
+    Key,
 }
 
 /// All orders of lines.
@@ -118,6 +137,24 @@ impl Named for Order {
     }
 }
 
+/// All keys of sums.
+pub const KEYS: [Key; 4] = [Key::Crate, Key::Function, Key::Generic, Key::Section];
+
+impl Named for Key {
+    ghost use Rattle.binfarce_words.specs.Words.{key_name};
+
+    ghost text = { key_name };
+
+    fn name(self) -> &'static str {
+        match self {
+            Key::Crate => "crate",
+            Key::Function => "function",
+            Key::Generic => "generic",
+            Key::Section => "section",
+        }
+    }
+}
+
 impl Takes {
     // Whether it takes this value.
     fn is_met_by(self, value: &str) -> bool
@@ -128,6 +165,7 @@ impl Takes {
             Takes::Address => parse_address(value.as_bytes()).is_some(),
             Takes::Count => count_in(value).is_some(),
             Takes::Order => find_named(&ORDERS, value).is_some(),
+            Takes::Key => find_named(&KEYS, value).is_some(),
         }
     }
 }
@@ -157,6 +195,12 @@ impl Flag {
             Flag::First => ("--first", "-n", Takes::Count),
             Flag::NoTotal => ("--no-total", "", Takes::Nothing),
             Flag::Raw => ("--raw", "", Takes::Nothing),
+            Flag::By => ("--by", "", Takes::Key),
+            Flag::Percent => ("--percent", "", Takes::Nothing),
+            Flag::Std => ("--std", "", Takes::Nothing),
+            Flag::Json => ("--json", "", Takes::Nothing),
+            Flag::FailAbove => ("--fail-above", "", Takes::Count),
+            Flag::Folded => ("--folded", "", Takes::Nothing),
         }
     }
 
@@ -194,10 +238,38 @@ impl Command {
                 Flag::NoTotal,
                 Flag::Raw,
                 Flag::Full,
+                Flag::Json,
             ],
-            Command::Size | Command::Map => {
-                &[Flag::Help, Flag::Section, Flag::Dynamic, Flag::All]
-            }
+            Command::Size => &[
+                Flag::Help,
+                Flag::Section,
+                Flag::Dynamic,
+                Flag::All,
+                Flag::By,
+                Flag::First,
+                Flag::Percent,
+                Flag::Std,
+                Flag::Json,
+            ],
+            Command::Map => &[
+                Flag::Help,
+                Flag::Section,
+                Flag::Dynamic,
+                Flag::All,
+                Flag::Folded,
+            ],
+            Command::Diff => &[
+                Flag::Help,
+                Flag::Section,
+                Flag::Dynamic,
+                Flag::All,
+                Flag::By,
+                Flag::First,
+                Flag::Percent,
+                Flag::Std,
+                Flag::Json,
+                Flag::FailAbove,
+            ],
             Command::Filter => &[Flag::Help, Flag::Full],
             Command::At => &[
                 Flag::Help,
@@ -208,7 +280,7 @@ impl Command {
                 Flag::Dynamic,
                 Flag::All,
             ],
-            Command::Section => &[Flag::Help],
+            Command::Section => &[Flag::Help, Flag::Json],
         }
     }
 }
@@ -232,6 +304,8 @@ pub enum Wrong<'a> {
     BadValue(Flag, &'a str),
     /// The command has no file.
     NoFile(Command),
+    /// The command has one file, and compares two.
+    NoSecondFile,
     /// A word more than the command takes.
     TooMany(&'a str),
     /// A word isn't UTF-8.
@@ -286,6 +360,7 @@ impl<'a> fmt::Display for Wrong<'a> {
                 let name = command.name();
                 write!(f, "no file; binfarce {name} --help shows how it is called")
             }
+            Wrong::NoSecondFile => write!(f, "diff compares two files, and has one"),
             Wrong::TooMany(word) => write!(f, "one argument too many: {word}"),
             Wrong::NotUtf8 => write!(f, "an argument is not UTF-8"),
             Wrong::OutOfMemory => write!(f, "out of memory"),
@@ -346,6 +421,16 @@ impl<'a> Arguments<'a> {
     {
         match self.value(Flag::Sort) {
             Some(value) => find_named(&ORDERS, value),
+            None => None,
+        }
+    }
+
+    /// The key that sizes are summed by.
+    pub fn key(&self) -> Option<Key>
+        ensures { result ≡ key_given (given_view self.now) }
+    {
+        match self.value(Flag::By) {
+            Some(value) => find_named(&KEYS, value),
             None => None,
         }
     }
@@ -524,8 +609,11 @@ fn check_operands<'a>(
     match operands {
         _ if command == Command::Filter => Ok(()),
         [] => Err(Wrong::NoFile(command)),
-        [_, _, word, ..] if command == Command::Section => Err(Wrong::TooMany(word)),
-        [_, word, ..] if annotates => Err(Wrong::TooMany(word)),
+        [_] if command == Command::Diff => Err(Wrong::NoSecondFile),
+        [_, _, word, ..] if command == Command::Section || command == Command::Diff => Err(
+            Wrong::TooMany(word),
+        ),
+        [_, word, ..] if annotates || command == Command::Map => Err(Wrong::TooMany(word)),
         _ => Ok(()),
     }
 }

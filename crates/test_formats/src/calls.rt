@@ -7,11 +7,16 @@ use binfarce_tables::format::read_format;
 use binfarce_tables::part;
 use binfarce_tools::SymbolTable;
 use binfarce_tools::functions::functions_of_file;
-use binfarce_tools::list::Out;
-use binfarce_tools::report::{CrateSums, sums_of_file, sums_of_tables};
-use binfarce_tools::tables::{Selection, read};
+use binfarce_tools::head::push_head;
+use binfarce_tools::json::{push_address_member, push_number_member, push_start, push_text_member};
+use binfarce_tools::list::{Out, push_section};
+use binfarce_tools::report::{
+    CrateSums, add_size, put_crate, sums_of_file, sums_of_tables, write_made,
+};
+use binfarce_tools::tables::{Selection, Tables, read};
 use binfarce_tools::writing::write_whole;
 use std::alloc::{AllocError, Global};
+use std::collections::BTreeMap;
 
 /// What the call gives: of the bytes 1, 2, 3, of a function of 4 bytes at 16, of the bytes 0xFF and 0x80, or of a text.
 pub fn answer(alloc: Global, call: &str) -> Result<String, AllocError> {
@@ -44,12 +49,40 @@ pub fn answer(alloc: Global, call: &str) -> Result<String, AllocError> {
             let taken = out.into_inner();
             format!(in alloc; "{ended:?} {:?}", std::str::from_utf8(&taken))
         }
+        "texts" => texts(alloc),
         _ => {
             let one = Stream::new(&[0xFF, 0x80], order).read::<i8>();
             let two = Stream::new(&[0xFF, 0x80], order).read::<i16>();
             format!(in alloc; "{one:?} {two:?}")
         }
     }
+}
+
+// An object, the head of a line, a section without a name, the sum of 1 and 2, and the crate of a name.
+fn texts(alloc: Global) -> Result<String, AllocError> {
+    let mut text = String::new(alloc);
+    push_start(&mut text, "a\"b")?;
+    push_text_member(&mut text, "name", None)?;
+    push_number_member(&mut text, "size", 16)?;
+    push_address_member(&mut text, 0x1000)?;
+    text.push_str("} ")?;
+    push_head(&mut text, 0x1000, 16)?;
+    push_section(&mut text, &Tables::Unknown, 7)?;
+    let mut sums = BTreeMap::new(alloc);
+    add_size(alloc, &mut sums, "a", 1)?;
+    add_size(alloc, &mut sums, "a", 2)?;
+    let mut name = String::new(alloc);
+    put_crate(alloc, &mut name, "_RNvC1b1c")?;
+    let mut out = Out::new(Vec::new(alloc));
+    let ended = write_made(&mut out, Ok(name));
+    let taken = out.into_inner();
+    write!(
+        text,
+        " {:?} {ended:?} {:?}",
+        sums.get("a"),
+        std::str::from_utf8(&taken)
+    )?;
+    Ok(text)
 }
 
 /// The format of a file that is read at offsets, and the text in the part of it.

@@ -77,7 +77,7 @@ fn is_reported(alloc: Global, file: &[u8], expected: Reported) -> Row {
     };
     let mut out = Out::new(Expected::new(text.as_bytes()));
     let result = match expected {
-        Reported::Picture(_) => map(alloc, file, ".text", &mut out),
+        Reported::Picture(_) => map(alloc, "file", file, ".text", &mut out),
         _ => report(alloc, file, ".text", &mut out),
     };
     let written = out.into_inner();
@@ -98,7 +98,7 @@ fn is_reported_of(alloc: Global, file: File) -> Row {
 
 // The picture of two crates.
 const PICTURE: &str =
-    "<svg xmlns=\"http://www.w3.org/2000/svg\" width=\"800\" height=\"96\" viewBox=\"0 0 800 96\" font-family=\"sans-serif\" font-size=\"14\">\n<title>Size by crate</title>\n<rect width=\"800\" height=\"100%\" fill=\"#fff\"/>\n<text x=\"8\" y=\"25\">sum 32, text 32: bytes and share of the sum by crate</text>\n<svg y=\"40\" height=\"24\"><svg width=\"236\"><text x=\"8\" y=\"17\">123foo</text></svg><svg x=\"240\" width=\"360\"><rect y=\"3\" width=\"100%\" height=\"18\" fill=\"#e6e6e6\"/><rect y=\"3\" width=\"50.00%\" height=\"18\" fill=\"#245\"/></svg><text x=\"672\" y=\"17\" text-anchor=\"end\">50.00%</text><text x=\"792\" y=\"17\" text-anchor=\"end\">16</text></svg>\n<svg y=\"64\" height=\"24\"><svg width=\"236\"><text x=\"8\" y=\"17\">foo</text></svg><svg x=\"240\" width=\"360\"><rect y=\"3\" width=\"100%\" height=\"18\" fill=\"#e6e6e6\"/><rect y=\"3\" width=\"50.00%\" height=\"18\" fill=\"#245\"/></svg><text x=\"672\" y=\"17\" text-anchor=\"end\">50.00%</text><text x=\"792\" y=\"17\" text-anchor=\"end\">16</text></svg>\n</svg>\n";
+    "<svg xmlns=\"http://www.w3.org/2000/svg\" width=\"800\" height=\"144\" viewBox=\"0 0 800 144\" font-family=\"sans-serif\" font-size=\"14\">\n<title>Size by crate: file</title>\n<rect width=\"800\" height=\"100%\" fill=\"#fff\"/>\n<text x=\"8\" y=\"25\" font-weight=\"bold\">file</text>\n<text x=\"8\" y=\"49\">sum 0.0 KiB, text 0.0 KiB: share of the sum and size by crate</text>\n<svg y=\"64\" height=\"24\"><svg width=\"236\"><text x=\"8\" y=\"17\">123foo</text></svg><svg x=\"240\" width=\"360\"><rect y=\"3\" width=\"100%\" height=\"18\" fill=\"#e6e6e6\"/><rect y=\"3\" width=\"100.00%\" height=\"18\" fill=\"#245\"/></svg><text x=\"664\" y=\"17\" text-anchor=\"end\">50.00%</text><text x=\"792\" y=\"17\" text-anchor=\"end\">0.0 KiB</text></svg>\n<svg y=\"88\" height=\"24\"><svg width=\"236\"><text x=\"8\" y=\"17\">foo</text></svg><svg x=\"240\" width=\"360\"><rect y=\"3\" width=\"100%\" height=\"18\" fill=\"#e6e6e6\"/><rect y=\"3\" width=\"100.00%\" height=\"18\" fill=\"#245\"/></svg><text x=\"664\" y=\"17\" text-anchor=\"end\">50.00%</text><text x=\"792\" y=\"17\" text-anchor=\"end\">0.0 KiB</text></svg>\n<text x=\"8\" y=\"129\" fill=\"#666\">[unknown]: names that are no Rust names, such as those of C, C++ and assembly</text>\n</svg>\n";
 
 // The name of a function before `foo::bar`, and the report of both or its picture; `TooLarge` where the first
 // function's size is 2^64 - 1.
@@ -157,7 +157,7 @@ const ALL: [(&str, All, &str); 3] = [
 ];
 
 const ALL_PICTURE: &str =
-    "<svg xmlns=\"http://www.w3.org/2000/svg\" width=\"800\" height=\"96\" viewBox=\"0 0 800 96\" font-family=\"sans-serif\" font-size=\"14\">\n<title>Size by crate</title>\n<rect width=\"800\" height=\"100%\" fill=\"#fff\"/>\n<text x=\"8\" y=\"25\">sum 32, text 32: bytes and share of the sum by crate</text>\n<svg y=\"40\" height=\"24\"><svg width=\"236\"><text x=\"8\" y=\"17\">[unknown]</text></svg><svg x=\"240\" width=\"360\"><rect y=\"3\" width=\"100%\" height=\"18\" fill=\"#e6e6e6\"/><rect y=\"3\" width=\"50.00%\" height=\"18\" fill=\"#245\"/></svg><text x=\"672\" y=\"17\" text-anchor=\"end\">50.00%</text><text x=\"792\" y=\"17\" text-anchor=\"end\">16</text></svg>\n<svg y=\"64\" height=\"24\"><svg width=\"236\"><text x=\"8\" y=\"17\">foo</text></svg><svg x=\"240\" width=\"360\"><rect y=\"3\" width=\"100%\" height=\"18\" fill=\"#e6e6e6\"/><rect y=\"3\" width=\"50.00%\" height=\"18\" fill=\"#245\"/></svg><text x=\"672\" y=\"17\" text-anchor=\"end\">50.00%</text><text x=\"792\" y=\"17\" text-anchor=\"end\">16</text></svg>\n</svg>\n";
+    "<svg xmlns=\"http://www.w3.org/2000/svg\" width=\"800\" height=\"144\" viewBox=\"0 0 800 144\" font-family=\"sans-serif\" font-size=\"14\">\n<title>Size by crate: file</title>\n<rect width=\"800\" height=\"100%\" fill=\"#fff\"/>\n<text x=\"8\" y=\"25\" font-weight=\"bold\">file</text>\n<text x=\"8\" y=\"49\">sum 0.0 KiB, text 0.0 KiB: share of the sum and size by crate</text>\n<svg y=\"64\" height=\"24\"><svg width=\"236\"><text x=\"8\" y=\"17\">[unknown]</text></svg><svg x=\"240\" width=\"360\"><rect y=\"3\" width=\"100%\" height=\"18\" fill=\"#e6e6e6\"/><rect y=\"3\" width=\"100.00%\" height=\"18\" fill=\"#245\"/></svg><text x=\"664\" y=\"17\" text-anchor=\"end\">50.00%</text><text x=\"792\" y=\"17\" text-anchor=\"end\">0.0 KiB</text></svg>\n<svg y=\"88\" height=\"24\"><svg width=\"236\"><text x=\"8\" y=\"17\">foo</text></svg><svg x=\"240\" width=\"360\"><rect y=\"3\" width=\"100%\" height=\"18\" fill=\"#e6e6e6\"/><rect y=\"3\" width=\"100.00%\" height=\"18\" fill=\"#245\"/></svg><text x=\"664\" y=\"17\" text-anchor=\"end\">50.00%</text><text x=\"792\" y=\"17\" text-anchor=\"end\">0.0 KiB</text></svg>\n<text x=\"8\" y=\"129\" fill=\"#666\">[unknown]: names that are no Rust names, such as those of C, C++ and assembly</text>\n</svg>\n";
 
 fn is_written(alloc: Global, call: All, text: &str) -> Row {
     let file = elf::ELF64_LITTLE.as_slice();
@@ -170,7 +170,7 @@ fn is_written(alloc: Global, call: All, text: &str) -> Row {
     let result = match call {
         All::List => list_tables(alloc, &tables, &mut out).map_err(ReportError::from),
         All::Report => report_tables(alloc, &tables, &mut out),
-        All::Map => map_tables(alloc, &tables, &mut out),
+        All::Map => map_tables(alloc, "file", &tables, &mut out),
     };
     let written = out.into_inner();
     match result {

@@ -3,6 +3,7 @@
 use binfarce_sections::bytes::{write_section, write_section_of};
 use binfarce_sections::error::SectionError;
 use binfarce_sections::list::{list_sections, list_source};
+use binfarce_tools::json::Form;
 use binfarce_tools::list::Out;
 use std::alloc::{AllocError, Global};
 use test_image_samples::tally::{Row, Tally};
@@ -68,7 +69,7 @@ fn is_right(alloc: Global, row: &Sample) -> Row {
     let listed = list_sections(alloc, source, &mut out);
     let is_listed = is_whole(listed, out)?;
     let mut out = Out::new(Expected::new(lines.as_bytes()));
-    let listed = list_source(alloc, &source, &mut (), &mut out);
+    let listed = list_source(alloc, &source, &mut (), Form::Lines, &mut out);
     Ok(is_written && is_read && is_listed && is_whole(listed, out)?)
 }
 

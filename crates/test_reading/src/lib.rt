@@ -11,6 +11,7 @@ use binfarce_sections::bytes::{write_section, write_section_of};
 use binfarce_sections::error::SectionError;
 use binfarce_sections::list::{list_sections, list_source};
 use binfarce_tables::{self as tables, ReadError, Width};
+use binfarce_tools::json::Form;
 use binfarce_tools::list::Out;
 use std::alloc::{AllocError, Global};
 use test_samples::elf::Layout;
@@ -68,7 +69,7 @@ pub fn parts<S: Source<Log = ()>>(
     let mut out = Out::new(Vec::new(alloc));
     let ended = match asked {
         Asked::Functions(name) => return answer_of(alloc, functions_of(alloc, kind, source, name)),
-        Asked::Lines => list_source(alloc, source, &mut (), &mut out),
+        Asked::Lines => list_source(alloc, source, &mut (), Form::Lines, &mut out),
         Asked::Bytes(name) => write_section_of(alloc, source, &mut (), name, &mut out),
     };
     Answer {

@@ -3,13 +3,12 @@
 //! Listings of the function symbols of executables, and reports and pictures of their sizes by crate.
 
 pub mod functions;
-mod head;
+pub mod head;
+pub mod json;
 pub mod list;
 pub mod map;
-pub mod order;
 pub mod program;
 pub mod report;
-pub mod rows;
 pub mod tables;
 pub mod writing;
 

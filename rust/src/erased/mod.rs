@@ -22,6 +22,7 @@ pub mod binfarce;
 pub mod binfarce_image;
 pub mod binfarce_chart;
 pub mod binfarce_tools;
+pub mod binfarce_figures;
 pub mod binfarce_addresses;
 #[cfg(any(test, feature = "programs"))]
 pub mod binfarce_words;

@@ -13,6 +13,7 @@ use crate::erased::binfarce_sections::bytes::{write_section, write_section_of};
 use crate::erased::binfarce_sections::error::SectionError;
 use crate::erased::binfarce_sections::list::{list_sections, list_source};
 use crate::erased::binfarce_tables::{self as tables, ReadError, Width};
+use crate::erased::binfarce_tools::json::Form;
 use crate::erased::binfarce_tools::list::Out;
 use crate::shim::alloc::{AllocError, Global};
 use crate::erased::test_samples::elf::Layout;
@@ -70,7 +71,7 @@ pub fn parts<S: Source<Log = ()>>(
     let mut out = Out::new(Vec::new(alloc));
     let ended = match asked {
         Asked::Functions(name) => return answer_of(alloc, functions_of(alloc, kind, source, name)),
-        Asked::Lines => list_source(alloc, source, &mut (), &mut out),
+        Asked::Lines => list_source(alloc, source, &mut (), Form::Lines, &mut out),
         Asked::Bytes(name) => write_section_of(alloc, source, &mut (), name, &mut out),
     };
     Answer {

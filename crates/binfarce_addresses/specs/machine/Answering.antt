@@ -1,19 +1,10 @@
 -- The steps of answering lines.
-use Rattle.std.specs.Prelude.{◌≡◌, ◌≤◌, ℕ, ◌+◌, ◌-◌, ◌^◌, min, Bool, true, false, List, [], ◌∷◌, ◌++◌, length, drop, Option}
+use Rattle.std.specs.Prelude.{◌≡◌, ◌≤◌, ℕ, ◌+◌, ◌-◌, ◌^◌, min, Bool, true, false, List, [], ◌++◌, length, drop, Option}
 use Rattle.binfarce.specs.Symbol.{Entry}
 use Rattle.binfarce_addresses.specs.declared.lookup.Lookup.{Lookup}
 use Rattle.binfarce_addresses.specs.declared.stream.Answered.{Answered}
 use Rattle.binfarce_addresses.specs.declared.stream.Lines.{Lines}
 use Rattle.binfarce_addresses.specs.Stream.{line_address, missing, AnswersAll, AnswersSome, AnswersWhole, AreAnswersOf, Begins, HasNoLineFeed}
-
--- the first line of a text has so many bytes with its line feed, and has this address, or none
-pub record IsFirst (text : List ℕ) (address : Option ℕ) (len : ℕ) : Type 0 where
-  pub line : List ℕ
-  pub others : List ℕ
-  pub are : text ≡ line ++ 10 ∷ others
-  pub part : HasNoLineFeed line
-  pub writes : line_address line ≡ address
-  pub count : len ≡ length line + 1
 
 -- the whole lines of a text have these addresses, or none; the rest has no line feed
 pub record AreAddressesOf (text : List ℕ) (addresses : List (Option ℕ)) (answered : Answered) : Type 0 where

@@ -1,7 +1,5 @@
 -- Places: function symbols, the spans of their ranges, and readable names that are kept.
-use Rattle.std.specs.Prelude.{◌≡◌, ℕ, ◌-◌, ◌<◌, List, map, length, slice_index_or, String, Option, Some, None, MatchOption}
-use Rattle.std.specs.Global.{Global}
-use Rattle.std.specs.String.{string_bytes}
+use Rattle.std.specs.Prelude.{◌≡◌, ℕ, ◌-◌, ◌<◌, ◌≤◌, List, map, drop, take, length, slice_index_or, Option, Some, None, MatchOption}
 use Rattle.binfarce.specs.Named.{IsShown}
 use Rattle.binfarce.specs.Symbol.{Entry}
 use Rattle.binfarce.specs.SymbolViews.{function_view}
@@ -20,10 +18,6 @@ range_of entry = record { address = entry.address; size = entry.size }
 abbrev pub ranges_of : List FunctionSymbol → List AddressRange
 ranges_of functions = map (λ f. range_of (function_view f)) functions
 
--- the text is the readable name of the function symbol
-abbrev pub IsNameOf : FunctionSymbol → String Global → Type 0
-IsNameOf function text = (name : List ℕ) × IsShown (function_view function).name name × (string_bytes text ≡ name)
-
 -- the entry is at the place
 abbrev pub IsAtPlace : List Entry → ℕ → Entry → Type 0
 IsAtPlace entries place entry = (place < length entries) × (slice_index_or entries place entry ≡ entry)
@@ -32,9 +26,10 @@ IsAtPlace entries place entry = (place < length entries) × (slice_index_or entr
 abbrev pub IsNamedAt : List Entry → ℕ → List ℕ → Type 0
 IsNamedAt entries place text = (entry : Entry) → IsAtPlace entries place entry → (name : List ℕ) × IsShown entry.name name × (text ≡ name)
 
--- each name that is kept is the readable one of the entry at its place
-abbrev pub AreKept : List Entry → List (Option (String Global)) → Type 0
-AreKept entries kept = (place : ℕ) (name : String Global) → slice_index_or kept place None ≡ Some name → IsNamedAt entries place (string_bytes name)
+-- each part of the text that is kept for a place, and isn't empty, is the readable name of the entry there
+abbrev pub AreKept : (entries : List Entry) (text : List ℕ) (kept : List (ℕ × ℕ)) → Type 0
+AreKept entries text kept =
+    (place from to : ℕ) → Path (ℕ × ℕ) (slice_index_or kept place (0, 0)) (from, to) → from < to → (to ≤ length text) × IsNamedAt entries place (take (to - from) (drop from text))
 
 pub record ArePlacesOf (functions : List FunctionSymbol) (spans : List Span) : Type 0 where
   pub are : AreSpansOf (ranges_of functions) spans

@@ -87,10 +87,3 @@ pub record IsSweep (rows : List Row) (n : ℕ) (spans : List Span) (stack : List
   pub later : (l m : ℕ) → l < m → m < length stack → stack_at stack l < stack_at stack m
   pub nested : (l m : ℕ) → l < m → m < length stack → end_at rows stack m < end_at rows stack l
   pub cover : (j address : ℕ) → j < n → here spans ≤ address → HoldsAt (row_at rows j) address → (m : ℕ) × (m < length stack) × (j ≤ stack_at stack m) × (address ≤ end_at rows stack m)
-
--- the span at the address is one of those from this one up to another: the first begins there or before, and the one at the end, if there is one, behind it
-pub record IsAround (spans : List Span) (address from to : ℕ) : Type 0 where
-  pub some : from < to
-  pub within : to ≤ length spans
-  pub low : (span_at spans from).start ≤ address
-  pub high : to < length spans → address < (span_at spans to).start

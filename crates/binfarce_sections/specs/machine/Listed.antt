@@ -6,9 +6,10 @@ use Rattle.std.specs.Global.{Global}
 use Rattle.binfarce.specs.declared.ParseError.{ParseError}
 use Rattle.binfarce.specs.Refusal.{refusal_of}
 use Rattle.binfarce.specs.Walk.{Walk}
+use Rattle.binfarce_tools.specs.Json.{Style}
 use Rattle.binfarce_sections.specs.Lines.{section_lines}
 use Rattle.binfarce_sections.specs.Section.{Section}
 
 -- the lines of a walk's sections, and the walk's refusal
-abbrev pub Lists : Walk Section → String Global × Option ParseError → Type 0
-Lists walk made = (string_bytes made.0 ≡ section_lines walk.items) × (option_map refusal_of made.1 ≡ walk.refusal)
+abbrev pub Lists : Style → Walk Section → String Global × Option ParseError → Type 0
+Lists style walk made = (string_bytes made.0 ≡ section_lines style walk.items) × (option_map refusal_of made.1 ≡ walk.refusal)

@@ -7,10 +7,10 @@ use Rattle.binfarce_elf.specs.Elf.{ElfClass, SectionTable}
 use Rattle.binfarce_elf.specs.ElfSymbols.{TableRows}
 use Rattle.binfarce_tables.specs.ElfReads.{table_of, headers_size}
 use Rattle.binfarce_tables.specs.declared.elf.TableParts.{TableParts}
-use Rattle.binfarce_elf.specs.declared.parts.Place.{Place}
+use Rattle.binfarce_elf.specs.declared.parts.HeaderTable.{HeaderTable}
 
 -- the table at this place of a file
-abbrev pub table_at : List ℕ → Place → SectionTable
+abbrev pub table_at : List ℕ → HeaderTable → SectionTable
 table_at file place = record { order = place.byte_order; file = file; shoff = place.shoff; shnum = place.shnum; shstrndx = place.shstrndx }
 
 -- the file's table, where the file holds a header

@@ -8,13 +8,13 @@ use binfarce_tools::map::map;
 use binfarce_tools::report::ReportError;
 use std::alloc::Global;
 
-/// How much of `.text` each crate takes, as an SVG document.
-pub fn picture(alloc: Global, file: &[u8]) -> Result<Vec<u8>, ReportError>
+/// How much of `.text` each crate takes, as an SVG document with this title.
+pub fn picture(alloc: Global, title: &str, file: &[u8]) -> Result<Vec<u8>, ReportError>
     ensures { IfOk result
         (λ text. (listed : Listed) × (file_answer file.now (codes ".text") ≡ Some (Ok listed))
-        × IsMapOf listed text.items) }
+        × IsMapOf title.now listed text.items) }
 {
     let mut out = Out::new(Vec::new(alloc));
-    map(alloc, file, ".text", &mut out)?;
+    map(alloc, title, file, ".text", &mut out)?;
     Ok(out.into_inner())
 }

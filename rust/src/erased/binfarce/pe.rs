@@ -10,7 +10,7 @@ use crate::erased::binfarce_names::demangle::SymbolData;
 use crate::erased::binfarce_pe::functions::functions_of_file;
 pub use crate::erased::binfarce_pe::header::PeHeader;
 use crate::erased::binfarce_pe::header::parse_header;
-use crate::erased::binfarce_pe::parts::{Places, places_after};
+use crate::erased::binfarce_pe::parts::{TableOffsets, places_after};
 pub use crate::erased::binfarce_pe::sections::{Section, Sections};
 use crate::erased::binfarce_pe::sections::{self, first_of_file};
 use crate::shim::alloc::Global;
@@ -154,7 +154,7 @@ impl<'a> Pe<'a> {
     }
 
     // The places of the tables.
-    fn places(&self) -> Places {
+    fn places(&self) -> TableOffsets {
         places_after(self.pe_pointer, self.header)
     }
 }

@@ -6,9 +6,8 @@ use crate::shim::{String, Vec};
 use crate::erased::binfarce_addresses::address::parse_address;
 use crate::erased::binfarce_addresses::at::Places;
 use crate::erased::binfarce_addresses::lookup::Lookup;
-use crate::erased::binfarce_addresses::names::name_of;
-use crate::erased::binfarce_addresses::stream::{CHUNK, write_all};
-use crate::erased::binfarce::FunctionSymbol;
+use crate::erased::binfarce_addresses::stream::{CHUNK, LONGEST, write_all};
+use crate::erased::binfarce::demangle::push_shown;
 use crate::erased::binfarce_text::streams::{Pass, StreamError, pass_stream};
 use crate::erased::binfarce_tools::list::Sink;
 use crate::shim::alloc::{AllocError, Global};
@@ -18,9 +17,6 @@ use crate::shim::io::Read;
 const FEWEST: usize = 4;
 
 const MOST: usize = 16;
-
-// The most bytes of one: `0x` and 16 digits.
-const LONGEST: usize = 18;
 
 /// Appends the text with ` <name+0x1f>` after each address that a function symbol holds: its readable name, and the offset
 /// of the address into it, by this lookup. An address is `0x` and 4 to 16 hexadecimal digits, in upper or lower case,
@@ -160,7 +156,7 @@ fn push_first(
     Ok(len)
 }
 
-// Appends what is added after an address.
+// Appends what is added after an address: the readable name of its function symbol and the offset, in angle brackets.
 fn push_added(
     alloc: Global,
     places: &Places<'_>,
@@ -168,26 +164,16 @@ fn push_added(
     address: Option<u64>,
     out: &mut Vec<u8>,
 ) -> Result<(), AllocError> {
-    if let Some(address) = address {
-        if let Some(found) = places.find(lookup, address) {
-            push_place(alloc, found.0, found.1, out)?;
-        }
-    }
-    Ok(())
-}
-
-// Appends a function symbol's readable name and an offset in angle brackets.
-fn push_place(
-    alloc: Global,
-    function: FunctionSymbol<'_>,
-    offset: u64,
-    out: &mut Vec<u8>,
-) -> Result<(), AllocError> {
-    let mut place = name_of(alloc, function)?;
+    let Some(address) = address else {
+        return Ok(());
+    };
+    let Some((function, offset)) = places.find(lookup, address) else {
+        return Ok(());
+    };
+    let mut place = String::from_str(alloc, " <")?;
+    push_shown(alloc, &mut place, function.name)?;
     push_end(&mut place, offset)?;
-    out.extend_from_slice(b" <")?;
-    out.extend_from_slice(place.as_bytes())?;
-    Ok(())
+    out.extend_from_slice(place.as_bytes())
 }
 
 fn push_end(text: &mut String, offset: u64) -> Result<(), AllocError> {
@@ -208,18 +194,10 @@ fn address_len(text: &[u8]) -> usize {
 
 // How many hexadecimal digits the text begins with.
 fn digits_len(text: &[u8]) -> usize {
-    let mut len = 0;
-    while len < text.len() && text[len].is_ascii_hexdigit() {
-        len += 1;
-    }
-    len
+    text.iter().take_while(|b| b.is_ascii_hexdigit()).count()
 }
 
 // How many bytes the first one and those before the next `0` are.
 fn others_len(text: &[u8]) -> usize {
-    let mut len = 1;
-    while len < text.len() && text[len] != b'0' {
-        len += 1;
-    }
-    len
+    1 + text[1..].iter().take_while(|b| **b != b'0').count()
 }

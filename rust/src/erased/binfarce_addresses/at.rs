@@ -2,9 +2,9 @@
 
 //! Symbolizes addresses in an executable, a line for each.
 
-use crate::shim::{String, Vec};
+use crate::shim::{CollectIn, Vec};
 use crate::erased::binfarce_addresses::lookup::Lookup;
-use crate::erased::binfarce_addresses::names::{Names, name_of};
+use crate::erased::binfarce_addresses::names::Names;
 use crate::erased::binfarce_addresses::ranges::{AddressRange, Ranges};
 use crate::erased::binfarce::FunctionSymbol;
 use crate::erased::binfarce_tools::functions::{Functions, functions_of_file};
@@ -64,13 +64,14 @@ impl<'a> Places<'a> {
     fn find_place(&self, lookup: Lookup, address: Option<u64>) -> Option<Found> {
         let address = address?;
         let place = self.ranges.find(lookup.in_file(address)?)?;
-        let offset = address - lookup.base - self.functions[place].address;
+        let offset = lookup.offset_in(address, self.functions[place].address);
         Some(Found { place, offset })
     }
 
-    /// The readable name of the function symbol at a place.
-    pub(crate) fn name(&self, alloc: Global, place: usize) -> Result<String, AllocError> {
-        name_of(alloc, self.functions[place])
+    // The function symbol at a place.
+    #[cfg_attr(not(debug_assertions), inline(always))]
+    pub(crate) fn at(&self, place: usize) -> FunctionSymbol<'a> {
+        self.functions[place]
     }
 
     /// Appends the line of an address to the text: the address, the symbol that it symbolizes to by this lookup, and the
@@ -87,8 +88,7 @@ impl<'a> Places<'a> {
         address: u64,
     ) -> Result<(), AllocError> {
         let found = self.find_place(lookup, Some(address));
-        let mut names = Names::none(alloc, self);
-        names.push_answer(alloc, text, lookup, Some(address), found)
+        Names::new(alloc, self, 0)?.push_answer(text, lookup, Some(address), found)
     }
 
     // What each address symbolizes to.
@@ -98,11 +98,10 @@ impl<'a> Places<'a> {
         lookup: Lookup,
         addresses: &[Option<u64>],
     ) -> Result<Vec<Option<Found>>, AllocError> {
-        let mut found = Vec::with_capacity(alloc, addresses.len())?;
-        for address in addresses {
-            found.push(self.find_place(lookup, *address))?;
-        }
-        Ok(found)
+        addresses
+            .iter()
+            .map(|address| self.find_place(lookup, *address))
+            .collect_in(alloc)
     }
 }
 

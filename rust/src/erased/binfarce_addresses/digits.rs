@@ -3,13 +3,15 @@
 //! Numbers in hexadecimal digits.
 
 use crate::shim::Vec;
+use crate::erased::binfarce_text::digits::hex_digit;
 use crate::shim::alloc::AllocError;
 
 /// Appends an address and a blank to the text.
 pub(crate) fn push_address(text: &mut Vec<u8>, address: u64) -> Result<(), AllocError> {
-    let mut shown = [b' '; 17];
+    let mut shown = [b'0'; 16];
     put_all_digits(&mut shown, address);
     text.extend_from_slice(&shown)?;
+    text.push(b' ')?;
     Ok(())
 }
 
@@ -23,7 +25,7 @@ pub(crate) fn push_offset(text: &mut Vec<u8>, offset: u64) -> Result<(), AllocEr
     Ok(())
 }
 
-// Puts all 16 digits of a number before a last byte: the number of steps is fixed, so no branch is mispredicted.
+// Puts all 16 digits of a number: the number of steps is fixed, so no branch is mispredicted.
 fn put_all_digits(shown: &mut [u8], number: u64) {
     let mut rest = number;
     for k in 0..16 {
@@ -43,11 +45,4 @@ fn put_digits(shown: &mut [u8], number: u64) -> usize {
     }
     shown[at] = hex_digit(rest);
     at
-}
-
-// A lower-case hexadecimal digit.
-#[cfg_attr(not(debug_assertions), inline(always))]
-fn hex_digit(value: u64) -> u8 {
-    const DIGITS: [u8; 16] = *b"0123456789abcdef";
-    DIGITS[value as usize]
 }

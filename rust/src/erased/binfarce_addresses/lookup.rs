@@ -18,4 +18,9 @@ impl Lookup {
         let given = address.checked_sub(self.base)?;
         given.checked_sub(u64::from(self.is_return))
     }
+
+    /// The offset of an address into what begins at `start` in the file, or 0 where it begins behind the address.
+    pub(crate) fn offset_in(self, address: u64, start: u64) -> u64 {
+        address.saturating_sub(self.base).saturating_sub(start)
+    }
 }

@@ -47,25 +47,28 @@ impl Ranges {
         Ok(Ranges { spans, slices })
     }
 
-    /// The place of the span at an address.
+    /// The place of the range that is found at an address.
     pub fn find(&self, address: u64) -> Option<usize> {
-        let (from, to) = self.around(address);
-        let next = self.spans[from..to].partition_point(|span| span.start <= address);
-        self.spans[from + next - 1].place
+        self.spans[self.place_at(address)].place
     }
 
-    // Spans among which that of the address is: from one that begins there or before, up to one that begins behind it.
+    // The place of the span at an address.
     #[cfg_attr(not(debug_assertions), inline(always))]
-    fn around(&self, address: u64) -> (usize, usize) {
-        let (from, to) = self.slices.near(address);
-        if from < to
-            && to < self.spans.len()
-            && self.spans[from].start <= address
-            && address < self.spans[to].start
-        {
-            return (from, to);
+    fn place_at(&self, address: u64) -> usize {
+        if let Some(place) = self.slices.near(&self.spans, address) {
+            if self.is_at(place, address) {
+                return place;
+            }
         }
-        (0, self.spans.len())
+        self.spans.partition_point(|span| span.start <= address) - 1
+    }
+
+    // Whether the span at the place is that at the address.
+    #[cfg_attr(not(debug_assertions), inline(always))]
+    fn is_at(&self, place: usize, address: u64) -> bool {
+        place < self.spans.len()
+            && self.spans[place].start <= address
+            && (place + 1 == self.spans.len() || address < self.spans[place + 1].start)
     }
 }
 
@@ -131,18 +134,12 @@ fn close_before(
 
 // The address of a row, or the last of all where there is no such row.
 fn begin_of(rows: &[Row], row: usize) -> u64 {
-    match rows.get(row) {
-        Some(row) => row.address,
-        None => u64::MAX,
-    }
+    rows.get(row).map_or(u64::MAX, |row| row.address)
 }
 
 // The place of the last open row.
 fn innermost(rows: &[Row], stack: &[usize]) -> Option<usize> {
-    if stack.is_empty() {
-        return None;
-    }
-    Some(rows[stack[stack.len() - 1]].place.0)
+    Some(rows[*stack.last()?].place.0)
 }
 
 // Opens the next row. Open rows that it outlives are dropped: none of their addresses from here on finds them.

@@ -6,9 +6,6 @@ use crate::shim::Vec;
 use crate::erased::binfarce_addresses::ranges::Span;
 use crate::shim::alloc::{AllocError, Global};
 
-// How many slices there are for each span, at least.
-const SLICES: usize = 2;
-
 /// Slices of the addresses, all of one length, and the last span that begins before each. What they say has to be checked.
 pub(crate) struct Slices {
     first: u64,
@@ -24,10 +21,11 @@ impl Slices {
             [_, first, .., last] => (first.start, last.start),
             _ => (0, 0),
         };
-        let count = spans.len().saturating_mul(SLICES);
+        // The slices are as many as the spans, or half as many.
+        let each = last.saturating_sub(first) / (spans.len() as u64).max(1);
         let mut slices = Slices {
             first,
-            shift: shift_of(last.saturating_sub(first), count),
+            shift: (u64::BITS - each.leading_zeros()).min(63),
             before: Vec::new(alloc),
         };
         for (k, span) in spans.iter().enumerate() {
@@ -39,30 +37,19 @@ impl Slices {
         Ok(slices)
     }
 
-    /// The span that begins before the address's slice, and the first one that begins behind it.
+    /// The place of the address's span, if the spans are those that the slices are of.
     #[cfg_attr(not(debug_assertions), inline(always))]
-    pub(crate) fn near(&self, address: u64) -> (usize, usize) {
+    pub(crate) fn near(&self, spans: &[Span], address: u64) -> Option<usize> {
         let slice = self.slice_of(address);
-        match (
-            self.before.get(slice),
-            self.before.get(slice.wrapping_add(1)),
-        ) {
-            (Some(from), Some(to)) => (*from as usize, (*to as usize).wrapping_add(1)),
-            _ => (0, 0),
-        }
+        let from = *self.before.get(slice)? as usize;
+        let to = *self.before.get(slice.wrapping_add(1))? as usize;
+        let among = spans.get(from..to.wrapping_add(1))?;
+        let next = among.partition_point(|span| span.start <= address);
+        from.wrapping_add(next).checked_sub(1)
     }
 
     #[cfg_attr(not(debug_assertions), inline(always))]
     fn slice_of(&self, address: u64) -> usize {
         address.saturating_sub(self.first).wrapping_shr(self.shift) as usize
     }
-}
-
-// How often the range of addresses is halved until it has at most so many slices.
-fn shift_of(addresses: u64, slices: usize) -> u32 {
-    let mut shift = 0;
-    while shift < 63 && (addresses >> shift) > slices as u64 {
-        shift += 1;
-    }
-    shift
 }

@@ -3,7 +3,7 @@
 //! Addresses that come as the lines of a text.
 
 use crate::shim::{TrimAscii, Vec};
-use crate::erased::binfarce_addresses::address::{hex_line, parse_address};
+use crate::erased::binfarce_addresses::address::parse_address;
 use crate::erased::binfarce_addresses::at::Places;
 use crate::erased::binfarce_addresses::lookup::Lookup;
 use crate::erased::binfarce_addresses::names::Names;
@@ -19,7 +19,7 @@ use crate::shim::io::Read;
 pub(crate) const CHUNK: usize = 1 << 13;
 
 // The most bytes of a line with an address: `0x` and 16 digits.
-const LONGEST: usize = 18;
+pub(crate) const LONGEST: usize = 18;
 
 /// How much of a text was answered.
 #[derive(Debug, Clone, Copy, PartialEq)]
@@ -43,10 +43,12 @@ pub fn push_lines(
     bytes: &[u8],
     text: &mut Vec<u8>,
 ) -> Result<Answered, AllocError> {
-    push_answers(alloc, &mut Names::none(alloc, places), lookup, bytes, text)
+    let mut names = Names::new(alloc, places, 0)?;
+    push_answers(alloc, &mut names, lookup, bytes, text)
 }
 
-// As `push_lines`, with the names that are known.
+// As `push_lines`, with the names that are known. All addresses are looked up before the first answer is written, so that
+// cache misses overlap.
 fn push_answers(
     alloc: Global,
     names: &mut Names<'_, '_>,
@@ -55,7 +57,11 @@ fn push_answers(
     text: &mut Vec<u8>,
 ) -> Result<Answered, AllocError> {
     let (addresses, answered) = addresses_of(alloc, bytes)?;
-    names.push_all(alloc, text, lookup, &addresses)?;
+    let found = names.places.find_all(alloc, lookup, &addresses)?;
+    names.read_ahead(alloc, &found)?;
+    for k in 0..addresses.len() {
+        names.push_answer(text, lookup, addresses[k], found[k])?;
+    }
     Ok(answered)
 }
 
@@ -64,36 +70,19 @@ fn addresses_of(alloc: Global, bytes: &[u8]) -> Result<(Vec<Option<u64>>, Answer
     let mut addresses = Vec::with_capacity(alloc, bytes.len() / 8)?;
     let mut len = 0;
     let mut missing = 0;
-    while let Some((address, line_len)) = first_address(&bytes[len..]) {
+    while let Some(line) = first_line(&bytes[len..]) {
+        let address = parse_address(line.trim_ascii());
         addresses.push(address)?;
-        len += line_len;
+        len += line.len() + 1;
         missing += u64::from(address.is_none());
     }
     Ok((addresses, Answered { len, missing }))
 }
 
-// The address of the first line of the bytes, or none, and how many bytes that line has with its line feed.
-fn first_address(bytes: &[u8]) -> Option<(Option<u64>, usize)> {
-    if let Some((address, len)) = hex_line(bytes) {
-        return Some((Some(address), len + 1));
-    }
-    let line = first_line(bytes)?;
-    Some((parse_line(line), line.len() + 1))
-}
-
-// The address of a line.
-fn parse_line(line: &[u8]) -> Option<u64> {
-    parse_address(line.trim_ascii())
-}
-
 // The bytes before the first line feed.
 fn first_line(bytes: &[u8]) -> Option<&[u8]> {
-    for (len, byte) in bytes.iter().enumerate() {
-        if *byte == b'\n' {
-            return Some(&bytes[..len]);
-        }
-    }
-    None
+    let len = bytes.iter().position(|byte| *byte == b'\n')?;
+    Some(&bytes[..len])
 }
 
 /// Answers the lines of `input` until it ends, each as soon as its line feed has come, and returns how many of them
@@ -113,7 +102,7 @@ pub fn answer_lines<R: Read, S: Sink>(
 ) -> Result<u64, StreamError> {
     let mut lines = Lines {
         alloc,
-        names: Names::new(alloc, places)?,
+        names: Names::new(alloc, places, places.functions.len())?,
         lookup,
         line: Vec::new(alloc),
         missing: 0,

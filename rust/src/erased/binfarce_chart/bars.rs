@@ -37,6 +37,33 @@ pub(crate) fn others(alloc: Global, count: usize) -> Result<String, AllocError> 
     Ok(label)
 }
 
+// The bars that are shown of these: of more than 40, the first 39, and one with this label for the others.
+pub(crate) fn shown_of<'a>(
+    alloc: Global,
+    bars: &[Bar<'a>],
+    label: &'a str,
+) -> Result<Vec<Bar<'a>>, AllocError> {
+    if bars.len() <= MOST_BARS {
+        return Vec::from_slice(alloc, bars);
+    }
+    let (first, rest) = bars.split_at(MOST_BARS - 1);
+    let mut shown = Vec::from_slice(alloc, first)?;
+    shown.push(Bar {
+        name: label,
+        size: size_of_all(rest),
+    })?;
+    Ok(shown)
+}
+
+// The greatest of the sizes.
+pub(crate) fn largest(bars: &[Bar<'_>]) -> u64 {
+    let mut most = 0;
+    for bar in bars {
+        most = bar.size.max(most);
+    }
+    most
+}
+
 // The sum of the sizes.
 pub(crate) fn size_of_all(bars: &[Bar<'_>]) -> u64 {
     let mut sum = 0;
@@ -49,6 +76,14 @@ pub(crate) fn size_of_all(bars: &[Bar<'_>]) -> u64 {
 // The length of a bar of this size, with so much before it.
 pub(crate) fn length_of(total: u64, before: u64, size: u64) -> u64 {
     edge(total, before + size) - edge(total, before)
+}
+
+// The width of a bar of this size beside the largest.
+pub(crate) fn width_of(largest: u64, size: u64) -> u128 {
+    if largest == 0 {
+        return 0;
+    }
+    WHOLE * u128::from(size) / u128::from(largest)
 }
 
 // The share of the whole before this point.

@@ -3,33 +3,56 @@
 //! The text of a picture.
 
 use crate::shim::String;
-use crate::erased::binfarce_chart::bars::{Bar, MOST_BARS, falling, length_of, others, size_of_all};
+use crate::erased::binfarce_chart::bars::{
+    Bar, MOST_BARS, falling, largest, length_of, others, shown_of, size_of_all, width_of,
+};
 use crate::erased::binfarce_text::digits::hex_digit;
 use crate::shim::alloc::{AllocError, Global};
 
 /// The picture of these sizes, as a whole SVG document: a bar for each, the greatest first.
 ///
 /// The sum of the sizes has to be below 2^64. Of more than 40 bars, the last one sums up all from the 40th on. The
-/// lengths are shares of the sum in hundredths of a per cent, and are written beside the bars; they add up to 100.00.
-/// `section_size` is shown in the caption. Names are escaped. The only error is a failed allocation.
-pub fn chart(alloc: Global, bars: &[Bar<'_>], section_size: u64) -> Result<String, AllocError> {
+/// longest bar has the whole width. Beside each bar are its share of the sum, in hundredths of a per cent, which add up to
+/// 100.00, and its size in KiB. The title is above them, with the sum and `section_size`. Names and the title are escaped;
+/// the end of a long one is cut. The only error is a failed allocation.
+pub fn chart(
+    alloc: Global,
+    title: &str,
+    bars: &[Bar<'_>],
+    section_size: u64,
+) -> Result<String, AllocError> {
     let sorted = falling(alloc, bars)?;
-    picture_of(alloc, sorted.as_slice(), section_size)
+    let label = others(alloc, sorted.len().saturating_sub(MOST_BARS - 1))?;
+    let shown = shown_of(alloc, sorted.as_slice(), label.as_str())?;
+    picture_of(alloc, title, shown.as_slice(), section_size)
 }
 
-// The picture of bars in the order in which they are shown.
-fn picture_of(alloc: Global, bars: &[Bar<'_>], section_size: u64) -> Result<String, AllocError> {
+// The picture of the bars that are shown.
+fn picture_of(
+    alloc: Global,
+    title: &str,
+    bars: &[Bar<'_>],
+    section_size: u64,
+) -> Result<String, AllocError> {
     let sum = size_of_all(bars);
     let mut text = String::new(alloc);
-    push_head(&mut text, bars.len().min(MOST_BARS), sum, section_size)?;
-    push_shown(alloc, &mut text, bars, sum)?;
-    text.push_str("</svg>\n")?;
+    push_head(&mut text, title, bars.len(), sum, section_size)?;
+    push_rows(&mut text, bars, sum, largest(bars))?;
+    push_foot(&mut text, 24 * bars.len() as u128 + 81)?;
     Ok(text)
 }
 
 // The text before so many rows.
-fn push_head(text: &mut String, count: usize, sum: u64, section_size: u64) -> Result<(), AllocError> {
-    push_opening(text, 24 * count as u128 + 48)?;
+fn push_head(
+    text: &mut String,
+    title: &str,
+    count: usize,
+    sum: u64,
+    section_size: u64,
+) -> Result<(), AllocError> {
+    push_opening(text, 24 * count as u128 + 96)?;
+    push_document_title(text, title)?;
+    push_heading(text, title)?;
     push_caption(text, sum, section_size)
 }
 
@@ -40,50 +63,43 @@ fn push_opening(text: &mut String, height: u128) -> Result<(), AllocError> {
     )
 }
 
-fn push_caption(text: &mut String, sum: u64, section_size: u64) -> Result<(), AllocError> {
+fn push_document_title(text: &mut String, title: &str) -> Result<(), AllocError> {
+    text.push_str("<title>Size by crate: ")?;
+    push_escaped(text, title.as_bytes())?;
     writeln!(
         text,
-        "<title>Size by crate</title>\n<rect width=\"800\" height=\"100%\" fill=\"#fff\"/>\n<text x=\"8\" y=\"25\">sum {sum}, text {section_size}: bytes and share of the sum by crate</text>"
+        "</title>\n<rect width=\"800\" height=\"100%\" fill=\"#fff\"/>"
     )
 }
 
-// The rows that are shown of these bars.
-fn push_shown(
-    alloc: Global,
-    text: &mut String,
-    bars: &[Bar<'_>],
-    sum: u64,
-) -> Result<(), AllocError> {
-    if bars.len() <= MOST_BARS {
-        return push_rows(text, bars, sum);
-    }
-    let (first, rest) = bars.split_at(MOST_BARS - 1);
-    push_rows(text, first, sum)?;
-    push_others(alloc, text, rest, sum)
+fn push_heading(text: &mut String, title: &str) -> Result<(), AllocError> {
+    text.push_str("<text x=\"8\" y=\"25\" font-weight=\"bold\">")?;
+    push_label(text, 90, title)?;
+    writeln!(text, "</text>")
 }
 
-// The row that sums up these bars, below 39 others.
-fn push_others(
-    alloc: Global,
-    text: &mut String,
-    bars: &[Bar<'_>],
-    sum: u64,
-) -> Result<(), AllocError> {
-    let size = size_of_all(bars);
-    let label = others(alloc, bars.len())?;
-    let bar = Bar {
-        name: label.as_str(),
-        size,
-    };
-    push_row(text, 976, bar, length_of(sum, sum - size, size))
+fn push_caption(text: &mut String, sum: u64, section_size: u64) -> Result<(), AllocError> {
+    text.push_str("<text x=\"8\" y=\"49\">sum ")?;
+    push_kib(text, sum)?;
+    text.push_str(", text ")?;
+    push_kib(text, section_size)?;
+    text.push_str(": share of the sum and size by crate</text>\n")
+}
+
+fn push_foot(text: &mut String, y: u128) -> Result<(), AllocError> {
+    write!(
+        text,
+        "<text x=\"8\" y=\"{y}\" fill=\"#666\">[unknown]: names that are no Rust names, such as those of C, C++ and assembly</text>\n</svg>\n"
+    )
 }
 
 // The rows of these bars.
-fn push_rows(text: &mut String, bars: &[Bar<'_>], sum: u64) -> Result<(), AllocError> {
+fn push_rows(text: &mut String, bars: &[Bar<'_>], sum: u64, largest: u64) -> Result<(), AllocError> {
     let mut before = 0;
-    let mut top = 40u128;
+    let mut top = 64u128;
     for bar in bars {
-        push_row(text, top, *bar, length_of(sum, before, bar.size))?;
+        let share = length_of(sum, before, bar.size);
+        push_row(text, top, *bar, share, width_of(largest, bar.size))?;
         before += bar.size;
         top += 24;
     }
@@ -91,11 +107,18 @@ fn push_rows(text: &mut String, bars: &[Bar<'_>], sum: u64) -> Result<(), AllocE
 }
 
 // The row of a bar, so far from the top.
-fn push_row(text: &mut String, top: u128, bar: Bar<'_>, length: u64) -> Result<(), AllocError> {
+fn push_row(
+    text: &mut String,
+    top: u128,
+    bar: Bar<'_>,
+    share: u64,
+    width: u128,
+) -> Result<(), AllocError> {
     push_row_start(text, top)?;
-    push_escaped(text, bar.name)?;
-    push_bar(text, length)?;
-    push_figures(text, length, bar.size)
+    push_label(text, 30, bar.name)?;
+    push_bar(text, width)?;
+    push_share(text, share)?;
+    push_size(text, bar.size)
 }
 
 fn push_row_start(text: &mut String, top: u128) -> Result<(), AllocError> {
@@ -105,31 +128,63 @@ fn push_row_start(text: &mut String, top: u128) -> Result<(), AllocError> {
     )
 }
 
-fn push_bar(text: &mut String, length: u64) -> Result<(), AllocError> {
+fn push_bar(text: &mut String, width: u128) -> Result<(), AllocError> {
     text.push_str(
         "</text></svg><svg x=\"240\" width=\"360\"><rect y=\"3\" width=\"100%\" height=\"18\" fill=\"#e6e6e6\"/><rect y=\"3\" width=\"",
     )?;
-    push_percents(text, length)?;
+    push_percents(text, width)?;
     write!(text, "%\" height=\"18\" fill=\"#245\"/></svg>")
 }
 
-fn push_figures(text: &mut String, length: u64, size: u64) -> Result<(), AllocError> {
-    text.push_str("<text x=\"672\" y=\"17\" text-anchor=\"end\">")?;
-    push_percents(text, length)?;
-    writeln!(
-        text,
-        "%</text><text x=\"792\" y=\"17\" text-anchor=\"end\">{size}</text></svg>"
-    )
+fn push_share(text: &mut String, share: u64) -> Result<(), AllocError> {
+    text.push_str("<text x=\"664\" y=\"17\" text-anchor=\"end\">")?;
+    push_percents(text, u128::from(share))?;
+    write!(text, "%</text>")
+}
+
+fn push_size(text: &mut String, size: u64) -> Result<(), AllocError> {
+    text.push_str("<text x=\"792\" y=\"17\" text-anchor=\"end\">")?;
+    push_kib(text, size)?;
+    writeln!(text, "</text></svg>")
 }
 
 // Hundredths of a per cent, as per cents with two decimals.
-fn push_percents(text: &mut String, length: u64) -> Result<(), AllocError> {
-    write!(text, "{}.{}{}", length / 100, length / 10 % 10, length % 10)
+fn push_percents(text: &mut String, n: u128) -> Result<(), AllocError> {
+    write!(text, "{}.{}{}", n / 100, n / 10 % 10, n % 10)
+}
+
+// KiB with one decimal, rounded to the nearest.
+fn push_kib(text: &mut String, size: u64) -> Result<(), AllocError> {
+    let tenths = (u128::from(size) * 10 + 512) / 1024;
+    push_groups(text, 6, tenths / 10)?;
+    write!(text, ".{} KiB", tenths % 10)
+}
+
+// A number with a comma before each of the last groups of three digits, at most so many.
+fn push_groups(text: &mut String, most: usize, n: u128) -> Result<(), AllocError> {
+    if most == 0 || n < 1000 {
+        return write!(text, "{n}");
+    }
+    push_groups(text, most - 1, n / 1000)?;
+    write!(text, ",{}{}{}", n / 100 % 10, n / 10 % 10, n % 10)
+}
+
+// A name of at most so many bytes; of a longer one the beginning, an ellipsis, and the whole name as a title.
+fn push_label(text: &mut String, most: usize, name: &str) -> Result<(), AllocError> {
+    let bytes = name.as_bytes();
+    if bytes.len() <= most {
+        return push_escaped(text, bytes);
+    }
+    text.push_str("<title>")?;
+    push_escaped(text, bytes)?;
+    text.push_str("</title>")?;
+    push_escaped(text, &bytes[..most])?;
+    text.push_str("&#8230;")
 }
 
 // A name, escaped so that XML takes every character literally.
-fn push_escaped(text: &mut String, name: &str) -> Result<(), AllocError> {
-    for byte in name.as_bytes() {
+fn push_escaped(text: &mut String, name: &[u8]) -> Result<(), AllocError> {
+    for byte in name {
         push_escaped_byte(text, *byte)?;
     }
     Ok(())

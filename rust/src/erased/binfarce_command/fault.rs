@@ -40,6 +40,8 @@ pub enum Fault {
     SharedAddresses,
     /// So many lines of standard input have no address; all were answered.
     Missing(u64),
+    /// The sum grew by so many bytes, more than is allowed.
+    Grown(u64),
 }
 
 impl fmt::Display for Fault {
@@ -58,6 +60,10 @@ impl fmt::Display for Fault {
                 f,
                 "no dynamic symbol table (.dynsym)"
             ),
+            Fault::Parse(ParseError::SymbolsSectionIsMissing) => write!(
+                f,
+                "no such section; binfarce section lists those of the file"
+            ),
             Fault::Parse(e) => write!(f, "{e}"),
             Fault::TooLarge => write!(f, "sizes are too large"),
             Fault::NoSection => write!(f, "no section of this name"),
@@ -67,6 +73,7 @@ impl fmt::Display for Fault {
                 f,
                 "its sections share addresses; --section=NAME takes one of them"
             ),
+            Fault::Grown(by) => write!(f, "the sum grew by {by} bytes"),
             Fault::Missing(1) => write!(f, "1 line without an address"),
             Fault::Missing(count) => write!(f, "{count} lines without an address"),
         }

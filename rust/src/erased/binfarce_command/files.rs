@@ -4,6 +4,7 @@
 
 use crate::shim::{String, Vec};
 use crate::erased::binfarce_command::fault::Fault;
+use crate::erased::binfarce_command::hint::{Hint, completed, refusal_hint};
 use crate::erased::binfarce_command::input::OpenFile;
 use crate::erased::binfarce_command::output::Output;
 use crate::erased::binfarce_command::show::{Request, show};
@@ -18,6 +19,9 @@ pub trait System<F: Read + Source<Log = ()>> {
 
     /// Reports why the file at this path is refused. `reason` is the system's, if a read failed.
     fn report(&mut self, path: &str, fault: Fault, reason: Option<Error>);
+
+    /// Gives a hint on the file at this path.
+    fn hint(&mut self, path: &str, hint: Hint);
 }
 
 /// Shows each file, in order. Of several, each is shown under a line with its name. A file that is refused is reported,
@@ -54,10 +58,31 @@ fn show_file<F: Read + Source<Log = ()>, Y: System<F>, W: Write>(
     out.begin(heading(alloc, path, are_several)?);
     match open_input(alloc, system, path) {
         Some(input) => {
-            let shown = show_source(alloc, asked, &input, out);
-            reported(system, path, &input, shown)
+            let mut hint = None;
+            let shown = show_source(alloc, asked, path, &input, &mut hint, out);
+            give_hint(alloc, system, asked, path, &input, shown.is_ok(), hint);
+            reported(alloc, system, path, &input, shown)
         }
         None => Ok(false),
+    }
+}
+
+// Gives the hint on a file that is shown, if there is one.
+fn give_hint<F: Read + Source<Log = ()>, Y: System<F>>(
+    alloc: Global,
+    system: &mut Y,
+    asked: &Request<'_>,
+    path: &str,
+    input: &OpenFile<F>,
+    is_shown: bool,
+    hint: Option<Hint>,
+) {
+    match hint {
+        Some(hint) if is_shown => {
+            let which = asked.symbols.which;
+            system.hint(path, completed(alloc, input, which, hint));
+        }
+        _ => {}
     }
 }
 
@@ -75,10 +100,12 @@ fn heading(alloc: Global, path: &str, are_several: bool) -> Result<Vec<u8>, Allo
 fn show_source<S: Source<Log = ()>, W: Write>(
     alloc: Global,
     asked: &Request<'_>,
+    path: &str,
     source: &S,
+    hint: &mut Option<Hint>,
     out: &mut Output<W>,
 ) -> Result<(), Fault> {
-    show(alloc, asked, source, out)?;
+    show(alloc, asked, path, source, hint, out)?;
     out.end()
 }
 
@@ -112,6 +139,7 @@ pub fn open_input<F: Read + Source<Log = ()>, Y: System<F>>(
 ///
 /// Faults that aren't the file's: `Write` and `Missing`.
 pub fn reported<F: Read + Source<Log = ()>, Y: System<F>>(
+    alloc: Global,
     system: &mut Y,
     path: &str,
     input: &OpenFile<F>,
@@ -124,6 +152,9 @@ pub fn reported<F: Read + Source<Log = ()>, Y: System<F>>(
         Err(Fault::Input) => Ok(false),
         Err(fault) => {
             system.report(path, fault, input.take_reason());
+            if let Some(hint) = refusal_hint(alloc, input, fault) {
+                system.hint(path, hint);
+            }
             Ok(false)
         }
     }

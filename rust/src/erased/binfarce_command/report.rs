@@ -4,6 +4,8 @@
 
 use crate::shim::{HostRuntime, String};
 use crate::erased::binfarce_command::fault::Fault;
+use crate::erased::binfarce_command::hint::Hint;
+use crate::erased::binfarce_figures::diff::Growth;
 use crate::erased::binfarce_words::words::Wrong;
 use crate::shim::io::{Error, ErrorKind};
 
@@ -34,7 +36,21 @@ pub fn ended(rt: &HostRuntime, done: Result<bool, Fault>, reason: Option<Error>)
 fn status(fault: Fault) -> u8 {
     match fault {
         Fault::Missing(_) => 2,
+        Fault::Grown(_) => 3,
         _ => 1,
+    }
+}
+
+/// Whether the growth from one sum to another is allowed: it is no more than this limit, if there is one.
+///
+/// # Errors
+///
+/// `Grown` with the growth where it is more.
+pub fn judged(growth: Growth, limit: Option<usize>) -> Result<bool, Fault> {
+    let by = growth.new.saturating_sub(growth.old);
+    match limit {
+        Some(limit) if by > limit as u64 => Err(Fault::Grown(by)),
+        _ => Ok(true),
     }
 }
 
@@ -67,6 +83,11 @@ pub fn report(rt: &HostRuntime, name: &str, fault: Fault, reason: Option<Error>)
             let _ = rt.eprintln(format_args!("binfarce: {name}: {fault}"));
         }
     }
+}
+
+/// Prints a hint on a file.
+pub fn report_hint(rt: &HostRuntime, name: &str, hint: Hint) {
+    let _ = rt.eprintln(format_args!("binfarce: {name}: {hint}"));
 }
 
 fn print_reason(rt: &HostRuntime, name: &str, e: &Error) {

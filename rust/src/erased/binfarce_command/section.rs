@@ -6,6 +6,7 @@ use crate::erased::binfarce_bytes::source::Source;
 use crate::erased::binfarce_sections::bytes::write_section_of;
 use crate::erased::binfarce_sections::error::SectionError;
 use crate::erased::binfarce_sections::list::list_source;
+use crate::erased::binfarce_tools::json::Form;
 use crate::erased::binfarce_tools::list::Sink;
 use crate::shim::alloc::Global;
 
@@ -19,10 +20,11 @@ pub fn write_or_list<S: Source<Log = ()>, K: Sink>(
     alloc: Global,
     source: &S,
     name: Option<&str>,
+    form: Form<'_>,
     out: &mut K,
 ) -> Result<(), SectionError> {
     match name {
         Some(name) => write_section_of(alloc, source, &mut (), name, out),
-        None => list_source(alloc, source, &mut (), out),
+        None => list_source(alloc, source, &mut (), form, out),
     }
 }

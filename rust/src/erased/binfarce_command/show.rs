@@ -3,12 +3,16 @@
 //! Shows the function symbols of a file: as a listing, as sums by crate, or as a picture.
 
 use crate::erased::binfarce_command::fault::Fault;
+use crate::erased::binfarce_command::hint::{Hint, hint_of, note_overlap};
 use crate::erased::binfarce_bytes::source::Source;
+use crate::erased::binfarce_figures::rows::{Shown, list_by};
+use crate::erased::binfarce_figures::stacks::fold_tables;
+use crate::erased::binfarce_figures::sums::{Figures, sum_by};
 use crate::erased::binfarce_tools::SymbolTable;
+use crate::erased::binfarce_tools::json::Form;
 use crate::erased::binfarce_tools::list::{Sink, list_tables};
 use crate::erased::binfarce_tools::map::map_tables;
-use crate::erased::binfarce_tools::report::report_tables;
-use crate::erased::binfarce_tools::rows::{Shown, list_by};
+use crate::erased::binfarce_tools::report::report_noted;
 use crate::erased::binfarce_tools::tables::{Selection, Tables, read};
 use crate::shim::alloc::Global;
 
@@ -21,8 +25,12 @@ pub enum Kind {
     Rows(Shown),
     /// As sums by crate.
     Sums,
+    /// As sums by a key, in an order, of the first lines, or with shares.
+    Figures(Figures),
     /// As a picture of these sums.
     Picture,
+    /// As stacks.
+    Stacks,
 }
 
 /// Which function symbols of a file are taken.
@@ -41,9 +49,21 @@ pub struct Request<'a> {
     pub kind: Kind,
     /// Which they are.
     pub symbols: Symbols<'a>,
+    /// Whether they are shown as JSON objects.
+    pub is_json: bool,
 }
 
-/// Shows the function symbols of the source that are asked for. Of the source it reads the headers, the symbol table and the names
+// The form in which the file at this path is shown.
+fn form_for<'a>(asked: &Request<'a>, path: &'a str) -> Form<'a> {
+    match asked.symbols.selection {
+        _ if !asked.is_json => Form::Lines,
+        Selection::Section(section) => Form::Objects(path, section),
+        Selection::All => Form::Objects(path, ""),
+    }
+}
+
+/// Shows the function symbols of the source that are asked for, and says if there is a hint on them; a picture has the path
+/// as its title. Of the source it reads the headers, the symbol table and the names
 /// alone.
 ///
 /// # Errors
@@ -53,7 +73,9 @@ pub struct Request<'a> {
 pub fn show<S: Source<Log = ()>, K: Sink>(
     alloc: Global,
     asked: &Request<'_>,
+    path: &str,
     source: &S,
+    hint: &mut Option<Hint>,
     out: &mut K,
 ) -> Result<(), Fault> {
     let tables = read(
@@ -63,20 +85,39 @@ pub fn show<S: Source<Log = ()>, K: Sink>(
         asked.symbols.which,
         asked.symbols.selection,
     )?;
-    show_tables(alloc, asked.kind, &tables, out)
+    *hint = hint_of(alloc, &tables);
+    show_tables(
+        alloc,
+        asked.kind,
+        path,
+        form_for(asked, path),
+        &tables,
+        hint,
+        out,
+    )
 }
 
 // The same, of the tables of the source.
 fn show_tables<K: Sink>(
     alloc: Global,
     kind: Kind,
+    path: &str,
+    form: Form<'_>,
     tables: &Tables<'_>,
+    hint: &mut Option<Hint>,
     out: &mut K,
 ) -> Result<(), Fault> {
     match kind {
         Kind::Listing => Ok(list_tables(alloc, tables, out)?),
-        Kind::Rows(shown) => Ok(list_by(alloc, tables, &shown, out)?),
-        Kind::Sums => Ok(report_tables(alloc, tables, out)?),
-        Kind::Picture => Ok(map_tables(alloc, tables, out)?),
+        Kind::Rows(shown) => Ok(list_by(alloc, tables, &shown, form, out)?),
+        Kind::Sums => {
+            let mut exceeds = false;
+            report_noted(alloc, tables, &mut exceeds, out)?;
+            note_overlap(hint, exceeds);
+            Ok(())
+        }
+        Kind::Figures(figures) => Ok(sum_by(alloc, tables, &figures, form, out)?),
+        Kind::Picture => Ok(map_tables(alloc, path, tables, out)?),
+        Kind::Stacks => Ok(fold_tables(alloc, tables, out)?),
     }
 }

@@ -15,7 +15,7 @@ use crate::erased::binfarce_bytes::{ByteOrder, ParseError};
 
 /// Where the section headers of a file are, and the file's type, as its header states.
 #[derive(Clone, Copy)]
-pub struct Place {
+pub struct HeaderTable {
     pub byte_order: ByteOrder,
     pub shoff: usize,
     pub shnum: Half,
@@ -24,16 +24,16 @@ pub struct Place {
 }
 
 /// The place that the header of a file of this class states. `UnexpectedEof` where the header is truncated.
-pub fn place_in(file: &[u8], width: Width, byte_order: ByteOrder) -> Result<Place, ParseError> {
+pub fn place_in(file: &[u8], width: Width, byte_order: ByteOrder) -> Result<HeaderTable, ParseError> {
     match width {
         Width::Bits32 => place_of::<u32>(file, byte_order),
         Width::Bits64 => place_of::<u64>(file, byte_order),
     }
 }
 
-fn place_of<C: Class>(file: &[u8], byte_order: ByteOrder) -> Result<Place, ParseError> {
+fn place_of<C: Class>(file: &[u8], byte_order: ByteOrder) -> Result<HeaderTable, ParseError> {
     let header = parse_header::<C>(file, byte_order)?;
-    Ok(Place {
+    Ok(HeaderTable {
         byte_order,
         shoff: header.shoff.widened() as usize,
         shnum: header.shnum,
@@ -64,7 +64,7 @@ pub fn section_at(
 pub fn needed_in(
     headers: &[u8],
     width: Width,
-    place: Place,
+    place: HeaderTable,
     names: Option<&[u8]>,
     which: SymbolTable,
     selection: Selection<'_>,

@@ -4,7 +4,7 @@
 
 use crate::shim::Vec;
 use crate::erased::binfarce_pe::header::image_base;
-use crate::erased::binfarce_pe::parts::{Places, SECTION_LENGTH, Text, text_in};
+use crate::erased::binfarce_pe::parts::{SECTION_LENGTH, TableOffsets, Text, text_in};
 use crate::erased::binfarce_pe::sections::{Table, section_at, section_table};
 use crate::erased::binfarce_pe::symbols::{
     SYMBOL_LENGTH, SymbolRow, SymbolTable, is_function, name_of, symbol_of, symbol_table,
@@ -45,7 +45,7 @@ impl SelectedSections<'_> {
 pub fn functions_of_file<'a>(
     alloc: Global,
     file: &'a [u8],
-    places: Places,
+    places: TableOffsets,
     selection: Selection<'_>,
 ) -> Result<(Vec<SectionFunction<'a>>, Option<u64>), ParseError> {
     let sections = selected_sections(file, places, selection)?;
@@ -57,7 +57,7 @@ pub fn functions_of_file<'a>(
 // What a selection chooses of a file, or the first refusal.
 fn selected_sections<'a>(
     file: &'a [u8],
-    places: Places,
+    places: TableOffsets,
     selection: Selection<'_>,
 ) -> Result<SelectedSections<'a>, ParseError> {
     match selection {
@@ -67,7 +67,10 @@ fn selected_sections<'a>(
 }
 
 // All sections of a file, none of whose headers is truncated.
-fn all_sections<'a>(file: &'a [u8], places: Places) -> Result<SelectedSections<'a>, ParseError> {
+fn all_sections<'a>(
+    file: &'a [u8],
+    places: TableOffsets,
+) -> Result<SelectedSections<'a>, ParseError> {
     let header = slice_at(file, places.optional_header, places.optional_header_size)?;
     let headers = whole_sections(section_table(file, places))?;
     Ok(SelectedSections::All(image_base(header), headers))

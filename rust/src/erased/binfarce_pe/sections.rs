@@ -2,7 +2,7 @@
 
 //! The sections of a file (Microsoft PE Format, "Section Table").
 
-use crate::erased::binfarce_pe::parts::{Places, SECTION_LENGTH};
+use crate::erased::binfarce_pe::parts::{SECTION_LENGTH, TableOffsets};
 use crate::erased::binfarce_bytes::parser::{Stream, UnexpectedEof, range, up_to_nul, utf8_text};
 use crate::erased::binfarce_bytes::{ByteOrder, ParseError};
 use std::ops::Range;
@@ -61,7 +61,7 @@ pub struct Table<'a> {
 }
 
 /// All sections of a file whose tables are at these places.
-pub fn sections_of<'a>(file: &'a [u8], places: Places) -> Sections<'a> {
+pub fn sections_of<'a>(file: &'a [u8], places: TableOffsets) -> Sections<'a> {
     Sections {
         table: section_table(file, places),
         next: Some(0),
@@ -69,7 +69,7 @@ pub fn sections_of<'a>(file: &'a [u8], places: Places) -> Sections<'a> {
 }
 
 /// The section headers of a file.
-pub(crate) fn section_table<'a>(file: &'a [u8], places: Places) -> Table<'a> {
+pub(crate) fn section_table<'a>(file: &'a [u8], places: TableOffsets) -> Table<'a> {
     Table {
         bytes: file,
         offset: places.sections,
@@ -116,7 +116,7 @@ fn section_left(table: Table<'_>, from: u16) -> Result<Option<(Section<'_>, u16)
 /// The first section of the file that the callback accepts.
 pub fn first_of_file<'a, F: Fn(Section<'a>) -> bool>(
     file: &'a [u8],
-    places: Places,
+    places: TableOffsets,
     callback: F,
 ) -> Result<Option<Section<'a>>, UnexpectedEof> {
     first_section(section_table(file, places), callback)
@@ -148,7 +148,7 @@ fn first_section<'a, F: Fn(Section<'a>) -> bool>(
 /// The first section with this name.
 pub fn section_with_name<'a>(
     file: &'a [u8],
-    places: Places,
+    places: TableOffsets,
     name: &str,
 ) -> Result<Option<Section<'a>>, UnexpectedEof> {
     section_named(section_table(file, places), name)

@@ -2,7 +2,7 @@
 
 //! The symbol table ("COFF Symbol Table") and its rows.
 
-use crate::erased::binfarce_pe::parts::Places;
+use crate::erased::binfarce_pe::parts::TableOffsets;
 use crate::erased::binfarce_pe::sections::short_name;
 use crate::erased::binfarce_bytes::parser::{Stream, UnexpectedEof, parse_null_string, slice_at};
 use crate::erased::binfarce_bytes::{ByteOrder, ParseError};
@@ -34,7 +34,7 @@ pub(crate) struct SymbolRow {
 
 pub(crate) fn symbol_table<'a>(
     file: &'a [u8],
-    places: Places,
+    places: TableOffsets,
 ) -> Result<SymbolTable<'a>, ParseError> {
     let offset = places.symbols;
     if offset >= file.len() {

@@ -8,6 +8,9 @@ use crate::erased::binfarce_sections::sections::{Section, Sections, sections_of}
 use crate::erased::binfarce_sections::tables::read;
 use crate::erased::binfarce::ParseError;
 use crate::erased::binfarce_bytes::source::Source;
+use crate::erased::binfarce_tools::json::{
+    Form, push_address_member, push_number_member, push_start, push_text_member,
+};
 use crate::erased::binfarce_tools::list::Sink;
 use crate::erased::binfarce_tools::writing::write_whole;
 use crate::shim::alloc::{AllocError, Global};
@@ -28,10 +31,11 @@ pub fn list_sections<S: Sink>(alloc: Global, file: &[u8], out: &mut S) -> Result
         Ok(sections) => sections,
         Err(e) => return Err(e),
     };
-    write_lines(alloc, sections, out)
+    write_lines(alloc, sections, Form::Lines, out)
 }
 
-/// The same for a source, of which only these bytes are read: the first 8 bytes, and those that `read_sections` of
+/// The same for a source, in either form; an object has the members `file`, `segment`, `section`, `address`, `offset` and
+/// `size`, and `null` for a name that isn't there. Of the source only these bytes are read: the first 8 bytes, and those that `read_sections` of
 /// `binfarce_tables` reads of a file of that format.
 ///
 /// # Errors
@@ -42,20 +46,22 @@ pub fn list_source<F: Source, S: Sink>(
     alloc: Global,
     source: &F,
     log: &mut F::Log,
+    form: Form<'_>,
     out: &mut S,
 ) -> Result<(), SectionError> {
     let tables = read(alloc, source, log)?;
     let sections = tables.sections()?;
-    write_lines(alloc, sections, out)
+    write_lines(alloc, sections, form, out)
 }
 
 // Writes the lines of all sections that are left.
 fn write_lines<S: Sink>(
     alloc: Global,
     sections: Sections<'_>,
+    form: Form<'_>,
     out: &mut S,
 ) -> Result<(), SectionError> {
-    let (text, refusal) = lines_of(alloc, sections)?;
+    let (text, refusal) = lines_of(alloc, sections, form)?;
     write_whole(out, text.as_bytes()).map_err(|_| SectionError::Write)?;
     match refusal {
         Some(e) => Err(SectionError::Parse(e)),
@@ -67,15 +73,36 @@ fn write_lines<S: Sink>(
 fn lines_of(
     alloc: Global,
     sections: Sections<'_>,
+    form: Form<'_>,
 ) -> Result<(String, Option<ParseError>), AllocError> {
     let mut text = String::new(alloc);
     for section in sections {
         match section {
-            Ok(section) => push_line(&mut text, section)?,
+            Ok(section) => push_row(&mut text, form, section)?,
             Err(e) => return Ok((text, Some(e))),
         }
     }
     Ok((text, None))
+}
+
+// Appends a section to the text.
+fn push_row(text: &mut String, form: Form<'_>, section: Section<'_>) -> Result<(), AllocError> {
+    match form {
+        Form::Lines => push_line(text, section),
+        Form::Objects(file, _) => push_object(text, file, section),
+    }
+}
+
+// Appends a section as a JSON object.
+fn push_object(text: &mut String, file: &str, section: Section<'_>) -> Result<(), AllocError> {
+    push_start(text, file)?;
+    push_text_member(text, "segment", section.segment)?;
+    push_text_member(text, "section", section.name)?;
+    push_address_member(text, section.address)?;
+    push_number_member(text, "offset", section.offset)?;
+    push_number_member(text, "size", section.size)?;
+    text.push_str("}\n")?;
+    Ok(())
 }
 
 // Appends the line of a section to the text.

@@ -9,7 +9,7 @@ use crate::erased::binfarce_bytes::functions::Selection;
 use crate::erased::binfarce_bytes::source::{Source, read_part};
 use crate::erased::binfarce_bytes::{ByteOrder, ParseError};
 use crate::erased::binfarce_elf::class::{Half, Width};
-use crate::erased::binfarce_elf::parts::{Place, needed_in, place_in, section_at};
+use crate::erased::binfarce_elf::parts::{HeaderTable, needed_in, place_in, section_at};
 use crate::erased::binfarce_elf::sections::Section;
 use crate::erased::binfarce_elf::symbol_table::SymbolTable;
 use crate::erased::binfarce_elf::symbols::{
@@ -108,7 +108,7 @@ pub(crate) fn read_place<S: Source>(
     len: usize,
     width: Width,
     byte_order: ByteOrder,
-) -> Result<Place, ReadError> {
+) -> Result<HeaderTable, ReadError> {
     let size = width.header_length();
     if len < size {
         return Err(ReadError::Refused(ParseError::UnexpectedEof));
@@ -131,7 +131,7 @@ pub(crate) fn read_headers<S: Source>(
     log: &mut S::Log,
     len: usize,
     width: Width,
-    place: Place,
+    place: HeaderTable,
 ) -> Result<Vec<u8>, ReadError> {
     let size = width.section_length();
     let whole = len.saturating_sub(place.shoff) / size;
@@ -146,7 +146,7 @@ pub(crate) fn read_names<S: Source>(
     log: &mut S::Log,
     len: usize,
     width: Width,
-    place: Place,
+    place: HeaderTable,
 ) -> Result<Option<Vec<u8>>, ReadError> {
     let size = width.section_length();
     let whole = len.saturating_sub(place.shoff) / size;

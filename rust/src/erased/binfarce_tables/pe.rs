@@ -12,7 +12,7 @@ use crate::erased::binfarce_bytes::source::Source;
 use crate::erased::binfarce_pe::functions::{SelectedSections, functions_of, section_name};
 use crate::erased::binfarce_pe::header::image_base;
 use crate::erased::binfarce_pe::parts::{
-    HEADERS_LENGTH, Places, SECTION_LENGTH, SIGNATURE_POINTER, Text, places_in, signature_in,
+    HEADERS_LENGTH, SECTION_LENGTH, SIGNATURE_POINTER, TableOffsets, Text, places_in, signature_in,
     text_in,
 };
 use crate::erased::binfarce_pe::sections::Table;
@@ -121,7 +121,7 @@ fn read_selected<S: Source>(
     source: &S,
     log: &mut S::Log,
     len: usize,
-    places: Places,
+    places: TableOffsets,
     selection: Selection<'_>,
 ) -> Result<Sections, ReadError> {
     match selection {
@@ -138,7 +138,7 @@ fn read_all_sections<S: Source>(
     source: &S,
     log: &mut S::Log,
     len: usize,
-    places: Places,
+    places: TableOffsets,
 ) -> Result<Sections, ReadError> {
     let headers = read_headers(alloc, source, log, len, places)?;
     let header = part(
@@ -183,7 +183,7 @@ fn read_places<S: Source>(
     source: &S,
     log: &mut S::Log,
     len: usize,
-) -> Result<Places, ReadError> {
+) -> Result<TableOffsets, ReadError> {
     let signature = read_signature(alloc, source, log, len)?;
     let offset = signature as usize;
     if len < offset + HEADERS_LENGTH {
@@ -212,7 +212,7 @@ fn read_text<S: Source>(
     source: &S,
     log: &mut S::Log,
     len: usize,
-    places: Places,
+    places: TableOffsets,
 ) -> Result<Text, ReadError> {
     let offset = places.sections;
     if offset >= len {
@@ -237,7 +237,7 @@ fn read_headers<S: Source>(
     source: &S,
     log: &mut S::Log,
     len: usize,
-    places: Places,
+    places: TableOffsets,
 ) -> Result<Vec<u8>, ReadError> {
     let offset = places.sections;
     if offset >= len {
@@ -263,7 +263,7 @@ fn read_records<S: Source>(
     source: &S,
     log: &mut S::Log,
     len: usize,
-    places: Places,
+    places: TableOffsets,
 ) -> Result<Records, ReadError> {
     let offset = places.symbols;
     if offset >= len || places.symbols_size > len - offset {

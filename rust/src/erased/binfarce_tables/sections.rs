@@ -8,7 +8,7 @@ use crate::erased::binfarce_tables::error::ReadError;
 use crate::erased::binfarce_bytes::ByteOrder;
 use crate::erased::binfarce_bytes::source::Source;
 use crate::erased::binfarce_elf::class::Width;
-use crate::erased::binfarce_elf::parts::{AnySections, Place, name_of_index, sections_in};
+use crate::erased::binfarce_elf::parts::{AnySections, HeaderTable, name_of_index, sections_in};
 use crate::shim::alloc::Global;
 
 /// The section headers of a file and the section names, in memory, and the file's length.
@@ -16,7 +16,7 @@ pub struct SectionParts {
     pub(crate) headers: Vec<u8>,
     pub(crate) names: Option<Vec<u8>>,
     pub(crate) width: Width,
-    pub(crate) place: Place,
+    pub(crate) place: HeaderTable,
     pub(crate) file_length: u64,
 }
 
@@ -89,7 +89,7 @@ fn read_table<S: Source>(
     log: &mut S::Log,
     len: usize,
     width: Width,
-    place: Place,
+    place: HeaderTable,
 ) -> Result<Vec<u8>, ReadError> {
     if place.shoff >= len {
         return Ok(Vec::new(alloc));

@@ -6,7 +6,11 @@ use crate::shim::String;
 use crate::erased::binfarce_text::digits::hex_digit;
 use crate::shim::alloc::AllocError;
 
-/// Appends the head of a line to the text.
+/// Appends the head of a line to the text: `{address:016x} {size:>10} `.
+///
+/// # Errors
+///
+/// `AllocError` where an allocation failed. The text is then unspecified.
 pub fn push_head(text: &mut String, address: u64, size: u64) -> Result<(), AllocError> {
     if size < 10_000_000_000 {
         return push_head_of_28(text, address, size);

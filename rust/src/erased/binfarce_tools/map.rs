@@ -13,19 +13,21 @@ use crate::shim::alloc::{AllocError, Global};
 /// Draws the sizes of the function symbols of a file's section by crate: an SVG document with a bar for each crate, the
 /// greatest first.
 ///
-/// The sums are those that `report` shows, and the picture is that of `binfarce_chart::svg::chart`: of more than 40
-/// crates, the last bar sums up all from the 40th on. The picture is made before its first byte is written.
+/// The sums are those that `report` shows, and the picture is that of `binfarce_chart::svg::chart`, with this title, such as
+/// the file's name: of more than 40 crates, the last bar sums up all from the 40th on. The picture is made before its first
+/// byte is written.
 ///
 /// # Errors
 ///
 /// Those of `report`. Only after `Write` a beginning of the picture may be written.
 pub fn map<S: Sink>(
     alloc: Global,
+    title: &str,
     file: &[u8],
     section: &str,
     out: &mut S,
 ) -> Result<(), ReportError> {
-    map_tables(alloc, &Tables::whole(file, section), out)
+    map_tables(alloc, title, &Tables::whole(file, section), out)
 }
 
 /// As `map`, from the tables of a file: for the selection that they were read for. The whole of all sections is the sum of
@@ -36,17 +38,18 @@ pub fn map<S: Sink>(
 /// As `map`.
 pub fn map_tables<S: Sink>(
     alloc: Global,
+    title: &str,
     tables: &Tables<'_>,
     out: &mut S,
 ) -> Result<(), ReportError> {
     let sums = sums_of_tables(alloc, tables)?;
-    write_made(out, picture(alloc, &sums))
+    write_made(out, picture(alloc, title, &sums))
 }
 
 // The whole picture.
-fn picture(alloc: Global, sums: &CrateSums) -> Result<String, AllocError> {
+fn picture(alloc: Global, title: &str, sums: &CrateSums) -> Result<String, AllocError> {
     let bars = bars_of(alloc, sums)?;
-    chart(alloc, bars.as_slice(), sums.section_size)
+    chart(alloc, title, bars.as_slice(), sums.section_size)
 }
 
 // A bar for each crate, in the order of the crates' bytes.

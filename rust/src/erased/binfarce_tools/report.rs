@@ -97,8 +97,23 @@ pub fn report_tables<S: Sink>(
     tables: &Tables<'_>,
     out: &mut S,
 ) -> Result<(), ReportError> {
+    report_noted(alloc, tables, &mut false, out)
+}
+
+/// As `report_tables`, and sets whether the sum of all sizes exceeds the section's, which it does where symbols overlap.
+///
+/// # Errors
+///
+/// Those of `report_tables`.
+pub fn report_noted<S: Sink>(
+    alloc: Global,
+    tables: &Tables<'_>,
+    exceeds: &mut bool,
+    out: &mut S,
+) -> Result<(), ReportError> {
     let (functions, size) = tables.functions(alloc)?.into_list();
     let sums = crate_sums(alloc, functions, size)?;
+    *exceeds = sums.total > sums.section_size;
     write_made(out, report_text(alloc, &sums, size))
 }
 
@@ -166,15 +181,19 @@ fn add_function(
     add_size(alloc, crates, text.as_str(), function.size)
 }
 
-// Adds a size to the sum of a crate. Its name is copied where there is no sum yet.
-fn add_size(
+/// Adds a size to the sum of a name, up to 2^64 - 1. The name is copied where there is no sum yet.
+///
+/// # Errors
+///
+/// `AllocError` where an allocation failed. The sums are then unspecified.
+pub fn add_size(
     alloc: Global,
     crates: &mut BTreeMap<String, u64>,
     name: &str,
     size: u64,
 ) -> Result<(), AllocError> {
     match crates.get_mut(name) {
-        Some(sum) => *sum += size,
+        Some(sum) => *sum = sum.saturating_add(size),
         None => {
             let _ = crates.insert(String::from_str(alloc, name)?, size)?;
         }
@@ -182,8 +201,12 @@ fn add_size(
     Ok(())
 }
 
-// Overwrites the text by the crate that a function of this name is counted for.
-fn put_crate(alloc: Global, text: &mut String, name: &str) -> Result<(), AllocError> {
+/// Overwrites the text by the crate that a function of this name is counted for.
+///
+/// # Errors
+///
+/// `AllocError` where an allocation failed. The text is then unspecified.
+pub fn put_crate(alloc: Global, text: &mut String, name: &str) -> Result<(), AllocError> {
     text.clear();
     if push_crate(alloc, text, name)? {
         Ok(())
@@ -192,11 +215,12 @@ fn put_crate(alloc: Global, text: &mut String, name: &str) -> Result<(), AllocEr
     }
 }
 
-// Writes a text whole, if it was made.
-pub(crate) fn write_made<S: Sink>(
-    out: &mut S,
-    made: Result<String, AllocError>,
-) -> Result<(), ReportError> {
+/// Writes a text whole, if it was made.
+///
+/// # Errors
+///
+/// `OutOfMemory` where it wasn't made, and `Write` where a write failed.
+pub fn write_made<S: Sink>(out: &mut S, made: Result<String, AllocError>) -> Result<(), ReportError> {
     let text = made?;
     write_whole(out, text.as_bytes())?;
     Ok(())

@@ -5,12 +5,12 @@
 use crate::erased::binfarce_v0::productions::{print, print_target};
 use crate::erased::binfarce_v0_grammar::forms::{ConstForm, ConstValue, const_form};
 use crate::erased::binfarce_v0_state::fragments::Production;
-use crate::erased::binfarce_v0_state::place::Place;
+use crate::erased::binfarce_v0_state::nesting::Nesting;
 use crate::erased::binfarce_v0_state::state::Printer;
 use crate::shim::alloc::AllocError;
 
 /// `<const>`. It is kept where a back reference may name it.
-pub fn print_const(printer: &mut Printer<'_>, here: Place) -> Result<(), AllocError> {
+pub fn print_const(printer: &mut Printer<'_>, here: Nesting) -> Result<(), AllocError> {
     print(printer, here.outside(), Production::Const)?;
     Ok(())
 }
@@ -18,7 +18,7 @@ pub fn print_const(printer: &mut Printer<'_>, here: Place) -> Result<(), AllocEr
 // A const by the letter that it begins with.
 pub(crate) fn print_const_by_letter(
     printer: &mut Printer<'_>,
-    here: Place,
+    here: Nesting,
 ) -> Result<(), AllocError> {
     match const_form(printer.part, printer.at) {
         ConstForm::Nothing => printer.invalid_syntax(),

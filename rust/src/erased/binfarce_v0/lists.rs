@@ -8,7 +8,7 @@ use crate::erased::binfarce_v0::types::print_type;
 use crate::erased::binfarce_v0_grammar::forms::{Listed, lifetime_form};
 use crate::erased::binfarce_v0_grammar::identifiers::undisambiguated_at;
 use crate::erased::binfarce_v0_grammar::positions::{eat, list_end, required_end};
-use crate::erased::binfarce_v0_state::place::Place;
+use crate::erased::binfarce_v0_state::nesting::Nesting;
 use crate::erased::binfarce_v0_state::position::Position;
 use crate::erased::binfarce_v0_state::state::Printer;
 use crate::erased::binfarce_v0_state::text::ArgumentLifetime;
@@ -17,7 +17,7 @@ use crate::shim::alloc::AllocError;
 // A list up to its `E`: how many items it has.
 pub fn print_items(
     printer: &mut Printer<'_>,
-    here: Place,
+    here: Nesting,
     listed: Listed,
     between: &'static str,
 ) -> Result<usize, AllocError> {
@@ -35,7 +35,7 @@ pub fn print_items(
 }
 
 // An item of a list.
-fn print_item(printer: &mut Printer<'_>, here: Place, listed: Listed) -> Result<(), AllocError> {
+fn print_item(printer: &mut Printer<'_>, here: Nesting, listed: Listed) -> Result<(), AllocError> {
     match listed {
         Listed::Types => print_type(printer, here),
         Listed::Arguments => print_argument(printer, here),
@@ -47,7 +47,7 @@ fn print_item(printer: &mut Printer<'_>, here: Place, listed: Listed) -> Result<
 }
 
 // `<generic-arg>`
-fn print_argument(printer: &mut Printer<'_>, here: Place) -> Result<(), AllocError> {
+fn print_argument(printer: &mut Printer<'_>, here: Nesting) -> Result<(), AllocError> {
     let bytes = printer.part.as_bytes();
     if eat(bytes, b'L', printer.at).is_some() {
         let (life, after) = lifetime_form(bytes, printer.at);
@@ -70,7 +70,7 @@ fn print_argument(printer: &mut Printer<'_>, here: Place) -> Result<(), AllocErr
 // The bindings of a trait.
 fn print_bindings(
     printer: &mut Printer<'_>,
-    here: Place,
+    here: Nesting,
     mut opened: bool,
 ) -> Result<(), AllocError> {
     let most = printer.steps_left + 1;

@@ -11,7 +11,7 @@ use crate::erased::binfarce_v0_grammar::limits::MAX_LEVELS;
 use crate::erased::binfarce_v0_grammar::numbers::byte_at;
 use crate::erased::binfarce_v0_grammar::reading::read_path;
 use crate::erased::binfarce_v0_state::memory::Memory;
-use crate::erased::binfarce_v0_state::place::Place;
+use crate::erased::binfarce_v0_state::nesting::Nesting;
 use crate::erased::binfarce_v0_state::position::Position;
 use crate::erased::binfarce_v0_state::state::{Buffers, Printer};
 use crate::erased::binfarce_v0_state::text::Leaf;
@@ -67,7 +67,7 @@ pub fn read(text: &str) -> Option<(&str, usize)> {
 #[cfg_attr(not(debug_assertions), inline(always))]
 pub fn print(printer: &mut Printer<'_>) -> Result<bool, AllocError> {
     printer.prepare()?;
-    let whole = Place {
+    let whole = Nesting {
         levels_left: MAX_LEVELS,
         binder_depth: 0,
     };

@@ -11,7 +11,7 @@ use crate::erased::binfarce_v0_grammar::numbers::{
     back_reference, byte_at, skip_optional_base_62_number,
 };
 use crate::erased::binfarce_v0_state::fragments::Production;
-use crate::erased::binfarce_v0_state::place::Place;
+use crate::erased::binfarce_v0_state::nesting::Nesting;
 use crate::erased::binfarce_v0_state::position::{
     Position, closing, is_open_trait, parent, value_mark,
 };
@@ -27,7 +27,7 @@ fn is_namespace(letter: u8) -> bool {
 /// `<path>`. Returns whether it was left open. It is kept where a back reference may name it.
 pub fn print_path(
     printer: &mut Printer<'_>,
-    here: Place,
+    here: Nesting,
     position: Position,
 ) -> Result<bool, AllocError> {
     print(printer, here, Production::Path(position))
@@ -37,7 +37,7 @@ pub fn print_path(
 #[cfg_attr(not(debug_assertions), inline(always))]
 pub(crate) fn print_path_by_letter(
     printer: &mut Printer<'_>,
-    here: Place,
+    here: Nesting,
     position: Position,
 ) -> Result<bool, AllocError> {
     let Some(at) = printer.at else {
@@ -71,7 +71,7 @@ pub(crate) fn print_path_by_letter(
 #[cfg_attr(not(debug_assertions), inline(always))]
 fn print_closed_path(
     printer: &mut Printer<'_>,
-    here: Place,
+    here: Nesting,
     position: Position,
     at: usize,
 ) -> Result<(), AllocError> {
@@ -91,7 +91,7 @@ fn print_closed_path(
 // `"N" <namespace> <path> <identifier>`, with its `N` at `at`.
 fn print_nested(
     printer: &mut Printer<'_>,
-    here: Place,
+    here: Nesting,
     position: Position,
     at: usize,
 ) -> Result<(), AllocError> {
@@ -107,7 +107,7 @@ fn print_nested(
 // `"M" <impl-path> <type>`, with its `M` at `at`.
 fn print_inherent_impl(
     printer: &mut Printer<'_>,
-    here: Place,
+    here: Nesting,
     position: Position,
     at: usize,
 ) -> Result<(), AllocError> {
@@ -124,7 +124,7 @@ fn print_inherent_impl(
 // `"X" <impl-path> <type> <path>`, with its `X` at `at`.
 fn print_trait_impl(
     printer: &mut Printer<'_>,
-    here: Place,
+    here: Nesting,
     position: Position,
     at: usize,
 ) -> Result<(), AllocError> {
@@ -139,7 +139,7 @@ fn print_trait_impl(
 // The path of an impl, which is read and not written.
 fn print_impl_path(
     printer: &mut Printer<'_>,
-    here: Place,
+    here: Nesting,
     position: Position,
     after: usize,
 ) -> Result<(), AllocError> {
@@ -152,7 +152,7 @@ fn print_impl_path(
 }
 
 // `<T as Trait>`
-fn print_qualified(printer: &mut Printer<'_>, here: Place) -> Result<(), AllocError> {
+fn print_qualified(printer: &mut Printer<'_>, here: Nesting) -> Result<(), AllocError> {
     printer.write("<")?;
     print_type(printer, here)?;
     printer.write(" as ")?;
@@ -163,7 +163,7 @@ fn print_qualified(printer: &mut Printer<'_>, here: Place) -> Result<(), AllocEr
 // A path with its arguments.
 fn print_generic(
     printer: &mut Printer<'_>,
-    here: Place,
+    here: Nesting,
     position: Position,
     after: usize,
 ) -> Result<(), AllocError> {

@@ -6,7 +6,7 @@ use crate::erased::binfarce_v0::consts::print_const_by_letter;
 use crate::erased::binfarce_v0::paths::print_path_by_letter;
 use crate::erased::binfarce_v0::types::print_type_by_letter;
 use crate::erased::binfarce_v0_state::fragments::{FragmentKey, Production};
-use crate::erased::binfarce_v0_state::place::Place;
+use crate::erased::binfarce_v0_state::nesting::Nesting;
 use crate::erased::binfarce_v0_state::state::Printer;
 use crate::shim::alloc::AllocError;
 
@@ -14,7 +14,7 @@ use crate::shim::alloc::AllocError;
 #[cfg_attr(not(debug_assertions), inline(always))]
 pub fn print(
     printer: &mut Printer<'_>,
-    here: Place,
+    here: Nesting,
     production: Production,
 ) -> Result<bool, AllocError> {
     match printer.keeps_at() {
@@ -27,7 +27,7 @@ pub fn print(
 #[inline(never)]
 fn print_and_keep(
     printer: &mut Printer<'_>,
-    here: Place,
+    here: Nesting,
     production: Production,
     at: usize,
 ) -> Result<bool, AllocError> {
@@ -47,7 +47,7 @@ fn print_and_keep(
 #[cfg_attr(not(debug_assertions), inline(always))]
 fn print_anew(
     printer: &mut Printer<'_>,
-    here: Place,
+    here: Nesting,
     production: Production,
 ) -> Result<bool, AllocError> {
     let Some(below) = printer.enter(here) else {
@@ -60,7 +60,7 @@ fn print_anew(
 #[cfg_attr(not(debug_assertions), inline(always))]
 fn print_by_letter(
     printer: &mut Printer<'_>,
-    here: Place,
+    here: Nesting,
     production: Production,
 ) -> Result<bool, AllocError> {
     match production {
@@ -76,7 +76,7 @@ fn print_by_letter(
 // The target of a back reference: a production, printed from the position that it names.
 pub fn print_target(
     printer: &mut Printer<'_>,
-    here: Place,
+    here: Nesting,
     production: Production,
     target: usize,
     after: usize,

@@ -12,21 +12,24 @@ use crate::erased::binfarce_v0_grammar::forms::{
 use crate::erased::binfarce_v0_grammar::numbers::{back_reference, byte_at, optional_base_62_number};
 use crate::erased::binfarce_v0_grammar::positions::{bound_end, eat, required_end};
 use crate::erased::binfarce_v0_state::fragments::Production;
-use crate::erased::binfarce_v0_state::place::Place;
+use crate::erased::binfarce_v0_state::nesting::Nesting;
 use crate::erased::binfarce_v0_state::position::Position;
 use crate::erased::binfarce_v0_state::state::Printer;
 use crate::erased::binfarce_v0_state::text::{Binder, DynLifetime, ReferenceLifetime};
 use crate::shim::alloc::AllocError;
 
 /// `<type>`. It is kept where a back reference may name it.
-pub fn print_type(printer: &mut Printer<'_>, here: Place) -> Result<(), AllocError> {
+pub fn print_type(printer: &mut Printer<'_>, here: Nesting) -> Result<(), AllocError> {
     print(printer, here, Production::Type)?;
     Ok(())
 }
 
 // A type by the letter that it begins with.
 #[cfg_attr(not(debug_assertions), inline(always))]
-pub(crate) fn print_type_by_letter(printer: &mut Printer<'_>, here: Place) -> Result<(), AllocError> {
+pub(crate) fn print_type_by_letter(
+    printer: &mut Printer<'_>,
+    here: Nesting,
+) -> Result<(), AllocError> {
     let Some(at) = printer.at else {
         return printer.invalid_syntax();
     };
@@ -43,7 +46,7 @@ pub(crate) fn print_type_by_letter(printer: &mut Printer<'_>, here: Place) -> Re
 }
 
 // A type that isn't a basic type.
-fn print_other_type(printer: &mut Printer<'_>, here: Place, at: usize) -> Result<(), AllocError> {
+fn print_other_type(printer: &mut Printer<'_>, here: Nesting, at: usize) -> Result<(), AllocError> {
     let bytes = printer.part.as_bytes();
     let after = at + 1;
     match byte_at(bytes, at) {
@@ -72,7 +75,7 @@ fn print_other_type(printer: &mut Printer<'_>, here: Place, at: usize) -> Result
 }
 
 // `"S" <type>`, after the letter.
-fn print_slice(printer: &mut Printer<'_>, here: Place, after: usize) -> Result<(), AllocError> {
+fn print_slice(printer: &mut Printer<'_>, here: Nesting, after: usize) -> Result<(), AllocError> {
     printer.seek(Some(after));
     printer.write("[")?;
     print_type(printer, here)?;
@@ -80,7 +83,7 @@ fn print_slice(printer: &mut Printer<'_>, here: Place, after: usize) -> Result<(
 }
 
 // `"D" ..`, after the letter.
-fn print_dyn_form(printer: &mut Printer<'_>, here: Place, at: usize) -> Result<(), AllocError> {
+fn print_dyn_form(printer: &mut Printer<'_>, here: Nesting, at: usize) -> Result<(), AllocError> {
     match optional_base_62_number(printer.part.as_bytes(), b'G', at) {
         Some((binder, after)) => print_dyn(printer, here, binder, after),
         None => {
@@ -93,7 +96,7 @@ fn print_dyn_form(printer: &mut Printer<'_>, here: Place, at: usize) -> Result<(
 // `"P" ..` and `"O" ..`, after the letter.
 fn print_pointer(
     printer: &mut Printer<'_>,
-    here: Place,
+    here: Nesting,
     mark: &'static str,
     after: usize,
 ) -> Result<(), AllocError> {
@@ -103,7 +106,11 @@ fn print_pointer(
 }
 
 // `"F" ..`, after the letter.
-fn print_function_form(printer: &mut Printer<'_>, here: Place, at: usize) -> Result<(), AllocError> {
+fn print_function_form(
+    printer: &mut Printer<'_>,
+    here: Nesting,
+    at: usize,
+) -> Result<(), AllocError> {
     match function_form(
         printer.part,
         optional_base_62_number(printer.part.as_bytes(), b'G', at),
@@ -121,7 +128,7 @@ fn print_function_form(printer: &mut Printer<'_>, here: Place, at: usize) -> Res
 }
 
 // `"A" <type> <const>`
-fn print_array(printer: &mut Printer<'_>, here: Place, after: usize) -> Result<(), AllocError> {
+fn print_array(printer: &mut Printer<'_>, here: Nesting, after: usize) -> Result<(), AllocError> {
     printer.seek(Some(after));
     printer.write("[")?;
     print_type(printer, here)?;
@@ -131,7 +138,7 @@ fn print_array(printer: &mut Printer<'_>, here: Place, after: usize) -> Result<(
 }
 
 // `"T" {<type>} "E"`
-fn print_tuple(printer: &mut Printer<'_>, here: Place, after: usize) -> Result<(), AllocError> {
+fn print_tuple(printer: &mut Printer<'_>, here: Nesting, after: usize) -> Result<(), AllocError> {
     printer.seek(Some(after));
     printer.write("(")?;
     let count = print_items(printer, here, Listed::Types, ", ")?;
@@ -142,7 +149,7 @@ fn print_tuple(printer: &mut Printer<'_>, here: Place, after: usize) -> Result<(
 // `"R" ..` and `"Q" ..`, after the letter.
 fn print_reference(
     printer: &mut Printer<'_>,
-    here: Place,
+    here: Nesting,
     mutable: bool,
     at: usize,
 ) -> Result<(), AllocError> {
@@ -167,7 +174,7 @@ fn print_reference(
 // A function type.
 fn print_function<'a>(
     printer: &mut Printer<'a>,
-    here: Place,
+    here: Nesting,
     signature: Signature<'a>,
     after: usize,
 ) -> Result<(), AllocError> {
@@ -198,7 +205,7 @@ fn print_function<'a>(
 // A dyn type.
 fn print_dyn(
     printer: &mut Printer<'_>,
-    here: Place,
+    here: Nesting,
     binder: u64,
     after: usize,
 ) -> Result<(), AllocError> {

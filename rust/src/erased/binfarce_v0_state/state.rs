@@ -4,7 +4,7 @@
 
 use crate::shim::String;
 use crate::erased::binfarce_v0_state::fragments::{Fragments, or_forget, share};
-use crate::erased::binfarce_v0_state::place::Place;
+use crate::erased::binfarce_v0_state::nesting::Nesting;
 use crate::erased::binfarce_v0_state::text::{Disambiguator, Leaf};
 use crate::erased::binfarce_v0_grammar::forms::Lifetime;
 use crate::erased::binfarce_v0_grammar::identifiers::UndisambiguatedIdentifier;
@@ -264,7 +264,7 @@ impl<'a> Printer<'a> {
 
     /// Takes a level and a step, where one of each is left. Returns the place below.
     #[cfg_attr(not(debug_assertions), inline(always))]
-    pub fn enter(&mut self, here: Place) -> Option<Place> {
+    pub fn enter(&mut self, here: Nesting) -> Option<Nesting> {
         if here.levels_left == 0 || self.steps_left == 0 {
             self.stop();
             return None;

@@ -5,7 +5,8 @@
 use crate::shim::{String, Vec};
 use crate::erased::binfarce_words::named::{Named, find_named, nearest};
 use crate::erased::binfarce_addresses::address::parse_address;
-use crate::erased::binfarce_tools::order::Order;
+use crate::erased::binfarce_figures::key::Key;
+use crate::erased::binfarce_figures::order::Order;
 use crate::shim::alloc::Global;
 use std::fmt;
 
@@ -18,6 +19,8 @@ pub enum Command {
     Size,
     /// Draws sizes by crate.
     Map,
+    /// Compares the sizes of two files.
+    Diff,
     /// Makes names in text readable.
     Filter,
     /// Symbolizes addresses.
@@ -27,10 +30,11 @@ pub enum Command {
 }
 
 /// All commands.
-pub const COMMANDS: [Command; 6] = [
+pub const COMMANDS: [Command; 7] = [
     Command::List,
     Command::Size,
     Command::Map,
+    Command::Diff,
     Command::Filter,
     Command::At,
     Command::Section,
@@ -42,6 +46,7 @@ impl Named for Command {
             Command::List => "list",
             Command::Size => "size",
             Command::Map => "map",
+            Command::Diff => "diff",
             Command::Filter => "filter",
             Command::At => "at",
             Command::Section => "section",
@@ -76,6 +81,18 @@ pub enum Flag {
     NoTotal,
     /// Shows names as they are stored.
     Raw,
+    /// What sizes are summed by.
+    By,
+    /// Shows shares in per cent.
+    Percent,
+    /// Joins the crates of Rust's standard library.
+    Std,
+    /// Writes JSON objects.
+    Json,
+    /// The growth in bytes from which on the comparison fails.
+    FailAbove,
+    /// Writes stacks.
+    Folded,
 }
 
 /// What an option takes.
@@ -91,6 +108,8 @@ pub enum Takes {
     Count,
     /// What lines are sorted by.
     Order,
+    /// What sizes are summed by.
+    Key,
 }
 
 /// All orders of lines.
@@ -106,6 +125,20 @@ impl Named for Order {
     }
 }
 
+/// All keys of sums.
+pub const KEYS: [Key; 4] = [Key::Crate, Key::Function, Key::Generic, Key::Section];
+
+impl Named for Key {
+    fn name(self) -> &'static str {
+        match self {
+            Key::Crate => "crate",
+            Key::Function => "function",
+            Key::Generic => "generic",
+            Key::Section => "section",
+        }
+    }
+}
+
 impl Takes {
     // Whether it takes this value.
     fn is_met_by(self, value: &str) -> bool {
@@ -114,6 +147,7 @@ impl Takes {
             Takes::Address => parse_address(value.as_bytes()).is_some(),
             Takes::Count => count_in(value).is_some(),
             Takes::Order => find_named(&ORDERS, value).is_some(),
+            Takes::Key => find_named(&KEYS, value).is_some(),
         }
     }
 }
@@ -139,6 +173,12 @@ impl Flag {
             Flag::First => ("--first", "-n", Takes::Count),
             Flag::NoTotal => ("--no-total", "", Takes::Nothing),
             Flag::Raw => ("--raw", "", Takes::Nothing),
+            Flag::By => ("--by", "", Takes::Key),
+            Flag::Percent => ("--percent", "", Takes::Nothing),
+            Flag::Std => ("--std", "", Takes::Nothing),
+            Flag::Json => ("--json", "", Takes::Nothing),
+            Flag::FailAbove => ("--fail-above", "", Takes::Count),
+            Flag::Folded => ("--folded", "", Takes::Nothing),
         }
     }
 
@@ -168,10 +208,38 @@ impl Command {
                 Flag::NoTotal,
                 Flag::Raw,
                 Flag::Full,
+                Flag::Json,
             ],
-            Command::Size | Command::Map => {
-                &[Flag::Help, Flag::Section, Flag::Dynamic, Flag::All]
-            }
+            Command::Size => &[
+                Flag::Help,
+                Flag::Section,
+                Flag::Dynamic,
+                Flag::All,
+                Flag::By,
+                Flag::First,
+                Flag::Percent,
+                Flag::Std,
+                Flag::Json,
+            ],
+            Command::Map => &[
+                Flag::Help,
+                Flag::Section,
+                Flag::Dynamic,
+                Flag::All,
+                Flag::Folded,
+            ],
+            Command::Diff => &[
+                Flag::Help,
+                Flag::Section,
+                Flag::Dynamic,
+                Flag::All,
+                Flag::By,
+                Flag::First,
+                Flag::Percent,
+                Flag::Std,
+                Flag::Json,
+                Flag::FailAbove,
+            ],
             Command::Filter => &[Flag::Help, Flag::Full],
             Command::At => &[
                 Flag::Help,
@@ -182,7 +250,7 @@ impl Command {
                 Flag::Dynamic,
                 Flag::All,
             ],
-            Command::Section => &[Flag::Help],
+            Command::Section => &[Flag::Help, Flag::Json],
         }
     }
 }
@@ -206,6 +274,8 @@ pub enum Wrong<'a> {
     BadValue(Flag, &'a str),
     /// The command has no file.
     NoFile(Command),
+    /// The command has one file, and compares two.
+    NoSecondFile,
     /// A word more than the command takes.
     TooMany(&'a str),
     /// A word isn't UTF-8.
@@ -256,6 +326,7 @@ impl<'a> fmt::Display for Wrong<'a> {
                 let name = command.name();
                 write!(f, "no file; binfarce {name} --help shows how it is called")
             }
+            Wrong::NoSecondFile => write!(f, "diff compares two files, and has one"),
             Wrong::TooMany(word) => write!(f, "one argument too many: {word}"),
             Wrong::NotUtf8 => write!(f, "an argument is not UTF-8"),
             Wrong::OutOfMemory => write!(f, "out of memory"),
@@ -306,6 +377,14 @@ impl<'a> Arguments<'a> {
     pub fn order(&self) -> Option<Order> {
         match self.value(Flag::Sort) {
             Some(value) => find_named(&ORDERS, value),
+            None => None,
+        }
+    }
+
+    /// The key that sizes are summed by.
+    pub fn key(&self) -> Option<Key> {
+        match self.value(Flag::By) {
+            Some(value) => find_named(&KEYS, value),
             None => None,
         }
     }
@@ -452,8 +531,11 @@ fn check_operands<'a>(
     match operands {
         _ if command == Command::Filter => Ok(()),
         [] => Err(Wrong::NoFile(command)),
-        [_, _, word, ..] if command == Command::Section => Err(Wrong::TooMany(word)),
-        [_, word, ..] if annotates => Err(Wrong::TooMany(word)),
+        [_] if command == Command::Diff => Err(Wrong::NoSecondFile),
+        [_, _, word, ..] if command == Command::Section || command == Command::Diff => Err(
+            Wrong::TooMany(word),
+        ),
+        [_, word, ..] if annotates || command == Command::Map => Err(Wrong::TooMany(word)),
         _ => Ok(()),
     }
 }

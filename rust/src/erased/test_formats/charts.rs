@@ -31,7 +31,7 @@ impl<'a> Bars<'a> {
     }
 
     fn picture(&self, alloc: Global, section_size: u64) -> Result<String, AllocError> {
-        chart(alloc, &self.list, section_size)
+        chart(alloc, "{path}", &self.list, section_size)
     }
 }
 

@@ -46,7 +46,7 @@ pub fn text_of_section(
             text_of(alloc, ended, out.into_inner())
         }
         _ => {
-            let ended = map(alloc, file, section, &mut out);
+            let ended = map(alloc, "{path}", file, section, &mut out);
             text_of(alloc, ended, out.into_inner())
         }
     }
@@ -89,7 +89,7 @@ pub fn text_of_all(alloc: Global, words: &str, file: &[u8]) -> Result<String, Al
             text_of(alloc, ended, out.into_inner())
         }
         _ => {
-            let ended = map_tables(alloc, &tables, &mut out);
+            let ended = map_tables(alloc, "{path}", &tables, &mut out);
             text_of(alloc, ended, out.into_inner())
         }
     }

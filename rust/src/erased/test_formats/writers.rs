@@ -34,7 +34,7 @@ fn all_written(alloc: Global, what: &str, file: &[u8], out: &mut Out<Target>) ->
             Ok(()) => Some(true),
             Err(error) => (error == ReportError::Write).then_some(false),
         },
-        _ => match map(alloc, file, ".text", out) {
+        _ => match map(alloc, "{path}", file, ".text", out) {
             Ok(()) => Some(true),
             Err(error) => (error == ReportError::Write).then_some(false),
         },

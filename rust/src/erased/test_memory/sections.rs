@@ -5,6 +5,7 @@
 use crate::erased::binfarce_sections::bytes::{write_section, write_section_of};
 use crate::erased::binfarce_sections::error::SectionError;
 use crate::erased::binfarce_sections::list::{list_sections, list_source};
+use crate::erased::binfarce_tools::json::Form;
 use crate::erased::binfarce_tools::list::Out;
 use crate::shim::alloc::{AllocError, Global};
 use crate::erased::test_image_samples::tally::{Row, Tally};
@@ -69,7 +70,7 @@ fn is_right(alloc: Global, row: &Sample) -> Row {
     let listed = list_sections(alloc, source, &mut out);
     let is_listed = is_whole(listed, out)?;
     let mut out = Out::new(Expected::new(lines.as_bytes()));
-    let listed = list_source(alloc, &source, &mut (), &mut out);
+    let listed = list_source(alloc, &source, &mut (), Form::Lines, &mut out);
     Ok(is_written && is_read && is_listed && is_whole(listed, out)?)
 }
 

@@ -1,10 +1,13 @@
-use Rattle.std.proofs.Common.{◌≡◌, ◌<◌, ◌^◌, drop}
-use Rattle.binfarce_addresses.proofs.HexNumbers.{number_from}
+use Rattle.std.proofs.Common.{◌≡◌, ◌<◌, ◌^◌, take, true}
+use Rattle.std.specs.Char.{is_ascii_hexdigit}
+use Rattle.std.specs.List.{list_all}
+use Rattle.std.specs.Str.Parse.{digits_value}
 use Rattle.binfarce_addresses.proofs.address.hex_number.Given as goal
 
--- the digits that are left, behind the number so far, write the same number
+-- the bytes so far are digits, and write the number so far
 abbrev pub invariant-loop-digit : goal.invariant-loop-digit
 invariant-loop-digit l = record {
-  same : number_from 0 l.digits ≡ number_from l.number (drop l.digit-index l.digits);
+  digits : list_all is_ascii_hexdigit (take l.digit-index l.digits) ≡ true;
+  value : l.number ≡ digits_value 16 (take l.digit-index l.digits);
   below : l.number < 16 ^ l.digit-index;
 }

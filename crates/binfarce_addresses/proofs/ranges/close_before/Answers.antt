@@ -2,7 +2,8 @@ use Rattle.std.proofs.Common.{◌≡◌, ◌+◌, ◌-◌, ◌<◌, ℕ, List, l
 use Rattle.std.proofs.lemmas.List.{get_or_default}
 use Rattle.binfarce_addresses.specs.declared.ranges.Span.{Span}
 use Rattle.binfarce_addresses.specs.machine.Sweep.{IsInnermost, row_at, stack_at}
-use Rattle.binfarce_addresses.proofs.Sweep.{are_some, closed, grown, newest}
+use Rattle.binfarce_addresses.proofs.Sweep.{closed, grown, newest}
+use Rattle.binfarce_addresses.proofs.Trimmed.{is_some}
 use Rattle.binfarce_addresses.proofs.ranges.close_before.Goals as goal
 
 pub loop-stack-preserved : goal.loop-stack-preserved
@@ -10,7 +11,7 @@ loop-stack-preserved c =
     let rows = c.args.rows.now in
     let stack = c.loop-stack.stack.items in
     let spans = c.loop-stack.spans.items in
-    let some : 0 < length stack = omega (arith, are_some _ (sym c.is_empty.ensures ∙ c.loop-stack-test.true), c.loop-stack.stack.ok.0) in
+    let some : 0 < length stack = omega (arith, is_some _ (sym c.is_empty.ensures ∙ c.loop-stack-test.true), c.loop-stack.stack.ok.0) in
     let top = length stack - 1 in
     let top_is : c.len-top.result - 1 ≡ top = omega (arith, c.len-top.ensures, c.loop-stack.stack.ok.0) in
     let at : c.index.result.now ≡ stack_at stack top = c.index.ensures ∙ get_or_default stack (c.len-top.result - 1) c.index.result.now 0 (omega (arith, some, top_is)) ∙ ap (stack_at stack) top_is in

@@ -1,14 +1,15 @@
 use Rattle.std.proofs.Common.{◌≡◌, ◌+◌, ◌-◌, ◌<◌, ◌≤◌, ◌∷◌, [], ◌++◌, ℕ, List, length, refl, sym, ap, ◌∙◌, arith}
 use Rattle.std.proofs.lemmas.List.{get_or_default}
 use Rattle.binfarce_addresses.specs.machine.Sweep.{end_at, row_at, stack_at}
-use Rattle.binfarce_addresses.proofs.Sweep.{are_none, do_reach, grown, opened}
+use Rattle.binfarce_addresses.proofs.Sweep.{do_reach, grown, opened}
+use Rattle.binfarce_addresses.proofs.Trimmed.{is_none}
 use Rattle.binfarce_addresses.proofs.ranges.open_row.Goals as goal
 use Rattle.binfarce_addresses.proofs.ranges.open_row.Goals.{else-loop-stack-test, then-loop-stack-test+then-rows-index, In_ok-push-2}
 
 -- the last row that stays open reaches further
 last_reach : (c : In_ok-push-2) → 0 < length c.loop-stack.stack.items → (row_at c.args.rows.now c.args.row).last + 1 ≤ end_at c.args.rows.now c.loop-stack.stack.items (length c.loop-stack.stack.items - 1)
 last_reach c some = elim c.loop-stack-test.branch [
-  | else-loop-stack-test w ↦ absurd (omega (arith, some, are_none _ (sym c.is_empty.ensures ∙ w.loop-stack-test.false), c.loop-stack.stack.ok.0))
+  | else-loop-stack-test w ↦ absurd (omega (arith, some, is_none _ (sym c.is_empty.ensures ∙ w.loop-stack-test.false), c.loop-stack.stack.ok.0))
   | then-loop-stack-test+then-rows-index w ↦
       let kept = c.loop-stack.stack.items in
       let top_is : w.len-top.result - 1 ≡ length kept - 1 = omega (arith, w.len-top.ensures, c.loop-stack.stack.ok.0) in

@@ -1,11 +1,8 @@
-use Rattle.std.proofs.Common.{◌≡◌, ◌+◌, length, get_or, refl, sym, subst, ◌∙◌, arith}
+use Rattle.std.proofs.Common.{◌≡◌, ◌+◌, length, get_or, sym, subst, ◌∙◌, arith}
 use Rattle.std.specs.List.Sorted.{IsSortedBy}
-use Rattle.binfarce_addresses.proofs.Rows.{AreMade, comes_before, lt_is, made_more, arranged_rows}
+use Rattle.binfarce_addresses.proofs.Rows.{AreMade, comes_before, lt_is, arranged_rows}
 use Rattle.binfarce_addresses.proofs.ranges.rows_of.Goals as goal
 use Rattle.binfarce_addresses.proofs.ranges.rows_of.Goals.{After-sort_unstable}
-
-pub loop-place-preserved : goal.loop-place-preserved
-loop-place-preserved c = made_more c.args.ranges.now c.loop-place.rows.items c.push.new.self.items c.loop-place.place _ c.loop-place.invariant c.in_ok-push.ensures.items refl refl c.last_address.ensures.last c.last_address.ensures.holds
 
 -- the sort goes by the test
 by_test : (c : After-sort_unstable) → IsSortedBy comes_before c.sort_unstable.new.self.items

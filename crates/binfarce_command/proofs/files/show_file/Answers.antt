@@ -1,5 +1,5 @@
 use Rattle.std.proofs.Common.{◌≡◌, ◌∙◌, ℕ, true, List, Option, ap, subst}
-use Rattle.binfarce_command.specs.Files.{Refused, ShowsOne, asked_files}
+use Rattle.binfarce_command.specs.Files.{Refused, ReportsWhy, ShowsOne, asked_files}
 use Rattle.binfarce_command.specs.Output.{pending, state_of, taken, writer_of}
 use Rattle.binfarce_command.specs.Input.{may_fail_of}
 use Rattle.binfarce_command.proofs.FileFates.{came_to, unopened}
@@ -14,7 +14,8 @@ returns-in-Some-clause-shows g c = λ held is.
     let old = taken g.W.Write.contents c.args.out.now in
     let read = c.in-Some.ensures.input (held path) is in
     let one = came_to files path (record { bytes = g.W.Write.contents (writer_of begun); taken = old; reports = g.Y.System.reports c.open_input.new.system }) new read.0 (pending begun)
-    (may_fail_of g.F.Source.may_fail c.in-Some.input ≡ true) read.1 read.3 (c.begin.ensures.pending ∙ c.in_ok-heading.ensures) c.show_source-shown.result c.reported.result (c.show_source-shown.ensures read.0 read.2) c.reported.ensures.reports in
+    (may_fail_of g.F.Source.may_fail c.in-Some.input ≡ true) read.1 read.3 (c.begin.ensures.pending ∙ c.in_ok-heading.ensures) c.show_source-shown.result c.reported.result (c.show_source-shown.ensures read.0 read.2)
+    (subst (λ (before : Option (List Refused)). ReportsWhy path before (g.Y.System.reports c.reported.new.system) c.show_source-shown.result c.reported.result) c.give_hint.ensures.reports c.reported.ensures.reports) in
     subst (λ (before : Option (List Refused)). ShowsOne files path (record { bytes = g.W.Write.contents (writer_of c.args.out.now); taken = old; reports = before }) new c.reported.result) (ap g.Y.System.reports c.in-Some.ensures.unchanged)
     (subst (λ (bytes : Option (List ℕ)). ShowsOne files path (record { bytes = bytes; taken = old; reports = g.Y.System.reports c.open_input.new.system }) new c.reported.result) (ap g.W.Write.contents c.begin.ensures.writer) one)
 

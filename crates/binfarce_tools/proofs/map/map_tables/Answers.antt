@@ -10,4 +10,4 @@ returns-clause-outcome g c = λ which file section are.
 
 pub returns-clause-takes : goal.returns-clause-takes
 returns-clause-takes g c = λ which file section are.
-    takes IsMapOfShares (MemoryIn file section) (answer_in which file section) c.in_ok-sums.sums c.picture.result _ _ (outcome_of c.write_made.result) (c.in_ok-sums.ensures.sums which file section are) c.picture.ensures c.write_made.ensures.takes
+    takes (IsMapOfShares c.args.title.now) (MemoryIn file section) (answer_in which file section) c.in_ok-sums.sums c.picture.result _ _ (outcome_of c.write_made.result) (c.in_ok-sums.ensures.sums which file section are) c.picture.ensures c.write_made.ensures.takes

@@ -2,11 +2,8 @@ use Rattle.std.proofs.Common.{arith}
 use Rattle.std.proofs.lemmas.Map.Text.{text_keys}
 use Rattle.binfarce_tools.proofs.report.add_size.Goals as goal
 
-pub overflow_add-sum : goal.overflow_add-sum
-overflow_add-sum c = grind (arith, text_keys)
-
 pub returns-in-Some : goal.returns-in-Some
-returns-in-Some c = λ name. grind (arith, text_keys)
+returns-in-Some c = λ fits name. grind (arith, text_keys)
 
 pub returns-in_ok-insert-in-None : goal.returns-in_ok-insert-in-None
-returns-in_ok-insert-in-None c = λ name. grind (arith, text_keys)
+returns-in_ok-insert-in-None c = λ fits name. grind (arith, text_keys)

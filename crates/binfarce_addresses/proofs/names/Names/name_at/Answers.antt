@@ -1,17 +1,15 @@
-use Rattle.std.proofs.Common.{◌≡◌, ◌∙◌, List, ℕ, Option, Some, None, String, ap, get_or, subst, sym}
-use Rattle.std.specs.Global.{Global}
-use Rattle.std.specs.String.{string_bytes}
+use Rattle.std.proofs.Common.{◌∙◌, ◌-◌, List, ℕ, get_or, drop, take, ap, sym, subst}
 use Rattle.binfarce.specs.Symbol.{Entry}
 use Rattle.binfarce_addresses.specs.machine.Places.{IsNamedAt}
+use Rattle.binfarce_addresses.proofs.Kept.{if_some}
 use Rattle.binfarce_addresses.proofs.names.Names.name_at.Goals as goal
 
-pub returns-in-Some-Some : goal.returns-in-Some-Some
-returns-in-Some-Some c =
-    let kept = c.self.inside.kept.items in
+pub returns-in-Some : goal.returns-in-Some
+returns-in-Some c =
     let place = c.args.place in
-    let name = c.in-Some-Some.name in
-    let read = c.in-Some-Some.ensures.lookup.3 in
-    let here : get_or kept place None ≡ Some name = sym (read.1 None ∙ ap (λ (ns : List (Option (String Global))). get_or ns place None) c.deref.ensures.value) ∙ c.in-Some-Some.field-0-is in
-    let P : List Entry → Type 0 = λ es. IsNamedAt es place (string_bytes name) in
-    let Q : List ℕ → Type 0 = λ bs. IsNamedAt c.args.self.now place bs in
-    subst Q (sym c.as_str.ensures.value) (subst P c.self.view_is (c.self.invariant place name here))
+    let part = c.in-Some.field-0.now in
+    let here : Path (ℕ × ℕ) (get_or c.self.inside.kept.items place (0, 0)) (part.0, part.1) = ap (λ (ks : List (ℕ × ℕ)). get_or ks place (0, 0)) (sym c.deref.ensures.value) ∙ sym (c.in-Some.ensures.lookup.3.1 (0, 0)) in
+    let kept = c.self.invariant place part.0 part.1 here c.if-from-to.true in
+    if_some c.get-in-Some.result _ _ _ c.get-in-Some.ensures.lookup.0
+    (λ name is. subst (λ (es : List Entry). IsNamedAt es place name.now) c.self.view_is
+    (subst (IsNamedAt c.self.inside.places.now place) (sym (is.2 ∙ ap (λ (xs : List ℕ). take (part.1 - part.0) (drop part.0 xs)) c.as_bytes.ensures.value)) kept.1))

@@ -1,11 +1,8 @@
-use Rattle.std.proofs.Common.{List, sym, subst}
+use Rattle.std.proofs.Common.{List, subst}
 use Rattle.binfarce_addresses.specs.declared.ranges.Row.{Row}
-use Rattle.binfarce_addresses.specs.machine.Sweep.{AreInOrder, AreSwept}
-use Rattle.binfarce_addresses.proofs.Spans.{in_order, spans_of_ranges}
+use Rattle.binfarce_addresses.specs.machine.Sweep.{AreSwept}
+use Rattle.binfarce_addresses.proofs.Spans.{spans_of_ranges}
 use Rattle.binfarce_addresses.proofs.ranges.Ranges.new.Goals as goal
-
-pub spans_of-requires : goal.spans_of-requires
-spans_of-requires c = subst AreInOrder (sym c.deref.ensures.value) (in_order c.args.ranges.now c.in_ok-rows.rows.items c.in_ok-rows.ensures)
 
 pub returns : goal.returns
 returns c =

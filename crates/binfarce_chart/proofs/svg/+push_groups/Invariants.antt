@@ -1,0 +1,4 @@
+use Rattle.binfarce_chart.proofs.svg.+push_groups.Given as goal
+
+abbrev pub decreases-push_groups : goal.decreases-push_groups
+decreases-push_groups l = l.most

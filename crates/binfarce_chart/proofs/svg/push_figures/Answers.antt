@@ -1,7 +1,0 @@
-use Rattle.binfarce_chart.specs.Svg.{figures}
-use Rattle.binfarce_chart.proofs.Texts.{on_ok, three}
-use Rattle.binfarce_chart.proofs.svg.push_figures.Goals as goal
-
-pub returns : goal.returns
-unfolding figures
-returns c = on_ok _ _ c.writeln.result (λ last. three _ _ _ _ _ _ _ c.in_ok-push_str.ensures.bytes c.in_ok-push_percents.ensures last) c.writeln.ensures.bytes

@@ -1,0 +1,15 @@
+pub mod Growing
+pub mod Ordered
+pub mod RowListings
+pub mod Places
+pub mod Arguments
+pub mod Widths
+pub mod Sizes
+pub mod Adding
+pub mod Counted
+pub mod Ranked
+pub mod Summed
+pub mod Got
+pub mod Figured
+pub mod Changed
+pub mod Compared

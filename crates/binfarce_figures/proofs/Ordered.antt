@@ -1,0 +1,27 @@
+-- Rows that a sort by a key gives.
+use Rattle.std.proofs.Common.{List, Result, Ok, Err}
+use Rattle.std.specs.Fn.{ComputesKey}
+use Rattle.std.specs.Prelude.{OnOk, IsPermutation}
+use Rattle.std.specs.List.Sorted.{IsSortedByKey, IsStableByKey, IsSortedByKeyClosure, IsStableByKeyClosure}
+use Rattle.std.specs.declared.cmp.Ordering.{Ordering}
+use denote.Ref.{Bor}
+use denote.Param.Members.{Mut}
+use Rattle.binfarce_figures.specs.declared.order.Row.{Row}
+use Rattle.binfarce_figures.specs.Order.{IsByAddress, IsByAddressAndKey, IsByKey}
+
+pub by_key : {X F K E : Type 0} (g : Mut F (Bor X × Unit {0}) K) (f : F) (key : X → K) (cmp : K → K → Ordering) (rows sorted : List X) (result : Result (Unit {0}) E)
+    → ComputesKey g key f → IsPermutation rows sorted → OnOk result (IsSortedByKeyClosure g cmp f sorted) → IsStableByKeyClosure g cmp f rows sorted → OnOk result (IsByKey key cmp rows sorted)
+by_key g f key cmp rows sorted (Ok x) computes same rises keeps = record { same = same; rises = rises key computes; keeps = keeps key computes }
+by_key g f key cmp rows sorted (Err e) computes same rises keeps = tt
+
+-- rows by address, and then by a key
+pub then_by : {K E : Type 0} (key : Row → K) (cmp : K → K → Ordering) (rows rising sorted : List Row) (result : Result (Unit {0}) E) → OnOk result (IsByKey key cmp rising sorted) → IsByAddress rows rising → OnOk result (IsByAddressAndKey key cmp rows sorted)
+then_by key cmp rows rising sorted (Ok x) by by_address = (rising, by_address, by)
+then_by key cmp rows rising sorted (Err e) by by_address = tt
+
+-- the same, for another key of the same order
+pub by_key_as : {X F K L E : Type 0} (g : Mut F (Bor X × Unit {0}) K) (f : F) (key : X → K) (cmp : K → K → Ordering) (seen : X → L) (order : L → L → Ordering) (rows sorted : List X) (result : Result (Unit {0}) E)
+    → ComputesKey g key f → IsPermutation rows sorted → OnOk result (IsSortedByKeyClosure g cmp f sorted) → IsStableByKeyClosure g cmp f rows sorted
+    → (IsSortedByKey key cmp sorted → IsSortedByKey seen order sorted) → (IsStableByKey key cmp rows sorted → IsStableByKey seen order rows sorted) → OnOk result (IsByKey seen order rows sorted)
+by_key_as g f key cmp seen order rows sorted (Ok x) computes same rises keeps rises_so keeps_so = record { same = same; rises = rises_so (rises key computes); keeps = keeps_so (keeps key computes) }
+by_key_as g f key cmp seen order rows sorted (Err e) computes same rises keeps rises_so keeps_so = tt

@@ -1,0 +1,75 @@
+-- The text of sums, from shares and from a file's answer.
+use Rattle.std.proofs.Common.{◌≡◌, ℕ, ◌<◌, ◌^◌, List, [], ◌∷◌, Option, Result, Ok, Err, String, string_bytes, IfOk, refl, sym, ap, subst, ◌∙◌, arith}
+use Rattle.std.specs.Global.{Global}
+use Rattle.std.specs.List.{AllZip, sum_by}
+use Rattle.std.proofs.lemmas.List.Sums.{sum_by-cons}
+use Rattle.std.proofs.lemmas.List.Sorted.{sum_by-IsPermutation}
+use Rattle.binfarce.specs.SectionEntries.{SectionEntry}
+use Rattle.binfarce_tools.specs.Report.{Share, total}
+use Rattle.binfarce_figures.specs.declared.key.Grouping.{Grouping}
+use Rattle.binfarce_figures.specs.declared.key.Keyed.{Keyed}
+use Rattle.binfarce_figures.specs.declared.order.Row.{Row}
+use Rattle.binfarce_figures.specs.declared.sums.Figure.{Figure}
+use Rattle.binfarce_figures.specs.declared.sums.Figures.{Figures}
+use Rattle.binfarce_figures.specs.Claims.{claimed}
+use Rattle.binfarce_figures.specs.Figures.{AreClaimsOf, AreFiguresOf, IsKeyRow, IsTextOfShares, shares_of, sums_text}
+use Rattle.binfarce_figures.specs.Keys.{IsKeyOf}
+use Rattle.binfarce_tools.specs.Json.{Style}
+use Rattle.binfarce_figures.specs.machine.Keyed.{AreClaimsWith, IsKeyed, IsRowWith}
+use Rattle.binfarce_figures.proofs.Places.{claimed_le}
+
+-- the text of figures is that of their shares
+pub of_shares : {E : Type 0} (shown : Figures) (style : Style) (size : Option ℕ) (shares : List Share) (sum : ℕ) (figures given : List Figure) (result : Result (String Global) E) → sum ≡ total shares → given ≡ figures → AreFiguresOf shares figures
+    → IfOk result (λ t. string_bytes t ≡ sums_text shown style size sum given) → IfOk result (λ t. IsTextOfShares shown style size shares (string_bytes t))
+of_shares shown style size shares sum figures given (Err e) summed same are is = is
+of_shares shown style size shares sum figures given (Ok t) summed same are is = (figures, are, is ∙ ap (λ (n : ℕ). sums_text shown style size n given) summed ∙ ap (λ (fs : List Figure). sums_text shown style size (total shares) fs) same)
+
+-- the rows of values with keys are those of the entries
+pub key_rows : (grouping : Grouping) (sections : ℕ → List ℕ) (entries : List SectionEntry) (keyed : List Keyed) (rows : List Row) → AllZip (IsKeyed grouping sections) entries keyed → AllZip IsRowWith keyed rows → AllZip (IsKeyRow grouping sections) entries rows
+key_rows grouping sections [] [] [] a b = tt
+key_rows grouping sections [] [] (r ∷ rows) a b = absurd b
+key_rows grouping sections [] (k ∷ keyed) rows a b = absurd a
+key_rows grouping sections (e ∷ entries) [] rows a b = absurd a
+key_rows grouping sections (e ∷ entries) (k ∷ keyed) [] a b = absurd b
+key_rows grouping sections (e ∷ entries) (k ∷ keyed) (r ∷ rows) a b = (first, key_rows grouping sections entries keyed rows a.1 b.1)
+  where
+    first : IsKeyRow grouping sections e r
+    first = record {
+      section_is = b.0.section_is ∙ a.0.section_is;
+      address_is = b.0.address_is ∙ a.0.address_is;
+      size_is = b.0.size_is ∙ a.0.size_is;
+      name_is = subst (λ (t : List ℕ). IsKeyOf grouping sections e t) (sym b.0.name_is) a.0.key_is;
+    }
+
+sizes_are : (keyed : List Keyed) (rows : List Row) → AllZip IsRowWith keyed rows → sum_by (λ (r : Row). r.size) rows ≡ sum_by (λ (k : Keyed). k.size) keyed
+sizes_are [] [] are = refl
+sizes_are [] (r ∷ rows) are = absurd are
+sizes_are (k ∷ keyed) [] are = absurd are
+sizes_are (k ∷ keyed) (r ∷ rows) are = omega (arith, sum_by-cons (λ (r : Row). r.size) r rows, sum_by-cons (λ (k : Keyed). k.size) k keyed, are.0.size_is, sizes_are keyed rows are.1)
+
+-- the sizes of values with keys are those of the entries
+pub keyed_sizes : (grouping : Grouping) (sections : ℕ → List ℕ) (entries : List SectionEntry) (keyed : List Keyed) → AllZip (IsKeyed grouping sections) entries keyed → sum_by (λ (k : Keyed). k.size) keyed ≡ sum_by (λ (e : SectionEntry). e.entry.size) entries
+keyed_sizes grouping sections [] [] are = refl
+keyed_sizes grouping sections [] (k ∷ keyed) are = absurd are
+keyed_sizes grouping sections (e ∷ entries) [] are = absurd are
+keyed_sizes grouping sections (e ∷ entries) (k ∷ keyed) are = omega (arith, sum_by-cons (λ (k : Keyed). k.size) k keyed, sum_by-cons (λ (e : SectionEntry). e.entry.size) e entries, are.0.size_is, keyed_sizes grouping sections entries keyed are.1)
+
+total_is : (rows : List Row) → total (shares_of rows) ≡ sum_by (λ (r : Row). r.size) rows
+total_is [] = refl
+total_is (r ∷ rows) = omega (arith, sum_by-cons (λ (s : Share). s.size) (record { name = r.name.now; size = r.size }) (shares_of rows), sum_by-cons (λ (r : Row). r.size) r rows, total_is rows)
+
+-- what values with keys add is what the entries add
+pub key_claims : (grouping : Grouping) (sections : ℕ → List ℕ) (entries : List SectionEntry) (keyed : List Keyed) (claims : List Row) → AllZip (IsKeyed grouping sections) entries keyed → AreClaimsWith keyed claims → AreClaimsOf grouping sections entries claims
+key_claims grouping sections entries keyed claims are (rows, sorted, with, by, is) = (rows, sorted, key_rows grouping sections entries keyed rows are with, by, is)
+
+-- what is claimed fits, as the sum of all sizes does
+pub claims_fit : (keyed : List Keyed) (claims : List Row) → AreClaimsWith keyed claims → sum_by (λ (k : Keyed). k.size) keyed < 2 ^ 64 → total (shares_of claims) < 2 ^ 64
+claims_fit keyed claims (rows, sorted, are, by, is) fit = omega (
+  arith,
+  ap (λ (rs : List Row). total (shares_of rs)) is,
+  total_is (claimed sorted),
+  claimed_le sorted,
+  sum_by-IsPermutation (λ (r : Row). r.size) rows sorted by.same,
+  sizes_are keyed rows are,
+  fit,
+)

@@ -1,0 +1,164 @@
+-- The text of how the sums of two files differ.
+use Rattle.std.specs.Prelude.{◌≡◌, ◌⊎◌, ℕ, zero, suc, ◌+◌, ◌-◌, ◌/◌, ◌%◌, Bool, true, false, not, List, [], ◌∷◌, ◌++◌, length, take, drop, filter, Option, Some, None, Result, Ok, Err, codes, nat_eq, nat_lt, if◌then◌else◌}
+use Rattle.std.specs.Fmt.{decimal}
+use Rattle.std.specs.List.{AllZip, concat, flat_map, sum_by}
+use Rattle.binfarce.specs.Refusal.{Refusal}
+use Rattle.binfarce.specs.SectionEntries.{SectionEntry}
+use Rattle.binfarce.specs.Symbol.{Listed}
+use Rattle.binfarce.specs.declared.SymbolTable.{SymbolTable}
+use Rattle.binfarce_chart.specs.Chart.{others_label}
+use Rattle.binfarce_tools.specs.Json.{Style, lines, objects, number_member, object_start, text_member}
+use Rattle.binfarce_tools.specs.Listing.{pad_left, size_text}
+use Rattle.binfarce_tools.specs.Report.{Share, AreCratesOf, ReportFits, sum_of, total}
+use Rattle.binfarce_tools.specs.Selection.{answer_in, MemoryIn}
+use Rattle.binfarce_tools.specs.Tables.{AreTablesOf}
+use Rattle.binfarce_tools.specs.Writing.{Outcome, EndsAs, no_memory, too_large}
+use Rattle.binfarce_tools.specs.declared.report.ReportError.{ReportError}
+use Rattle.binfarce_tools.specs.declared.tables.Tables.{Tables}
+use Rattle.binfarce_figures.specs.declared.diff.Change.{Change}
+use Rattle.binfarce_figures.specs.declared.diff.Growth.{Growth}
+use Rattle.binfarce_figures.specs.declared.key.Grouping.{Grouping}
+use Rattle.binfarce_figures.specs.declared.order.Row.{Row}
+use Rattle.binfarce_figures.specs.declared.sums.Figures.{Figures}
+use Rattle.binfarce_figures.specs.Figures.{AreClaimsOf, hundredths, shares_of}
+use Rattle.binfarce_figures.specs.Keys.{section_keys}
+use Rattle.binfarce_figures.specs.Order.{IsByKey, falling}
+use Rattle.binfarce_figures.specs.Rows.{AreEntriesIn, count_of, size_in}
+
+-- a change is that of a key, by these shares of two files
+pub record IsChangeOf (old new : List Share) (name : List ℕ) (change : Change) : Type 0 where
+  pub name_is : change.name.now ≡ name
+  pub old_is : change.old ≡ sum_of old name
+  pub new_is : change.new ≡ sum_of new name
+
+-- the distance of two numbers
+abbrev pub difference : (old new : ℕ) → ℕ
+difference old new = (old - new) + (new - old)
+
+-- the sums of a key differ
+abbrev pub differ : (old new : List Share) → (name : List ℕ) → Bool
+differ old new name = not (nat_eq (sum_of old name) (sum_of new name))
+
+-- changes are those of the keys of either file whose sums differ, the greatest difference first, and those of one difference in the order of the keys' bytes
+abbrev pub AreChangesOf : (old new : List Share) → List Change → Type 0
+AreChangesOf old new changes =
+    (names : List (List ℕ)) × AreCratesOf (old ++ new) names
+    × ((rising : List Change) × AllZip (IsChangeOf old new) (filter (differ old new) names) rising × IsByKey (λ c. difference c.old c.new) falling rising changes)
+
+abbrev pub sign : (old new : ℕ) → List ℕ
+sign old new = if nat_lt new old then codes "-" else codes "+"
+
+-- `{change:>11}`, with its sign
+abbrev pub change_text : (old new : ℕ) → List ℕ
+change_text old new = pad_left 32 11 (sign old new ++ decimal (difference old new))
+
+-- `{}.{:02}%`, of hundredths
+abbrev pub percent_digits : ℕ → List ℕ
+percent_digits n = decimal (n / 100) ++ (codes "." ++ (decimal (n / 10 % 10) ++ (decimal (n % 10) ++ codes "%")))
+
+-- the change in per cent of the old sum, rounded toward zero, with its sign; `new` where there was nothing
+abbrev pub growth_text : (old new : ℕ) → List ℕ
+growth_text zero new = codes "new"
+growth_text (suc n) new = sign (suc n) new ++ percent_digits (hundredths (difference (suc n) new) (suc n))
+
+-- that to the right of 10 columns, if it is wanted
+abbrev pub growth_part : (has_percent : Bool) → (old new : ℕ) → List ℕ
+growth_part true old new = pad_left 32 10 (growth_text old new) ++ codes " "
+growth_part false old new = []
+
+-- `{old:>10} {new:>10} {change:>11} {percent:>10} {name}`, and a line feed
+abbrev pub line_of : Figures → (name : List ℕ) → (old new : ℕ) → List ℕ
+line_of shown name old new =
+    size_text old ++ (codes " " ++ (size_text new ++ (codes " " ++ (change_text old new ++ (codes " " ++ (growth_part shown.has_percent old new ++ (name ++ 10 ∷ [])))))))
+
+-- a number as JSON has it
+abbrev pub signed_member : (name : List ℕ) → (old new : ℕ) → List ℕ
+signed_member name old new = codes ",\"" ++ (name ++ (codes "\":" ++ ((if nat_lt new old then codes "-" else []) ++ decimal (difference old new))))
+
+-- a change as an object: the new file, the key, the old sum, the new one and their difference
+abbrev pub change_object : (file name : List ℕ) → (old new : ℕ) → List ℕ
+change_object file name old new = concat (
+    object_start file ∷ text_member (codes "name") (Some name) ∷ number_member (codes "old") old ∷ number_member (codes "new") new
+    ∷ signed_member (codes "change") old new ∷ codes "}\n" ∷ []
+    )
+
+abbrev pub row_of : Figures → Style → (name : List ℕ) → (old new : ℕ) → List ℕ
+row_of shown lines name old new = line_of shown name old new
+row_of shown (objects file section) name old new = change_object file name old new
+
+abbrev pub change_row : Figures → Style → Change → List ℕ
+change_row shown style change = row_of shown style change.name.now change.old change.new
+
+-- the row that sums up changes
+abbrev pub others_row : Figures → Style → List Change → List ℕ
+others_row shown style others = row_of shown style (others_label (length others)) (sum_by (λ c. c.old) others) (sum_by (λ c. c.new) others)
+
+-- the first n changes, and the row of all others where there are any
+abbrev pub change_rows : Figures → Style → (n : ℕ) → List Change → List ℕ
+change_rows shown style n changes = flat_map (change_row shown style) (take n changes) ++ (if nat_lt n (length changes) then others_row shown style (drop n changes) else [])
+
+-- changes, and the row of the sums of all sizes
+abbrev pub changes_text : Figures → Style → List Change → Growth → List ℕ
+changes_text shown style changes totals = change_rows shown style (count_of shown.first (length changes)) changes ++ row_of shown style (codes "[total]") totals.old totals.new
+
+-- growth is that of the sums of all sizes
+pub record IsGrowthOf (old new : List Share) (growth : Growth) : Type 0 where
+  pub old_is : growth.old ≡ total old
+  pub new_is : growth.new ≡ total new
+
+-- text is that of the changes from shares to others
+abbrev pub IsTextOfChanges : Figures → Style → (old new : List Share) → List ℕ → Type 0
+IsTextOfChanges shown style old new text = (changes : List Change) × (totals : Growth) × AreChangesOf old new changes × IsGrowthOf old new totals × (text ≡ changes_text shown style changes totals)
+
+-- whose function symbols are asked for: those of a selection of a file, by a symbol table
+pub record Asked : Type 0 where
+  pub which : SymbolTable
+  pub file : List ℕ
+  pub section : Option (List ℕ)
+
+abbrev pub AreTablesFor : Asked → Tables → Type 0
+AreTablesFor asked tables = AreTablesOf asked.which asked.file asked.section tables
+
+abbrev pub answer_for : Asked → Option (Result Listed Refusal)
+answer_for asked = answer_in asked.which asked.file asked.section
+
+-- what two files answer: for a refusal, or an unknown format, the first one's
+abbrev pub both : (old new : Option (Result Listed Refusal)) → Option (Result (Listed × Listed) Refusal)
+both (Some (Ok old)) (Some (Ok new)) = Some (Ok (old, new))
+both (Some (Ok old)) (Some (Err refusal)) = Some (Err refusal)
+both (Some (Ok old)) None = None
+both (Some (Err refusal)) new = Some (Err refusal)
+both None new = None
+
+-- a call ends as one that sums the old file, if that fails; and otherwise as one that sums the new file, or an allocation failed
+abbrev pub EndsAfter : (old : Option (Result Listed Refusal)) → (Old New : Outcome → Type 0) → Outcome → Type 0
+EndsAfter (Some (Ok listed)) Old New outcome = (outcome ≡ no_memory) ⊎ (ReportFits listed × New outcome) ⊎ ((¬ (ReportFits listed)) × (outcome ≡ too_large))
+EndsAfter old Old New outcome = Old outcome
+
+abbrev pub EndsFor : Asked → Outcome → Type 0
+EndsFor asked outcome = EndsAs ReportFits (MemoryIn asked.file asked.section) (answer_for asked) outcome
+
+abbrev pub EndsForBoth : (old new : Asked) → Outcome → Type 0
+EndsForBoth old new outcome = EndsAfter (answer_for old) (EndsFor old) (EndsFor new) outcome
+
+-- claims are those of a file's answer: what its function symbols add, with their keys
+abbrev pub AreClaimsIn : Grouping → Asked → Listed → List Row → Type 0
+AreClaimsIn grouping asked listed claims =
+    (names : ℕ → Option (List ℕ)) × (entries : List SectionEntry) × AreEntriesIn asked.which asked.file asked.section listed names entries
+    × AreClaimsOf grouping (section_keys names (size_in asked.section listed)) entries claims
+
+-- text is that of the changes between two files' answers
+abbrev pub AreChangesBy : Figures → Style → (old new : Asked) → Listed × Listed → List ℕ → Type 0
+AreChangesBy shown style old new listed text =
+    (before : List Row) × (after : List Row) × AreClaimsIn shown.grouping old listed.0 before × AreClaimsIn shown.grouping new listed.1 after
+    × IsTextOfChanges shown style (shares_of before) (shares_of after) text
+
+-- growth is that between two files' answers
+abbrev pub IsGrowthBy : Grouping → (old new : Asked) → Listed × Listed → Growth → Type 0
+IsGrowthBy grouping old new listed growth =
+    (before : List Row) × (after : List Row) × AreClaimsIn grouping old listed.0 before × AreClaimsIn grouping new listed.1 after × IsGrowthOf (shares_of before) (shares_of after) growth
+
+-- a result without its value
+abbrev pub ended : Result Growth ReportError → Result (Unit {0}) ReportError
+ended (Ok growth) = Ok tt
+ended (Err e) = Err e

@@ -1,0 +1,10 @@
+pub mod Rows
+pub mod Order
+pub mod RowListing
+pub mod Claims
+pub mod Generic
+pub mod Keys
+pub mod Stacks
+pub mod Figures
+pub mod Changes
+pub mod machine

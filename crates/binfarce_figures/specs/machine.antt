@@ -1,0 +1,7 @@
+-- Definitions that only private contracts cite.
+pub mod SelectedList
+pub mod Got
+pub mod Keyed
+pub mod Counts
+pub mod Compared
+pub mod Texts

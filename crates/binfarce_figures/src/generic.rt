@@ -1,0 +1,91 @@
+//! A name without its generic arguments, or as a stack.
+
+ghost use Rattle.std.specs.Prelude.{◌≡◌, ◌++◌, ◌+◌, ◌<◌, ◌^◌, IfOk, OnOk, encode_utf8_all};
+ghost use Rattle.std.specs.String.{string_bytes};
+ghost use Rattle.binfarce_figures.specs.Generic.{depth_after, part, rewritten, shown};
+
+use std::alloc::AllocError;
+
+/// How a name is rewritten.
+#[derive(Debug, Clone, Copy, PartialEq)]
+pub enum Shape {
+    /// With `<..>` in place of its generic arguments.
+    Generic,
+    /// With `;` between its parts.
+    Stack,
+}
+
+/// Appends a name, rewritten.
+#[tactic(auto, using(crate::proofs::Arguments::one_more))]
+pub(crate) fn push_rewritten(text: &mut String, shape: Shape, name: &str) -> Result<(), AllocError>
+    ensures { OnOk result (string_bytes text.new ≡ string_bytes text.old ++ rewritten shape name.now) }
+{
+    let mut depth = 0usize;
+    let mut before = ' ';
+    for c in name.chars() {
+        push_shown(text, shape, depth, before, c)?;
+        depth = depth_after(shape, depth, before, c);
+        before = c;
+    }
+    Ok(())
+}
+
+// Appends what is shown in place of a character: nothing of arguments that are left out.
+fn push_shown(
+    text: &mut String,
+    shape: Shape,
+    depth: usize,
+    before: char,
+    c: char,
+) -> Result<(), AllocError>
+    ensures { OnOk result (string_bytes text.new ≡ string_bytes text.old ++ encode_utf8_all (shown shape depth before c)) }
+{
+    match shape {
+        Shape::Stack => push_part(text, depth, before, c),
+        Shape::Generic if depth > 0 => Ok(()),
+        Shape::Generic if opens(shape, before, c) => text.push_str("<..>"),
+        Shape::Generic => text.push(c),
+    }
+}
+
+// Appends what is shown of a character in a stack: of a `::` outside of brackets, a `;`.
+fn push_part(text: &mut String, depth: usize, before: char, c: char) -> Result<(), AllocError>
+    ensures { OnOk result (string_bytes text.new ≡ string_bytes text.old ++ encode_utf8_all (part depth before c)) }
+{
+    match c {
+        ';' => text.push(':'),
+        ':' if depth == 0 && before == ':' => text.push(';'),
+        ':' if depth == 0 => Ok(()),
+        _ => text.push(c),
+    }
+}
+
+// How many brackets are open after a character.
+fn depth_after(shape: Shape, depth: usize, before: char, c: char) -> usize
+    requires { depth + 1 < 2 ^ 64 }
+    ensures { result ≡ depth_after shape depth before c }
+{
+    if depth == 0 {
+        if opens(shape, before, c) { 1 } else { 0 }
+    } else if c == '<' {
+        depth + 1
+    } else if c == '>' && before != '-' {
+        depth - 1
+    } else {
+        depth
+    }
+}
+
+// Whether a character opens brackets: in a stack any `<`, otherwise one after the end of a name, or of `::`.
+fn opens(shape: Shape, before: char, c: char) -> bool
+    ensures { result ≡ Rattle.binfarce_figures.specs.Generic.opens shape before c }
+{
+    c == '<' && (shape == Shape::Stack || may_have_arguments(before))
+}
+
+// Whether generic arguments may follow this character.
+fn may_have_arguments(before: char) -> bool
+    ensures { result ≡ Rattle.binfarce_figures.specs.Generic.may_have_arguments before }
+{
+    before == ':' || before == '_' || before.is_ascii_alphanumeric() || !before.is_ascii()
+}

@@ -1,0 +1,158 @@
+//! What sizes are summed by.
+
+ghost use Rattle.std.specs.Prelude.{◌≡◌, ℕ, List, map, IfOk, OnOk};
+ghost use Rattle.std.specs.List.{AllZip};
+ghost use Rattle.std.specs.String.{string_bytes};
+ghost use Rattle.binfarce.specs.SymbolViews.{section_function_view};
+ghost use Rattle.binfarce_tools.specs.Tables.{section_names};
+ghost use Rattle.binfarce_figures.specs.Keys.{IsKeyOf, IsOwnKey, section_keys};
+ghost use Rattle.binfarce_figures.specs.machine.Keyed.{IsKeyed};
+
+use crate::generic::{Shape, push_rewritten};
+use binfarce::SectionFunction;
+use binfarce_names::demangle::Demangler;
+use binfarce_tools::list::push_section;
+use binfarce_tools::report::put_crate;
+use binfarce_tools::tables::Tables;
+use std::alloc::{AllocError, Global};
+
+/// What sizes are summed by.
+#[derive(Debug, Clone, Copy, PartialEq)]
+pub enum Key {
+    /// The crate, as in `report`.
+    Crate,
+    /// The trimmed name.
+    Function,
+    /// The trimmed name with `<..>` in place of its generic arguments.
+    Generic,
+    /// The section: its name, or its number in brackets where it has none. Where one section is selected, it is `text`.
+    Section,
+}
+
+/// How sizes are grouped.
+#[derive(Debug, Clone, Copy, PartialEq)]
+pub struct Grouping {
+    /// What they are summed by.
+    pub key: Key,
+    /// Whether the functions of Rust's standard library, and of the crates that it is built of, have the key `[std]`.
+    pub joins_std: bool,
+}
+
+/// A function symbol's place and size, with its key.
+#[derive(Drop)]
+pub struct Keyed {
+    /// The number of its section.
+    pub section: u32,
+    /// Its address.
+    pub address: u64,
+    /// Its size in bytes.
+    pub size: u64,
+    /// Its key.
+    pub key: String,
+}
+
+/// The function symbols of a selection with their keys; with the section's size, if one is selected.
+pub(crate) fn keyed_of(
+    alloc: Global,
+    tables: &Tables<'_>,
+    functions: &[SectionFunction<'_>],
+    size: Option<u64>,
+    grouping: Grouping,
+) -> Result<Vec<Keyed>, AllocError>
+    ensures { IfOk result (λ v. AllZip (IsKeyed grouping (section_keys (section_names tables.now) size))
+        (map section_function_view functions.now) v.items) }
+{
+    let mut demangler = Demangler::new(alloc);
+    let mut keyed = Vec::with_capacity(alloc, functions.len())?;
+    for function in functions {
+        let key = key_of(alloc, &mut demangler, tables, *function, size, grouping)?;
+        keyed.push(with_key(*function, key))?;
+    }
+    Ok(keyed)
+}
+
+// A function symbol with this key.
+fn with_key(function: SectionFunction<'_>, key: String) -> Keyed
+    ensures { (grouping : Grouping) (sections : ℕ → List ℕ)
+        → IsKeyOf grouping sections (section_function_view function.entry) (string_bytes key)
+        → IsKeyed grouping sections (section_function_view function.entry) result }
+{
+    Keyed {
+        section: function.section,
+        address: function.function.address,
+        size: function.function.size,
+        key,
+    }
+}
+
+// The key of a function symbol.
+fn key_of(
+    alloc: Global,
+    demangler: &mut Demangler,
+    tables: &Tables<'_>,
+    function: SectionFunction<'_>,
+    size: Option<u64>,
+    grouping: Grouping,
+) -> Result<String, AllocError>
+    ensures { IfOk result (λ t. IsKeyOf grouping (section_keys (section_names tables.now) size)
+        (section_function_view function.entry) (string_bytes t)) }
+{
+    let mut key = String::new(alloc);
+    if grouping.joins_std {
+        put_crate(alloc, &mut key, function.function.name)?;
+        if is_std(key.as_str()) {
+            return String::from_str(alloc, "[std]");
+        }
+    }
+    put_own_key(
+        alloc,
+        demangler,
+        &mut key,
+        tables,
+        function,
+        size,
+        grouping.key,
+    )?;
+    Ok(key)
+}
+
+// Overwrites a text by the key of a function symbol that isn't joined to others.
+fn put_own_key(
+    alloc: Global,
+    demangler: &mut Demangler,
+    text: &mut String,
+    tables: &Tables<'_>,
+    function: SectionFunction<'_>,
+    size: Option<u64>,
+    key: Key,
+) -> Result<(), AllocError>
+    ensures { OnOk result (IsOwnKey key (section_keys (section_names tables.now) size)
+        (section_function_view function.entry) (string_bytes text.new)) }
+{
+    let name = function.function.name;
+    text.clear();
+    match key {
+        Key::Crate => put_crate(alloc, text, name),
+        Key::Function => demangler.push_trimmed(text, name),
+        Key::Generic => {
+            let mut trimmed = String::new(alloc);
+            demangler.push_trimmed(&mut trimmed, name)?;
+            push_rewritten(text, Shape::Generic, trimmed.as_str())
+        }
+        Key::Section if size.is_some() => text.push_str("text"),
+        Key::Section => push_section(text, tables, function.section),
+    }
+}
+
+// Whether a crate is one of Rust's standard library, or of those that it is built of.
+fn is_std(crate_name: &str) -> bool
+    ensures { result ≡ Rattle.binfarce_figures.specs.Keys.is_std crate_name.now }
+{
+    match crate_name {
+        "std" | "core" | "alloc" | "compiler_builtins" | "std_detect" | "panic_unwind" => true,
+        "hashbrown" | "gimli" | "addr2line" | "rustc_demangle" | "miniz_oxide" | "object" => true,
+        "memchr" | "libc" | "cfg_if" | "adler" | "adler2" | "unwind" | "panic_abort" => true,
+        "rustc_std_workspace_core" => true,
+        _ => false,
+    }
+}

@@ -1,0 +1,72 @@
+//! The order of rows.
+
+ghost use Rattle.std.specs.Prelude.{OnOk};
+ghost use Rattle.std.specs.Cmp.Lexicographic.{slice_cmp};
+ghost use Rattle.std.specs.Ordering.{nat_cmp};
+ghost use Rattle.binfarce_figures.specs.Order.{falling, IsByAddress, IsByAddressAndKey, IsInOrder};
+
+use std::alloc::AllocError;
+use std::cmp::Reverse;
+
+/// What a listing is sorted by.
+#[derive(Debug, Clone, Copy, PartialEq)]
+pub enum Order {
+    /// By rising address.
+    Address,
+    /// By falling size.
+    Size,
+    /// By name, in the order of its bytes.
+    Name,
+}
+
+/// A function symbol with the text that is shown for its name.
+#[derive(Debug, Clone, Copy, PartialEq)]
+pub struct Row<'a> {
+    /// The number of its section.
+    pub section: u32,
+    /// Its address.
+    pub address: u64,
+    /// Its size in bytes.
+    pub size: u64,
+    /// The text for its name.
+    pub name: &'a str,
+    /// What follows the name in a JSON object; empty in a line.
+    pub tail: &'a str,
+}
+
+/// Sorts rows; without an order they stay as they are. Rows of one key are in the order of their addresses, and those
+/// of one address in their given order.
+///
+/// # Errors
+///
+/// `AllocError` where an allocation failed: the order of the rows is then unspecified.
+pub(crate) fn sort(rows: &mut Vec<Row<'_>>, order: Option<Order>) -> Result<(), AllocError>
+    ensures { OnOk result (IsInOrder order rows.old.items rows.new.items) }
+{
+    match order {
+        None => Ok(()),
+        Some(Order::Address) => sort_by_address(rows),
+        Some(Order::Size) => sort_by_size(rows),
+        Some(Order::Name) => sort_by_name(rows),
+    }
+}
+
+fn sort_by_address(rows: &mut Vec<Row<'_>>) -> Result<(), AllocError>
+    ensures { OnOk result (IsByAddress rows.old.items rows.new.items) }
+{
+    rows.sort_by_key(|row| row.address)
+}
+
+fn sort_by_size(rows: &mut Vec<Row<'_>>) -> Result<(), AllocError>
+    ensures { OnOk result (IsByAddressAndKey (λ r. r.size) falling rows.old.items rows.new.items) }
+{
+    sort_by_address(rows)?;
+    rows.sort_by_key(|row| Reverse(row.size))
+}
+
+fn sort_by_name(rows: &mut Vec<Row<'_>>) -> Result<(), AllocError>
+    ensures { OnOk result (IsByAddressAndKey (λ r. r.name.now) (slice_cmp nat_cmp) rows.old.items rows.new.items) }
+{
+    sort_by_address(rows)?;
+    rows.sort_by_key(|row| row.name)
+}

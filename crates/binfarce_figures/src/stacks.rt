@@ -1,0 +1,102 @@
+//! Function symbols as stacks.
+
+ghost use Rattle.std.specs.Prelude.{◌≡◌, ◌++◌, ℕ, List, Option, map, IfOk, OnOk};
+ghost use Rattle.std.specs.String.{string_bytes};
+ghost use Rattle.binfarce.specs.SymbolViews.{section_function_view};
+ghost use Rattle.binfarce.specs.declared.SymbolTable.{SymbolTable};
+ghost use Rattle.binfarce_tools.specs.Listing.{ListingFits};
+ghost use Rattle.binfarce_tools.specs.ListWords.{outcome_of};
+ghost use Rattle.binfarce_tools.specs.Selection.{answer_in, MemoryIn};
+ghost use Rattle.binfarce_tools.specs.Tables.{AreTablesOf};
+ghost use Rattle.binfarce_tools.specs.Writing.{EndsAs, Takes, Fails, Leaves};
+ghost use Rattle.binfarce_figures.specs.Stacks.{AreStacksIn, AreStacksOf, IsStackLine, stack};
+
+use crate::generic::{Shape, push_rewritten};
+use crate::rows::list_of;
+use binfarce::SectionFunction;
+use binfarce_names::demangle::Demangler;
+use binfarce_tools::list::{ListError, Sink};
+use binfarce_tools::report::put_crate;
+use binfarce_tools::tables::Tables;
+use binfarce_tools::writing::write_whole;
+use std::alloc::{AllocError, Global};
+
+/// Writes a line for each function symbol that the tables were read for, as tools for flame graphs read it: a stack, a blank, and
+/// the size in bytes.
+///
+/// A stack is the crate that a report counts the function symbol for, and the parts of the trimmed name, which `::` outside of
+/// brackets separates, with `;` between them; the first part is left out where it is the crate. A `;` in a name is shown as `:`.
+/// The lines are in the order of `list`, and are made before the first byte is written.
+///
+/// # Errors
+///
+/// Those of `list_tables`.
+pub fn fold_tables<S: Sink>(
+    alloc: Global,
+    tables: &Tables<'_>,
+    out: &mut S,
+) -> Result<(), ListError>
+    ensures outcome { (which : SymbolTable) (file : List ℕ) (section : Option (List ℕ))
+        → AreTablesOf which file section tables.now
+        → EndsAs ListingFits (MemoryIn file section) (answer_in which file section) (outcome_of result) }
+    ensures takes { (which : SymbolTable) (file : List ℕ) (section : Option (List ℕ))
+        → AreTablesOf which file section tables.now → Takes (AreStacksIn which file section)
+        (answer_in which file section) (S.taken out.old) (S.taken out.new) (outcome_of result) }
+    ensures fails { Fails (S.has_failed out.old) (S.has_failed out.new) (outcome_of result) }
+    ensures leaves { Leaves out.old out.new (outcome_of result) }
+{
+    let selected = tables.functions(alloc)?;
+    let (functions, _) = list_of(alloc, selected)?;
+    let text = stacks_of(alloc, &functions)?;
+    write_whole(out, text.as_bytes())
+}
+
+// The lines of function symbols.
+fn stacks_of(alloc: Global, functions: &[SectionFunction<'_>]) -> Result<String, AllocError>
+    ensures { IfOk result (λ t. AreStacksOf (map section_function_view functions.now) (string_bytes t)) }
+{
+    let mut demangler = Demangler::new(alloc);
+    let mut text = String::new(alloc);
+    for function in functions {
+        push_line(alloc, &mut demangler, &mut text, *function)?;
+    }
+    Ok(text)
+}
+
+// Appends the line of a function symbol.
+fn push_line(
+    alloc: Global,
+    demangler: &mut Demangler,
+    text: &mut String,
+    function: SectionFunction<'_>,
+) -> Result<(), AllocError>
+    ensures { OnOk result ((line : List ℕ) × IsStackLine (section_function_view function.entry) line
+        × (string_bytes text.new ≡ string_bytes text.old ++ line)) }
+{
+    let mut crate_name = String::new(alloc);
+    put_crate(alloc, &mut crate_name, function.function.name)?;
+    let mut trimmed = String::new(alloc);
+    demangler.push_trimmed(&mut trimmed, function.function.name)?;
+    push_stack(alloc, text, crate_name.as_str(), trimmed.as_str())?;
+    writeln!(text, " {}", function.function.size)
+}
+
+// Appends the stack of a function of this crate.
+fn push_stack(
+    alloc: Global,
+    text: &mut String,
+    crate_name: &str,
+    trimmed: &str,
+) -> Result<(), AllocError>
+    ensures { OnOk result (string_bytes text.new ≡ string_bytes text.old ++ stack crate_name.now trimmed.now) }
+{
+    let mut root = String::new(alloc);
+    push_rewritten(&mut root, Shape::Stack, crate_name)?;
+    root.push_str(";")?;
+    let mut parts = String::new(alloc);
+    push_rewritten(&mut parts, Shape::Stack, trimmed)?;
+    if !parts.as_bytes().starts_with(root.as_bytes()) {
+        text.push_str(root.as_str())?;
+    }
+    text.push_str(parts.as_str())
+}

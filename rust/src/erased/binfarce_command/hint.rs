@@ -1,0 +1,171 @@
+// From crates/binfarce_command/src/hint.rt, by tools/erase.
+
+//! Hints on files: what a person may want to know beside the result. Standard output and the status don't depend on them.
+
+use crate::shim::{String, Vec};
+use crate::erased::binfarce_command::fault::Fault;
+use crate::erased::binfarce_bytes::ParseError;
+use crate::erased::binfarce_bytes::source::Source;
+use crate::erased::binfarce_sections::bytes::write_section_of;
+use crate::erased::binfarce_tools::SymbolTable;
+use crate::erased::binfarce_tools::functions::{AllFunctions, Selected};
+use crate::erased::binfarce_tools::list::Out;
+use crate::erased::binfarce_tools::tables::{Selection, Tables, read};
+use crate::shim::alloc::Global;
+use std::fmt;
+
+/// What a person may want to know of a file.
+#[derive(Debug)]
+pub enum Hint {
+    /// The sizes in the section add up to more than the section's.
+    Overlap,
+    /// The section has no function symbol.
+    None,
+    /// The section has no function symbol, and all sections have so many.
+    Others(usize),
+    /// The file is an archive.
+    Archive,
+    /// The file is a universal Mach-O file.
+    Universal,
+    /// The file is a Mach-O file of 32 bits.
+    Macho32,
+    /// The file is stripped, and its debug symbols may be there.
+    Stripped(String),
+}
+
+impl fmt::Display for Hint {
+    fn fmt(&self, f: &mut fmt::Formatter<'_>) -> fmt::Result {
+        match self {
+            Hint::Overlap => write!(f, "symbols overlap; --by=crate counts each byte once"),
+            Hint::None => write!(
+                f,
+                "no function symbols; those of an MSVC program are in its .pdb file"
+            ),
+            Hint::Others(count) => write!(
+                f,
+                "no function symbols in the section; --all takes {count} of other sections"
+            ),
+            Hint::Archive => write!(f, "an archive; `ar x FILE` extracts its members"),
+            Hint::Universal => write!(
+                f,
+                "a universal Mach-O file; `lipo -thin ARCHITECTURE FILE` extracts a part"
+            ),
+            Hint::Macho32 => write!(f, "a Mach-O file of 32 bits"),
+            Hint::Stripped(places) => write!(f, "its debug symbols may be in {places}"),
+        }
+    }
+}
+
+/// What the first 8 bytes name, of a file that isn't in a supported format.
+pub fn named_by(magic: &[u8]) -> Option<Hint> {
+    if magic.starts_with(b"!<arch>\n") {
+        return Some(Hint::Archive);
+    }
+    // The same magic number begins a Java class file; its version, at least 45, follows.
+    if magic.starts_with(b"\xca\xfe\xba\xbe\0\0\0") && magic.len() > 7 && magic[7] < 45 {
+        return Some(Hint::Universal);
+    }
+    if magic.starts_with(b"\xfe\xed\xfa\xce") || magic.starts_with(b"\xce\xfa\xed\xfe") {
+        return Some(Hint::Macho32);
+    }
+    None
+}
+
+/// A hint on a section that is shown: it has no function symbol.
+pub fn hint_of(alloc: Global, tables: &Tables<'_>) -> Option<Hint> {
+    match tables.functions(alloc) {
+        Ok(Selected::Section(mut functions, _)) => match functions.next() {
+            None => Some(Hint::None),
+            Some(_) => None,
+        },
+        _ => None,
+    }
+}
+
+/// Gives the hint that symbols overlap, if the sum of their sizes exceeds the section's.
+pub fn note_overlap(hint: &mut Option<Hint>, exceeds: bool) {
+    if exceeds {
+        *hint = Some(Hint::Overlap);
+    }
+}
+
+/// The hint, with the number of function symbols of all sections where the section has none.
+pub fn completed<S: Source<Log = ()>>(
+    alloc: Global,
+    source: &S,
+    which: SymbolTable,
+    hint: Hint,
+) -> Hint {
+    if !matches!(hint, Hint::None) {
+        return hint;
+    }
+    match read(alloc, source, &mut (), which, Selection::All) {
+        Ok(tables) => match tables.functions(alloc) {
+            Ok(Selected::All(functions)) => others(count_of(functions)),
+            _ => hint,
+        },
+        Err(_) => hint,
+    }
+}
+
+// How many function symbols are left.
+fn count_of(functions: AllFunctions<'_>) -> usize {
+    let mut count = 0usize;
+    for _ in functions {
+        count = count.saturating_add(1);
+    }
+    count
+}
+
+// The hint where all sections have so many.
+fn others(count: usize) -> Hint {
+    match count {
+        0 => Hint::None,
+        _ => Hint::Others(count),
+    }
+}
+
+/// A hint on a file that is refused for this reason: where the debug symbols of a stripped one may be, or what its first bytes
+/// name.
+pub fn refusal_hint<S: Source<Log = ()>>(alloc: Global, source: &S, fault: Fault) -> Option<Hint> {
+    match fault {
+        Fault::Parse(ParseError::SectionIsMissing(".symtab")) => {
+            Some(Hint::Stripped(debug_files(alloc, source)?))
+        }
+        Fault::Unknown | Fault::Parse(_) => format_hint(source),
+        _ => None,
+    }
+}
+
+// The files with the debug symbols: by the build ID, after the 16 bytes of its note's head, and by the debug link, up to a NUL.
+fn debug_files<S: Source<Log = ()>>(alloc: Global, source: &S) -> Option<String> {
+    let note = section_bytes_of(alloc, source, ".note.gnu.build-id")?;
+    let (first, others) = note.get(16..)?.split_first()?;
+    let mut text = String::formatted(alloc, format_args!("/usr/lib/debug/.build-id/{first:02x}/")).ok()?;
+    for byte in others {
+        write!(text, "{byte:02x}").ok()?;
+    }
+    text.push_str(".debug").ok()?;
+    if let Some(link) = section_bytes_of(alloc, source, ".gnu_debuglink") {
+        let name = link.split(|byte| *byte == 0).next()?;
+        if name.iter().all(u8::is_ascii_graphic) {
+            write!(text, ", or in a file {}", std::str::from_utf8(name).ok()?).ok()?;
+        }
+    }
+    Some(text)
+}
+
+fn section_bytes_of<S: Source<Log = ()>>(alloc: Global, source: &S, name: &str) -> Option<Vec<u8>> {
+    let mut out = Out::new(Vec::new(alloc));
+    write_section_of(alloc, source, &mut (), name, &mut out).ok()?;
+    Some(out.into_inner())
+}
+
+// What the first bytes of a file name.
+fn format_hint<S: Source<Log = ()>>(source: &S) -> Option<Hint> {
+    let mut magic = [0; 8];
+    match source.fill_at(&mut (), 0, &mut magic) {
+        Ok(()) => named_by(&magic),
+        Err(_) => None,
+    }
+}

@@ -1,0 +1,12 @@
+// From crates/binfarce_figures/src/lib.rt, by tools/erase.
+
+//! Function symbols of executables in an order, sums of their sizes by a key, and how the sums of two files differ.
+
+mod claims;
+pub mod diff;
+mod generic;
+pub mod key;
+pub mod order;
+pub mod rows;
+pub mod stacks;
+pub mod sums;

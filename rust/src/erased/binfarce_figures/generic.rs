@@ -1,0 +1,76 @@
+// From crates/binfarce_figures/src/generic.rt, by tools/erase.
+
+//! A name without its generic arguments, or as a stack.
+
+use crate::shim::String;
+use crate::shim::alloc::AllocError;
+
+/// How a name is rewritten.
+#[derive(Debug, Clone, Copy, PartialEq)]
+pub enum Shape {
+    /// With `<..>` in place of its generic arguments.
+    Generic,
+    /// With `;` between its parts.
+    Stack,
+}
+
+/// Appends a name, rewritten.
+pub(crate) fn push_rewritten(text: &mut String, shape: Shape, name: &str) -> Result<(), AllocError> {
+    let mut depth = 0usize;
+    let mut before = ' ';
+    for c in name.chars() {
+        push_shown(text, shape, depth, before, c)?;
+        depth = depth_after(shape, depth, before, c);
+        before = c;
+    }
+    Ok(())
+}
+
+// Appends what is shown in place of a character: nothing of arguments that are left out.
+fn push_shown(
+    text: &mut String,
+    shape: Shape,
+    depth: usize,
+    before: char,
+    c: char,
+) -> Result<(), AllocError> {
+    match shape {
+        Shape::Stack => push_part(text, depth, before, c),
+        Shape::Generic if depth > 0 => Ok(()),
+        Shape::Generic if opens(shape, before, c) => text.push_str("<..>"),
+        Shape::Generic => text.push(c),
+    }
+}
+
+// Appends what is shown of a character in a stack: of a `::` outside of brackets, a `;`.
+fn push_part(text: &mut String, depth: usize, before: char, c: char) -> Result<(), AllocError> {
+    match c {
+        ';' => text.push(':'),
+        ':' if depth == 0 && before == ':' => text.push(';'),
+        ':' if depth == 0 => Ok(()),
+        _ => text.push(c),
+    }
+}
+
+// How many brackets are open after a character.
+fn depth_after(shape: Shape, depth: usize, before: char, c: char) -> usize {
+    if depth == 0 {
+        if opens(shape, before, c) { 1 } else { 0 }
+    } else if c == '<' {
+        depth + 1
+    } else if c == '>' && before != '-' {
+        depth - 1
+    } else {
+        depth
+    }
+}
+
+// Whether a character opens brackets: in a stack any `<`, otherwise one after the end of a name, or of `::`.
+fn opens(shape: Shape, before: char, c: char) -> bool {
+    c == '<' && (shape == Shape::Stack || may_have_arguments(before))
+}
+
+// Whether generic arguments may follow this character.
+fn may_have_arguments(before: char) -> bool {
+    before == ':' || before == '_' || before.is_ascii_alphanumeric() || !before.is_ascii()
+}

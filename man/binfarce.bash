@@ -11,7 +11,7 @@ _binfarce() {
         diff) options="$sums --fail-above $symbols" ;;
         map) options="--folded $symbols" ;;
         filter) options="--full --help" ;;
-        at) options="--return --annotate --base $symbols" ;;
+        at) options="--return --annotate --base --json $symbols" ;;
         section) options="--json --help" ;;
         help) values=$commands ;;
     esac

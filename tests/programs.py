@@ -297,7 +297,8 @@ for call, line in (((old, missing), lost), ((missing, old), lost), ((old, of_sys
 stacks = ("a;f 16", "a;g 16", "std;h 4", "[unknown];c 2", "b;f;<u8> 4", "b;f;<u16> 5")
 assert sorted(printed(folder / "binfarce", "map", "--folded", old).splitlines()) == sorted(stacks), "other stacks"
 def objects(*words):
-    return [json.loads(it) for it in printed(folder / "binfarce", *words, "--json").splitlines()]
+    run = subprocess.run([folder / "binfarce", *words, "--json"], capture_output=True, input=b"0x1\n-\n")
+    return [json.loads(it) for it in run.stdout.splitlines()]
 hostile = f"{scratch}/escaped"
 pathlib.Path(hostile).write_bytes(data.replace(b"_ZN3foo3barE", b'a"\\\n\x01\x7f\xc3\xa9;:<>'))
 assert objects("list", hostile)[0]["raw"] == 'a"\\\n\x01\x7f\xe9;:<>', "another name in JSON"
@@ -307,6 +308,14 @@ for path in (folder / "binfarce", library, old):
     assert lines == printed(folder / "binfarce", "list", "--all", "--dynamic" if path == library else "--all", path).splitlines(), f"{path}: other objects than lines"
 assert objects("size", "--by=generic", old)[1] == {"file": old, "name": "b::f::<..>", "size": 9, "copies": 2}
 assert objects("diff", old, new)[0] == {"file": new, "name": "b", "old": 9, "new": 0, "change": -9}
+at = ("at", "--section=.text", "--base=0x40", old)
+assert objects(*at, "0x41") == [{"file": old, "address": f"0x{0x41:016x}", "name": "a::f", "offset": 1}]
+assert objects(*at) == [{"file": old, "address": it, "name": None, "offset": None} for it in (f"0x{1:016x}", None)]
+reasons = [{"file": missing, "error": lost.split(": ")[-1]}, {"file": of_sys, "error": unknown}]
+for *words, wanted in (("list", missing, old, of_sys, objects("list", old) + reasons), ("size", missing, old, of_sys, objects("size", old) + reasons),
+                       ("diff", old, missing, reasons[:1]), ("at", missing, "1", reasons[:1]), ("section", of_sys, reasons[1:])):
+    assert objects(*words) == wanted, f"{words}: other refusals in JSON"
+ends(2, "", "binfarce: --annotate and --json exclude each other", "binfarce", "at", "--annotate", "--json", old)
 assert objects("section", sample)[1] == {"file": sample, "segment": None, "section": ".text", "address": f"0x{0:016x}", "offset": 64, "size": 32}
 
 # What follows a mangling, such as `.cold`, is shown at an address and in a text, and isn't listed.

@@ -381,7 +381,7 @@ impl<'a> Symbolizer<'a> {
     ///
     /// A return address may lie at the end of its function: look up the address before it.
     pub fn find(&self, address: u64) -> Option<(FunctionSymbol<'a>, u64)> {
-        self.places.find(Lookup { base: self.base, is_return: false }, address)
+        self.places.find(Lookup { base: self.base, is_return: false, form: Form::Lines }, address)
     }
 }
 

@@ -8,6 +8,7 @@ use Rattle.std.specs.Fmt.{digits}
 use Rattle.std.specs.Prelude.{codes}
 use Rattle.binfarce.specs.Named.{IsShown}
 use Rattle.binfarce.specs.Refusal.{Refusal}
+use Rattle.binfarce_tools.specs.Json as json
 use Rattle.binfarce_tools.specs.Listing.{address_text, ListingFits}
 use Rattle.binfarce.specs.Symbol.{Entry, Listed}
 use Rattle.binfarce_tools.specs.declared.list.ListError.{ListError}
@@ -16,7 +17,7 @@ use Rattle.binfarce_tools.specs.ListWords.{Writes, outcome_of}
 use Rattle.binfarce_tools.specs.Writing.{Outcome, EndsAs, Takes}
 use Rattle.binfarce_addresses.specs.Lookup.{looked_up}
 use Rattle.binfarce_addresses.specs.declared.lookup.Lookup.{Lookup}
-use Rattle.binfarce_addresses.specs.Lines.{found_at, IsTextOf, address_line, IsLineAt, AreLinesOf, AreLinesAt}
+use Rattle.binfarce_addresses.specs.Lines.{found_at, IsTextOf, address_line, IsLineAt, IsLineIn, AreLinesOf, AreLinesAt}
 use Rattle.binfarce_addresses.specs.PlacesViews.{IsMadeOf}
 use Rattle.binfarce_addresses.specs.Stream.{AreAnswersOf, IsAnswerOf}
 
@@ -92,7 +93,7 @@ regroup_unknown t a b u = simp append_assoc
 -- the line of an address that an entry holds
 pub shown_line : (entries : List Entry) (lookup : Lookup) (address offset : ℕ) (entry : Entry) (name : List ℕ) (text addressed named new : List ℕ) → found_at entries (looked_up lookup address) ≡ Some entry → offset ≡ address - lookup.base - entry.address → IsShown entry.name name
     → addressed ≡ text ++ (address_text address ++ codes " ") → named ≡ addressed ++ name → new ≡ named ++ (codes "+0x" ++ (digits 16 false offset ++ codes "\n"))
-    → (line : List ℕ) × IsLineAt entries lookup address line × (new ≡ text ++ line)
+    → (line : List ℕ) × IsLineIn json.lines entries lookup address line × (new ≡ text ++ line)
 shown_line entries lookup address offset entry name text addressed named new found is names a b c =
     let shown = name ++ (codes "+0x" ++ digits 16 false (address - lookup.base - entry.address)) in
     let P : Option Entry → Type 0 = λ o. IsTextOf o (address - lookup.base) shown in (
@@ -105,7 +106,7 @@ shown_line entries lookup address offset entry name text addressed named new fou
 
 -- and of one that none holds
 pub unknown_line : (entries : List Entry) (lookup : Lookup) (address : ℕ) (text addressed new : List ℕ) → found_at entries (looked_up lookup address) ≡ None → addressed ≡ text ++ (address_text address ++ codes " ") → new ≡ addressed ++ codes "??\n"
-    → (line : List ℕ) × IsLineAt entries lookup address line × (new ≡ text ++ line)
+    → (line : List ℕ) × IsLineIn json.lines entries lookup address line × (new ≡ text ++ line)
 unknown_line entries lookup address text addressed new found a b =
     let P : Option Entry → Type 0 = λ o. IsTextOf o (address - lookup.base) (codes "??") in (
       address_line address (codes "??"),

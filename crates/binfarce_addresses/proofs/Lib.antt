@@ -1,4 +1,5 @@
 pub mod Numbers
+pub mod Objects
 pub mod Shown
 pub mod AddressLines
 pub mod Trimmed

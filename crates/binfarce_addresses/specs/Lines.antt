@@ -1,9 +1,11 @@
--- The lines of addresses.
+-- The lines of addresses, or their objects.
 use Rattle.std.specs.Prelude.{◌≡◌, ℕ, ◌-◌, List, [], ◌∷◌, ◌++◌, codes, false, Option, Some, None}
 use Rattle.std.specs.Fmt.{digits}
 use Rattle.std.specs.List.{AllZip, concat}
 use Rattle.binfarce.specs.Named.{IsShown}
 use Rattle.binfarce.specs.Symbol.{Entry, Listed}
+use Rattle.binfarce_tools.specs.Json as json
+use Rattle.binfarce_tools.specs.Json.{Style, style_of, address_member, number_member, object_start, text_member}
 use Rattle.binfarce_tools.specs.Listing.{address_text}
 use Rattle.binfarce.specs.Found.{entry_at}
 use Rattle.binfarce_addresses.specs.Lookup.{looked_up}
@@ -27,10 +29,35 @@ IsTextOf (Some entry) address text = IsPlaceOf entry address text
 abbrev pub address_line : ℕ → List ℕ → List ℕ
 address_line address text = address_text address ++ (codes " " ++ (text ++ 10 ∷ []))
 
--- line is that of the address: its symbol is that of the address which is looked up, and its offset that of the address as it was given
-abbrev pub IsLineAt : List Entry → Lookup → ℕ → List ℕ → Type 0
-IsLineAt entries lookup address line =
+-- the member `address` of an object: the address as it was given, or null
+abbrev pub address_value : Option ℕ → List ℕ
+address_value None = text_member (codes "address") None
+address_value (Some address) = address_member address
+
+-- the members `name` and `offset`: those of the symbol, or null
+abbrev pub symbol_members : Option (List ℕ × ℕ) → List ℕ
+symbol_members None = text_member (codes "name") None ++ text_member (codes "offset") None
+symbol_members (Some (name, offset)) = text_member (codes "name") (Some name) ++ number_member (codes "offset") offset
+
+-- an answer as an object: its file, the address, the symbol's name and the offset into it
+abbrev pub answer_object : (file : List ℕ) → (address : Option ℕ) → (symbol : Option (List ℕ × ℕ)) → List ℕ
+answer_object file address symbol = concat (object_start file ∷ address_value address ∷ symbol_members symbol ∷ codes "}\n" ∷ [])
+
+-- the symbol of an address in the file: the answer of the entry's name and the offset into the entry, or none
+abbrev pub IsSymbolOf : Option Entry → ℕ → Option (List ℕ × ℕ) → Type 0
+IsSymbolOf None address symbol = symbol ≡ None
+IsSymbolOf (Some entry) address symbol = (name : List ℕ) × IsShown entry.name name × (symbol ≡ Some (name, address - entry.address))
+
+-- line is that of the address in this style: its symbol is that of the address which is looked up, and its offset that of the address as it was given
+abbrev pub IsLineIn : Style → List Entry → Lookup → ℕ → List ℕ → Type 0
+IsLineIn json.lines entries lookup address line =
     (text : List ℕ) × IsTextOf (found_at entries (looked_up lookup address)) (address - lookup.base) text × (line ≡ address_line address text)
+IsLineIn (json.objects file section) entries lookup address line =
+    (symbol : Option (List ℕ × ℕ)) × IsSymbolOf (found_at entries (looked_up lookup address)) (address - lookup.base) symbol × (line ≡ answer_object file (Some address) symbol)
+
+-- the same in the style of the lookup
+abbrev pub IsLineAt : List Entry → Lookup → ℕ → List ℕ → Type 0
+IsLineAt entries lookup address line = IsLineIn (style_of lookup.form) entries lookup address line
 
 -- text is the lines of the addresses, in their order
 abbrev pub AreLinesOf : List Entry → Lookup → List ℕ → List ℕ → Type 0

@@ -5,7 +5,9 @@ use Rattle.std.specs.List.{AllZip, concat, count_by, flat_map, prefix_len, suffi
 use Rattle.binfarce.specs.Symbol.{Entry}
 use Rattle.binfarce_addresses.specs.declared.lookup.Lookup.{Lookup}
 use Rattle.binfarce_addresses.specs.Address.{address_of}
-use Rattle.binfarce_addresses.specs.Lines.{IsLineAt}
+use Rattle.binfarce_addresses.specs.Lines.{IsLineIn, answer_object}
+use Rattle.binfarce_tools.specs.Json as json
+use Rattle.binfarce_tools.specs.Json.{Style, style_of}
 use Rattle.binfarce_text.specs.Streams as streams
 use Rattle.binfarce_text.specs.declared.streams.StreamError.{StreamError}
 
@@ -48,10 +50,15 @@ EndsIn text addresses =
 abbrev pub Reads : List ℕ → List (Option ℕ) → List ℕ → Type 0
 Reads text addresses left = Begins text addresses left ⊎ (EndsIn text addresses × (left ≡ []))
 
--- the answer to a line: the line of its address, or `??` where it has none
+-- the answer in this style to a line: that of its address, or, where it has none, `??`, or an object without an address
+abbrev pub IsAnswerIn : Style → List Entry → Lookup → Option ℕ → List ℕ → Type 0
+IsAnswerIn json.lines entries lookup None answer = answer ≡ codes "??\n"
+IsAnswerIn (json.objects file section) entries lookup None answer = answer ≡ answer_object file None None
+IsAnswerIn style entries lookup (Some address) answer = IsLineIn style entries lookup address answer
+
+-- the same in the style of the lookup
 abbrev pub IsAnswerOf : List Entry → Lookup → Option ℕ → List ℕ → Type 0
-IsAnswerOf entries lookup None answer = answer ≡ codes "??\n"
-IsAnswerOf entries lookup (Some address) answer = IsLineAt entries lookup address answer
+IsAnswerOf entries lookup address answer = IsAnswerIn (style_of lookup.form) entries lookup address answer
 
 -- text is the answers to lines with these addresses, in their order
 abbrev pub AreAnswersOf : List Entry → Lookup → List (Option ℕ) → List ℕ → Type 0

@@ -33,12 +33,12 @@ const MOST: usize = 16;
 pub fn push_annotated(
     alloc: Global,
     places: &Places<'_>,
-    lookup: Lookup,
+    lookup: Lookup<'_>,
     text: &[u8],
     out: &mut Vec<u8>,
 ) -> Result<(), AllocError>
     ensures { OnOk result
-        ((annotated : List ℕ) × IsAnnotated places.now lookup text.now annotated
+        ((annotated : List ℕ) × IsAnnotated places.now lookup.entry text.now annotated
         × (out.new.items ≡ out.old.items ++ annotated)) }
 {
     push_decided(alloc, places, lookup, true, text, out)?;
@@ -56,11 +56,11 @@ pub fn push_annotated(
 pub fn annotate_stream<R: Read, S: Sink>(
     alloc: Global,
     places: &Places<'_>,
-    lookup: Lookup,
+    lookup: Lookup<'_>,
     input: &mut R,
     out: &mut S,
 ) -> Result<(), StreamError>
-    ensures annotates { AnnotatesAll places.now lookup (R.remaining input.old) (R.remaining input.new) (S.taken out.old)
+    ensures annotates { AnnotatesAll places.now lookup.entry (R.remaining input.old) (R.remaining input.new) (S.taken out.old)
         (S.taken out.new) result }
     ensures fails { Fails (S.has_failed out.old) (S.has_failed out.new) result }
 {
@@ -78,7 +78,7 @@ pub fn annotate_stream<R: Read, S: Sink>(
 struct Annotating<'b, 'a> {
     alloc: Global,
     places: &'b Places<'a>,
-    lookup: Lookup,
+    lookup: Lookup<'b>,
     // The address at the text's end that may go on.
     kept: Vec<u8>,
 }
@@ -135,7 +135,7 @@ impl<S: Sink> Pass<S> for Annotating<'_, '_> {
 fn push_decided(
     alloc: Global,
     places: &Places<'_>,
-    lookup: Lookup,
+    lookup: Lookup<'_>,
     is_last: bool,
     text: &[u8],
     out: &mut Vec<u8>,
@@ -143,7 +143,7 @@ fn push_decided(
     ensures within { IfOk result (λ at. at ≤ length text.now) }
     ensures short { IfOk result (λ at. length text.now ≤ at + 18) }
     ensures last { is_last ≡ true → IfOk result (λ at. at ≡ length text.now) }
-    ensures shows { IfOk result (λ at. ShowsTo places.now lookup is_last text.now at out.old.items out.new.items) }
+    ensures shows { IfOk result (λ at. ShowsTo places.now lookup.entry is_last text.now at out.old.items out.new.items) }
 {
     let mut at = 0;
     while at < text.len() && is_decided(is_last, &text[at..]) {
@@ -181,14 +181,14 @@ fn is_decided(is_last: bool, text: &[u8]) -> bool
 fn push_first(
     alloc: Global,
     places: &Places<'_>,
-    lookup: Lookup,
+    lookup: Lookup<'_>,
     text: &[u8],
     out: &mut Vec<u8>,
 ) -> Result<usize, AllocError>
     requires { 0 < length text.now }
     ensures within { IfOk result (λ n. (0 < n) × (n ≤ length text.now)) }
     ensures shows { IfOk result
-        (λ n. ShowsFirst places.now lookup text.now n out.old.items out.new.items) }
+        (λ n. ShowsFirst places.now lookup.entry text.now n out.old.items out.new.items) }
 {
     let len = address_len(text);
     if len == 0 {
@@ -205,12 +205,12 @@ fn push_first(
 fn push_added(
     alloc: Global,
     places: &Places<'_>,
-    lookup: Lookup,
+    lookup: Lookup<'_>,
     address: Option<u64>,
     out: &mut Vec<u8>,
 ) -> Result<(), AllocError>
     ensures { OnOk result
-        ((added : List ℕ) × IsAddedAfter places.now lookup address added × (out.new.items ≡ out.old.items ++ added)) }
+        ((added : List ℕ) × IsAddedAfter places.now lookup.entry address added × (out.new.items ≡ out.old.items ++ added)) }
 {
     let Some(address) = address else {
         return Ok(());

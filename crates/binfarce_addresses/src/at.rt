@@ -87,10 +87,10 @@ impl<'a> Places<'a> {
     }
 
     /// The function symbol that an address symbolizes to by this lookup, and the offset of the address into it.
-    pub fn find(&self, lookup: Lookup, address: u64) -> Option<(FunctionSymbol<'a>, u64)>
-        ensures { MatchOption result (found_at self.now (looked_up lookup address) ≡ None)
-            (λ f. (found_at self.now (looked_up lookup address) ≡ Some (function_view f.0))
-            × (f.1 ≡ address - lookup.base - f.0.address)) }
+    pub fn find(&self, lookup: Lookup<'_>, address: u64) -> Option<(FunctionSymbol<'a>, u64)>
+        ensures { MatchOption result (found_at self.now (looked_up lookup.entry address) ≡ None)
+            (λ f. (found_at self.now (looked_up lookup.entry address) ≡ Some (function_view f.0))
+            × (f.1 ≡ address - lookup.entry.base - f.0.address)) }
     {
         let found = self.find_place(lookup, Some(address))?;
         Some((self.functions[found.place], found.offset))
@@ -98,8 +98,8 @@ impl<'a> Places<'a> {
 
     // What an address symbolizes to; nothing without an address.
     #[inline(always)]
-    fn find_place(&self, lookup: Lookup, address: Option<u64>) -> Option<Found>
-        ensures { IsFoundFor self.now lookup address result }
+    fn find_place(&self, lookup: Lookup<'_>, address: Option<u64>) -> Option<Found>
+        ensures { IsFoundFor self.now lookup.entry address result }
     {
         let address = address?;
         let place = self.ranges.find(lookup.in_file(address)?)?;
@@ -126,11 +126,11 @@ impl<'a> Places<'a> {
         &self,
         alloc: Global,
         text: &mut Vec<u8>,
-        lookup: Lookup,
+        lookup: Lookup<'_>,
         address: u64,
     ) -> Result<(), AllocError>
         ensures { OnOk result
-            ((line : List ℕ) × IsLineAt self.now lookup address line × (text.new.items ≡ text.old.items ++ line)) }
+            ((line : List ℕ) × IsLineAt self.now lookup.entry address line × (text.new.items ≡ text.old.items ++ line)) }
     {
         let found = self.find_place(lookup, Some(address));
         Names::new(alloc, self, 0)?.push_answer(text, lookup, Some(address), found)
@@ -140,10 +140,10 @@ impl<'a> Places<'a> {
     pub(crate) fn find_all(
         &self,
         alloc: Global,
-        lookup: Lookup,
+        lookup: Lookup<'_>,
         addresses: &[Option<u64>],
     ) -> Result<Vec<Option<Found>>, AllocError>
-        ensures { IfOk result (λ v. AreFoundFor self.now lookup addresses.now v.items) }
+        ensures { IfOk result (λ v. AreFoundFor self.now lookup.entry addresses.now v.items) }
     {
         addresses
             .iter()
@@ -188,13 +188,13 @@ pub fn at<S: Sink>(
     alloc: Global,
     file: &[u8],
     section: &str,
-    lookup: Lookup,
+    lookup: Lookup<'_>,
     addresses: &[u64],
     out: &mut S,
 ) -> Result<(), ListError>
     ensures outcome { EndsAs ListingFits (FileNeedsMemory file.now)
         (file_answer file.now section.now) (outcome_of result) }
-    ensures takes { Takes (AreLinesAt lookup addresses.now) (file_answer file.now section.now)
+    ensures takes { Takes (AreLinesAt lookup.entry addresses.now) (file_answer file.now section.now)
         (S.taken out.old) (S.taken out.new) (outcome_of result) }
     ensures fails { Fails (S.has_failed out.old) (S.has_failed out.new) (outcome_of result) }
     ensures leaves { Leaves out.old out.new (outcome_of result) }
@@ -210,7 +210,7 @@ pub fn at<S: Sink>(
 pub fn at_tables<S: Sink>(
     alloc: Global,
     tables: &Tables<'_>,
-    lookup: Lookup,
+    lookup: Lookup<'_>,
     addresses: &[u64],
     out: &mut S,
 ) -> Result<(), ListError>
@@ -218,7 +218,7 @@ pub fn at_tables<S: Sink>(
         → AreTablesOf which file section tables.now
         → EndsAs ListingFits (MemoryIn file section) (answer_in which file section) (outcome_of result) }
     ensures takes { (which : SymbolTable) (file : List ℕ) (section : Option (List ℕ))
-        → AreTablesOf which file section tables.now → Takes (AreLinesAt lookup addresses.now)
+        → AreTablesOf which file section tables.now → Takes (AreLinesAt lookup.entry addresses.now)
         (answer_in which file section) (S.taken out.old) (S.taken out.new) (outcome_of result) }
     ensures fails { Fails (S.has_failed out.old) (S.has_failed out.new) (outcome_of result) }
     ensures leaves { Leaves out.old out.new (outcome_of result) }
@@ -236,13 +236,13 @@ pub fn at_tables<S: Sink>(
 pub fn write_lines<S: Sink>(
     alloc: Global,
     places: &Places<'_>,
-    lookup: Lookup,
+    lookup: Lookup<'_>,
     addresses: &[u64],
     out: &mut S,
 ) -> Result<(), ListError>
     ensures outcome { (listed : Listed) → places.now ≡ listed.entries
         → EndsAs ListingFits (λ _. ⊥) (Some (Ok listed)) (outcome_of result) }
-    ensures takes { (listed : Listed) → places.now ≡ listed.entries → Takes (AreLinesAt lookup addresses.now)
+    ensures takes { (listed : Listed) → places.now ≡ listed.entries → Takes (AreLinesAt lookup.entry addresses.now)
         (Some (Ok listed)) (S.taken out.old) (S.taken out.new) (outcome_of result) }
     ensures fails { Fails (S.has_failed out.old) (S.has_failed out.new) (outcome_of result) }
     ensures leaves { Leaves out.old out.new (outcome_of result) }
@@ -255,10 +255,10 @@ pub fn write_lines<S: Sink>(
 fn lines(
     alloc: Global,
     places: &Places<'_>,
-    lookup: Lookup,
+    lookup: Lookup<'_>,
     addresses: &[u64],
 ) -> Result<Vec<u8>, AllocError>
-    ensures { IfOk result (λ t. AreLinesOf places.now lookup addresses.now t.items) }
+    ensures { IfOk result (λ t. AreLinesOf places.now lookup.entry addresses.now t.items) }
 {
     let mut text = Vec::new(alloc);
     for address in addresses {

@@ -1,22 +1,26 @@
-//! What is looked up of an address.
+//! What is looked up of an address, and how it is answered.
 
 ghost use Rattle.std.specs.Prelude.{◌≡◌, ◌-◌};
 ghost use Rattle.binfarce_addresses.specs.Lookup.{looked_up};
 
-/// How addresses are looked up.
+use binfarce_tools::json::Form;
+
+/// How addresses are looked up and answered.
 #[derive(Debug, Clone, Copy, PartialEq)]
-pub struct Lookup {
+pub struct Lookup<'a> {
     /// Where the file is loaded: it is subtracted from each address.
     pub base: u64,
     /// Whether the addresses are return addresses, as in a backtrace. The one before it is looked up, which is in the
     /// call: a call that doesn't return may be the last instruction of its function.
     pub is_return: bool,
+    /// How the answers are written. Objects don't have the section.
+    pub form: Form<'a>,
 }
 
-impl Lookup {
+impl Lookup<'_> {
     /// The address in the file that is looked up. `None` for an address below the base, and for the return address 0 in the file.
     pub(crate) fn in_file(self, address: u64) -> Option<u64>
-        ensures { result ≡ looked_up self address }
+        ensures { result ≡ looked_up self.entry address }
     {
         let given = address.checked_sub(self.base)?;
         given.checked_sub(u64::from(self.is_return))
@@ -24,7 +28,7 @@ impl Lookup {
 
     /// The offset of an address into what begins at `start` in the file, or 0 where it begins behind the address.
     pub(crate) fn offset_in(self, address: u64, start: u64) -> u64
-        ensures { result ≡ address - self.base - start }
+        ensures { result ≡ address - self.entry.base - start }
     {
         address.saturating_sub(self.base).saturating_sub(start)
     }

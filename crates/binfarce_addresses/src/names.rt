@@ -1,15 +1,21 @@
 //! The readable names of function symbols, each made at most once.
 
-ghost use Rattle.std.specs.Prelude.{◌≡◌, ◌<◌, ◌++◌, ℕ, List, All, length, slice_set, IfOk, IfSome, OnOk};
+ghost use Rattle.std.specs.Prelude.{◌≡◌, ◌<◌, ◌++◌, [], ℕ, List, All, length, slice_set, IfOk, IfSome, OnOk};
+ghost use Rattle.std.specs.Option.{option_map};
 ghost use Rattle.std.specs.String.{string_bytes};
 ghost use Rattle.binfarce.specs.Symbol.{Entry};
-ghost use Rattle.binfarce_addresses.specs.Stream.{IsAnswerOf};
+ghost use Rattle.binfarce_tools.specs.Json.{lines, objects};
+ghost use Rattle.binfarce_addresses.specs.Lines.{address_value, answer_object, symbol_members};
+ghost use Rattle.binfarce_addresses.specs.Stream.{IsAnswerIn, IsAnswerOf};
 ghost use Rattle.binfarce_addresses.specs.machine.Places.{AreKept, IsFoundFor, IsNamedAt};
 
 use crate::at::{Found, Places};
 use crate::digits::{push_address, push_offset};
 use crate::lookup::Lookup;
 use binfarce::demangle::Demangler;
+use binfarce_tools::json::{
+    Form, push_address_member, push_number_member, push_start, push_text_member,
+};
 use std::alloc::{AllocError, Global};
 use std::marker::Model;
 
@@ -17,6 +23,7 @@ use std::marker::Model;
 #[derive(Drop)]
 pub(crate) struct Names<'b, 'a> {
     pub(crate) places: &'b Places<'a>,
+    alloc: Global,
     demangler: Demangler,
     // The names, one after the other.
     text: String,
@@ -43,6 +50,7 @@ impl<'b, 'a> Names<'b, 'a> {
     {
         Ok(Names {
             places,
+            alloc,
             demangler: Demangler::new(alloc),
             text: String::new(alloc),
             kept: vec![in alloc; (0, 0); room]?,
@@ -72,17 +80,40 @@ impl<'b, 'a> Names<'b, 'a> {
         Some((*name.first()?, *name.last()?))
     }
 
-    // Appends the answer of a line to the text: the line of its address, for which this is found, or `??` without one.
+    // Appends the answer of a line to the text: that of its address, for which this is found, or of none.
     pub(crate) fn push_answer(
         &mut self,
         text: &mut Vec<u8>,
-        lookup: Lookup,
+        lookup: Lookup<'_>,
         address: Option<u64>,
         found: Option<Found>,
     ) -> Result<(), AllocError>
         requires { IsFoundFor self.old lookup address found }
         ensures answer { OnOk result
-            ((answer : List ℕ) × IsAnswerOf self.old lookup address answer
+            ((answer : List ℕ) × IsAnswerOf self.old lookup.entry address answer
+            × (text.new.items ≡ text.old.items ++ answer)) }
+        ensures same { self.new ≡ self.old }
+    {
+        match lookup.form {
+            Form::Lines => self.push_line(text, lookup, address, found),
+            Form::Objects(file, _) => {
+                let object = self.object_of(file, lookup, address, found)?;
+                text.extend_from_slice(object.as_bytes())
+            }
+        }
+    }
+
+    // Appends the answer as a line.
+    fn push_line(
+        &mut self,
+        text: &mut Vec<u8>,
+        lookup: Lookup<'_>,
+        address: Option<u64>,
+        found: Option<Found>,
+    ) -> Result<(), AllocError>
+        requires { IsFoundFor self.old lookup address found }
+        ensures answer { OnOk result
+            ((answer : List ℕ) × IsAnswerIn lines self.old lookup.entry address answer
             × (text.new.items ≡ text.old.items ++ answer)) }
         ensures same { self.new ≡ self.old }
     {
@@ -97,6 +128,36 @@ impl<'b, 'a> Names<'b, 'a> {
             }
             None => text.extend_from_slice(b"??\n"),
         }
+    }
+
+    // The answer as an object.
+    fn object_of(
+        &mut self,
+        file: &str,
+        lookup: Lookup<'_>,
+        address: Option<u64>,
+        found: Option<Found>,
+    ) -> Result<String, AllocError>
+        requires { IsFoundFor self.old lookup address found }
+        ensures answer { IfOk result (λ t. IsAnswerIn (objects file.now []) self.old lookup.entry address (string_bytes t)) }
+        ensures same { self.new ≡ self.old }
+    {
+        let mut object = String::new(self.alloc);
+        match found {
+            Some(found) => {
+                let mut name = String::new(self.alloc);
+                self.demangler
+                    .push_shown(&mut name, self.places.at(found.place).name)?;
+                push_object(
+                    &mut object,
+                    file,
+                    address,
+                    Some((name.as_str(), found.offset)),
+                )?;
+            }
+            None => push_object(&mut object, file, address, None)?,
+        }
+        Ok(object)
     }
 
     // Appends the readable name of the function symbol at a place to the text, and keeps it, if there is room for it.
@@ -136,5 +197,47 @@ fn keep(kept: &mut Vec<(usize, usize)>, place: usize, part: (usize, usize))
 {
     if let Some(slot) = kept.get_mut(place) {
         *slot = part;
+    }
+}
+
+// Appends an answer as an object.
+fn push_object(
+    text: &mut String,
+    file: &str,
+    address: Option<u64>,
+    symbol: Option<(&str, u64)>,
+) -> Result<(), AllocError>
+    ensures { OnOk result (string_bytes text.new ≡ string_bytes text.old
+        ++ answer_object file.now address (option_map (λ s. (s.0.now, s.1)) symbol.entry)) }
+{
+    push_start(text, file)?;
+    push_given(text, address)?;
+    push_symbol(text, symbol)?;
+    text.push_str("}\n")?;
+    Ok(())
+}
+
+fn push_given(text: &mut String, address: Option<u64>) -> Result<(), AllocError>
+    ensures { OnOk result (string_bytes text.new ≡ string_bytes text.old ++ address_value address) }
+{
+    match address {
+        Some(address) => push_address_member(text, address),
+        None => push_text_member(text, "address", None),
+    }
+}
+
+fn push_symbol(text: &mut String, symbol: Option<(&str, u64)>) -> Result<(), AllocError>
+    ensures { OnOk result (string_bytes text.new ≡ string_bytes text.old
+        ++ symbol_members (option_map (λ s. (s.0.now, s.1)) symbol.entry)) }
+{
+    match symbol {
+        Some((name, offset)) => {
+            push_text_member(text, "name", Some(name))?;
+            push_number_member(text, "offset", offset)
+        }
+        None => {
+            push_text_member(text, "name", None)?;
+            push_text_member(text, "offset", None)
+        }
     }
 }

@@ -43,11 +43,11 @@ pub struct Answered {
 pub fn push_lines(
     alloc: Global,
     places: &Places<'_>,
-    lookup: Lookup,
+    lookup: Lookup<'_>,
     bytes: &[u8],
     text: &mut Vec<u8>,
 ) -> Result<Answered, AllocError>
-    ensures { IfOk result (AnswersOf places.now lookup bytes.now text.old.items text.new.items) }
+    ensures { IfOk result (AnswersOf places.now lookup.entry bytes.now text.old.items text.new.items) }
 {
     let mut names = Names::new(alloc, places, 0)?;
     push_answers(alloc, &mut names, lookup, bytes, text)
@@ -58,12 +58,12 @@ pub fn push_lines(
 fn push_answers(
     alloc: Global,
     names: &mut Names<'_, '_>,
-    lookup: Lookup,
+    lookup: Lookup<'_>,
     bytes: &[u8],
     text: &mut Vec<u8>,
 ) -> Result<Answered, AllocError>
     ensures answers { IfOk result
-        (AnswersOf names.old lookup bytes.now text.old.items text.new.items) }
+        (AnswersOf names.old lookup.entry bytes.now text.old.items text.new.items) }
     ensures same { names.new ≡ names.old }
 {
     let (addresses, answered) = addresses_of(alloc, bytes)?;
@@ -111,11 +111,11 @@ fn first_line(bytes: &[u8]) -> Option<&[u8]>
 pub fn answer_lines<R: Read, S: Sink>(
     alloc: Global,
     places: &Places<'_>,
-    lookup: Lookup,
+    lookup: Lookup<'_>,
     input: &mut R,
     out: &mut S,
 ) -> Result<u64, StreamError>
-    ensures answers { Streams places.now lookup (R.remaining input.old) (R.remaining input.new) (S.taken out.old)
+    ensures answers { Streams places.now lookup.entry (R.remaining input.old) (R.remaining input.new) (S.taken out.old)
         (S.taken out.new) result }
     ensures fails { Fails (S.has_failed out.old) (S.has_failed out.new) result }
 {
@@ -135,7 +135,7 @@ pub fn answer_lines<R: Read, S: Sink>(
 struct Lines<'b, 'a> {
     alloc: Global,
     names: Names<'b, 'a>,
-    lookup: Lookup,
+    lookup: Lookup<'b>,
     // What is kept of the last line so far.
     line: Vec<u8>,
     // How many lines have no address.

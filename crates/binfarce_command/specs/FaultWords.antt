@@ -1,8 +1,10 @@
 -- The words of a fault.
-use Rattle.std.specs.Prelude.{ℕ, List, ◌++◌, codes, nat_eq, if◌then◌else◌}
+use Rattle.std.specs.Prelude.{ℕ, List, [], ◌∷◌, ◌++◌, codes, nat_eq, Some, if◌then◌else◌}
 use Rattle.std.specs.Fmt.{decimal}
+use Rattle.std.specs.List.{concat}
 use Rattle.std.specs.Str.{bytes_eq}
 use Rattle.binfarce_bytes.specs.Refusal.{Refusal, refusal_of, section_is_missing, symbols_section_is_missing, words}
+use Rattle.binfarce_tools.specs.Json.{object_start, text_member}
 use Rattle.binfarce_command.specs.declared.fault.Fault.{Fault}
 use Rattle.binfarce_command.specs.declared.fault.Fault.TheVariants.{Unreadable, Input, OutOfMemory, Write, Unknown, Parse, TooLarge, NoSection, NoBytes, PastEnd, SharedAddresses, Missing, Grown}
 
@@ -34,3 +36,7 @@ fault_words PastEnd = codes "section reaches past the end of the file"
 fault_words SharedAddresses = codes "its sections share addresses; --section=NAME takes one of them"
 fault_words (Grown by) = codes "the sum grew by " ++ (decimal by ++ codes " bytes")
 fault_words (Missing count) = missing_words count
+
+-- the refusal of a file as a JSON object: its file, and the printed text
+abbrev pub refusal_object : (file message : List ℕ) → List ℕ
+refusal_object file message = concat (object_start file ∷ text_member (codes "error") (Some message) ∷ codes "}\n" ∷ [])

@@ -1,14 +1,19 @@
 //! Messages for refused calls and files, and the program's exit status.
 
-ghost use Rattle.std.specs.Prelude.{◌≡◌};
+ghost use Rattle.std.specs.Prelude.{◌≡◌, ◌++◌, OnOk};
 ghost use Rattle.std.specs.IoError.{error_kind};
 ghost use Rattle.std.specs.Option.{option_map};
+ghost use Rattle.std.specs.String.{string_bytes};
+ghost use Rattle.binfarce_command.specs.FaultWords.{refusal_object};
 ghost use Rattle.binfarce_command.specs.Status.{fault_status, is_broken_pipe, judged, status_of, write_status, wrong_status};
 
 use crate::fault::Fault;
 use crate::hint::Hint;
 use binfarce_figures::diff::Growth;
+use binfarce_tools::json::{push_start, push_text_member};
 use binfarce_words::words::Wrong;
+use std::alloc::{AllocError, Global};
+use std::fmt;
 use std::io::{Error, ErrorKind};
 
 /// Prints why a call is wrong, and returns the program's exit status.
@@ -70,7 +75,11 @@ fn write_failed(rt: &HostRuntime, reason: Option<Error>) -> u8
     if is_broken_pipe(&reason) {
         return 0;
     }
-    report(rt, "standard output", Fault::Write, reason);
+    report(
+        rt,
+        "standard output",
+        &message_of(rt.alloc(), Fault::Write, reason),
+    );
     1
 }
 
@@ -87,16 +96,51 @@ fn is_broken_pipe(reason: &Option<Error>) -> bool
     }
 }
 
-/// Prints why a file is refused: the system's reason, where a read or a write failed.
-pub fn report(rt: &HostRuntime, name: &str, fault: Fault, reason: Option<Error>) {
-    match reason {
-        Some(e) if fault == Fault::Unreadable || fault == Fault::Write => print_reason(
-            rt, name, &e,
-        ),
-        _ => {
-            let _ = eprintln!(rt; "binfarce: {name}: {fault}");
+/// Why a file is refused, in words.
+#[derive(Debug, Drop)]
+pub enum Message {
+    /// Its fault.
+    Fault(Fault),
+    /// The system's reason.
+    Reason(String),
+}
+
+impl fmt::Display for Message {
+    fn fmt<W: fmt::Write>(&self, f: &mut fmt::Formatter<W>) -> fmt::Result {
+        match self {
+            Message::Fault(fault) => write!(f, "{fault}"),
+            Message::Reason(words) => write!(f, "{words}"),
         }
     }
+}
+
+/// Why a file is refused: the system's reason, where a read or a write failed.
+pub fn message_of(alloc: Global, fault: Fault, reason: Option<Error>) -> Message {
+    match reason {
+        Some(e) if fault == Fault::Unreadable || fault == Fault::Write => match words_of(
+            alloc, &e,
+        ) {
+            Ok(words) => Message::Reason(words),
+            Err(_) => Message::Fault(Fault::OutOfMemory),
+        },
+        _ => Message::Fault(fault),
+    }
+}
+
+/// Prints why a file is refused.
+pub fn report(rt: &HostRuntime, name: &str, message: &Message) {
+    let _ = eprintln!(rt; "binfarce: {name}: {message}");
+}
+
+/// Appends the refusal of a file as an object.
+pub fn push_refusal(text: &mut String, file: &str, message: &str) -> Result<(), AllocError>
+    ensures { OnOk result
+        (string_bytes text.new ≡ string_bytes text.old ++ refusal_object file.now message.now) }
+{
+    push_start(text, file)?;
+    push_text_member(text, "error", Some(message))?;
+    text.push_str("}\n")?;
+    Ok(())
 }
 
 /// Prints a hint on a file.
@@ -104,22 +148,11 @@ pub fn report_hint(rt: &HostRuntime, name: &str, hint: Hint) {
     let _ = eprintln!(rt; "binfarce: {name}: {hint}");
 }
 
-fn print_reason(rt: &HostRuntime, name: &str, e: &Error) {
-    match format!(in rt.alloc(); "{e}") {
-        Ok(text) => {
-            let words = without_number(text.as_str());
-            let _ = eprintln!(rt; "binfarce: {name}: {words}");
-        }
-        Err(_) => {
-            let _ = eprintln!(rt; "binfarce: out of memory");
-        }
-    }
-}
-
 // The system's message without the number that is printed after it.
-fn without_number(text: &str) -> &str {
-    match text.split_once(" (os error ") {
-        Some((words, _)) => words,
-        None => text,
+fn words_of(alloc: Global, e: &Error) -> Result<String, AllocError> {
+    let text = format!(in alloc; "{e}")?;
+    match text.as_str().split_once(" (os error ") {
+        Some((words, _)) => String::from_str(alloc, words),
+        None => Ok(text),
     }
 }

@@ -1,5 +1,5 @@
 -- The call that the words mean: `COMMAND [OPTION..] [OPERAND..]`.
-use Rattle.std.specs.Prelude.{◌==◌, ◌^◌, ◌++◌, ◌&&◌, ◌||◌, ℕ, Bool, true, false, not, List, [], ◌∷◌, codes, find, reverse, length, nat_lt, Option, Some, None, is_some, is_none, Result, Ok, Err, if◌then◌else◌}
+use Rattle.std.specs.Prelude.{◌==◌, ◌^◌, ◌++◌, ◌&&◌, ◌||◌, ℕ, Bool, true, false, not, List, [], ◌∷◌, codes, find, reverse, length, nat_lt, Option, Some, None, is_some, Result, Ok, Err, if◌then◌else◌}
 use Rattle.std.specs.Char.{digit_value}
 use Rattle.std.specs.Option.{option_map, option_and_then}
 use Rattle.std.specs.List.{list_all, position_or_len, before_first, after_first}
@@ -37,7 +37,7 @@ flags_of Size = flags.Help ∷ flags.Section ∷ flags.Dynamic ∷ flags.All ∷
 flags_of Map = flags.Help ∷ flags.Section ∷ flags.Dynamic ∷ flags.All ∷ flags.Folded ∷ []
 flags_of Diff = flags.Help ∷ flags.Section ∷ flags.Dynamic ∷ flags.All ∷ flags.By ∷ flags.First ∷ flags.Percent ∷ flags.Std ∷ flags.Json ∷ flags.FailAbove ∷ []
 flags_of Filter = flags.Help ∷ flags.Full ∷ []
-flags_of At = flags.Help ∷ flags.Section ∷ flags.Return ∷ flags.Annotate ∷ flags.Base ∷ flags.Dynamic ∷ flags.All ∷ []
+flags_of At = flags.Help ∷ flags.Section ∷ flags.Return ∷ flags.Annotate ∷ flags.Base ∷ flags.Dynamic ∷ flags.All ∷ flags.Json ∷ []
 flags_of Section = flags.Help ∷ flags.Json ∷ []
 
 -- how an option is written: its name, its short name if it has one, and what it takes
@@ -289,6 +289,7 @@ are_given one other given = is_some (value_given one given) && is_some (value_gi
 abbrev pub checked : Command → Arguments → Result (Unit {0}) Wrong
 checked command given = if are_given flags.All flags.Section given then Err (exclusive flags.All flags.Section)
     else if are_given flags.Raw flags.Full given then Err (exclusive flags.Raw flags.Full)
+    else if are_given flags.Annotate flags.Json given then Err (exclusive flags.Annotate flags.Json)
     else operands_checked command (is_some (value_given flags.Annotate given)) given.operands
 
 -- the command, or help on it, where that is requested

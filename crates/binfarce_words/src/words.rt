@@ -279,6 +279,7 @@ impl Command {
                 Flag::Base,
                 Flag::Dynamic,
                 Flag::All,
+                Flag::Json,
             ],
             Command::Section => &[Flag::Help, Flag::Json],
         }
@@ -583,6 +584,9 @@ fn check<'a>(command: Command, given: &Arguments<'a>) -> Result<(), Wrong<'a>>
     }
     if are_given(given, Flag::Raw, Flag::Full) {
         return Err(Wrong::Exclusive(Flag::Raw, Flag::Full));
+    }
+    if are_given(given, Flag::Annotate, Flag::Json) {
+        return Err(Wrong::Exclusive(Flag::Annotate, Flag::Json));
     }
     check_operands(
         command,

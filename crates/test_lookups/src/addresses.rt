@@ -7,6 +7,7 @@ use binfarce_addresses::at::{Places, at, at_tables};
 use binfarce_addresses::stream::{StreamError, answer_lines, push_lines as push_lines_of};
 use binfarce_addresses::{Lookup, parse_address};
 use binfarce_tools::SymbolTable;
+use binfarce_tools::json::Form;
 use binfarce_tools::list::Out;
 use binfarce_tools::tables::{Selection, read};
 use std::alloc::Global;
@@ -37,6 +38,7 @@ pub(crate) fn push_lines(of: &Asking<'_>, is_return: bool, text: &mut Vec<u8>) -
     let lookup = Lookup {
         base: number(base, true)?,
         is_return,
+        form: Form::Lines,
     };
     let mut addresses = Vec::new(of.alloc);
     for word in words.split_whitespace() {
@@ -84,7 +86,7 @@ fn typed(alloc: Global, words: &str) -> io::Result<Vec<u8>> {
 struct Input<'a> {
     alloc: Global,
     places: &'a Places<'static>,
-    lookup: Lookup,
+    lookup: Lookup<'a>,
     annotates: bool,
     text: &'a [u8],
 }
@@ -108,6 +110,7 @@ pub(crate) fn push_answers(
         lookup: Lookup {
             base: number(base, true)?,
             is_return,
+            form: Form::Lines,
         },
         annotates: false,
         text: &lines,
@@ -145,6 +148,7 @@ pub(crate) fn push_annotated_text(
     let lookup = Lookup {
         base: number(base, true)?,
         is_return,
+        form: Form::Lines,
     };
     let input = Input {
         alloc,

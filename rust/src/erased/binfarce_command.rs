@@ -23,7 +23,9 @@ use crate::erased::binfarce_command::help::{VERSION, help};
 use crate::erased::binfarce_command::hint::Hint;
 use crate::erased::binfarce_command::input::{FileOrStdin, OpenFile};
 use crate::erased::binfarce_command::output::Output;
-use crate::erased::binfarce_command::report::{ended, judged, refuse, report, report_hint};
+use crate::erased::binfarce_command::report::{
+    Message, ended, judged, message_of, push_refusal, refuse, report, report_hint,
+};
 use crate::erased::binfarce_command::section::write_or_list;
 use crate::erased::binfarce_command::show::{Kind, Request, Symbols};
 use crate::erased::binfarce_addresses::Lookup;
@@ -38,7 +40,7 @@ use crate::erased::binfarce_tools::json::Form;
 use crate::erased::binfarce_tools::report::{ReportError, sums_of_tables};
 use crate::erased::binfarce_tools::tables::{Selection, Tables, read};
 use crate::erased::binfarce_words::words::{Arguments, Call, Command, Flag, Wrong, read_call};
-use crate::shim::alloc::Global;
+use crate::shim::alloc::{AllocError, Global};
 use crate::shim::env;
 use crate::shim::fs::File;
 use crate::shim::io::{self, Error, ErrorKind, Write};
@@ -71,7 +73,11 @@ fn run(rt: &HostRuntime, call: &Call<'_>) -> u8 {
 
 fn run_with(rt: &HostRuntime, call: &Call<'_>, addresses: &[u64]) -> u8 {
     let mut out = Output::new(rt.alloc(), io::writer(rt));
-    let done = answer(rt, call, addresses, &mut out);
+    let mut host = Host {
+        rt,
+        refusals: String::new(rt.alloc()),
+    };
+    let done = answer(&mut host, call, addresses, &mut out);
     ended(rt, done, out.into_parts().1)
 }
 
@@ -93,7 +99,7 @@ fn others<'b, 'a>(given: &'b Arguments<'a>) -> &'b [&'a str] {
 
 // Runs a call, and flushes the output. `false` where a file was refused.
 fn answer<W: Write>(
-    rt: &HostRuntime,
+    host: &mut Host<'_>,
     call: &Call<'_>,
     addresses: &[u64],
     out: &mut Output<W>,
@@ -101,7 +107,13 @@ fn answer<W: Write>(
     let is_done = match call {
         Call::Help(topic) => print(help(*topic), out)?,
         Call::Version => print(VERSION, out)?,
-        Call::Run(command, given) => work(rt, *command, given, addresses, out)?,
+        Call::Run(command, given) => {
+            let is_done = work(host, *command, given, addresses, out)?;
+            if given.has(Flag::Json) {
+                print(host.refusals.as_str(), out)?;
+            }
+            is_done
+        }
     };
     match out.flush() {
         Ok(()) => Ok(is_done),
@@ -117,21 +129,21 @@ fn print<W: Write>(text: &str, out: &mut Output<W>) -> Result<bool, Fault> {
 }
 
 fn work<W: Write>(
-    rt: &HostRuntime,
+    host: &mut Host<'_>,
     command: Command,
     given: &Arguments<'_>,
     addresses: &[u64],
     out: &mut Output<W>,
 ) -> Result<bool, Fault> {
     match command {
-        Command::List => show_all(rt, listing_of(given), given, out),
-        Command::Size => show_all(rt, sums_of(given), given, out),
-        Command::Map if given.has(Flag::Folded) => show_all(rt, Kind::Stacks, given, out),
-        Command::Map => show_all(rt, Kind::Picture, given, out),
-        Command::Diff => compare(rt, given, out),
-        Command::Filter => filter_text(rt, given, out),
-        Command::At => symbolize(rt, given, addresses, out),
-        Command::Section => write_section(rt, given, out),
+        Command::List => show_all(host, listing_of(given), given, out),
+        Command::Size => show_all(host, sums_of(given), given, out),
+        Command::Map if given.has(Flag::Folded) => show_all(host, Kind::Stacks, given, out),
+        Command::Map => show_all(host, Kind::Picture, given, out),
+        Command::Diff => compare(host, given, out),
+        Command::Filter => filter_text(host, given, out),
+        Command::At => symbolize(host, given, addresses, out),
+        Command::Section => write_section(host, given, out),
     }
 }
 
@@ -189,25 +201,25 @@ fn default_of(given: &Arguments<'_>) -> Selection<'static> {
 
 // Compares the sizes of two files. `false` where one is refused.
 fn compare<W: Write>(
-    rt: &HostRuntime,
+    host: &mut Host<'_>,
     given: &Arguments<'_>,
     out: &mut Output<W>,
 ) -> Result<bool, Fault> {
     let paths = (first(given), others(given).first().copied().unwrap_or(""));
     let (Some(old), Some(new)) = (
-        tables_at(rt, given, paths.0)?,
-        tables_at(rt, given, paths.1)?,
+        tables_at(host, given, paths.0)?,
+        tables_at(host, given, paths.1)?,
     ) else {
         return Ok(false);
     };
     let form = form_of(given, paths.1);
-    match diff(rt.alloc(), &old, &new, &figures_of(given), form, out) {
+    match diff(host.rt.alloc(), &old, &new, &figures_of(given), form, out) {
         Ok(growth) => judged(growth, given.count(Flag::FailAbove)),
         Err(ReportError::Write) => Err(Fault::Write),
         Err(e) => {
-            let is_old = sums_of_tables(rt.alloc(), &old).is_err();
+            let is_old = sums_of_tables(host.rt.alloc(), &old).is_err();
             let path = if is_old { paths.0 } else { paths.1 };
-            report(rt, path, Fault::from(e), None);
+            host.report(path, Fault::from(e), None);
             Ok(false)
         }
     }
@@ -215,17 +227,16 @@ fn compare<W: Write>(
 
 // The tables of the file at this path. `None` where it is refused, which is reported.
 fn tables_at(
-    rt: &HostRuntime,
+    host: &mut Host<'_>,
     given: &Arguments<'_>,
     path: &str,
 ) -> Result<Option<Tables<'static>>, Fault> {
     let symbols = symbols_of(given, default_of(given));
-    let mut system = rt;
-    let Some(input) = open_input(rt.alloc(), &mut system, path) else {
+    let Some(input) = open_input(host.rt.alloc(), host, path) else {
         return Ok(None);
     };
     match read(
-        rt.alloc(),
+        host.rt.alloc(),
         &input,
         &mut (),
         symbols.which,
@@ -233,7 +244,7 @@ fn tables_at(
     ) {
         Ok(tables) => Ok(Some(tables)),
         Err(e) => {
-            reported(rt.alloc(), &mut system, path, &input, Err(Fault::from(e)))?;
+            reported(host.rt.alloc(), host, path, &input, Err(Fault::from(e)))?;
             Ok(None)
         }
     }
@@ -241,7 +252,7 @@ fn tables_at(
 
 // Shows the function symbols of all files that are given.
 fn show_all<W: Write>(
-    rt: &HostRuntime,
+    host: &mut Host<'_>,
     kind: Kind,
     given: &Arguments<'_>,
     out: &mut Output<W>,
@@ -251,18 +262,17 @@ fn show_all<W: Write>(
         symbols: symbols_of(given, default_of(given)),
         is_json: given.has(Flag::Json),
     };
-    let mut system = rt;
     if asked.is_json {
         // Objects have the names of their files, and need no headings.
         let mut are_shown = true;
         for path in &given.operands {
-            are_shown &= show_files(rt.alloc(), &mut system, &asked, &[*path], out)?;
+            are_shown &= show_files(host.rt.alloc(), host, &asked, &[*path], out)?;
         }
         return Ok(are_shown);
     }
     show_files(
-        rt.alloc(),
-        &mut system,
+        host.rt.alloc(),
+        host,
         &asked,
         given.operands.as_slice(),
         out,
@@ -271,28 +281,33 @@ fn show_all<W: Write>(
 
 // Demangles the names in standard input, or the given ones.
 fn filter_text<W: Write>(
-    rt: &HostRuntime,
+    host: &mut Host<'_>,
     given: &Arguments<'_>,
     out: &mut Output<W>,
 ) -> Result<bool, Fault> {
     if given.operands.is_empty() {
-        return filter_input(rt, given.has(Flag::Full), out);
+        return filter_input(host, given.has(Flag::Full), out);
     }
-    let text = lines_of(rt.alloc(), given.operands.as_slice())?;
-    filter_stream(rt.alloc(), given.has(Flag::Full), &mut text.as_slice(), out)?;
+    let text = lines_of(host.rt.alloc(), given.operands.as_slice())?;
+    filter_stream(
+        host.rt.alloc(),
+        given.has(Flag::Full),
+        &mut text.as_slice(),
+        out,
+    )?;
     Ok(true)
 }
 
 fn filter_input<W: Write>(
-    rt: &HostRuntime,
+    host: &mut Host<'_>,
     full: bool,
     out: &mut Output<W>,
 ) -> Result<bool, Fault> {
-    let mut input = OpenFile::new(rt.stdin());
-    match filter_stream(rt.alloc(), full, &mut input, out) {
+    let mut input = OpenFile::new(host.rt.stdin());
+    match filter_stream(host.rt.alloc(), full, &mut input, out) {
         Ok(()) => Ok(true),
         Err(StreamError::Read) => {
-            report(rt, "standard input", Fault::Unreadable, input.take_reason());
+            host.report("standard input", Fault::Unreadable, input.take_reason());
             Ok(false)
         }
         Err(e) => Err(Fault::from(e)),
@@ -301,7 +316,7 @@ fn filter_input<W: Write>(
 
 // Symbolizes addresses: those that are given, or those of standard input, in lines or in a text.
 fn symbolize<W: Write>(
-    rt: &HostRuntime,
+    host: &mut Host<'_>,
     given: &Arguments<'_>,
     addresses: &[u64],
     out: &mut Output<W>,
@@ -311,17 +326,17 @@ fn symbolize<W: Write>(
     let lookup = Lookup {
         base: given.address(Flag::Base).unwrap_or(0),
         is_return: given.has(Flag::Return),
+        form: form_of(given, path),
     };
-    let mut system = rt;
-    match open_input(rt.alloc(), &mut system, path) {
+    match open_input(host.rt.alloc(), host, path) {
         Some(input) => {
             let done = if addresses.is_empty() {
                 let annotates = given.has(Flag::Annotate);
-                answer_lines(rt, &input, &symbols, lookup, annotates, out)
+                answer_lines(host, &input, &symbols, lookup, annotates, out)
             } else {
-                answer_all(rt.alloc(), &input, &symbols, lookup, addresses, out)
+                answer_all(host.rt.alloc(), &input, &symbols, lookup, addresses, out)
             };
-            reported(rt.alloc(), &mut system, path, &input, done)
+            reported(host.rt.alloc(), host, path, &input, done)
         }
         None => Ok(false),
     }
@@ -329,20 +344,20 @@ fn symbolize<W: Write>(
 
 // Symbolizes the addresses of standard input.
 fn answer_lines<S: Source<Log = ()>, W: Write>(
-    rt: &HostRuntime,
+    host: &mut Host<'_>,
     source: &S,
     symbols: &Symbols<'_>,
-    lookup: Lookup,
+    lookup: Lookup<'_>,
     annotates: bool,
     out: &mut Output<W>,
 ) -> Result<(), Fault> {
-    let mut input = OpenFile::new(rt.reader());
-    let alloc = rt.alloc();
+    let mut input = OpenFile::new(host.rt.reader());
+    let alloc = host.rt.alloc();
     match answer_input(alloc, source, symbols, lookup, annotates, &mut input, out) {
         Ok(0) => Ok(()),
         Ok(missing) => Err(Fault::Missing(missing)),
         Err(Fault::Input) => {
-            report(rt, "standard input", Fault::Unreadable, input.take_reason());
+            host.report("standard input", Fault::Unreadable, input.take_reason());
             Err(Fault::Input)
         }
         Err(fault) => Err(fault),
@@ -351,23 +366,22 @@ fn answer_lines<S: Source<Log = ()>, W: Write>(
 
 // Writes the bytes of the section that is named, or a line for each section.
 fn write_section<W: Write>(
-    rt: &HostRuntime,
+    host: &mut Host<'_>,
     given: &Arguments<'_>,
     out: &mut Output<W>,
 ) -> Result<bool, Fault> {
     let path = first(given);
-    let mut system = rt;
-    match open_input(rt.alloc(), &mut system, path) {
+    match open_input(host.rt.alloc(), host, path) {
         Some(input) => {
             let name = others(given).first().copied();
             let written = write_or_list(
-                rt.alloc(),
+                host.rt.alloc(),
                 &input,
                 name,
                 form_of(given, path),
                 out,
             ).map_err(Fault::from);
-            reported(rt.alloc(), &mut system, path, &input, written)
+            reported(host.rt.alloc(), host, path, &input, written)
         }
         None => Ok(false),
     }
@@ -402,22 +416,39 @@ fn first<'a>(given: &Arguments<'a>) -> &'a str {
     given.operands.first().copied().unwrap_or("")
 }
 
-impl System<FileOrStdin> for &HostRuntime {
+// The system around a command, and the objects of the files that were refused.
+struct Host<'a> {
+    rt: &'a HostRuntime,
+    refusals: String,
+}
+
+impl System<FileOrStdin> for Host<'_> {
     fn open(&self, path: &str) -> io::Result<FileOrStdin> {
         if path == "-" {
-            return Ok(FileOrStdin::Standard(self.stdin()));
+            return Ok(FileOrStdin::Standard(self.rt.stdin()));
         }
-        match File::open(*self, path) {
+        match File::open(self.rt, path) {
             Ok(file) => Ok(FileOrStdin::File(file)),
             Err(e) => Err(e),
         }
     }
 
     fn report(&mut self, path: &str, fault: Fault, reason: Option<Error>) {
-        report(self, path, fault, reason);
+        let message = message_of(self.rt.alloc(), fault, reason);
+        report(self.rt, path, &message);
+        let _ = self.push_refusal(path, &message);
     }
 
     fn hint(&mut self, path: &str, hint: Hint) {
-        report_hint(self, path, hint);
+        report_hint(self.rt, path, hint);
+    }
+}
+
+impl Host<'_> {
+    // Keeps why a file was refused. Where an allocation fails, the message alone says it.
+    fn push_refusal(&mut self, path: &str, message: &Message) -> Result<(), AllocError> {
+        let alloc = self.rt.alloc();
+        let words = String::formatted(alloc, format_args!("{message}"))?;
+        push_refusal(&mut self.refusals, path, words.as_str())
     }
 }

@@ -12,12 +12,12 @@ use std::alloc::Global;
 pub fn line_of(
     alloc: Global,
     file: &[u8],
-    lookup: Lookup,
+    lookup: Lookup<'_>,
     address: u64,
 ) -> Result<Vec<u8>, ListError>
     ensures { IfOk result
         (λ line. (listed : Listed) × (file_answer file.now (codes ".text") ≡ Some (Ok listed))
-        × IsLineAt listed.entries lookup address line.items) }
+        × IsLineAt listed.entries lookup.entry address line.items) }
 {
     let places = places_of(alloc, file)?;
     let mut line = Vec::new(alloc);

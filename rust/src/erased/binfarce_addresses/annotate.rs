@@ -28,7 +28,7 @@ const MOST: usize = 16;
 pub fn push_annotated(
     alloc: Global,
     places: &Places<'_>,
-    lookup: Lookup,
+    lookup: Lookup<'_>,
     text: &[u8],
     out: &mut Vec<u8>,
 ) -> Result<(), AllocError> {
@@ -47,7 +47,7 @@ pub fn push_annotated(
 pub fn annotate_stream<R: Read, S: Sink>(
     alloc: Global,
     places: &Places<'_>,
-    lookup: Lookup,
+    lookup: Lookup<'_>,
     input: &mut R,
     out: &mut S,
 ) -> Result<(), StreamError> {
@@ -64,7 +64,7 @@ pub fn annotate_stream<R: Read, S: Sink>(
 struct Annotating<'b, 'a> {
     alloc: Global,
     places: &'b Places<'a>,
-    lookup: Lookup,
+    lookup: Lookup<'b>,
     // The address at the text's end that may go on.
     kept: Vec<u8>,
 }
@@ -105,7 +105,7 @@ impl<S: Sink> Pass<S> for Annotating<'_, '_> {
 fn push_decided(
     alloc: Global,
     places: &Places<'_>,
-    lookup: Lookup,
+    lookup: Lookup<'_>,
     is_last: bool,
     text: &[u8],
     out: &mut Vec<u8>,
@@ -141,7 +141,7 @@ fn is_decided(is_last: bool, text: &[u8]) -> bool {
 fn push_first(
     alloc: Global,
     places: &Places<'_>,
-    lookup: Lookup,
+    lookup: Lookup<'_>,
     text: &[u8],
     out: &mut Vec<u8>,
 ) -> Result<usize, AllocError> {
@@ -160,7 +160,7 @@ fn push_first(
 fn push_added(
     alloc: Global,
     places: &Places<'_>,
-    lookup: Lookup,
+    lookup: Lookup<'_>,
     address: Option<u64>,
     out: &mut Vec<u8>,
 ) -> Result<(), AllocError> {

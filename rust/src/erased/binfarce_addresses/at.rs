@@ -54,14 +54,14 @@ impl<'a> Places<'a> {
     }
 
     /// The function symbol that an address symbolizes to by this lookup, and the offset of the address into it.
-    pub fn find(&self, lookup: Lookup, address: u64) -> Option<(FunctionSymbol<'a>, u64)> {
+    pub fn find(&self, lookup: Lookup<'_>, address: u64) -> Option<(FunctionSymbol<'a>, u64)> {
         let found = self.find_place(lookup, Some(address))?;
         Some((self.functions[found.place], found.offset))
     }
 
     // What an address symbolizes to; nothing without an address.
     #[cfg_attr(not(debug_assertions), inline(always))]
-    fn find_place(&self, lookup: Lookup, address: Option<u64>) -> Option<Found> {
+    fn find_place(&self, lookup: Lookup<'_>, address: Option<u64>) -> Option<Found> {
         let address = address?;
         let place = self.ranges.find(lookup.in_file(address)?)?;
         let offset = lookup.offset_in(address, self.functions[place].address);
@@ -84,7 +84,7 @@ impl<'a> Places<'a> {
         &self,
         alloc: Global,
         text: &mut Vec<u8>,
-        lookup: Lookup,
+        lookup: Lookup<'_>,
         address: u64,
     ) -> Result<(), AllocError> {
         let found = self.find_place(lookup, Some(address));
@@ -95,7 +95,7 @@ impl<'a> Places<'a> {
     pub(crate) fn find_all(
         &self,
         alloc: Global,
-        lookup: Lookup,
+        lookup: Lookup<'_>,
         addresses: &[Option<u64>],
     ) -> Result<Vec<Option<Found>>, AllocError> {
         addresses
@@ -138,7 +138,7 @@ pub fn at<S: Sink>(
     alloc: Global,
     file: &[u8],
     section: &str,
-    lookup: Lookup,
+    lookup: Lookup<'_>,
     addresses: &[u64],
     out: &mut S,
 ) -> Result<(), ListError> {
@@ -153,7 +153,7 @@ pub fn at<S: Sink>(
 pub fn at_tables<S: Sink>(
     alloc: Global,
     tables: &Tables<'_>,
-    lookup: Lookup,
+    lookup: Lookup<'_>,
     addresses: &[u64],
     out: &mut S,
 ) -> Result<(), ListError> {
@@ -170,7 +170,7 @@ pub fn at_tables<S: Sink>(
 pub fn write_lines<S: Sink>(
     alloc: Global,
     places: &Places<'_>,
-    lookup: Lookup,
+    lookup: Lookup<'_>,
     addresses: &[u64],
     out: &mut S,
 ) -> Result<(), ListError> {
@@ -182,7 +182,7 @@ pub fn write_lines<S: Sink>(
 fn lines(
     alloc: Global,
     places: &Places<'_>,
-    lookup: Lookup,
+    lookup: Lookup<'_>,
     addresses: &[u64],
 ) -> Result<Vec<u8>, AllocError> {
     let mut text = Vec::new(alloc);

@@ -7,11 +7,15 @@ use crate::erased::binfarce_addresses::at::{Found, Places};
 use crate::erased::binfarce_addresses::digits::{push_address, push_offset};
 use crate::erased::binfarce_addresses::lookup::Lookup;
 use crate::erased::binfarce::demangle::Demangler;
+use crate::erased::binfarce_tools::json::{
+    Form, push_address_member, push_number_member, push_start, push_text_member,
+};
 use crate::shim::alloc::{AllocError, Global};
 
 /// The readable names of the function symbols of places that were needed so far.
 pub(crate) struct Names<'b, 'a> {
     pub(crate) places: &'b Places<'a>,
+    alloc: Global,
     demangler: Demangler,
     // The names, one after the other.
     text: String,
@@ -28,6 +32,7 @@ impl<'b, 'a> Names<'b, 'a> {
     ) -> Result<Names<'b, 'a>, AllocError> {
         Ok(Names {
             places,
+            alloc,
             demangler: Demangler::new(alloc),
             text: String::new(alloc),
             kept: Vec::filled(alloc, (0, 0), room)?,
@@ -57,11 +62,28 @@ impl<'b, 'a> Names<'b, 'a> {
         Some((*name.first()?, *name.last()?))
     }
 
-    // Appends the answer of a line to the text: the line of its address, for which this is found, or `??` without one.
+    // Appends the answer of a line to the text: that of its address, for which this is found, or of none.
     pub(crate) fn push_answer(
         &mut self,
         text: &mut Vec<u8>,
-        lookup: Lookup,
+        lookup: Lookup<'_>,
+        address: Option<u64>,
+        found: Option<Found>,
+    ) -> Result<(), AllocError> {
+        match lookup.form {
+            Form::Lines => self.push_line(text, lookup, address, found),
+            Form::Objects(file, _) => {
+                let object = self.object_of(file, lookup, address, found)?;
+                text.extend_from_slice(object.as_bytes())
+            }
+        }
+    }
+
+    // Appends the answer as a line.
+    fn push_line(
+        &mut self,
+        text: &mut Vec<u8>,
+        lookup: Lookup<'_>,
         address: Option<u64>,
         found: Option<Found>,
     ) -> Result<(), AllocError> {
@@ -76,6 +98,32 @@ impl<'b, 'a> Names<'b, 'a> {
             }
             None => text.extend_from_slice(b"??\n"),
         }
+    }
+
+    // The answer as an object.
+    fn object_of(
+        &mut self,
+        file: &str,
+        lookup: Lookup<'_>,
+        address: Option<u64>,
+        found: Option<Found>,
+    ) -> Result<String, AllocError> {
+        let mut object = String::new(self.alloc);
+        match found {
+            Some(found) => {
+                let mut name = String::new(self.alloc);
+                self.demangler
+                    .push_shown(&mut name, self.places.at(found.place).name)?;
+                push_object(
+                    &mut object,
+                    file,
+                    address,
+                    Some((name.as_str(), found.offset)),
+                )?;
+            }
+            None => push_object(&mut object, file, address, None)?,
+        }
+        Ok(object)
     }
 
     // Appends the readable name of the function symbol at a place to the text, and keeps it, if there is room for it.
@@ -105,5 +153,39 @@ impl<'b, 'a> Names<'b, 'a> {
 fn keep(kept: &mut Vec<(usize, usize)>, place: usize, part: (usize, usize)) {
     if let Some(slot) = kept.get_mut(place) {
         *slot = part;
+    }
+}
+
+// Appends an answer as an object.
+fn push_object(
+    text: &mut String,
+    file: &str,
+    address: Option<u64>,
+    symbol: Option<(&str, u64)>,
+) -> Result<(), AllocError> {
+    push_start(text, file)?;
+    push_given(text, address)?;
+    push_symbol(text, symbol)?;
+    text.push_str("}\n")?;
+    Ok(())
+}
+
+fn push_given(text: &mut String, address: Option<u64>) -> Result<(), AllocError> {
+    match address {
+        Some(address) => push_address_member(text, address),
+        None => push_text_member(text, "address", None),
+    }
+}
+
+fn push_symbol(text: &mut String, symbol: Option<(&str, u64)>) -> Result<(), AllocError> {
+    match symbol {
+        Some((name, offset)) => {
+            push_text_member(text, "name", Some(name))?;
+            push_number_member(text, "offset", offset)
+        }
+        None => {
+            push_text_member(text, "name", None)?;
+            push_text_member(text, "offset", None)
+        }
     }
 }

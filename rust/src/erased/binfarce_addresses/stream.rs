@@ -39,7 +39,7 @@ pub struct Answered {
 pub fn push_lines(
     alloc: Global,
     places: &Places<'_>,
-    lookup: Lookup,
+    lookup: Lookup<'_>,
     bytes: &[u8],
     text: &mut Vec<u8>,
 ) -> Result<Answered, AllocError> {
@@ -52,7 +52,7 @@ pub fn push_lines(
 fn push_answers(
     alloc: Global,
     names: &mut Names<'_, '_>,
-    lookup: Lookup,
+    lookup: Lookup<'_>,
     bytes: &[u8],
     text: &mut Vec<u8>,
 ) -> Result<Answered, AllocError> {
@@ -96,7 +96,7 @@ fn first_line(bytes: &[u8]) -> Option<&[u8]> {
 pub fn answer_lines<R: Read, S: Sink>(
     alloc: Global,
     places: &Places<'_>,
-    lookup: Lookup,
+    lookup: Lookup<'_>,
     input: &mut R,
     out: &mut S,
 ) -> Result<u64, StreamError> {
@@ -115,7 +115,7 @@ pub fn answer_lines<R: Read, S: Sink>(
 struct Lines<'b, 'a> {
     alloc: Global,
     names: Names<'b, 'a>,
-    lookup: Lookup,
+    lookup: Lookup<'b>,
     // What is kept of the last line so far.
     line: Vec<u8>,
     // How many lines have no address.

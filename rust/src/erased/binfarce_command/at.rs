@@ -46,7 +46,7 @@ pub fn answer_all<S: Source<Log = ()>, K: Sink>(
     alloc: Global,
     source: &S,
     symbols: &Symbols<'_>,
-    lookup: Lookup,
+    lookup: Lookup<'_>,
     addresses: &[u64],
     out: &mut K,
 ) -> Result<(), Fault> {
@@ -74,7 +74,7 @@ pub fn answer_input<S: Source<Log = ()>, I: Read, K: Sink>(
     alloc: Global,
     source: &S,
     symbols: &Symbols<'_>,
-    lookup: Lookup,
+    lookup: Lookup<'_>,
     annotates: bool,
     input: &mut I,
     out: &mut K,

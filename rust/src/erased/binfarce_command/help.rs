@@ -44,6 +44,7 @@ line with the file's name.
   --no-total       without the last line
   --full           names with hashes and disambiguators
   --raw            names as they are stored
+  --json           each function symbol as a JSON object
   --dynamic        by the dynamic symbol table of an ELF file (.dynsym)
   --section=NAME   the section of an ELF file, by default .text; of Mach-O and PE
                    files the code section is listed
@@ -132,6 +133,7 @@ it. Without an ADDRESS the addresses are the lines of standard input.
                    those of the code section
   --all            the symbols of all sections, as without --section; refused of an
                    object file, whose sections share addresses
+  --json           an object for each address, with its name and offset or null
   --help           this text
 ";
 
@@ -141,6 +143,7 @@ usage: binfarce section FILE [SECTION]
 Writes the bytes of the section, or without SECTION a line for each section. A
 section of a Mach-O file is named SECTION or SEGMENT,SECTION.
 
+  --json           an object for each section
   --help           this text
 ";
 

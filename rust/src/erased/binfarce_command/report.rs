@@ -6,7 +6,10 @@ use crate::shim::{HostRuntime, String};
 use crate::erased::binfarce_command::fault::Fault;
 use crate::erased::binfarce_command::hint::Hint;
 use crate::erased::binfarce_figures::diff::Growth;
+use crate::erased::binfarce_tools::json::{push_start, push_text_member};
 use crate::erased::binfarce_words::words::Wrong;
+use crate::shim::alloc::{AllocError, Global};
+use std::fmt;
 use crate::shim::io::{Error, ErrorKind};
 
 /// Prints why a call is wrong, and returns the program's exit status.
@@ -58,7 +61,11 @@ fn write_failed(rt: &HostRuntime, reason: Option<Error>) -> u8 {
     if is_broken_pipe(&reason) {
         return 0;
     }
-    report(rt, "standard output", Fault::Write, reason);
+    report(
+        rt,
+        "standard output",
+        &message_of(rt.alloc(), Fault::Write, reason),
+    );
     1
 }
 
@@ -73,16 +80,48 @@ fn is_broken_pipe(reason: &Option<Error>) -> bool {
     }
 }
 
-/// Prints why a file is refused: the system's reason, where a read or a write failed.
-pub fn report(rt: &HostRuntime, name: &str, fault: Fault, reason: Option<Error>) {
-    match reason {
-        Some(e) if fault == Fault::Unreadable || fault == Fault::Write => print_reason(
-            rt, name, &e,
-        ),
-        _ => {
-            let _ = rt.eprintln(format_args!("binfarce: {name}: {fault}"));
+/// Why a file is refused, in words.
+#[derive(Debug)]
+pub enum Message {
+    /// Its fault.
+    Fault(Fault),
+    /// The system's reason.
+    Reason(String),
+}
+
+impl fmt::Display for Message {
+    fn fmt(&self, f: &mut fmt::Formatter<'_>) -> fmt::Result {
+        match self {
+            Message::Fault(fault) => write!(f, "{fault}"),
+            Message::Reason(words) => write!(f, "{words}"),
         }
     }
+}
+
+/// Why a file is refused: the system's reason, where a read or a write failed.
+pub fn message_of(alloc: Global, fault: Fault, reason: Option<Error>) -> Message {
+    match reason {
+        Some(e) if fault == Fault::Unreadable || fault == Fault::Write => match words_of(
+            alloc, &e,
+        ) {
+            Ok(words) => Message::Reason(words),
+            Err(_) => Message::Fault(Fault::OutOfMemory),
+        },
+        _ => Message::Fault(fault),
+    }
+}
+
+/// Prints why a file is refused.
+pub fn report(rt: &HostRuntime, name: &str, message: &Message) {
+    let _ = rt.eprintln(format_args!("binfarce: {name}: {message}"));
+}
+
+/// Appends the refusal of a file as an object.
+pub fn push_refusal(text: &mut String, file: &str, message: &str) -> Result<(), AllocError> {
+    push_start(text, file)?;
+    push_text_member(text, "error", Some(message))?;
+    text.push_str("}\n")?;
+    Ok(())
 }
 
 /// Prints a hint on a file.
@@ -90,22 +129,11 @@ pub fn report_hint(rt: &HostRuntime, name: &str, hint: Hint) {
     let _ = rt.eprintln(format_args!("binfarce: {name}: {hint}"));
 }
 
-fn print_reason(rt: &HostRuntime, name: &str, e: &Error) {
-    match String::formatted(rt.alloc(), format_args!("{e}")) {
-        Ok(text) => {
-            let words = without_number(text.as_str());
-            let _ = rt.eprintln(format_args!("binfarce: {name}: {words}"));
-        }
-        Err(_) => {
-            let _ = rt.eprintln(format_args!("binfarce: out of memory"));
-        }
-    }
-}
-
 // The system's message without the number that is printed after it.
-fn without_number(text: &str) -> &str {
-    match text.split_once(" (os error ") {
-        Some((words, _)) => words,
-        None => text,
+fn words_of(alloc: Global, e: &Error) -> Result<String, AllocError> {
+    let text = String::formatted(alloc, format_args!("{e}"))?;
+    match text.as_str().split_once(" (os error ") {
+        Some((words, _)) => String::from_str(alloc, words),
+        None => Ok(text),
     }
 }

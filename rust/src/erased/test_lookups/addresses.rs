@@ -12,6 +12,7 @@ use crate::erased::binfarce_addresses::stream::{
 };
 use crate::erased::binfarce_addresses::{Lookup, parse_address};
 use crate::erased::binfarce_tools::SymbolTable;
+use crate::erased::binfarce_tools::json::Form;
 use crate::erased::binfarce_tools::list::Out;
 use crate::erased::binfarce_tools::tables::{Selection, read};
 use crate::shim::alloc::Global;
@@ -42,6 +43,7 @@ pub(crate) fn push_lines(of: &Asking<'_>, is_return: bool, text: &mut Vec<u8>) -
     let lookup = Lookup {
         base: number(base, true)?,
         is_return,
+        form: Form::Lines,
     };
     let mut addresses = Vec::new(of.alloc);
     for word in words.split_whitespace() {
@@ -89,7 +91,7 @@ fn typed(alloc: Global, words: &str) -> io::Result<Vec<u8>> {
 struct Input<'a> {
     alloc: Global,
     places: &'a Places<'static>,
-    lookup: Lookup,
+    lookup: Lookup<'a>,
     annotates: bool,
     text: &'a [u8],
 }
@@ -113,6 +115,7 @@ pub(crate) fn push_answers(
         lookup: Lookup {
             base: number(base, true)?,
             is_return,
+            form: Form::Lines,
         },
         annotates: false,
         text: &lines,
@@ -150,6 +153,7 @@ pub(crate) fn push_annotated_text(
     let lookup = Lookup {
         base: number(base, true)?,
         is_return,
+        form: Form::Lines,
     };
     let input = Input {
         alloc,

@@ -60,7 +60,8 @@ pub fn annotate_stream<R: Read, S: Sink>(
     input: &mut R,
     out: &mut S,
 ) -> Result<(), StreamError>
-    ensures annotates { AnnotatesAll places.now lookup.entry (R.remaining input.old) (R.remaining input.new) (S.taken out.old)
+    ensures annotates { AnnotatesAll places.now lookup.entry (R.remaining input.old) (R.remaining input.new)
+        (S.taken out.old)
         (S.taken out.new) result }
     ensures fails { Fails (S.has_failed out.old) (S.has_failed out.new) result }
 {
@@ -143,7 +144,8 @@ fn push_decided(
     ensures within { IfOk result (λ at. at ≤ length text.now) }
     ensures short { IfOk result (λ at. length text.now ≤ at + 18) }
     ensures last { is_last ≡ true → IfOk result (λ at. at ≡ length text.now) }
-    ensures shows { IfOk result (λ at. ShowsTo places.now lookup.entry is_last text.now at out.old.items out.new.items) }
+    ensures shows { IfOk result (λ at. ShowsTo places.now lookup.entry is_last text.now at out.old.items
+        out.new.items) }
 {
     let mut at = 0;
     while at < text.len() && is_decided(is_last, &text[at..]) {
@@ -210,7 +212,8 @@ fn push_added(
     out: &mut Vec<u8>,
 ) -> Result<(), AllocError>
     ensures { OnOk result
-        ((added : List ℕ) × IsAddedAfter places.now lookup.entry address added × (out.new.items ≡ out.old.items ++ added)) }
+        ((added : List ℕ) × IsAddedAfter places.now lookup.entry address added
+        × (out.new.items ≡ out.old.items ++ added)) }
 {
     let Some(address) = address else {
         return Ok(());

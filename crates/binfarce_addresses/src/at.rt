@@ -130,7 +130,8 @@ impl<'a> Places<'a> {
         address: u64,
     ) -> Result<(), AllocError>
         ensures { OnOk result
-            ((line : List ℕ) × IsLineAt self.now lookup.entry address line × (text.new.items ≡ text.old.items ++ line)) }
+            ((line : List ℕ) × IsLineAt self.now lookup.entry address line
+            × (text.new.items ≡ text.old.items ++ line)) }
     {
         let found = self.find_place(lookup, Some(address));
         Names::new(alloc, self, 0)?.push_answer(text, lookup, Some(address), found)

@@ -139,7 +139,8 @@ impl<'b, 'a> Names<'b, 'a> {
         found: Option<Found>,
     ) -> Result<String, AllocError>
         requires { IsFoundFor self.old lookup address found }
-        ensures answer { IfOk result (λ t. IsAnswerIn (objects file.now []) self.old lookup.entry address (string_bytes t)) }
+        ensures answer { IfOk result (λ t. IsAnswerIn (objects file.now []) self.old lookup.entry address
+            (string_bytes t)) }
         ensures same { self.new ≡ self.old }
     {
         let mut object = String::new(self.alloc);

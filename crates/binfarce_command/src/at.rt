@@ -109,7 +109,8 @@ pub fn answer_input<S: Source<Log = ()>, I: Read, K: Sink>(
     out: &mut K,
 ) -> Result<u64, Fault>
     ensures answers { (file : List ℕ) → S.bytes source.now ≡ Some file → AnswersInput (S.may_fail source.now ≡ true)
-        (share_addresses symbols.now file) (MemoryFor symbols.now file) (answer_for symbols.now file) annotates lookup.entry
+        (share_addresses symbols.now file) (MemoryFor symbols.now file)
+        (answer_for symbols.now file) annotates lookup.entry
         (I.remaining input.old) (I.remaining input.new) (K.taken out.old) (K.taken out.new) result }
     ensures fails { Fails (K.has_failed out.old) (K.has_failed out.new) (lines_outcome result) }
 {

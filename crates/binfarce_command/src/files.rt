@@ -59,8 +59,10 @@ pub fn show_files<F: Read + Source<Log = ()> + Drop, Y: System<F>, W: Write>(
     out: &mut Output<W>,
 ) -> Result<bool, Fault>
     ensures { (held : List ℕ → List ℕ) → AreHeld (Y.bytes_at system.old) held (map (λ t. t.now) files.now) → ShowsAll
-        (asked_files asked.now (nat_lt 1 (length files.now)) (Y.may_fail_at system.old) held) (map (λ t. t.now) files.now)
-        (state_of W.contents out.old (Y.reports system.old)) (state_of W.contents out.new (Y.reports system.new)) result }
+        (asked_files asked.now (nat_lt 1 (length files.now)) (Y.may_fail_at system.old) held)
+        (map (λ t. t.now) files.now)
+        (state_of W.contents out.old (Y.reports system.old))
+        (state_of W.contents out.new (Y.reports system.new)) result }
 {
     let are_several = files.len() > 1;
     let mut are_shown = true;
@@ -82,7 +84,8 @@ fn show_file<F: Read + Source<Log = ()> + Drop, Y: System<F>, W: Write>(
 ) -> Result<bool, Fault>
     ensures shows { (held : List ℕ → List ℕ) → Y.bytes_at system.old path.now ≡ Some (held path.now)
         → ShowsOne (asked_files asked.now are_several (Y.may_fail_at system.old) held) path.now
-        (state_of W.contents out.old (Y.reports system.old)) (state_of W.contents out.new (Y.reports system.new)) result }
+        (state_of W.contents out.old (Y.reports system.old))
+        (state_of W.contents out.new (Y.reports system.new)) result }
     ensures bytes { Y.bytes_at system.new ≡ Y.bytes_at system.old }
     ensures may_fail { Y.may_fail_at system.new ≡ Y.may_fail_at system.old }
 {

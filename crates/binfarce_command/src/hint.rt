@@ -176,7 +176,8 @@ fn section_bytes_of<S: Source<Log = ()>>(alloc: Global, source: &S, name: &str) 
 
 // What the first bytes of a file name.
 fn format_hint<S: Source<Log = ()>>(source: &S) -> Option<Hint>
-    ensures { (file : List ℕ) → S.bytes source.now ≡ Some file → IfSome result (λ hint. named_by (take 8 file) ≡ Some hint) }
+    ensures { (file : List ℕ) → S.bytes source.now ≡ Some file
+        → IfSome result (λ hint. named_by (take 8 file) ≡ Some hint) }
 {
     let mut magic = [0; 8];
     match source.fill_at(&mut (), 0, &mut magic) {

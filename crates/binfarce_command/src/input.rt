@@ -95,8 +95,10 @@ impl<F: Read + Source<Log = ()>> OpenFile<F> {
     ///
     /// `Unreadable` where a read fails, and `OutOfMemory` where an allocation fails.
     pub fn load(&mut self, alloc: Global) -> Result<(), Fault>
-        ensures { (bytes : List ℕ) → bytes_of F.bytes self.old ≡ Some bytes → F.remaining (file_of self.old) ≡ Some bytes
-            → Loads (may_fail_of F.may_fail self.old) bytes (bytes_of F.bytes self.new) (may_fail_of F.may_fail self.new) result }
+        ensures { (bytes : List ℕ) → bytes_of F.bytes self.old ≡ Some bytes
+            → F.remaining (file_of self.old) ≡ Some bytes
+            → Loads (may_fail_of F.may_fail self.old) bytes (bytes_of F.bytes self.new)
+            (may_fail_of F.may_fail self.new) result }
     {
         if is_read_at_offsets(self) {
             return Ok(());

@@ -129,7 +129,8 @@ fn show_tables<K: Sink>(
         → AreTablesOf which file section tables.now
         → EndsAs (Fits kind) (MemoryIn file section) (answer_in which file section) (outcome_of result) }
     ensures takes { (which : SymbolTable) (file : List ℕ) (section : Option (List ℕ))
-        → AreTablesOf which file section tables.now → Takes (IsTextOf kind path.now (style_of form.entry) which file section)
+        → AreTablesOf which file section tables.now
+        → Takes (IsTextOf kind path.now (style_of form.entry) which file section)
         (answer_in which file section) (K.taken out.old) (K.taken out.new) (outcome_of result) }
     ensures of_file { result ≢ Err Input }
     ensures fails { Fails (K.has_failed out.old) (K.has_failed out.new) (outcome_of result) }

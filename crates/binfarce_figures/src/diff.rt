@@ -72,7 +72,8 @@ pub fn diff<S: Sink>(
     ensures outcome { (before after : Asked) → AreTablesFor before old.now → AreTablesFor after new.now
         → EndsForBoth before after (outcome_of (ended result)) }
     ensures takes { (before after : Asked) → AreTablesFor before old.now → AreTablesFor after new.now
-        → Takes (AreChangesBy figures.now (style_of form.entry) before after) (both (answer_for before) (answer_for after))
+        → Takes (AreChangesBy figures.now (style_of form.entry) before after)
+        (both (answer_for before) (answer_for after))
         (S.taken out.old) (S.taken out.new) (outcome_of (ended result)) }
     ensures growth { (before after : Asked) (listed : Listed × Listed)
         → AreTablesFor before old.now → AreTablesFor after new.now
@@ -114,7 +115,8 @@ fn claims_text<'a>(
 ) -> Result<(String, Growth), AllocError>
     requires { (total (shares_of old.items) < 2 ^ 64) × (total (shares_of new.now) < 2 ^ 64) }
     ensures { IfOk result (λ r.
-        IsTextOfChanges figures.now (style_of form.entry) (shares_of old.entry.items) (shares_of new.now) (string_bytes r.0)
+        IsTextOfChanges figures.now (style_of form.entry) (shares_of old.entry.items) (shares_of new.now)
+        (string_bytes r.0)
         × IsGrowthOf (shares_of old.entry.items) (shares_of new.now) r.1) }
 {
     let all = with_names(old, new)?;
@@ -207,7 +209,8 @@ fn change_rows(
 ) -> Result<String, AllocError>
     requires { (sum_by (λ c. c.old) changes.now < 2 ^ 64) × (sum_by (λ c. c.new) changes.now < 2 ^ 64) }
     ensures { IfOk result
-        (λ t. string_bytes t ≡ change_rows figures.now (style_of form.entry) (count_of figures.now.first (length changes.now)) changes.now) }
+        (λ t. string_bytes t ≡ change_rows figures.now (style_of form.entry)
+        (count_of figures.now.first (length changes.now)) changes.now) }
 {
     let count = count_of(figures.first, changes.len());
     let mut text = String::new(alloc);
@@ -229,7 +232,8 @@ fn push_others(
     changes: &[Change<'_>],
 ) -> Result<(), AllocError>
     requires { (sum_by (λ c. c.old) changes.now < 2 ^ 64) × (sum_by (λ c. c.new) changes.now < 2 ^ 64) }
-    ensures { OnOk result (string_bytes text.new ≡ string_bytes text.old ++ others_row figures.now (style_of form.entry) changes.now) }
+    ensures { OnOk result (string_bytes text.new ≡ string_bytes text.old
+        ++ others_row figures.now (style_of form.entry) changes.now) }
 {
     let mut old = 0;
     let mut new = 0;
@@ -290,7 +294,8 @@ fn push_change(
     figures: &Figures,
     change: Change<'_>,
 ) -> Result<(), AllocError>
-    ensures { OnOk result (string_bytes text.new ≡ string_bytes text.old ++ line_of figures.now change.entry.name.now change.entry.old change.entry.new) }
+    ensures { OnOk result (string_bytes text.new ≡ string_bytes text.old
+        ++ line_of figures.now change.entry.name.now change.entry.old change.entry.new) }
 {
     push_size(text, change.old)?;
     push_size(text, change.new)?;

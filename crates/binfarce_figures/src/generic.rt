@@ -38,7 +38,8 @@ fn push_shown(
     before: char,
     c: char,
 ) -> Result<(), AllocError>
-    ensures { OnOk result (string_bytes text.new ≡ string_bytes text.old ++ encode_utf8_all (shown shape depth before c)) }
+    ensures { OnOk result (string_bytes text.new ≡ string_bytes text.old
+        ++ encode_utf8_all (shown shape depth before c)) }
 {
     match shape {
         Shape::Stack => push_part(text, depth, before, c),

@@ -75,7 +75,8 @@ pub fn list_by<S: Sink>(
         → AreTablesOf which file section tables.now
         → EndsAs ListingFits (MemoryIn file section) (answer_in which file section) (outcome_of result) }
     ensures takes { (which : SymbolTable) (file : List ℕ) (section : Option (List ℕ))
-        → AreTablesOf which file section tables.now → Takes (IsListingBy shown.now (style_of form.entry) which file section)
+        → AreTablesOf which file section tables.now
+        → Takes (IsListingBy shown.now (style_of form.entry) which file section)
         (answer_in which file section) (S.taken out.old) (S.taken out.new) (outcome_of result) }
     ensures fails { Fails (S.has_failed out.old) (S.has_failed out.new) (outcome_of result) }
     ensures leaves { Leaves out.old out.new (outcome_of result) }
@@ -147,7 +148,8 @@ fn listing(
     rows: &[Row<'_>],
     size: Option<u64>,
 ) -> Result<String, AllocError>
-    ensures { IfOk result (λ t. string_bytes t ≡ listing shown.now (style_of form.entry) (section_names tables.now) size rows.now) }
+    ensures { IfOk result (λ t. string_bytes t
+        ≡ listing shown.now (style_of form.entry) (section_names tables.now) size rows.now) }
 {
     let count = count_of(shown.first, rows.len());
     let mut text = String::new(alloc);
@@ -180,7 +182,8 @@ fn push_row(
     row: Row<'_>,
 ) -> Result<(), AllocError>
     ensures { OnOk result
-        (string_bytes text.new ≡ string_bytes text.old ++ row_text (style_of form.entry) (section_names tables.now) size row.entry) }
+        (string_bytes text.new ≡ string_bytes text.old
+        ++ row_text (style_of form.entry) (section_names tables.now) size row.entry) }
 {
     match form {
         Form::Lines => push_line(text, tables, size, row),

@@ -79,7 +79,8 @@ pub fn sum_by<S: Sink>(
         → AreTablesOf which file section tables.now
         → EndsAs ReportFits (MemoryIn file section) (answer_in which file section) (outcome_of result) }
     ensures takes { (which : SymbolTable) (file : List ℕ) (section : Option (List ℕ))
-        → AreTablesOf which file section tables.now → Takes (AreFiguresBy figures.now (style_of form.entry) which file section)
+        → AreTablesOf which file section tables.now
+        → Takes (AreFiguresBy figures.now (style_of form.entry) which file section)
         (answer_in which file section) (S.taken out.old) (S.taken out.new) (outcome_of result) }
     ensures fails { Fails (S.has_failed out.old) (S.has_failed out.new) (outcome_of result) }
     ensures leaves { Leaves out.old out.new (outcome_of result) }
@@ -167,7 +168,8 @@ fn shares_text(
     size: Option<u64>,
 ) -> Result<String, AllocError>
     requires { (total (shares_of shares.now) < 2 ^ 64) × (length shares.now < 2 ^ 64) }
-    ensures { IfOk result (λ t. IsTextOfShares figures.now (style_of form.entry) size (shares_of shares.now) (string_bytes t)) }
+    ensures { IfOk result (λ t. IsTextOfShares figures.now (style_of form.entry) size (shares_of shares.now)
+        (string_bytes t)) }
 {
     let sums = sums_of(alloc, shares, false)?;
     let copies = sums_of(alloc, shares, true)?;
@@ -294,7 +296,8 @@ fn push_others(
     rows: &[Figure<'_>],
 ) -> Result<(), AllocError>
     requires { (sum_by (λ f. f.size) rows.now < 2 ^ 64) × (sum_by (λ f. f.copies) rows.now < 2 ^ 64) }
-    ensures { OnOk result (string_bytes text.new ≡ string_bytes text.old ++ others_text figures.now (style_of form.entry) whole rows.now) }
+    ensures { OnOk result (string_bytes text.new ≡ string_bytes text.old
+        ++ others_text figures.now (style_of form.entry) whole rows.now) }
 {
     let mut size = 0;
     let mut copies = 0;
@@ -317,7 +320,8 @@ fn push_row(
     figure: Figure<'_>,
 ) -> Result<(), AllocError>
     ensures { OnOk result
-        (string_bytes text.new ≡ string_bytes text.old ++ figure_text figures.now (style_of form.entry) whole figure.entry) }
+        (string_bytes text.new ≡ string_bytes text.old
+        ++ figure_text figures.now (style_of form.entry) whole figure.entry) }
 {
     match form {
         Form::Lines => push_figure(text, figures, whole, figure),

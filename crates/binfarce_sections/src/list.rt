@@ -39,7 +39,8 @@ use std::fmt::Write;
 /// `Parse` where the reader refuses the next section: the lines of those before are written. `Write` where a write
 /// failed: a beginning of the lines may then be written.
 pub fn list_sections<S: Sink>(alloc: Global, file: &[u8], out: &mut S) -> Result<(), SectionError>
-    ensures takes { TakesLines lines (sections_of (format_of file.now) file.now) (S.taken out.old) (S.taken out.new) result }
+    ensures takes { TakesLines lines (sections_of (format_of file.now) file.now) (S.taken out.old)
+        (S.taken out.new) result }
     ensures fails { Fails (S.has_failed out.old) (S.has_failed out.new) result }
 {
     let sections = match sections_of(file) {
@@ -65,7 +66,8 @@ pub fn list_source<F: Source, S: Sink>(
     out: &mut S,
 ) -> Result<(), SectionError>
     ensures takes { (file : List ℕ) → F.bytes source.now ≡ Some file
-        → TakesReadLines (style_of form.entry) (F.may_fail source.now) (sections_of (format_of file) file) (S.taken out.old)
+        → TakesReadLines (style_of form.entry) (F.may_fail source.now) (sections_of (format_of file) file)
+        (S.taken out.old)
         (S.taken out.new) result }
     ensures fails { Fails (S.has_failed out.old) (S.has_failed out.new) result }
     ensures only { (file : List ℕ) → F.bytes source.now ≡ Some file
@@ -84,7 +86,8 @@ fn write_lines<S: Sink>(
     form: Form<'_>,
     out: &mut S,
 ) -> Result<(), SectionError>
-    ensures takes { TakesLines (style_of form.entry) (Some (sections_left sections.entry)) (S.taken out.old) (S.taken out.new) result }
+    ensures takes { TakesLines (style_of form.entry) (Some (sections_left sections.entry)) (S.taken out.old)
+        (S.taken out.new) result }
     ensures fails { Fails (S.has_failed out.old) (S.has_failed out.new) result }
 {
     let (text, refusal) = lines_of(alloc, sections, form)?;
@@ -116,7 +119,8 @@ fn lines_of(
 // Appends a section to the text.
 fn push_row(text: &mut String, form: Form<'_>, section: Section<'_>) -> Result<(), AllocError>
     ensures { OnOk result
-        (string_bytes text.new ≡ string_bytes text.old ++ section_row (style_of form.entry) (section_view section.entry)) }
+        (string_bytes text.new ≡ string_bytes text.old
+        ++ section_row (style_of form.entry) (section_view section.entry)) }
 {
     match form {
         Form::Lines => push_line(text, section),

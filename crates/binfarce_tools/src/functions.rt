@@ -143,7 +143,8 @@ fn functions_of_elf<'a, C: Class>(
     byte_order: ByteOrder,
     section: &str,
 ) -> Result<(Functions<'a>, u64), ParseError>
-    ensures { Answers HoldsLeft ListsSome (elf_file_answer Symtab C.table byte_order file.entry.now section.now) result }
+    ensures { Answers HoldsLeft ListsSome
+        (elf_file_answer Symtab C.table byte_order file.entry.now section.now) result }
 {
     let header = parse_header::<C>(file, byte_order)?;
     let table = section_table(file, byte_order, &header);

@@ -260,7 +260,8 @@ fn sections_listing(
     tables: &Tables<'_>,
 ) -> Result<String, AllocError>
     ensures { IfOk result
-        (λ t. (all : SelectedSymbols) → all_left functions.entry ≡ all.entries → section_names tables.now ≡ all.section_name
+        (λ t. (all : SelectedSymbols) → all_left functions.entry ≡ all.entries → section_names tables.now
+        ≡ all.section_name
         → IsAllListingOf all (string_bytes t)) }
 {
     let mut text = String::new(alloc);

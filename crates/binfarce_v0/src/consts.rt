@@ -15,7 +15,8 @@ use std::alloc::AllocError;
 #[cycle(printing)]
 pub fn print_const(printer: &mut Printer<'_>, here: Nesting) -> Result<(), AllocError>
     ensures { OnOk result
-        (printer.new ≡ with_state ((readers printer.old.part here.levels_left).constant printer.old.state).1 printer.old) }
+        (printer.new ≡ with_state ((readers printer.old.part here.levels_left).constant printer.old.state).1
+        printer.old) }
 {
     print(printer, here.outside(), Production::Const)?;
     Ok(())
@@ -30,7 +31,8 @@ pub(crate) fn print_const_by_letter(
 ) -> Result<(), AllocError>
     ensures { OnOk result
         (printer.new ≡ with_state
-        ((const_rule (readers printer.old.part here.levels_left) printer.old.state (const_form printer.old.part printer.old.state.at)).1)
+        ((const_rule (readers printer.old.part here.levels_left) printer.old.state
+        (const_form printer.old.part printer.old.state.at)).1)
         printer.old) }
 {
     match const_form(printer.part, printer.at) {

@@ -73,7 +73,8 @@ fn print_item(printer: &mut Printer<'_>, here: Nesting, listed: Listed) -> Resul
 fn print_argument(printer: &mut Printer<'_>, here: Nesting) -> Result<(), AllocError>
     ensures { OnOk result
         (printer.new ≡ with_state
-        ((item_rule printer.old.part (readers printer.old.part here.levels_left) here.binder_depth Arguments printer.old.state).1)
+        ((item_rule printer.old.part (readers printer.old.part here.levels_left) here.binder_depth Arguments
+        printer.old.state).1)
         printer.old) }
 {
     let bytes = printer.part.as_bytes();

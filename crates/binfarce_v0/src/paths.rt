@@ -39,11 +39,13 @@ pub fn print_path(
 ) -> Result<bool, AllocError>
     ensures printed { OnOk result
         (printer.new ≡ with_state
-        (((readers printer.old.part here.levels_left).path (position_view position) here.binder_depth printer.old.state).1)
+        (((readers printer.old.part here.levels_left).path
+        (position_view position) here.binder_depth printer.old.state).1)
         printer.old) }
     ensures opened { IfOk result
         (λ opened. opened ≡ is_left_open
-        ((readers printer.old.part here.levels_left).path (position_view position) here.binder_depth printer.old.state).0
+        ((readers printer.old.part here.levels_left).path
+        (position_view position) here.binder_depth printer.old.state).0
         (position_view position)) }
 {
     print(printer, here, Production::Path(position))
@@ -60,11 +62,13 @@ pub(crate) fn print_path_by_letter(
 ) -> Result<bool, AllocError>
     ensures printed { OnOk result
         (printer.new ≡ with_state
-        ((path_rule printer.old.part (readers printer.old.part here.levels_left) (position_view position) here.binder_depth
+        ((path_rule printer.old.part (readers printer.old.part here.levels_left)
+        (position_view position) here.binder_depth
         printer.old.state (path_form printer.old.part printer.old.state.at)).1) printer.old) }
     ensures opened { IfOk result
         (λ opened. opened ≡ is_left_open
-        (path_rule printer.old.part (readers printer.old.part here.levels_left) (position_view position) here.binder_depth
+        (path_rule printer.old.part (readers printer.old.part here.levels_left)
+        (position_view position) here.binder_depth
         printer.old.state (path_form printer.old.part printer.old.state.at)).0 (position_view position)) }
 {
     let Some(at) = printer.at else {
@@ -108,7 +112,8 @@ fn print_closed_path(
     requires no_back_reference { (slice_index printer.now.part at == 66) ≡ false }
     ensures { OnOk result
         (printer.new ≡ with_state
-        ((path_rule printer.old.part (readers printer.old.part here.levels_left) (position_view position) here.binder_depth
+        ((path_rule printer.old.part (readers printer.old.part here.levels_left)
+        (position_view position) here.binder_depth
         printer.old.state (path_form printer.old.part (Some at))).1) printer.old) }
 {
     match byte_at(printer.part.as_bytes(), at) {
@@ -136,7 +141,8 @@ fn print_nested(
     requires within { at < length printer.now.part }
     ensures { OnOk result
         (printer.new ≡ with_state
-        ((path_rule printer.old.part (readers printer.old.part here.levels_left) (position_view position) here.binder_depth
+        ((path_rule printer.old.part (readers printer.old.part here.levels_left)
+        (position_view position) here.binder_depth
         printer.old.state (nested_form (slice_index printer.old.part (at + 1)) (at + 2))).1) printer.old) }
 {
     let namespace = byte_at(printer.part.as_bytes(), at + 1);
@@ -160,7 +166,8 @@ fn print_inherent_impl(
     requires within { at < length printer.now.part }
     ensures { OnOk result
         (printer.new ≡ with_state
-        ((path_rule printer.old.part (readers printer.old.part here.levels_left) (position_view position) here.binder_depth
+        ((path_rule printer.old.part (readers printer.old.part here.levels_left)
+        (position_view position) here.binder_depth
         printer.old.state (option_map_or
         (λ d. InherentImpl d.1) (optional_base_62_number printer.old.part 115 (at + 1)) NoPathForm)).1) printer.old) }
 {
@@ -186,7 +193,8 @@ fn print_trait_impl(
     requires within { at < length printer.now.part }
     ensures { OnOk result
         (printer.new ≡ with_state
-        ((path_rule printer.old.part (readers printer.old.part here.levels_left) (position_view position) here.binder_depth
+        ((path_rule printer.old.part (readers printer.old.part here.levels_left)
+        (position_view position) here.binder_depth
         printer.old.state (option_map_or
         (λ d. TraitImpl d.1) (optional_base_62_number printer.old.part 115 (at + 1)) NoPathForm)).1) printer.old) }
 {
@@ -224,7 +232,8 @@ fn print_impl_path(
 #[cycle(printing)]
 fn print_qualified(printer: &mut Printer<'_>, here: Nesting) -> Result<(), AllocError>
     ensures { OnOk result
-        (printer.new ≡ with_state ((qualified (readers printer.old.part here.levels_left) here.binder_depth printer.old.state).1)
+        (printer.new ≡ with_state ((qualified
+        (readers printer.old.part here.levels_left) here.binder_depth printer.old.state).1)
         printer.old) }
 {
     printer.write("<")?;
@@ -244,7 +253,8 @@ fn print_generic(
 ) -> Result<(), AllocError>
     ensures { OnOk result
         (printer.new ≡ with_state
-        ((generic_rule printer.old.part (readers printer.old.part here.levels_left) (position_view position) here.binder_depth
+        ((generic_rule printer.old.part (readers printer.old.part here.levels_left)
+        (position_view position) here.binder_depth
         ((readers printer.old.part here.levels_left).path (parent_position (position_view position)) here.binder_depth
         (seek (Some after) printer.old.state))).1) printer.old) }
 {

@@ -23,11 +23,13 @@ pub fn print(
 ) -> Result<bool, AllocError>
     ensures printed { OnOk result
         (printer.new ≡ with_state
-        ((read (readers printer.old.part here.levels_left) (production_view production) here.binder_depth printer.old.state).1)
+        ((read (readers printer.old.part here.levels_left)
+        (production_view production) here.binder_depth printer.old.state).1)
         printer.old) }
     ensures opened { IfOk result
         (λ opened. opened ≡ left_open_of (production_view production)
-        (read (readers printer.old.part here.levels_left) (production_view production) here.binder_depth printer.old.state).0) }
+        (read (readers printer.old.part here.levels_left)
+        (production_view production) here.binder_depth printer.old.state).0) }
 {
     match printer.keeps_at() {
         Some(at) => print_and_keep(printer, here, production, at),
@@ -48,11 +50,13 @@ fn print_and_keep(
     requires at { printer.old.state.at ≡ Some at }
     ensures printed { OnOk result
         (printer.new ≡ with_state
-        ((read (readers printer.old.part here.levels_left) (production_view production) here.binder_depth printer.old.state).1)
+        ((read (readers printer.old.part here.levels_left)
+        (production_view production) here.binder_depth printer.old.state).1)
         printer.old) }
     ensures opened { IfOk result
         (λ opened. opened ≡ left_open_of (production_view production)
-        (read (readers printer.old.part here.levels_left) (production_view production) here.binder_depth printer.old.state).0) }
+        (read (readers printer.old.part here.levels_left)
+        (production_view production) here.binder_depth printer.old.state).0) }
 {
     let mark = printer.mark(here.levels_left, at);
     let opened = print_anew(printer, here, production)?;
@@ -77,11 +81,13 @@ fn print_anew(
 ) -> Result<bool, AllocError>
     ensures printed { OnOk result
         (printer.new ≡ with_state
-        ((read (readers printer.old.part here.levels_left) (production_view production) here.binder_depth printer.old.state).1)
+        ((read (readers printer.old.part here.levels_left)
+        (production_view production) here.binder_depth printer.old.state).1)
         printer.old) }
     ensures opened { IfOk result
         (λ opened. opened ≡ left_open_of (production_view production)
-        (read (readers printer.old.part here.levels_left) (production_view production) here.binder_depth printer.old.state).0) }
+        (read (readers printer.old.part here.levels_left)
+        (production_view production) here.binder_depth printer.old.state).0) }
 {
     let Some(below) = printer.enter(here) else {
         return Ok(false);

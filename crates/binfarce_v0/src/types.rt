@@ -28,7 +28,8 @@ use std::alloc::AllocError;
 #[cycle(printing)]
 pub fn print_type(printer: &mut Printer<'_>, here: Nesting) -> Result<(), AllocError>
     ensures { OnOk result
-        (printer.new ≡ with_state (((readers printer.old.part here.levels_left).ty here.binder_depth printer.old.state).1)
+        (printer.new ≡ with_state (((readers printer.old.part here.levels_left).ty here.binder_depth
+        printer.old.state).1)
         printer.old) }
 {
     print(printer, here, Production::Type)?;
@@ -208,7 +209,8 @@ fn print_array(printer: &mut Printer<'_>, here: Nesting, after: usize) -> Result
 fn print_tuple(printer: &mut Printer<'_>, here: Nesting, after: usize) -> Result<(), AllocError>
     ensures { OnOk result
         (printer.new ≡ with_state
-        (tuple_end (items_from printer.old.part (readers printer.old.part here.levels_left) here.binder_depth Types (codes ", ")
+        (tuple_end (items_from printer.old.part
+        (readers printer.old.part here.levels_left) here.binder_depth Types (codes ", ")
         (write (codes "(") (seek (Some after) printer.old.state)))).1 printer.old) }
 {
     printer.seek(Some(after));

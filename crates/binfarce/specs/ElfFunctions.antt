@@ -1,4 +1,4 @@
--- What clauses see of the function symbols of a section of an ELF file.
+-- The views of the function symbols of a section of an ELF file that clauses use.
 use Rattle.std.specs.Prelude.{ℕ, List, map}
 use Rattle.binfarce_bytes.specs.Entries.{Entry, Listed}
 use Rattle.binfarce_elf.specs.ElfViews as all

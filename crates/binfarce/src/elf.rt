@@ -175,8 +175,8 @@ impl<'a, C: Class> Elf<'a, C> {
         Ok(of_section(functions))
     }
 
-    /// The function symbols of all sections as the file stores them, each with the index of its section, in the order of
-    /// this symbol table. Nothing is allocated, and names stay mangled.
+    /// The function symbols of all sections as the file stores them, each with the index of its section, in the order
+    /// of this symbol table. Nothing is allocated, and names stay mangled.
     ///
     /// It keeps the rows that `dynamic_functions` would keep for some section of the file, from either symbol table:
     /// indirect functions too, none without a section (`SHN_UNDEF`), and none with a reserved index such as `SHN_ABS`.
@@ -272,7 +272,7 @@ fn of_section(all: AllFunctions<'_>) -> (Functions<'_>, u64)
 ///
 /// Rows are read on demand, and names stay in the file: nothing is allocated or copied.
 #[must_use = "iterators are lazy and do nothing unless consumed"]
-#[derive(Drop)]
+#[derive(Clone, Drop)]
 pub struct Functions<'a> {
     pub(crate) all: AllFunctions<'a>,
 }
@@ -281,8 +281,8 @@ impl<'a> Functions<'a> {
     /// The function symbol that an address symbolizes to, among those that are left: of those whose range holds it the
     /// one of greatest address, and of several the first. `None` where no range holds it.
     ///
-    /// A range begins at the symbol's address (`st_value`) and has its size in bytes. Each row that is left is read once;
-    /// nothing is allocated or copied.
+    /// A range begins at the symbol's address (`st_value`) and has its size in bytes. Each row that is left is read
+    /// once; nothing is allocated or copied.
     pub fn symbol_at(self, address: u64) -> Option<FunctionSymbol<'a>>
         ensures { option_map function_view result ≡ entry_at (functions_left self.entry) address }
     {

@@ -175,11 +175,11 @@ impl<'a> Macho<'a> {
     /// each by address and at equal addresses in table order. Without a symbol table the list is empty.
     ///
     /// A section holds instructions if its flags have `S_ATTR_PURE_INSTRUCTIONS` or `S_ATTR_SOME_INSTRUCTIONS`; one
-    /// whose flags are truncated holds none. Sections are numbered from 1 on, segment by segment, also those whose names
-    /// aren't valid; a row's section number is at most 255. It keeps rows that are defined in such a section (`N_SECT`,
-    /// and no bit of `N_STAB`) with a value in it, a name offset and a valid name, unless that is a label of the
-    /// assembler: one that begins with `ltmp` or `L`. A symbol's size is the distance to the next greater address of
-    /// such a row of its section, or to the section's end where there is none.
+    /// whose flags are truncated holds none. Sections are numbered from 1 on, segment by segment, also those whose
+    /// names aren't valid; a row's section number is at most 255. It keeps rows that are defined in such a section
+    /// (`N_SECT`, and no bit of `N_STAB`) with a value in it, a name offset and a valid name, unless that is a label of
+    /// the assembler: one that begins with `ltmp` or `L`. A symbol's size is the distance to the next greater address
+    /// of such a row of its section, or to the section's end where there is none.
     ///
     /// # Errors
     ///

@@ -1,9 +1,10 @@
-//! Where the span of an address probably is.
+//! Hints for the search of an address's span.
 
 use crate::ranges::Span;
 use std::alloc::{AllocError, Global};
 
-/// Slices of the addresses, all of one length, and the last span that begins before each. What they say has to be checked.
+/// Slices of the addresses, all of one length, each with the last span that begins before it. Callers check these
+/// hints.
 #[derive(Drop)]
 pub(crate) struct Slices {
     first: u64,
@@ -48,6 +49,7 @@ impl Slices {
 
     #[inline(always)]
     fn slice_of(&self, address: u64) -> usize {
-        address.saturating_sub(self.first).wrapping_shr(self.shift) as usize
+        let slice = address.saturating_sub(self.first).wrapping_shr(self.shift);
+        usize::try_from(slice).unwrap_or(usize::MAX)
     }
 }

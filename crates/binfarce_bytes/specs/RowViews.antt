@@ -1,4 +1,4 @@
--- What clauses see of the rows that are arranged.
+-- The views of arranged rows that clauses use.
 use Rattle.std.specs.Prelude.{List, map}
 use Rattle.binfarce_bytes.specs.declared.sizes.RowAddress as code
 use Rattle.binfarce_bytes.specs.Sizes.{RowAddress}

@@ -1,4 +1,4 @@
--- What clauses see of a function symbol.
+-- The views of a function symbol that clauses use.
 use Rattle.std.specs.Prelude.{◌≡◌, ℕ, List, map, Option}
 use Rattle.std.specs.Global.{Vec}
 use Rattle.binfarce_bytes.specs.declared.functions.FunctionSymbol.{FunctionSymbol}

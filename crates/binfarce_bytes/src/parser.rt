@@ -223,6 +223,7 @@ impl<'a> Stream<'a> {
         self.offset >= self.bytes.len()
     }
 
+    /// The offset in bytes.
     #[inline]
     pub fn offset(&self) -> usize
         ensures { result ≡ self.now.offset }
@@ -315,16 +316,25 @@ pub fn number_at<T: RawNumber>(
     Stream::new_at(bytes, place, byte_order)?.read()
 }
 
+/// The number as an index. One that doesn't fit `usize` is `usize::MAX`, which lies past every slice.
+#[inline]
+pub fn to_index(n: u64) -> usize
+    ensures { result ≡ n }
+{
+    usize::try_from(n).unwrap_or(usize::MAX)
+}
+
 /// The range of the `size` bytes from `offset` on; `MalformedInput` where its end exceeds `usize`.
 #[inline]
-pub fn range(offset: usize, size: usize) -> Result<Range<usize>, ParseError>
+pub fn range(offset: u64, size: u64) -> Result<Range<usize>, ParseError>
     ensures { MatchResult result
         (λ r. (r.start ≡ offset) × (r.end ≡ offset + size))
         (λ e. (2 ^ 64 ≤ offset + size) × (refusal_of e ≡ malformed_input)) }
 {
-    match offset.checked_add(size) {
-        Some(end) => Ok(offset..end),
-        None => Err(ParseError::MalformedInput),
+    let end = offset.checked_add(size).ok_or(ParseError::MalformedInput)?;
+    match usize::try_from(end) {
+        Ok(end) => Ok(to_index(offset)..end),
+        Err(_) => Err(ParseError::MalformedInput),
     }
 }
 

@@ -6,6 +6,7 @@ ghost use Rattle.std.specs.declared.io.ErrorKind.TheVariants.{OutOfMemory};
 ghost use Rattle.binfarce_bytes.specs.Part.{Part, part};
 ghost use Rattle.binfarce_bytes.specs.Source.{IsPart, MayMiss, AskedFor};
 
+use crate::parser::to_index;
 use std::alloc::Global;
 use std::fs::File;
 use std::io::{self, Error, ErrorKind};
@@ -76,7 +77,7 @@ impl Source for &[u8] {
     }
 
     fn fill_at(&self, _log: &mut (), offset: u64, buf: &mut [u8]) -> io::Result<()> {
-        match self.get(offset as usize..) {
+        match self.get(to_index(offset)..) {
             Some(rest) if buf.len() <= rest.len() => {
                 buf.copy_from_slice(&rest[..buf.len()]);
                 Ok(())

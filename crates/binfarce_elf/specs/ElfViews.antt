@@ -1,4 +1,4 @@
--- What clauses see of the types of both classes; `number` gives the number of a word.
+-- The views of the types of both classes that clauses use; `number` gives the number of a word.
 use Rattle.std.specs.Prelude.{ℕ, Bool, ◌&&◌, List, nat_le}
 use Rattle.binfarce_elf.specs.declared.sections.Section.{Section}
 use Rattle.binfarce_elf.specs.declared.header.Header.{Header}

@@ -23,7 +23,8 @@ fn worked_section()
         } }
 {}
 
-/// A row of the function `f` at 0x1000, of 16 bytes, in section 1: in both classes, as an object, and as an indirect function.
+/// A row of the function `f` at 0x1000, of 16 bytes, in section 1: in both classes, as an object, and as an indirect
+/// function.
 #[tactic(auto, unfolding(crate::specs::Elf::elf32, crate::specs::Elf::elf64, crate::specs::ElfSymbols::symbol_at, crate::specs::ElfSymbols::function_name, binfarce_bytes::proofs::Computing::computing))]
 fn worked_rows()
     ensures of_32_bits { entries_from elf32 BigEndian (0 ∷ 0x66 ∷ 0 ∷ []) true (λ index. nat_eq index 1)

@@ -1,4 +1,4 @@
-//! What is read of files of either class: where the section headers are, and what is found in these alone.
+//! The section header table of a file of either class, and the sections found in it alone.
 
 ghost use Rattle.std.specs.Prelude.{◌≡◌, ◌+◌, ◌<◌, ◌≤◌, length, MatchResult};
 ghost use Rattle.std.specs.Option.{option_map};
@@ -22,17 +22,17 @@ use binfarce_bytes::functions::Selection;
 use binfarce_bytes::parser::UnexpectedEof;
 use binfarce_bytes::{ByteOrder, ParseError};
 
-/// Where the section headers of a file are, and the file's type, as its header states.
+/// The file header's fields for the section headers and the file's type, and the file's byte order.
 #[derive(Clone, Copy)]
 pub struct HeaderTable {
     pub byte_order: ByteOrder,
-    pub shoff: usize,
+    pub shoff: u64,
     pub shnum: Half,
     pub shstrndx: Half,
     pub elf_type: Half,
 }
 
-/// The place that the header of a file of this class states. `UnexpectedEof` where the header is truncated.
+/// These fields of the header of a file of this class. `UnexpectedEof` where the header is truncated.
 pub fn place_in(file: &[u8], width: Width, byte_order: ByteOrder) -> Result<HeaderTable, ParseError>
     ensures { MatchResult result
         (λ p. ((class_of width).header_length ≤ length file.now)
@@ -53,7 +53,7 @@ fn place_of<C: Class>(file: &[u8], byte_order: ByteOrder) -> Result<HeaderTable,
     let header = parse_header::<C>(file, byte_order)?;
     Ok(HeaderTable {
         byte_order,
-        shoff: header.shoff.widened() as usize,
+        shoff: header.shoff.widened(),
         shnum: header.shnum,
         shstrndx: header.shstrndx,
         elf_type: header.elf_type,
@@ -82,7 +82,7 @@ pub fn section_at(
     }
 }
 
-/// What the symbols of a selection need, found in the section headers of a file, whose names are in `names`. Refused as
+/// The sections that a selection's symbols need, found in these section headers, whose names are in `names`. Refused as
 /// `functions` of a reader is, up to the string table's type.
 pub fn needed_in(
     headers: &[u8],
@@ -105,7 +105,7 @@ pub fn needed_in(
 
 /// An iterator over the sections of a file of either class, in file order, with values of the wider class's types.
 #[must_use = "iterators are lazy and do nothing unless consumed"]
-#[derive(Drop)]
+#[derive(Clone, Drop)]
 pub enum AnySections<'a> {
     Narrow(Sections<'a, u32>),
     Wide(Sections<'a, u64>),

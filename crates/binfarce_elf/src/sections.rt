@@ -12,7 +12,7 @@ ghost use Rattle.binfarce_elf.specs.machine.RawElf.{table_view, section_count, w
 
 use crate::class::{Class, Half, Word};
 use crate::header::Header;
-use binfarce_bytes::parser::{Stream, UnexpectedEof, parse_null_string, range};
+use binfarce_bytes::parser::{Stream, UnexpectedEof, parse_null_string, range, slice_at, to_index};
 use binfarce_bytes::{ByteOrder, ParseError};
 use std::marker::{Model, PhantomData};
 use std::ops::Range;
@@ -57,7 +57,7 @@ impl<C: Class> Section<C> {
             (λ r. (r.start ≡ s.offset) × (r.end ≡ s.offset + s.size))
             (λ e. (2 ^ 64 ≤ s.offset + s.size) × (refusal_of e ≡ malformed_input)) }
     {
-        range(self.offset.widened() as usize, self.size.widened() as usize)
+        range(self.offset.widened(), self.size.widened())
     }
 
     /// How many entries of its entry size (`sh_entsize`) the section has; 0 where that size is 0.
@@ -98,7 +98,7 @@ impl<C: Class> Section<C> {
     }
 }
 
-/// Where a file's section headers begin, as its header states.
+/// The section header table of a file, as its header states it.
 #[derive(Clone, Copy)]
 pub struct Table<'a> {
     pub(crate) data: &'a [u8],
@@ -115,12 +115,12 @@ pub trait HasSections<'a, C: Class> {
     // The file's bytes, and their order.
     ghost file: { Self → ElfFile };
 
-    /// Where the file's section headers begin.
+    /// The file's section header table, as its header states it.
     fn section_table(&self) -> Table<'a>
         ensures { table_view result ≡ section_table C.table (file self.now) };
 }
 
-/// Where the section headers of a file with this header begin.
+/// The section header table of a file with this header, as the header states it.
 #[tactic(auto, unfolding(crate::specs::Elf::section_table))]
 pub fn section_table<'a, C: Class>(
     file: &'a [u8],
@@ -133,7 +133,7 @@ pub fn section_table<'a, C: Class>(
     Table {
         data: file,
         byte_order,
-        shoff: header.shoff.widened() as usize,
+        shoff: to_index(header.shoff.widened()),
         shnum: header.shnum,
         shstrndx: header.shstrndx,
     }
@@ -180,7 +180,7 @@ pub fn section_at<C: Class>(
 /// A section header is read on demand. `UnexpectedEof` is given for a header that is truncated, and where the section
 /// header table doesn't begin in the file; nothing follows it.
 #[must_use = "iterators are lazy and do nothing unless consumed"]
-#[derive(Drop)]
+#[derive(Clone, Drop)]
 pub struct Sections<'a, C: Class> {
     table: Table<'a>,
     // The index of the next section; none after a refusal.
@@ -376,11 +376,13 @@ fn names_section<C: Class>(table: Table<'_>) -> Option<Section<C>>
     section_at(table.data, start, table.byte_order, table.shstrndx).ok()
 }
 
-/// The section's bytes, a slice of the file. `MalformedInput` where their end exceeds `usize`, `UnexpectedEof` where it
-/// lies past the file.
+/// The section's bytes, a slice of the file. `MalformedInput` where their end exceeds 64 bits, `UnexpectedEof` where
+/// it lies past the file.
 #[tactic(auto, unfolding(crate::specs::ElfSymbols::section_data, binfarce_bytes::specs::Refusal::bytes_in_file))]
 pub fn section_data<C: Class>(file: &[u8], section: Section<C>) -> Result<&[u8], ParseError>
     ensures { Gives refusal_of (λ b. b.now) (section_data file.now (section_view C.number_of section)) result }
 {
-    file.get(section.range()?).ok_or(ParseError::UnexpectedEof)
+    let (offset, size) = (section.offset.widened(), section.size.widened());
+    offset.checked_add(size).ok_or(ParseError::MalformedInput)?;
+    Ok(slice_at(file, to_index(offset), to_index(size))?)
 }

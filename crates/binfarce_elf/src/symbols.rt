@@ -34,7 +34,7 @@ pub struct TableSections {
     pub strings: Section<u64>,
 }
 
-/// What a selection takes of a symbol table: the functions of the sections whose indices are in a range.
+/// A selection of a symbol table: the functions of the sections whose indices are in a range.
 #[derive(Clone, Copy)]
 pub struct Taken {
     /// The first index.
@@ -47,7 +47,7 @@ pub struct Taken {
     pub size: Option<u64>,
 }
 
-/// What a selection needs: what it takes, and the sections of the symbol table.
+/// A selection of a symbol table, and the sections of the table and its strings.
 #[derive(Clone, Copy)]
 pub struct Needed {
     pub taken: Taken,
@@ -100,7 +100,7 @@ pub fn functions_in<'a>(
     }
 }
 
-// What the symbols of a selection need, with names among the section names.
+// A selection and the sections that its symbols need; `names` holds the section names.
 #[tactic(auto, unfolding(crate::specs::ElfSymbols::needed))]
 pub(crate) fn needed_of<C: Class>(
     table: Table<'_>,
@@ -283,7 +283,7 @@ pub fn whole_rows(width: Width, rows: &[u8]) -> Result<&[u8], ParseError>
 ///
 /// Rows are read on demand, and names stay in the file: nothing is allocated or copied.
 #[must_use = "iterators are lazy and do nothing unless consumed"]
-#[derive(Drop)]
+#[derive(Clone, Drop)]
 pub struct Functions<'a> {
     rows: &'a [u8],
     strings: &'a [u8],
@@ -304,8 +304,8 @@ impl<'a> Functions<'a> {
     /// The function symbol that an address symbolizes to, among those that are left: of those whose range holds it the
     /// one of greatest address, and of several the first. `None` where no range holds it.
     ///
-    /// A range begins at the symbol's address (`st_value`) and has its size in bytes. Each row that is left is read once;
-    /// nothing is allocated or copied.
+    /// A range begins at the symbol's address (`st_value`) and has its size in bytes. Each row that is left is read
+    /// once; nothing is allocated or copied.
     #[tactic(auto, using(crate::proofs::RowsLeft::none_at_first))]
     pub fn symbol_at(self, address: u64) -> Option<FunctionSymbol<'a>>
         ensures { option_map function_view result

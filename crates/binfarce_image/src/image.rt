@@ -147,7 +147,7 @@ pub fn lay_out(alloc: Global, image: &Image, layout: ElfLayout) -> Result<Vec<u8
     ensures refused { Refuses (refusal_due image.now layout) result }
 {
     const MAX_SECTIONS: usize = 65_535;
-    const TOO_LARGE: usize = 1 << 32;
+    const TOO_LARGE: u64 = 1 << 32;
     let parts = image.parts.as_slice();
     if parts.len() > MAX_SECTIONS {
         return Err(ImageError::TooManySections);
@@ -161,7 +161,7 @@ pub fn lay_out(alloc: Global, image: &Image, layout: ElfLayout) -> Result<Vec<u8
     let class = write::class(layout);
     let shoff = bodies_end(parts, class);
     let length = shoff.saturating_add(class.section_length * parts.len());
-    if length >= TOO_LARGE {
+    if length as u64 >= TOO_LARGE {
         return Err(ImageError::TooLarge);
     }
     Ok(write::file(alloc, image, layout, shoff, length)?)

@@ -1,4 +1,4 @@
--- What clauses see of the types of `macho`.
+-- The views of the types of `macho` that clauses use.
 use Rattle.std.specs.Prelude.{ℕ}
 use Rattle.binfarce_macho.specs.declared.sections.Section.{Section}
 use Rattle.binfarce_macho.specs.declared.header.MachoHeader.{MachoHeader}

@@ -8,7 +8,7 @@ ghost use Rattle.binfarce_macho.specs.MachoViews.{header_view};
 ghost use Rattle.binfarce_macho.specs.machine.RawMacho.{command_view, damage_refusal, commands_left};
 
 use crate::header::{HEADER_LENGTH, MachoHeader};
-use binfarce_bytes::parser::{Stream, UnexpectedEof};
+use binfarce_bytes::parser::{Stream, UnexpectedEof, to_index};
 use binfarce_bytes::{ByteOrder, ParseError};
 
 pub(crate) const LC_SYMTAB: u32 = 0x2;
@@ -60,7 +60,7 @@ pub(crate) struct Command {
 }
 
 /// An iterator over load commands, at most as many as are left. A command whose size is below 8 ends it with an error.
-#[derive(Drop)]
+#[derive(Clone, Drop)]
 pub(crate) struct MachoCommandsIterator<'a> {
     pub(crate) bytes: &'a [u8],
     offset: usize,
@@ -91,7 +91,7 @@ impl Iterator for MachoCommandsIterator<'_> {
                     return Some(Err(Damage::Malformed));
                 }
                 self.left -= 1;
-                self.offset += command.size as usize;
+                self.offset = to_index(self.offset as u64 + command.size as u64);
                 Some(Ok(command))
             }
         }

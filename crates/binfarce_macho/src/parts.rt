@@ -1,4 +1,4 @@
-//! Where the load commands of a file lie, and whether they are held by its first bytes.
+//! The end of a file's load commands, and whether a prefix of the file holds them.
 
 ghost use Rattle.std.specs.Prelude.{◌≡◌, ◌+◌, ◌≤◌, length, nat_le};
 ghost use Rattle.binfarce_macho.specs.Macho.{header_of, header_length, section_count, section_offset};
@@ -10,13 +10,13 @@ use crate::commands::{COMMAND_HEAD, Command, LC_SEGMENT_64, LC_SYMTAB, command_a
 use crate::header::{HEADER_LENGTH, MachoHeader};
 use crate::sections::SECTION_LENGTH;
 use binfarce_bytes::ByteOrder;
-use binfarce_bytes::parser::number_at;
+use binfarce_bytes::parser::{number_at, to_index};
 
 /// Where the load commands end, as the header states (`sizeofcmds`).
-pub fn commands_end(header: MachoHeader) -> usize
+pub fn commands_end(header: MachoHeader) -> u64
     ensures { result ≡ header_length + (header_view header).sizeofcmds }
 {
-    HEADER_LENGTH + header.sizeofcmds as usize
+    HEADER_LENGTH as u64 + u64::from(header.sizeofcmds)
 }
 
 /// Whether the load commands that this header states, with the fields that are read, lie in these bytes. A file that
@@ -36,7 +36,7 @@ pub fn holds_commands(file: &[u8], header: MachoHeader) -> bool
                 if !holds_body(file, command) {
                     return false;
                 }
-                offset += command.size as usize;
+                offset = to_index(offset as u64 + command.size as u64);
             }
         }
     }
@@ -62,6 +62,8 @@ fn holds_sections(bytes: &[u8], body: usize) -> bool
 {
     match number_at::<u32>(bytes, body + 56, ByteOrder::LittleEndian) {
         Err(_) => false,
-        Ok(count) => body + 64 + count as usize * SECTION_LENGTH <= bytes.len(),
+        Ok(count) => {
+            (body + 64) as u64 + u64::from(count) * SECTION_LENGTH as u64 <= bytes.len() as u64
+        }
     }
 }

@@ -11,7 +11,9 @@ ghost use Rattle.binfarce_macho.specs.machine.RawMacho.{damage_refusal, commands
 
 use crate::commands::{Command, Damage, LC_SEGMENT_64, MachoCommandsIterator, commands};
 use crate::header::MachoHeader;
-use binfarce_bytes::parser::{Stream, UnexpectedEof, number_at, range, up_to_nul, utf8_text};
+use binfarce_bytes::parser::{
+    Stream, UnexpectedEof, number_at, range, slice_at, to_index, up_to_nul, utf8_text,
+};
 use binfarce_bytes::{ByteOrder, ParseError};
 use std::marker::Model;
 use std::ops::Range;
@@ -40,17 +42,19 @@ impl Section<'_> {
             (λ r. (r.start ≡ s.offset) × (r.end ≡ s.offset + s.size))
             (λ e. (2 ^ 64 ≤ s.offset + s.size) × (refusal_of e ≡ malformed_input)) }
     {
-        range(self.offset as usize, self.size as usize)
+        range(self.offset as u64, self.size)
     }
 }
 
-/// The section's bytes, a slice of the file. `MalformedInput` where their end exceeds `usize`, `UnexpectedEof` where it
-/// lies past the file.
+/// The section's bytes, a slice of the file. `MalformedInput` where their end exceeds 64 bits, `UnexpectedEof` where
+/// it lies past the file.
 #[tactic(auto, unfolding(binfarce_bytes::specs::Refusal::bytes_in_file))]
 pub fn section_data<'a>(file: &'a [u8], section: &Section<'_>) -> Result<&'a [u8], ParseError>
     ensures { Gives refusal_of (λ b. b.now) (section_data file.now (section_view section.now)) result }
 {
-    file.get(section.range()?).ok_or(ParseError::UnexpectedEof)
+    let (offset, size) = (section.offset as u64, section.size);
+    offset.checked_add(size).ok_or(ParseError::MalformedInput)?;
+    Ok(slice_at(file, to_index(offset), to_index(size))?)
 }
 
 /// An iterator over the sections of a file, in file order: the result of `sections` of a reader. It borrows the file's
@@ -59,13 +63,13 @@ pub fn section_data<'a>(file: &'a [u8], section: &Section<'_>) -> Result<&'a [u8
 /// A section is read on demand. An error is given for a segment command or a section that is truncated
 /// (`UnexpectedEof`), and for a load command whose size is below 8 (`MalformedInput`); nothing follows it.
 #[must_use = "iterators are lazy and do nothing unless consumed"]
-#[derive(Drop)]
+#[derive(Clone, Drop)]
 pub struct Sections<'a> {
     left: Left<'a>,
 }
 
 // The load commands after a segment command, and the rest of that segment.
-#[derive(Drop)]
+#[derive(Clone, Drop)]
 struct Left<'a> {
     commands: MachoCommandsIterator<'a>,
     segment: Segment,

@@ -13,13 +13,13 @@ ghost use Rattle.binfarce_macho.specs.machine.RawMacho.{command_view, symbol_vie
 use crate::commands::{Command, LC_SYMTAB, commands};
 use crate::header::MachoHeader;
 use crate::sections::{Section, section_with_name};
-use binfarce_bytes::parser::{Stream, UnexpectedEof, slice_at};
+use binfarce_bytes::parser::{Stream, UnexpectedEof, slice_at, to_index};
 use binfarce_bytes::{ByteOrder, ParseError};
 
 /// The length of a row of the symbol table in bytes.
 pub const SYMBOL_LENGTH: usize = 16;
 
-/// Where a section is in memory: the address of its first byte, and its size in bytes.
+/// A section's memory range: the address of its first byte, and its size in bytes.
 #[derive(Clone, Copy)]
 pub struct Extent {
     pub address: u64,
@@ -33,7 +33,8 @@ pub struct SymbolBytes<'a> {
     pub rows: &'a [u8],
 }
 
-/// Where the text of a file with this header is; refused where there is none, or where it is empty.
+/// The memory range of the text (`__TEXT,__text`) of a file with this header. Refused as `functions` of a reader is,
+/// up to there, and so where it is missing or empty.
 pub(crate) fn text_extent(file: &[u8], header: MachoHeader) -> Result<Extent, ParseError>
     requires { header_view header ≡ header_of file.now }
     ensures { Gives refusal_of extent_view (text_extent file.now) result }
@@ -53,7 +54,7 @@ fn text_section(file: &[u8], header: MachoHeader) -> Result<Section<'_>, ParseEr
     section_with_name(file, header, "__TEXT", "__text")?.ok_or(ParseError::SymbolsSectionIsMissing)
 }
 
-/// What the command of the symbol table names, of a file that has this header; `None` without such a command. Refused as
+/// The tables that the first `LC_SYMTAB` command of a file with this header names; `None` without one. Refused as
 /// `functions` of a reader is, up to there.
 pub fn symbol_table(file: &[u8], header: MachoHeader) -> Result<Option<SymbolTable>, ParseError>
     requires { header_view header ≡ header_of file.now }
@@ -86,8 +87,8 @@ pub fn symbols_by(
         Some(table) => {
             let strings_size = table.strings_size as usize;
             let strings = slice_at(file, table.strings_offset as usize, strings_size)?;
-            let rows_size = SYMBOL_LENGTH * table.row_count as usize;
-            let rows = slice_at(file, table.symbol_offset as usize, rows_size)?;
+            let rows_size = SYMBOL_LENGTH as u64 * u64::from(table.row_count);
+            let rows = slice_at(file, table.symbol_offset as usize, to_index(rows_size))?;
             Ok(Some(SymbolBytes { strings, rows }))
         }
     }

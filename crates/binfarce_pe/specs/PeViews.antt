@@ -1,4 +1,4 @@
--- What clauses see of the types of `pe`.
+-- The views of the types of `pe` that clauses use.
 use Rattle.std.specs.Prelude.{ℕ}
 use Rattle.binfarce_pe.specs.declared.sections.Section.{Section}
 use Rattle.binfarce_pe.specs.declared.header.PeHeader.{PeHeader}

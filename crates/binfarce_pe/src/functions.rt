@@ -23,7 +23,7 @@ use crate::symbols::{
     SYMBOL_LENGTH, SymbolRow, SymbolTable, is_function, name_of, symbol_of, symbol_table,
 };
 use binfarce_bytes::functions::{FunctionSymbol, SectionFunction, Selection};
-use binfarce_bytes::parser::{number_at, slice_at};
+use binfarce_bytes::parser::{number_at, slice_at, to_index};
 use binfarce_bytes::sizes::{RowAddress, arrange};
 use binfarce_bytes::{ByteOrder, ParseError};
 use std::alloc::{AllocError, Global};
@@ -55,8 +55,9 @@ impl SelectedSections<'_> {
     }
 }
 
-/// The function symbols of a selection in a file whose tables are at these places, and the size of the selected section:
-/// the answer of `functions` of a reader, with its refusals. `OutOfMemory` only instead of a list that isn't empty.
+/// The function symbols of a selection in a file whose tables are at these places, and the size of the selected
+/// section: the answer of `functions` of a reader, with its refusals. `OutOfMemory` only instead of a list that isn't
+/// empty.
 #[tactic(auto, unfolding(crate::specs::PeSelection::selected_answer))]
 pub fn functions_of_file<'a>(
     alloc: Global,
@@ -98,7 +99,8 @@ fn all_sections<'a>(
     ensures answer { Gives refusal_of sections_view (sections_in None file.entry.now) result }
     ensures whole { IfOk result (λ c. IsWhole (sections_view c)) }
 {
-    let header = slice_at(file, places.optional_header, places.optional_header_size)?;
+    let optional_header = to_index(places.optional_header);
+    let header = slice_at(file, optional_header, places.optional_header_size)?;
     let headers = whole_sections(section_table(file, places))?;
     Ok(SelectedSections::All(image_base(header), headers))
 }

@@ -56,8 +56,8 @@ pub(crate) fn header_after(file: &[u8], signature: usize) -> Result<PeHeader, Un
     })
 }
 
-/// The image base (`ImageBase`) by an optional header that begins with these bytes. `None` for less than 32 bytes, and where
-/// the magic number is neither that of PE32 nor that of PE32+, as in an object file.
+/// The image base (`ImageBase`) by an optional header that begins with these bytes. `None` for less than 32 bytes, and
+/// where the magic number is neither that of PE32 nor that of PE32+, as in an object file.
 #[tactic(auto, unfolding(crate::specs::Pe::image_base))]
 pub fn image_base(optional_header: &[u8]) -> Option<u64>
     ensures { result ≡ image_base optional_header.now }

@@ -18,7 +18,7 @@ use binfarce_bytes::{ByteOrder, ParseError};
 pub const SIGNATURE_POINTER: usize = 0x3c;
 
 /// The length in bytes of the signature and the file header.
-pub const HEADERS_LENGTH: usize = 24;
+pub const HEADERS_LENGTH: u64 = 24;
 
 /// The length in bytes of the beginning of an optional header that states the image base.
 pub const OPTIONAL_HEADER_LENGTH: usize = 32;
@@ -30,17 +30,17 @@ pub const SECTION_LENGTH: usize = 40;
 #[derive(Clone, Copy)]
 pub struct TableOffsets {
     /// Where the optional header begins.
-    pub optional_header: usize,
+    pub optional_header: u64,
     /// How many of its first 32 bytes it has; they state the image base.
     pub optional_header_size: usize,
     /// Where the section table begins.
-    pub sections: usize,
+    pub sections: u64,
     /// How many section headers it has.
     pub section_count: u16,
     /// Where the symbol table begins.
-    pub symbols: usize,
+    pub symbols: u64,
     /// How many bytes its records have.
-    pub symbols_size: usize,
+    pub symbols_size: u64,
 }
 
 /// The index of the section `.text`, counted from 0, and how many bytes it has in the file.
@@ -74,15 +74,15 @@ pub fn places_in(headers: &[u8], signature: u32) -> Result<TableOffsets, ParseEr
 pub fn places_after(signature: u32, header: PeHeader) -> TableOffsets
     ensures { places_view result ≡ places_after signature (header_view header) }
 {
-    let optional_header = signature as usize + HEADERS_LENGTH;
-    let size = header.size_of_optional_header as usize;
+    let optional_header = u64::from(signature) + HEADERS_LENGTH;
+    let size = header.size_of_optional_header;
     TableOffsets {
         optional_header,
-        optional_header_size: size.min(OPTIONAL_HEADER_LENGTH),
-        sections: optional_header + size,
+        optional_header_size: usize::from(size).min(OPTIONAL_HEADER_LENGTH),
+        sections: optional_header + u64::from(size),
         section_count: header.number_of_sections,
-        symbols: header.pointer_to_symbol_table as usize,
-        symbols_size: header.number_of_symbols as usize * SYMBOL_LENGTH,
+        symbols: u64::from(header.pointer_to_symbol_table),
+        symbols_size: u64::from(header.number_of_symbols) * SYMBOL_LENGTH as u64,
     }
 }
 

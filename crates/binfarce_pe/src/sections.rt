@@ -11,7 +11,9 @@ ghost use Rattle.binfarce_pe.specs.PeViews.{section_view};
 ghost use Rattle.binfarce_pe.specs.machine.RawPe.{header_count, walk_from};
 
 use crate::parts::{SECTION_LENGTH, TableOffsets};
-use binfarce_bytes::parser::{Stream, UnexpectedEof, range, up_to_nul, utf8_text};
+use binfarce_bytes::parser::{
+    Stream, UnexpectedEof, range, slice_at, to_index, up_to_nul, utf8_text,
+};
 use binfarce_bytes::{ByteOrder, ParseError};
 use std::marker::Model;
 use std::ops::Range;
@@ -36,15 +38,15 @@ impl Section<'_> {
     ///
     /// # Errors
     ///
-    /// None: the range always fits a `usize`.
+    /// None: the range always fits a `usize` of 64 bits. `MalformedInput` where its end exceeds one of 32 bits.
     pub fn range(&self) -> Result<Range<usize>, ParseError>
         ensures { let s = section_view self.now in MatchResult result
             (λ r. (r.start ≡ s.pointer_to_raw_data) × (r.end ≡ s.pointer_to_raw_data + s.size_of_raw_data))
             (λ _. ⊥) }
     {
         range(
-            self.pointer_to_raw_data as usize,
-            self.size_of_raw_data as usize,
+            self.pointer_to_raw_data as u64,
+            self.size_of_raw_data as u64,
         )
     }
 }
@@ -54,7 +56,8 @@ impl Section<'_> {
 pub fn section_data<'a>(file: &'a [u8], section: &Section<'_>) -> Result<&'a [u8], ParseError>
     ensures { Gives refusal_of (λ b. b.now) (section_data file.now (section_view section.now)) result }
 {
-    file.get(section.range()?).ok_or(ParseError::UnexpectedEof)
+    let (offset, size) = (section.pointer_to_raw_data, section.size_of_raw_data);
+    Ok(slice_at(file, offset as usize, size as usize)?)
 }
 
 /// An iterator over the sections of a file, in file order: the result of `Pe::sections`. It borrows the file's bytes.
@@ -62,7 +65,7 @@ pub fn section_data<'a>(file: &'a [u8], section: &Section<'_>) -> Result<&'a [u8
 /// A section header is read on demand. `UnexpectedEof` is given for a header that is truncated, and where the section
 /// table doesn't begin in the file; nothing follows it.
 #[must_use = "iterators are lazy and do nothing unless consumed"]
-#[derive(Drop)]
+#[derive(Clone, Drop)]
 pub struct Sections<'a> {
     table: Table<'a>,
     // The index of the next section header; none after a refusal.
@@ -109,7 +112,7 @@ pub(crate) fn section_table<'a>(file: &'a [u8], places: TableOffsets) -> Table<'
 {
     Table {
         bytes: file,
-        offset: places.sections,
+        offset: to_index(places.sections),
         count: places.section_count,
     }
 }
@@ -141,8 +144,8 @@ impl<'a> Iterator for Sections<'a> {
     }
 }
 
-// The first section from this index on, where the headers before it were whole, and the index after its own; `None` where
-// there are no more.
+// The first section from this index on, where the headers before it were whole, and the index after its own; `None`
+// where there are no more.
 fn section_left(table: Table<'_>, from: u16) -> Result<Option<(Section<'_>, u16)>, UnexpectedEof>
     requires { from ≤ header_count (headers_view table) }
     ensures { let headers = headers_view table.entry in let left = walk_from headers (Some from) in MatchResult result

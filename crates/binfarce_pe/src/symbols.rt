@@ -9,7 +9,7 @@ ghost use Rattle.binfarce_pe.specs.machine.RawPe.{symbol_view};
 
 use crate::parts::TableOffsets;
 use crate::sections::short_name;
-use binfarce_bytes::parser::{Stream, UnexpectedEof, parse_null_string, slice_at};
+use binfarce_bytes::parser::{Stream, UnexpectedEof, parse_null_string, slice_at, to_index};
 use binfarce_bytes::{ByteOrder, ParseError};
 
 pub(crate) const SYMBOL_LENGTH: usize = 18;
@@ -46,11 +46,11 @@ pub(crate) fn symbol_table<'a>(
     ensures { Gives refusal_of table_view (symbol_table file.now) result }
 {
     let offset = places.symbols;
-    if offset >= file.len() {
+    if offset >= file.len() as u64 {
         return Err(ParseError::UnexpectedEof);
     }
-    let rows = slice_at(file, offset, places.symbols_size)?;
-    let strings = &file[offset + places.symbols_size..];
+    let rows = slice_at(file, to_index(offset), to_index(places.symbols_size))?;
+    let strings = &file[to_index(offset + places.symbols_size)..];
     Ok(SymbolTable { rows, strings })
 }
 

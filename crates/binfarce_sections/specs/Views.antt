@@ -1,4 +1,4 @@
--- What clauses see of sections and of iterators over them.
+-- The views of sections and of iterators over them that clauses use.
 use Rattle.std.specs.Prelude.{◌≡◌, ℕ, List, Option, Some, None, Result, Ok, Err}
 use Rattle.std.specs.Option.{option_map}
 use Rattle.binfarce.specs.declared.ParseError.{ParseError}

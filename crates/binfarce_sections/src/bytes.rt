@@ -19,6 +19,7 @@ use crate::error::SectionError;
 use crate::sections::{Section, Sections, sections_of};
 use crate::tables::read_named;
 use binfarce::ParseError;
+use binfarce_bytes::parser::{slice_at, to_index};
 use binfarce_bytes::source::Source;
 use binfarce_tools::list::Sink;
 use binfarce_tools::writing::write_whole;
@@ -33,8 +34,8 @@ use std::alloc::Global;
 /// # Errors
 ///
 /// `Unknown` where the format isn't one that is read; `Parse` where the reader refuses the file before the section is
-/// found; `NoSection` where no section has the name; `NoBytes` where the section has no bytes in the file (`SHT_NOBITS`,
-/// in Mach-O an offset of 0, in PE no raw data); `PastEnd` where its bytes end past the file.
+/// found; `NoSection` where no section has the name; `NoBytes` where the section has no bytes in the file
+/// (`SHT_NOBITS`, in Mach-O an offset of 0, in PE no raw data); `PastEnd` where its bytes end past the file.
 #[tactic(auto, unfolding(crate::specs::Named::bytes_named))]
 pub fn section_bytes<'a>(file: &'a [u8], name: &str) -> Result<&'a [u8], SectionError>
     ensures { Hands (λ b. b.now) (bytes_named (sections_of (format_of file.entry.now) file.entry.now) file.entry.now
@@ -69,7 +70,7 @@ fn write_all<S: Sink>(bytes: &[u8], out: &mut S) -> Result<(), SectionError>
     write_whole(out, bytes).map_err(|_| SectionError::Write)
 }
 
-/// The same for a source, of which only these bytes are read: the first 8 bytes, those that `read_sections` of
+/// As `write_section`, from a source. Only these bytes are read: the first 8 bytes, those that `read_sections` of
 /// `binfarce_tables` reads of a file of that format, and the section's bytes, into memory of its size.
 ///
 /// # Errors
@@ -139,11 +140,8 @@ fn bytes_of<'a>(file: &'a [u8], section: Section<'_>) -> Result<&'a [u8], Sectio
     if !section.has_bytes {
         return Err(SectionError::NoBytes);
     }
-    let start = section.offset as usize;
-    let end = start
-        .checked_add(section.size as usize)
-        .ok_or(SectionError::PastEnd)?;
-    file.get(start..end).ok_or(SectionError::PastEnd)
+    let (start, size) = (to_index(section.offset), to_index(section.size));
+    slice_at(file, start, size).map_err(|_| SectionError::PastEnd)
 }
 
 // Whether the word names the section.

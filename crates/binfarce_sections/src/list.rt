@@ -29,9 +29,9 @@ use std::fmt::Write;
 
 /// Lists the sections of a file in file order, a line each, as far as they can be read.
 ///
-/// The format is the one that the file's first bytes name. A line is `{address:016x} {offset:>10} {size:>10} {name}`, with
-/// the offset in the file and the size in bytes; in a Mach-O file the name is `SEGMENT,SECTION`. Names are written as they
-/// are stored, whatever characters they hold. All lines are made before the first byte is written.
+/// The format is the one that the file's first bytes name. A line is `{address:016x} {offset:>10} {size:>10} {name}`,
+/// with the offset in the file and the size in bytes; in a Mach-O file the name is `SEGMENT,SECTION`. Names are written
+/// as they are stored, whatever characters they hold. All lines are made before the first byte is written.
 ///
 /// # Errors
 ///
@@ -50,9 +50,9 @@ pub fn list_sections<S: Sink>(alloc: Global, file: &[u8], out: &mut S) -> Result
     write_lines(alloc, sections, Form::Lines, out)
 }
 
-/// The same for a source, in either form; an object has the members `file`, `segment`, `section`, `address`, `offset` and
-/// `size`, and `null` for a name that isn't there. Of the source only these bytes are read: the first 8 bytes, and those that `read_sections` of
-/// `binfarce_tables` reads of a file of that format.
+/// As `list_sections`, from a source, in either form; an object has the members `file`, `segment`, `section`,
+/// `address`, `offset` and `size`, and `null` for a name that isn't there. Of the source only these bytes are read: the
+/// first 8 bytes, and those that `read_sections` of `binfarce_tables` reads of a file of that format.
 ///
 /// # Errors
 ///

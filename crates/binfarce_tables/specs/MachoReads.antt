@@ -1,4 +1,4 @@
--- The parts of a Mach-O file that a reading reads, and no others.
+-- The parts of a Mach-O file that are read, and no others.
 use Rattle.std.specs.Prelude.{ℕ, ◌+◌, ◌*◌, List, [], ◌∷◌, ◌++◌, length, min, Option, Result, Ok, Err, if◌then◌else◌}
 use Rattle.binfarce_bytes.specs.Number.{bytes_at}
 use Rattle.binfarce_bytes.specs.Part.{Part, part, whole_part, parts_if}

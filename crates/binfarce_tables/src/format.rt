@@ -14,7 +14,7 @@ use binfarce_bytes::source::Source;
 use std::alloc::Global;
 
 // How many of a file's first bytes name its format.
-const MAGIC_LENGTH: usize = 8;
+const MAGIC_LENGTH: u64 = 8;
 
 /// The format of a file, as `detect_format` gives it. Its first 8 bytes are read, or all of a shorter file, and no
 /// other byte.
@@ -34,7 +34,7 @@ pub fn read_format<S: Source>(
         → ReadsOnly (S.is_sure source.now) (S.logs_only log.old) (S.logs_only log.new)
         (part 0 (min 8 (length file)) ∷ []) (IfErr result (λ e. e ≢ Unreadable)) }
 {
-    let len = source.length()? as usize;
+    let len = source.length()?;
     let head = part(alloc, source, log, 0, MAGIC_LENGTH.min(len))?;
     Ok(detect_format(&head))
 }

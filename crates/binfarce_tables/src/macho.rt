@@ -35,7 +35,7 @@ use binfarce_macho::symbols::{SYMBOL_LENGTH, SymbolBytes, SymbolTable, symbol_ta
 use std::alloc::Global;
 
 // The number of the header's bytes that are read.
-const HEADER: usize = 28;
+const HEADER: u64 = 28;
 
 /// The parts of a file that have the function symbols of a selection, in memory.
 #[derive(Drop)]
@@ -53,8 +53,8 @@ struct SymbolParts {
 }
 
 impl Parts {
-    /// The function symbols that a reader of the whole file gives for the selection, in its order. Nothing is read: names
-    /// are slices of the parts.
+    /// The function symbols that a reader of the whole file gives for the selection, in its order. Nothing is read:
+    /// names are slices of the parts.
     ///
     /// # Errors
     ///
@@ -75,8 +75,8 @@ impl Parts {
         self.sections.size(self.symbols.is_some())
     }
 
-    /// The name of the section of this number, `SEGMENT,SECTION`; nothing is copied. `None` where there is no such section,
-    /// where one of its two names isn't valid, and where the text alone is selected.
+    /// The name of the section of this number, `SEGMENT,SECTION`; nothing is copied. `None` where there is no such
+    /// section, where one of its two names isn't valid, and where the text alone is selected.
     pub fn section_name(&self, number: u32) -> Option<&str>
         ensures { option_map (λ t. t.now) result ≡ section_name (parts_view self.entry.now).sections number }
     {
@@ -106,17 +106,18 @@ fn bytes_of(symbols: &SymbolParts) -> SymbolBytes<'_>
     }
 }
 
-/// Reads the parts of a file that have the function symbols of a selection: the header of 28 bytes, the file's first
-/// bytes up to the end of the load commands that the header states (`sizeofcmds`), the string table and the symbol
-/// table. Each is read into memory of its size, which is never more than the file has of it. No other byte is read,
-/// unless the commands, or the sections of a segment command, extend past that end: then the whole file is read for
-/// them. The magic number isn't checked.
+/// Reads the parts of a file that a selection's function symbols need: the header of 28 bytes, the file's first bytes
+/// up to the end of the load commands that the header states (`sizeofcmds`), the string table and the symbol table.
+/// Each is read into memory of its size, which is never more than the file has of it. No other byte is read, unless the
+/// commands, or the sections of a segment command, extend past that end: then the whole file is read for them. The
+/// magic number isn't checked.
 ///
 /// # Errors
 ///
-/// `Refused` with the error of `parse`, or of a reader of the whole file for the selection, if it comes before they look
-/// at the text's end and the symbol table's rows; `Unreadable` where the source can't be read at offsets, or a read of
-/// it fails, and never for a source that can't fail, such as bytes in memory; `OutOfMemory` where an allocation fails.
+/// `Refused` with the error of `parse`, or of a reader of the whole file for the selection, if it comes before they
+/// look at the text's end and the symbol table's rows; `Unreadable` where the source can't be read at offsets, or a
+/// read of it fails, and never for a source that can't fail, such as bytes in memory; `OutOfMemory` where an allocation
+/// fails.
 pub fn read<S: Source>(
     alloc: Global,
     source: &S,
@@ -129,7 +130,7 @@ pub fn read<S: Source>(
         → ReadsOnly (S.is_sure source.now) (S.logs_only log.old) (S.logs_only log.new)
         (macho_parts file) (IfErr result (λ e. e ≢ Unreadable)) }
 {
-    let len = source.length()? as usize;
+    let len = source.length()?;
     if len < HEADER {
         return Err(ReadError::Refused(ParseError::UnexpectedEof));
     }
@@ -185,7 +186,7 @@ fn read_symbols<S: Source>(
     alloc: Global,
     source: &S,
     log: &mut S::Log,
-    len: usize,
+    len: u64,
     table: Option<SymbolTable>,
 ) -> Result<Option<SymbolParts>, ReadError>
     ensures answer { (file : List ℕ) → Known (S.bytes source.now) len file
@@ -199,24 +200,12 @@ fn read_symbols<S: Source>(
         None => return Ok(None),
         Some(table) => table,
     };
-    let strings_at = table.strings_offset as usize;
-    let strings = read_table(
-        alloc,
-        source,
-        log,
-        len,
-        strings_at,
-        table.strings_size as usize,
-    )?;
-    let rows_size = SYMBOL_LENGTH * table.row_count as usize;
-    let rows = read_table(
-        alloc,
-        source,
-        log,
-        len,
-        table.symbol_offset as usize,
-        rows_size,
-    )?;
+    let strings_at = table.strings_offset as u64;
+    let strings_size = table.strings_size as u64;
+    let strings = read_table(alloc, source, log, len, strings_at, strings_size)?;
+    let rows_at = table.symbol_offset as u64;
+    let rows_size = SYMBOL_LENGTH as u64 * table.row_count as u64;
+    let rows = read_table(alloc, source, log, len, rows_at, rows_size)?;
     Ok(Some(SymbolParts { strings, rows }))
 }
 
@@ -242,11 +231,10 @@ pub fn read_sections<S: Source>(
         (macho_section_parts file) (IfErr result (λ e. e ≢ Unreadable)) }
 {
     let file_length = source.length()?;
-    let len = file_length as usize;
-    if HEADER > len {
+    if HEADER > file_length {
         return Err(ReadError::Refused(ParseError::UnexpectedEof));
     }
-    let bytes = read_commands(alloc, source, log, len)?;
+    let bytes = read_commands(alloc, source, log, file_length)?;
     Ok(Beginning { bytes, file_length })
 }
 
@@ -255,7 +243,7 @@ fn read_commands<S: Source>(
     alloc: Global,
     source: &S,
     log: &mut S::Log,
-    len: usize,
+    len: u64,
 ) -> Result<Vec<u8>, ReadError>
     requires { least_length ≤ len }
     ensures answer { (file : List ℕ) → Known (S.bytes source.now) len file
@@ -278,8 +266,8 @@ fn read_end<S: Source>(
     alloc: Global,
     source: &S,
     log: &mut S::Log,
-    len: usize,
-) -> Result<usize, ReadError>
+    len: u64,
+) -> Result<u64, ReadError>
     requires { least_length ≤ len }
     ensures answer { (file : List ℕ) → Known (S.bytes source.now) len file
         → Reads (S.may_fail source.now) (λ n. n) (Ok (said_end file)) result }
@@ -314,9 +302,9 @@ fn read_table<S: Source>(
     alloc: Global,
     source: &S,
     log: &mut S::Log,
-    len: usize,
-    offset: usize,
-    size: usize,
+    len: u64,
+    offset: u64,
+    size: u64,
 ) -> Result<Vec<u8>, ReadError>
     ensures answer { (file : List ℕ) → Known (S.bytes source.now) len file
         → Reads (S.may_fail source.now) (λ v. v.items) (slice_at file offset size) result }

@@ -34,10 +34,10 @@ use std::alloc::Global;
 use std::marker::Model;
 
 // The length of the MS-DOS stub in bytes.
-const STUB_LENGTH: usize = 64;
+const STUB_LENGTH: u64 = 64;
 
 // How many bytes at the end of the last section header may be missing.
-const SECTION_UNREAD: usize = 16;
+const SECTION_UNREAD: u64 = 16;
 
 /// The parts of a file that have the function symbols of a selection, in memory.
 #[derive(Drop)]
@@ -130,10 +130,10 @@ impl Sections {
     }
 }
 
-/// Reads the parts of a file that have the function symbols of a selection: the offset of the signature, the signature
-/// and the file header, which are 24 bytes, the section headers, the symbol table, and the strings, which are all that
-/// follows it; for all sections up to 32 bytes of the optional header. Each is read once, into memory of its size, which
-/// is never more than the file has of it. No other byte is read. The signature isn't checked.
+/// Reads the parts of a file that a selection's function symbols need: the offset of the signature, the signature and
+/// the file header, which are 24 bytes, the section headers, the symbol table, and the strings, which are all that
+/// follows it; for all sections up to 32 bytes of the optional header. Each is read once, into memory of its size,
+/// which is never more than the file has of it. No other byte is read. The signature isn't checked.
 ///
 /// # Errors
 ///
@@ -152,7 +152,7 @@ pub fn read<S: Source>(
         → ReadsOnly (S.is_sure source.now) (S.logs_only log.old) (S.logs_only log.new)
         (pe_parts (section_of selection.entry) file) (IfErr result (λ e. e ≢ Unreadable)) }
 {
-    let len = source.length()? as usize;
+    let len = source.length()?;
     let places = read_places(alloc, source, log, len)?;
     let sections = read_selected(alloc, source, log, len, places, selection)?;
     let records = read_records(alloc, source, log, len, places)?;
@@ -164,7 +164,7 @@ fn read_selected<S: Source>(
     alloc: Global,
     source: &S,
     log: &mut S::Log,
-    len: usize,
+    len: u64,
     places: TableOffsets,
     selection: Selection<'_>,
 ) -> Result<Sections, ReadError>
@@ -189,7 +189,7 @@ fn read_all_sections<S: Source>(
     alloc: Global,
     source: &S,
     log: &mut S::Log,
-    len: usize,
+    len: u64,
     places: TableOffsets,
 ) -> Result<Sections, ReadError>
     ensures answer { (file : List ℕ) → Known (S.bytes source.now) len file → places_step file ≡ Ok (places_view places)
@@ -205,7 +205,7 @@ fn read_all_sections<S: Source>(
         source,
         log,
         places.optional_header,
-        places.optional_header_size,
+        places.optional_header_size as u64,
     )?;
     Ok(Sections::All(image_base(&header), headers, places.section_count))
 }
@@ -231,14 +231,13 @@ pub fn read_sections<S: Source>(
         (pe_section_parts file) (IfErr result (λ e. e ≢ Unreadable)) }
 {
     let file_length = source.length()?;
-    let len = file_length as usize;
-    let places = read_places(alloc, source, log, len)?;
-    let headers = places.section_count as usize * SECTION_LENGTH;
+    let places = read_places(alloc, source, log, file_length)?;
+    let headers = places.section_count as u64 * SECTION_LENGTH as u64;
     let end = places
         .sections
         .saturating_add(headers.max(1))
         .max(STUB_LENGTH);
-    let bytes = part(alloc, source, log, 0, end.min(len))?;
+    let bytes = part(alloc, source, log, 0, end.min(file_length))?;
     Ok(Beginning { bytes, file_length })
 }
 
@@ -247,7 +246,7 @@ fn read_places<S: Source>(
     alloc: Global,
     source: &S,
     log: &mut S::Log,
-    len: usize,
+    len: u64,
 ) -> Result<TableOffsets, ReadError>
     ensures answer { (file : List ℕ) → Known (S.bytes source.now) len file
         → Reads (S.may_fail source.now) places_view (places_step file) result }
@@ -256,7 +255,7 @@ fn read_places<S: Source>(
         (places_parts file) (IfErr result (λ e. e ≢ Unreadable)) }
 {
     let signature = read_signature(alloc, source, log, len)?;
-    let offset = signature as usize;
+    let offset = signature as u64;
     if len < offset + HEADERS_LENGTH {
         return Err(ReadError::Refused(ParseError::UnexpectedEof));
     }
@@ -268,17 +267,18 @@ fn read_signature<S: Source>(
     alloc: Global,
     source: &S,
     log: &mut S::Log,
-    len: usize,
+    len: u64,
 ) -> Result<u32, ReadError>
     ensures answer { (file : List ℕ) → Known (S.bytes source.now) len file
         → Reads (S.may_fail source.now) (λ n. n) (signature_step file) result }
     ensures only { ReadsOnly (S.is_sure source.now) (S.logs_only log.old) (S.logs_only log.new)
         (pointer_part ∷ []) (IfErr result (λ e. e ≢ Unreadable)) }
 {
-    if len < SIGNATURE_POINTER + 4 {
+    let offset = SIGNATURE_POINTER as u64;
+    if len < offset + 4 {
         return Err(ReadError::Refused(ParseError::UnexpectedEof));
     }
-    let pointer = part(alloc, source, log, SIGNATURE_POINTER, 4)?;
+    let pointer = part(alloc, source, log, offset, 4)?;
     Ok(signature_in(&pointer)?)
 }
 
@@ -287,7 +287,7 @@ fn read_text<S: Source>(
     alloc: Global,
     source: &S,
     log: &mut S::Log,
-    len: usize,
+    len: u64,
     places: TableOffsets,
 ) -> Result<Text, ReadError>
     ensures answer { (file : List ℕ) → Known (S.bytes source.now) len file
@@ -303,7 +303,7 @@ fn read_text<S: Source>(
     if places.section_count == 0 {
         return Err(ReadError::Refused(ParseError::SymbolsSectionIsMissing));
     }
-    let size = places.section_count as usize * SECTION_LENGTH;
+    let size = places.section_count as u64 * SECTION_LENGTH as u64;
     let headers = part(alloc, source, log, offset, size.min(len - offset))?;
     let table = Table {
         bytes: &headers,
@@ -318,7 +318,7 @@ fn read_headers<S: Source>(
     alloc: Global,
     source: &S,
     log: &mut S::Log,
-    len: usize,
+    len: u64,
     places: TableOffsets,
 ) -> Result<Vec<u8>, ReadError>
     ensures answer { (file : List ℕ) → Known (S.bytes source.now) len file
@@ -336,7 +336,7 @@ fn read_headers<S: Source>(
         return Err(ReadError::Refused(ParseError::UnexpectedEof));
     }
     let rest = len - offset;
-    let size = places.section_count as usize * SECTION_LENGTH;
+    let size = places.section_count as u64 * SECTION_LENGTH as u64;
     if size.saturating_sub(SECTION_UNREAD) > rest {
         return Err(ReadError::Refused(ParseError::UnexpectedEof));
     }
@@ -355,7 +355,7 @@ fn read_records<S: Source>(
     alloc: Global,
     source: &S,
     log: &mut S::Log,
-    len: usize,
+    len: u64,
     places: TableOffsets,
 ) -> Result<Records, ReadError>
     ensures answer { (file : List ℕ) → Known (S.bytes source.now) len file

@@ -95,7 +95,7 @@ pub fn read_sections<S: Source>(
         → ReadsOnly (S.is_sure source.now) (S.logs_only log.old) (S.logs_only log.new)
         (elf_section_parts (class_of width) byte_order file) (IfErr result (λ e. e ≢ Unreadable)) }
 {
-    let len = source.length()? as usize;
+    let len = source.length()?;
     let place = read_place(alloc, source, log, len, width, byte_order)?;
     let names = read_names(alloc, source, log, len, width, place)?;
     let headers = read_table(alloc, source, log, len, width, place)?;
@@ -104,7 +104,7 @@ pub fn read_sections<S: Source>(
         names,
         width,
         place,
-        file_length: len as u64,
+        file_length: len,
     })
 }
 
@@ -114,7 +114,7 @@ fn read_table<S: Source>(
     alloc: Global,
     source: &S,
     log: &mut S::Log,
-    len: usize,
+    len: u64,
     width: Width,
     place: HeaderTable,
 ) -> Result<Vec<u8>, ReadError>

@@ -11,7 +11,8 @@ use crate::numbers::{
     byte_at, length_at, optional_base_62_number, past, skip_optional_base_62_number,
 };
 
-/// `<undisambiguated-identifier>`: its ASCII part, and its Punycode part. Both are slices of the name: nothing is copied.
+/// `<undisambiguated-identifier>`: its ASCII part, and its Punycode part. Both are slices of the name: nothing is
+/// copied.
 #[derive(Clone, Copy)]
 pub struct UndisambiguatedIdentifier<'a> {
     /// The characters before the last `_` of a Punycode identifier, and all of any other.
@@ -89,7 +90,7 @@ fn identifier_bytes<'a>(
         (λ i. (undisambiguated_view i.0, i.1)) result ≡ identifier_bytes part.now is_punycode start size }
     ensures ascii { IfSome result (λ i. IsAscii i.0.ascii.now) }
 {
-    let end = start.checked_add(size as usize)?;
+    let end = start.checked_add(usize::try_from(size).ok()?)?;
     if end > part.len() {
         return None;
     }

@@ -1,5 +1,5 @@
-//! The grammar of Rust's v0 mangling (RFC 2603): its numbers, its identifiers, its forms, and the reading of a name by the
-//! grammar alone.
+//! The grammar of Rust's v0 mangling (RFC 2603): its numbers, its identifiers, its forms, and the reading of a name by
+//! the grammar alone.
 #![tactic(auto)]
 
 pub mod forms;

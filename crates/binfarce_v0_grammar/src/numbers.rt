@@ -160,7 +160,8 @@ fn write_small(part: &[u8], start: usize, end: usize) -> bool
     count <= 10 || (count == 11 && are_small(part[start], part[start + 1]))
 }
 
-/// The position after the number after a tag. Its digits are decoded only where the number may be too large.
+/// Skips an optional tag and the base-62 number after it: the position behind them. `None` where the number is invalid.
+/// Its digits are decoded only where the number may be too large.
 #[inline(always)]
 #[tactic(auto, using(crate::proofs::SkipLemmas::skips_nothing, crate::proofs::SkipLemmas::skips_small))]
 pub fn skip_optional_base_62_number(part: &[u8], tag: u8, at: usize) -> Option<usize>
@@ -191,9 +192,8 @@ pub fn back_reference(part: &[u8], at: usize) -> Option<(usize, usize)>
     ensures { result ≡ back_reference part.now at }
 {
     let (target, after) = base_62_number(part, at + 1)?;
-    let target = target as usize;
-    if target < at {
-        Some((target, after))
+    if target < at as u64 {
+        Some((target as usize, after))
     } else {
         None
     }
@@ -250,7 +250,8 @@ pub fn length_at(part: &[u8], at: usize) -> Option<(u64, usize)>
     }
 }
 
-/// The position of the `_` that ends the lower-case hexadecimal digits at a position. None where another byte ends them.
+/// The position of the `_` that ends the lower-case hexadecimal digits at a position. None where another byte ends
+/// them.
 #[tactic(auto, using(crate::proofs::NumberLemmas::hex_length_step))]
 pub fn hex_end(part: &[u8], start: usize) -> Option<usize>
     ensures value { result ≡ option_map (λ n. start + n) (hex_length (drop start part.now)) }

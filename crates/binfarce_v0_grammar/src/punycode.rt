@@ -10,23 +10,23 @@ ghost use Rattle.binfarce_v0_grammar.specs.machine.Decoded.{characters_of};
 pub use text::Decoded;
 use text::MOST_CHARACTERS;
 
-const BASE: usize = 36;
+const BASE: u64 = 36;
 
-const T_MIN: usize = 1;
+const T_MIN: u64 = 1;
 
-const T_MAX: usize = 26;
+const T_MAX: u64 = 26;
 
-const SKEW: usize = 38;
+const SKEW: u64 = 38;
 
-const DAMP: usize = 700;
+const DAMP: u64 = 700;
 
-const INITIAL_BIAS: usize = 72;
+const INITIAL_BIAS: u64 = 72;
 
-const INITIAL_N: usize = 128;
+const INITIAL_N: u64 = 128;
 
 // The largest delta that is read. A larger one leads past the last Unicode scalar value in any text, so this limit
 // refuses no valid code.
-const MAX_DELTA: usize = 0xFFFF_FFFF;
+const MAX_DELTA: u64 = 0xFFFF_FFFF;
 
 /// The text of an ASCII part and a code: the parts of a v0 identifier before and after its last `_`. Each byte of the
 /// ASCII part is a character, and an empty code inserts none. Nothing is allocated.
@@ -51,10 +51,11 @@ pub fn decode(ascii: &[u8], code: &[u8]) -> Option<Decoded>
             return None;
         }
         let (delta, after) = delta_of(bias, rest)?;
-        bias = adapted_bias(delta, count + 1, i == 0);
-        n += (i + delta) / (count + 1);
-        i = (i + delta) % (count + 1);
-        insert_character(&mut characters, count, i, character(n)?);
+        let places = count as u64 + 1;
+        bias = adapted_bias(delta, places, i == 0);
+        n += (i + delta) / places;
+        i = (i + delta) % places;
+        insert_character(&mut characters, count, i as usize, character(n)?);
         count += 1;
         i += 1;
         rest = after;
@@ -91,7 +92,7 @@ fn put_first(characters: &mut [char], character: char)
 }
 
 // The delta that the code begins with, and the code after it (sections 3.3 and 3.4).
-fn delta_of(bias: usize, code: &[u8]) -> Option<(usize, &[u8])>
+fn delta_of(bias: u64, code: &[u8]) -> Option<(u64, &[u8])>
     ensures none { IfNone result (IfSome (spec.integer bias 0 code.now) (λ read. MAX_DELTA < read.0)) }
     ensures some { IfSome result (λ read. spec.integer bias 0 code.now ≡ Some (read.0, read.1.now)) }
     ensures fits { IfSome result (λ read. read.0 ≤ MAX_DELTA) }
@@ -118,19 +119,19 @@ fn delta_of(bias: usize, code: &[u8]) -> Option<(usize, &[u8])>
 
 // The value of a digit (section 5).
 #[tactic(auto, unfolding(crate::specs::Punycode::digit_of), using(std::proofs::lemmas::Bool::Decides::nat_tests))]
-fn digit(byte: u8) -> Option<usize>
+fn digit(byte: u8) -> Option<u64>
     ensures value { result ≡ spec.digit_of byte }
     ensures below { IfSome result (λ digit. digit < 36) }
 {
     match byte {
-        b'a'..=b'z' => Some(usize::from(byte - b'a')),
-        b'0'..=b'9' => Some(usize::from(byte - b'0') + 26),
+        b'a'..=b'z' => Some(u64::from(byte - b'a')),
+        b'0'..=b'9' => Some(u64::from(byte - b'0') + 26),
         _ => None,
     }
 }
 
 // The bias after a delta (section 6.1).
-fn adapted_bias(delta: usize, characters: usize, first: bool) -> usize
+fn adapted_bias(delta: u64, characters: u64, first: bool) -> u64
     requires fits { delta ≤ MAX_DELTA }
     requires some { 0 < characters }
     ensures { result ≡ spec.adapted_bias delta characters first }
@@ -146,7 +147,7 @@ fn adapted_bias(delta: usize, characters: usize, first: bool) -> usize
 }
 
 // The character of a code point.
-fn character(code_point: usize) -> Option<char>
+fn character(code_point: u64) -> Option<char>
     ensures { MatchOption result (is_scalar code_point ≡ false)
         (λ c. (is_scalar code_point ≡ true) × (c ≡ code_point)) }
 {

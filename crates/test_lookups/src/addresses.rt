@@ -32,7 +32,8 @@ pub(crate) fn push_address(words: &str, text: &mut Vec<u8>) -> io::Result<()> {
     }
 }
 
-/// Adds the lines of addresses after a base is subtracted, from a file's bytes, and from the tables that are read of it.
+/// Adds the lines of addresses after a base is subtracted, from a file's bytes, and from the tables that are read of
+/// it.
 pub(crate) fn push_lines(of: &Asking<'_>, is_return: bool, text: &mut Vec<u8>) -> io::Result<()> {
     let (base, words) = of.words.split_once(' ').unwrap_or((of.words, ""));
     let lookup = Lookup {
@@ -91,8 +92,8 @@ struct Input<'a> {
     text: &'a [u8],
 }
 
-/// Adds the answers to a text of addresses by the 64-bit sample, how many lines have none, and which way of reading or writing
-/// gives others.
+/// Adds the answers to a text of addresses by the 64-bit sample, how many lines have none, and which way of reading or
+/// writing gives others.
 pub(crate) fn push_answers(
     alloc: Global,
     words: &str,
@@ -133,7 +134,8 @@ pub(crate) fn push_answers(
     Ok(())
 }
 
-/// Adds the text with its addresses annotated by the 64-bit sample, and which way of reading or writing gives another one.
+/// Adds the text with its addresses annotated by the 64-bit sample, and which way of reading or writing gives another
+/// one.
 pub(crate) fn push_annotated_text(
     alloc: Global,
     words: &str,
@@ -208,8 +210,8 @@ fn whole_lines(text: &[u8]) -> usize {
     text.iter().filter(|byte| **byte == b'\n').count()
 }
 
-// Whether this is the output of a reader that gives these bytes and then fails: the whole lines are answered, and no part of one;
-// or all is annotated.
+// Whether this is the output of a reader that gives these bytes and then fails: the whole lines are answered, and no
+// part of one; or all is annotated.
 fn is_first(input: &Input<'_>, came: &[u8], answers: &[u8], taken: &[u8]) -> io::Result<bool> {
     if input.annotates {
         let mut all = Vec::new(input.alloc);
@@ -219,7 +221,8 @@ fn is_first(input: &Input<'_>, came: &[u8], answers: &[u8], taken: &[u8]) -> io:
     Ok(answers.starts_with(taken) && whole_lines(taken) == whole_lines(came))
 }
 
-// If the reader fails, what came before is answered. If the writer takes no more bytes or fails, those before were written.
+// If the reader fails, what came before is answered. If the writer takes no more bytes or fails, those before were
+// written.
 fn are_failed_calls_reported(input: &Input<'_>, answers: &[u8]) -> io::Result<bool> {
     for came in 0..=input.text.len() {
         let part = first_bytes(input.text, came);

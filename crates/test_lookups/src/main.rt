@@ -1,8 +1,8 @@
-//! Answers questions of addresses, of sections, and of what is read of a file: one on each line of standard input. A line
-//! that begins with `#` is a heading.
+//! Answers questions of addresses, of sections, and of what is read of a file: one on each line of standard input. A
+//! line that begins with `#` is a heading.
 //!
-//! A question of files is `QUESTION of FILE`, where `test_samples::cases` says how a file is described. If several samples
-//! are described, each is answered. Ranges of a file are decimal, as `OFFSET+SIZE`; addresses are hexadecimal.
+//! A question of files is `QUESTION of FILE`, where `test_samples::cases` says how a file is described. If several
+//! samples are described, each is answered. Ranges of a file are decimal, as `OFFSET+SIZE`; addresses are hexadecimal.
 #![tactic(auto)]
 
 mod addresses;

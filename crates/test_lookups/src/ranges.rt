@@ -2,6 +2,7 @@
 
 use crate::words::{known, number, numbers, push_number, push_words};
 use binfarce_addresses::ranges::{AddressRange, Ranges};
+use binfarce_bytes::parser::to_index;
 use binfarce_bytes::source::read_part;
 use std::alloc::Global;
 use std::io::{self, ErrorKind};
@@ -36,8 +37,8 @@ fn push_places(alloc: Global, words: &str, text: &mut Vec<u8>) -> io::Result<()>
     Ok(())
 }
 
-// Each of these many ranges lies within the one before it, and each address is behind the ends of all but a few. A walk from
-// range to range would take more steps than a test has time for.
+// Each of these many ranges lies within the one before it, and each address is behind the ends of all but a few. A walk
+// from range to range would take more steps than a test has time for.
 fn push_nested(alloc: Global, words: &str, text: &mut Vec<u8>) -> io::Result<()> {
     let count: u32 = known(words.parse().ok())?;
     let count = u64::from(count);
@@ -63,7 +64,7 @@ const BYTES: &[u8] = &[1, 2, 3, 4];
 // The bytes of a part.
 fn push_part(alloc: Global, words: &str, text: &mut Vec<u8>) -> io::Result<()> {
     for (offset, size) in numbers(alloc, words, false)?.iter() {
-        match read_part(alloc, &BYTES, &mut (), *offset, *size as usize) {
+        match read_part(alloc, &BYTES, &mut (), *offset, to_index(*size)) {
             Ok(part) => {
                 for byte in &part {
                     push_number(text, u64::from(*byte))?;

@@ -127,8 +127,8 @@ fn lines_of(of: &Asking<'_>, all: &[u8], part: &[u8]) -> io::Result<Vec<u8>> {
 // How many characters are before a name.
 const HEAD: usize = 39;
 
-// Whether these are the first of the lines, each with its name, or without it, where the header of the section of names is
-// cut off.
+// Whether these are the first of the lines, each with its name, or without it, where the header of the section of names
+// is cut off.
 fn are_first_of(lines: &str, written: &str) -> bool {
     let mut wanted = lines.lines();
     for line in written.lines() {
@@ -140,8 +140,8 @@ fn are_first_of(lines: &str, written: &str) -> bool {
     true
 }
 
-/// Adds how a call ends that writes by at most 1, 2 and more bytes at once to a writer that takes no more than it has, and one
-/// that writes to a writer that takes 0, 1 and more bytes.
+/// Adds how a call ends that writes by at most 1, 2 and more bytes at once to a writer that takes no more than it has,
+/// and one that writes to a writer that takes 0, 1 and more bytes.
 pub(crate) fn push_writes(of: &Asking<'_>, asked: Asked<'_>, text: &mut Vec<u8>) -> io::Result<()> {
     let wanted = whole(of.alloc, of.kind, of.file, asked).text;
     push_runs(of.alloc, text, 33, |n| {

@@ -8,7 +8,7 @@ pub use crate::erased::binfarce_bytes::{ByteOrder, ParseError, UnexpectedEof};
 pub use crate::erased::binfarce_elf::symbol_table::SymbolTable;
 pub use crate::erased::binfarce_names::demangle;
 
-mod elf;
+pub(crate) mod elf;
 pub mod elf32;
 pub mod elf64;
 pub mod macho;

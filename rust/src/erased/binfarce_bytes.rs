@@ -8,7 +8,7 @@ pub mod functions;
 pub mod parser;
 pub mod sizes;
 pub mod source;
-mod text;
+pub(crate) mod text;
 
 pub use crate::erased::binfarce_bytes::error::ParseError;
 pub use crate::erased::binfarce_bytes::parser::UnexpectedEof;

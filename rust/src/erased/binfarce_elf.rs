@@ -2,7 +2,7 @@
 
 //! ELF files of both classes and both byte orders (System V gABI).
 
-mod accessors;
+pub(crate) mod accessors;
 pub mod class;
 pub mod header;
 pub mod parts;

@@ -2,8 +2,8 @@
 
 //! 64-bit Mach-O files (Apple's `<mach-o/loader.h>` and `<mach-o/nlist.h>`).
 
-mod accessors;
-mod commands;
+pub(crate) mod accessors;
+pub(crate) mod commands;
 pub mod functions;
 pub mod header;
 pub mod numbered;

@@ -2,7 +2,7 @@
 
 //! PE files with COFF symbols (Microsoft PE Format).
 
-mod accessors;
+pub(crate) mod accessors;
 pub mod functions;
 pub mod header;
 pub mod parts;

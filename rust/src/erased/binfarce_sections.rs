@@ -6,4 +6,4 @@ pub mod bytes;
 pub mod error;
 pub mod list;
 pub mod sections;
-mod tables;
+pub(crate) mod tables;

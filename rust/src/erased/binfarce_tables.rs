@@ -2,13 +2,13 @@
 
 //! Files of which only the tables are read: each part once, into memory of its size. Names stay as they are stored.
 
-mod beginning;
+pub(crate) mod beginning;
 pub mod elf;
-mod error;
+pub(crate) mod error;
 pub mod format;
 pub mod macho;
 pub mod pe;
-mod sections;
+pub(crate) mod sections;
 
 pub use crate::erased::binfarce_tables::beginning::Beginning;
 pub use crate::erased::binfarce_tables::elf::part;

@@ -1,17 +1,17 @@
 // From crates/test_lookups/src/main.rt, by tools/erase.
 
-//! Answers questions of addresses, of sections, and of what is read of a file: one on each line of standard input. A line
-//! that begins with `#` is a heading.
+//! Answers questions of addresses, of sections, and of what is read of a file: one on each line of standard input. A
+//! line that begins with `#` is a heading.
 //!
-//! A question of files is `QUESTION of FILE`, where `test_samples::cases` says how a file is described. If several samples
-//! are described, each is answered. Ranges of a file are decimal, as `OFFSET+SIZE`; addresses are hexadecimal.
+//! A question of files is `QUESTION of FILE`, where `test_samples::cases` says how a file is described. If several
+//! samples are described, each is answered. Ranges of a file are decimal, as `OFFSET+SIZE`; addresses are hexadecimal.
 
-mod addresses;
-mod ranges;
-mod readings;
-mod sections;
-mod sources;
-mod words;
+pub(crate) mod addresses;
+pub(crate) mod ranges;
+pub(crate) mod readings;
+pub(crate) mod sections;
+pub(crate) mod sources;
+pub(crate) mod words;
 
 use crate::shim::{HostRuntime, Vec};
 use crate::erased::test_lookups::words::{end_line, known, words_of};

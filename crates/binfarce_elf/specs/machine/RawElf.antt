@@ -1,4 +1,4 @@
--- What private clauses see of the values that files of both classes are read into, and the layouts by the width of a word.
+-- Views of the values that files of both classes are read into, for private clauses, and the layouts by the width of a word.
 use Rattle.std.specs.Prelude.{ℕ, ◌+◌, ◌-◌, ◌*◌, map, min, Option, Some, None}
 use Rattle.std.specs.List.{range_with_len}
 use Rattle.binfarce_bytes.specs.Walk.{Walk, ended}

@@ -1,4 +1,4 @@
--- What private clauses see of the code's tables.
+-- Views of the code's tables, for private clauses.
 use Rattle.std.specs.Prelude.{ℕ, ◌+◌, ◌<◌, ◌^◌, ◌&&◌, Bool, List, map, nat_le}
 use Rattle.std.specs.List.{AllByRecursion, list_all}
 use Rattle.binfarce.specs.Elf as elf

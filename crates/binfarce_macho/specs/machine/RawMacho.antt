@@ -1,4 +1,4 @@
--- What private clauses see of the values that `macho` reads.
+-- Views of the values that `macho` reads, for private clauses.
 use Rattle.std.specs.Prelude.{◌≡◌, ℕ, ◌+◌, ◌-◌, ◌*◌, ◌/◌, ◌<◌, ◌≤◌, ◌^◌, ◌++◌, Bool, List, length, min, nat_eq, nat_le, not, is_some, Option, Some, None, Result, Ok, Err, if◌then◌else◌}
 use Rattle.std.specs.List.{range_with_len, filter_map}
 use Rattle.binfarce_macho.specs.declared.commands.Command.{Command}

@@ -1,4 +1,4 @@
--- What private contracts see of the values that a PE file is read into.
+-- Views of the values that a PE file is read into, for private clauses.
 use Rattle.std.specs.Prelude.{◌≡◌, ◌≢◌, ◌⊎◌, ℕ, ◌+◌, ◌-◌, ◌<◌, ◌≤◌, Bool, List, [], ◌∷◌, ◌++◌, length, map, Option, Some, None, nat_eq, min, get_or, if◌then◌else◌}
 use Rattle.std.specs.List.{AllZip, range_with_len, filter_map}
 use Rattle.binfarce_bytes.specs.Walk.{Walk, ended}

@@ -1,4 +1,4 @@
--- What private clauses see of a reading of a file's parts.
+-- Views of a reading of a file's parts, for private clauses.
 use Rattle.std.specs.Prelude.{ℕ, List, Result, Ok}
 use Rattle.binfarce_bytes.specs.declared.ByteOrder.{ByteOrder}
 use Rattle.binfarce_bytes.specs.Number.{bytes_at}

@@ -1,4 +1,4 @@
--- What clauses see of a decoded Punycode text.
+-- The views of a decoded Punycode text that clauses use.
 use Rattle.std.specs.Prelude.{ℕ, List, take}
 use Rattle.binfarce_v0_grammar.specs.declared.punycode.text.Decoded.{Decoded}
 

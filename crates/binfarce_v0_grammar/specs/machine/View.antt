@@ -1,4 +1,4 @@
--- What clauses see of the forms that the code reads: texts as their bytes.
+-- The views of the forms that the code reads, for clauses: texts as their bytes.
 use Rattle.std.specs.Prelude.{ℕ, Option}
 use Rattle.std.specs.Option.{option_map}
 use Rattle.binfarce_v0_grammar.specs.Identifiers

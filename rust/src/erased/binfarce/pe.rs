@@ -120,12 +120,12 @@ impl<'a> Pe<'a> {
         Ok((symbols, size))
     }
 
-    /// The function symbols of all sections, external and static, each with its section's number: by section, and in each by the
-    /// row's value and at equal values in table order.
+    /// The function symbols of all sections, external and static, each with its section's number: by section, and in
+    /// each by the row's value and at equal values in table order.
     ///
     /// An address is a virtual address: the image base, the section's address and the row's value, modulo 2^64. A file
-    /// without an optional header of PE32 or PE32+ is an object, and there it is the value, the offset in the section. A
-    /// size ends at the next greater address in the same section, or with the section in memory (`VirtualSize`, or
+    /// without an optional header of PE32 or PE32+ is an object, and there it is the value, the offset in the section.
+    /// A size ends at the next greater address in the same section, or with the section in memory (`VirtualSize`, or
     /// where that is 0 `SizeOfRawData`). Sections are numbered from 1 on, also those whose name isn't UTF-8. A row
     /// without a section, or whose section doesn't exist, isn't kept.
     ///
@@ -139,8 +139,8 @@ impl<'a> Pe<'a> {
         Ok(functions)
     }
 
-    /// The function symbols of `functions` with their section's number, and the size of `.text` in bytes in the file; or
-    /// those of `all_functions`, without a size.
+    /// The function symbols of `functions` with their section's number, and the size of `.text` in bytes in the file;
+    /// or those of `all_functions`, without a size.
     ///
     /// # Errors
     ///

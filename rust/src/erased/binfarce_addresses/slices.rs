@@ -1,12 +1,13 @@
 // From crates/binfarce_addresses/src/slices.rt, by tools/erase.
 
-//! Where the span of an address probably is.
+//! Hints for the search of an address's span.
 
 use crate::shim::Vec;
 use crate::erased::binfarce_addresses::ranges::Span;
 use crate::shim::alloc::{AllocError, Global};
 
-/// Slices of the addresses, all of one length, and the last span that begins before each. What they say has to be checked.
+/// Slices of the addresses, all of one length, each with the last span that begins before it. Callers check these
+/// hints.
 pub(crate) struct Slices {
     first: u64,
     // A slice has 2^shift addresses.
@@ -50,6 +51,7 @@ impl Slices {
 
     #[cfg_attr(not(debug_assertions), inline(always))]
     fn slice_of(&self, address: u64) -> usize {
-        address.saturating_sub(self.first).wrapping_shr(self.shift) as usize
+        let slice = address.saturating_sub(self.first).wrapping_shr(self.shift);
+        usize::try_from(slice).unwrap_or(usize::MAX)
     }
 }

@@ -7,8 +7,8 @@
 pub struct FunctionSymbol<'a> {
     /// The name as it is stored.
     pub name: &'a str,
-    /// The address, as the file stores it; in a PE file the offset in the section, and among the functions of all sections a
-    /// virtual address.
+    /// The address, as the file stores it; in a PE file the offset in the section, and among the functions of all
+    /// sections a virtual address.
     pub address: u64,
     /// The size in bytes.
     pub size: u64,
@@ -45,7 +45,7 @@ pub fn symbol_at<'a>(functions: &[FunctionSymbol<'a>], address: u64) -> Option<F
     found
 }
 
-/// The better of the symbol found so far and the next one, for an address.
+/// Of the symbol found so far and the next one, the one that the address symbolizes to.
 #[cfg_attr(not(debug_assertions), inline(always))]
 pub fn found_with<'a>(
     found: Option<FunctionSymbol<'a>>,

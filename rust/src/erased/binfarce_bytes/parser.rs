@@ -153,6 +153,7 @@ impl<'a> Stream<'a> {
         self.offset >= self.bytes.len()
     }
 
+    /// The offset in bytes.
     #[inline]
     pub fn offset(&self) -> usize {
         self.offset
@@ -213,12 +214,19 @@ pub fn number_at<T: RawNumber>(
     Stream::new_at(bytes, place, byte_order)?.read()
 }
 
+/// The number as an index. One that doesn't fit `usize` is `usize::MAX`, which lies past every slice.
+#[inline]
+pub fn to_index(n: u64) -> usize {
+    usize::try_from(n).unwrap_or(usize::MAX)
+}
+
 /// The range of the `size` bytes from `offset` on; `MalformedInput` where its end exceeds `usize`.
 #[inline]
-pub fn range(offset: usize, size: usize) -> Result<Range<usize>, ParseError> {
-    match offset.checked_add(size) {
-        Some(end) => Ok(offset..end),
-        None => Err(ParseError::MalformedInput),
+pub fn range(offset: u64, size: u64) -> Result<Range<usize>, ParseError> {
+    let end = offset.checked_add(size).ok_or(ParseError::MalformedInput)?;
+    match usize::try_from(end) {
+        Ok(end) => Ok(to_index(offset)..end),
+        Err(_) => Err(ParseError::MalformedInput),
     }
 }
 

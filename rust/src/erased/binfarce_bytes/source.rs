@@ -3,6 +3,7 @@
 //! Sources that are read at offsets: a file, or bytes in memory.
 
 use crate::shim::Vec;
+use crate::erased::binfarce_bytes::parser::to_index;
 use crate::shim::alloc::Global;
 use crate::shim::fs::File;
 use crate::shim::io::{self, Error, ErrorKind};
@@ -45,7 +46,7 @@ impl Source for &[u8] {
     }
 
     fn fill_at(&self, _log: &mut (), offset: u64, buf: &mut [u8]) -> io::Result<()> {
-        match self.get(offset as usize..) {
+        match self.get(to_index(offset)..) {
             Some(rest) if buf.len() <= rest.len() => {
                 buf.copy_from_slice(&rest[..buf.len()]);
                 Ok(())

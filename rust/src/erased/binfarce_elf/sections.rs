@@ -4,7 +4,9 @@
 
 use crate::erased::binfarce_elf::class::{Class, Half, Word};
 use crate::erased::binfarce_elf::header::Header;
-use crate::erased::binfarce_bytes::parser::{Stream, UnexpectedEof, parse_null_string, range};
+use crate::erased::binfarce_bytes::parser::{
+    Stream, UnexpectedEof, parse_null_string, range, slice_at, to_index,
+};
 use crate::erased::binfarce_bytes::{ByteOrder, ParseError};
 use std::marker::PhantomData;
 use std::ops::Range;
@@ -43,7 +45,7 @@ impl<C: Class> Section<C> {
     ///
     /// `MalformedInput` where the range's end exceeds `usize`.
     pub fn range(&self) -> Result<Range<usize>, ParseError> {
-        range(self.offset.widened() as usize, self.size.widened() as usize)
+        range(self.offset.widened(), self.size.widened())
     }
 
     /// How many entries of its entry size (`sh_entsize`) the section has; 0 where that size is 0.
@@ -71,7 +73,7 @@ impl<C: Class> Section<C> {
     }
 }
 
-/// Where a file's section headers begin, as its header states.
+/// The section header table of a file, as its header states it.
 #[derive(Clone, Copy)]
 pub struct Table<'a> {
     pub(crate) data: &'a [u8],
@@ -83,11 +85,11 @@ pub struct Table<'a> {
 
 /// A file of this class with a section header table, in which a section looks up its name.
 pub trait HasSections<'a, C: Class> {
-    /// Where the file's section headers begin.
+    /// The file's section header table, as its header states it.
     fn section_table(&self) -> Table<'a>;
 }
 
-/// Where the section headers of a file with this header begin.
+/// The section header table of a file with this header, as the header states it.
 pub fn section_table<'a, C: Class>(
     file: &'a [u8],
     byte_order: ByteOrder,
@@ -96,7 +98,7 @@ pub fn section_table<'a, C: Class>(
     Table {
         data: file,
         byte_order,
-        shoff: header.shoff.widened() as usize,
+        shoff: to_index(header.shoff.widened()),
         shnum: header.shnum,
         shstrndx: header.shstrndx,
     }
@@ -138,6 +140,7 @@ pub fn section_at<C: Class>(
 /// A section header is read on demand. `UnexpectedEof` is given for a header that is truncated, and where the section
 /// header table doesn't begin in the file; nothing follows it.
 #[must_use = "iterators are lazy and do nothing unless consumed"]
+#[derive(Clone)]
 pub struct Sections<'a, C: Class> {
     table: Table<'a>,
     // The index of the next section; none after a refusal.
@@ -273,8 +276,10 @@ fn names_section<C: Class>(table: Table<'_>) -> Option<Section<C>> {
     section_at(table.data, start, table.byte_order, table.shstrndx).ok()
 }
 
-/// The section's bytes, a slice of the file. `MalformedInput` where their end exceeds `usize`, `UnexpectedEof` where it
-/// lies past the file.
+/// The section's bytes, a slice of the file. `MalformedInput` where their end exceeds 64 bits, `UnexpectedEof` where
+/// it lies past the file.
 pub fn section_data<C: Class>(file: &[u8], section: Section<C>) -> Result<&[u8], ParseError> {
-    file.get(section.range()?).ok_or(ParseError::UnexpectedEof)
+    let (offset, size) = (section.offset.widened(), section.size.widened());
+    offset.checked_add(size).ok_or(ParseError::MalformedInput)?;
+    Ok(slice_at(file, to_index(offset), to_index(size))?)
 }

@@ -5,9 +5,9 @@
 //! An image is independent of any layout. [`lay_out`] writes it in one of four, and the readers find the same content
 //! in each.
 
-mod parts;
-mod tables;
-mod write;
+pub(crate) mod parts;
+pub(crate) mod tables;
+pub(crate) mod write;
 
 use crate::shim::Vec;
 use self::parts::{bodies_end, has_names, has_one_table};
@@ -127,7 +127,7 @@ impl From<AllocError> for ImageError {
 /// checks.
 pub fn lay_out(alloc: Global, image: &Image, layout: ElfLayout) -> Result<Vec<u8>, ImageError> {
     const MAX_SECTIONS: usize = 65_535;
-    const TOO_LARGE: usize = 1 << 32;
+    const TOO_LARGE: u64 = 1 << 32;
     let parts = image.parts.as_slice();
     if parts.len() > MAX_SECTIONS {
         return Err(ImageError::TooManySections);
@@ -141,7 +141,7 @@ pub fn lay_out(alloc: Global, image: &Image, layout: ElfLayout) -> Result<Vec<u8
     let class = write::class(layout);
     let shoff = bodies_end(parts, class);
     let length = shoff.saturating_add(class.section_length * parts.len());
-    if length >= TOO_LARGE {
+    if length as u64 >= TOO_LARGE {
         return Err(ImageError::TooLarge);
     }
     Ok(write::file(alloc, image, layout, shoff, length)?)

@@ -3,7 +3,7 @@
 //! The load commands of a file, one after the other (Apple's `<mach-o/loader.h>`).
 
 use crate::erased::binfarce_macho::header::{HEADER_LENGTH, MachoHeader};
-use crate::erased::binfarce_bytes::parser::{Stream, UnexpectedEof};
+use crate::erased::binfarce_bytes::parser::{Stream, UnexpectedEof, to_index};
 use crate::erased::binfarce_bytes::{ByteOrder, ParseError};
 
 pub(crate) const LC_SYMTAB: u32 = 0x2;
@@ -44,6 +44,7 @@ pub(crate) struct Command {
 }
 
 /// An iterator over load commands, at most as many as are left. A command whose size is below 8 ends it with an error.
+#[derive(Clone)]
 pub(crate) struct MachoCommandsIterator<'a> {
     pub(crate) bytes: &'a [u8],
     offset: usize,
@@ -65,7 +66,7 @@ impl Iterator for MachoCommandsIterator<'_> {
                     return Some(Err(Damage::Malformed));
                 }
                 self.left -= 1;
-                self.offset += command.size as usize;
+                self.offset = to_index(self.offset as u64 + command.size as u64);
                 Some(Ok(command))
             }
         }

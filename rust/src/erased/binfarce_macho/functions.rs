@@ -39,9 +39,9 @@ pub(crate) struct Group<'a> {
     pub(crate) symbols: SymbolBytes<'a>,
 }
 
-/// The function symbols of a selection of a file with this header, and the text's size in bytes, `None` for all sections:
-/// the answer of `functions` of a reader, with its refusals. `OutOfMemory` only where the text's table has an address, or
-/// where of all sections there is one.
+/// The function symbols of a selection of a file with this header, and the text's size in bytes, `None` for all
+/// sections: the answer of `functions` of a reader, with its refusals. `OutOfMemory` only where the text's table has an
+/// address, or where of all sections there is one.
 pub fn functions_of_file<'a>(
     alloc: Global,
     file: &'a [u8],
@@ -56,8 +56,8 @@ pub fn functions_of_file<'a>(
 }
 
 /// The function symbols of the selected sections: by section, and in each by address and at equal addresses in table
-/// order. Refused as a text is: where its end exceeds 64 bits, or where a row that would be kept lies past that end with
-/// no address above it. `OutOfMemory` only where the text's table has an address, or where of all sections there is one.
+/// order. `MalformedInput` where the text's end exceeds 64 bits, or a row that would be kept lies past that end with no
+/// address above it. `OutOfMemory` only where the text's table has an address, or where of all sections there is one.
 pub fn functions_of<'a>(
     alloc: Global,
     sections: &SelectedSections,

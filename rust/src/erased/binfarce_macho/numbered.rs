@@ -18,8 +18,8 @@ pub(crate) const MAX_SECT: u8 = 255;
 // `S_ATTR_PURE_INSTRUCTIONS` and `S_ATTR_SOME_INSTRUCTIONS`.
 const S_ATTR_INSTRUCTIONS: u32 = 0x8000_0400;
 
-/// A section: where it is in memory, whether it holds instructions, and its name as `SEGMENT,SECTION`, `None` where one of
-/// the two isn't valid.
+/// A section: where it is in memory, whether it holds instructions, and its name as `SEGMENT,SECTION`, `None` where one
+/// of the two isn't valid.
 pub struct NumberedSection {
     pub extent: Extent,
     pub has_instructions: bool,
@@ -43,8 +43,8 @@ impl SelectedSections {
         }
     }
 
-    /// The name of the section of this number, `SEGMENT,SECTION`; nothing is copied. `None` where there is no such section,
-    /// where one of its two names isn't valid, and for the text alone.
+    /// The name of the section of this number, `SEGMENT,SECTION`; nothing is copied. `None` where there is no such
+    /// section, where one of its two names isn't valid, and for the text alone.
     pub fn name(&self, number: u32) -> Option<&str> {
         match self {
             SelectedSections::Text(_) => None,
@@ -69,9 +69,9 @@ fn name_of(sections: &[NumberedSection], number: u32) -> Option<&str> {
     }
 }
 
-/// The selected sections of a file with this header. A text is refused where it is missing or empty, and sections are as
-/// `find_section` of a reader is with a callback that accepts none. `OutOfMemory` comes only where all are selected and
-/// there is one.
+/// The selected sections of a file with this header. A text is refused where it is missing or empty, and sections are
+/// as `find_section` of a reader is with a callback that accepts none. `OutOfMemory` comes only where all are selected
+/// and there is one.
 pub fn selected_sections(
     alloc: Global,
     file: &[u8],
@@ -85,7 +85,8 @@ pub fn selected_sections(
 }
 
 // Where the structures of a file's sections begin, in the order of the sections' numbers, up to number 255. Refused as
-// `find_section` of a reader is with a callback that accepts none; `OutOfMemory` comes only where the file has a section.
+// `find_section` of a reader is with a callback that accepts none; `OutOfMemory` comes only where the file has a
+// section.
 fn section_starts(alloc: Global, file: &[u8], header: MachoHeader) -> Result<Vec<usize>, ParseError> {
     let mut starts = Vec::new(alloc);
     for item in commands(file, header) {

@@ -1,6 +1,6 @@
 // From crates/binfarce_macho/src/parts.rt, by tools/erase.
 
-//! Where the load commands of a file lie, and whether they are held by its first bytes.
+//! The end of a file's load commands, and whether a prefix of the file holds them.
 
 use crate::erased::binfarce_macho::commands::{
     COMMAND_HEAD, Command, LC_SEGMENT_64, LC_SYMTAB, command_at,
@@ -8,11 +8,11 @@ use crate::erased::binfarce_macho::commands::{
 use crate::erased::binfarce_macho::header::{HEADER_LENGTH, MachoHeader};
 use crate::erased::binfarce_macho::sections::SECTION_LENGTH;
 use crate::erased::binfarce_bytes::ByteOrder;
-use crate::erased::binfarce_bytes::parser::number_at;
+use crate::erased::binfarce_bytes::parser::{number_at, to_index};
 
 /// Where the load commands end, as the header states (`sizeofcmds`).
-pub fn commands_end(header: MachoHeader) -> usize {
-    HEADER_LENGTH + header.sizeofcmds as usize
+pub fn commands_end(header: MachoHeader) -> u64 {
+    HEADER_LENGTH as u64 + u64::from(header.sizeofcmds)
 }
 
 /// Whether the load commands that this header states, with the fields that are read, lie in these bytes. A file that
@@ -29,7 +29,7 @@ pub fn holds_commands(file: &[u8], header: MachoHeader) -> bool {
                 if !holds_body(file, command) {
                     return false;
                 }
-                offset += command.size as usize;
+                offset = to_index(offset as u64 + command.size as u64);
             }
         }
     }
@@ -49,6 +49,8 @@ fn holds_body(bytes: &[u8], command: Command) -> bool {
 fn holds_sections(bytes: &[u8], body: usize) -> bool {
     match number_at::<u32>(bytes, body + 56, ByteOrder::LittleEndian) {
         Err(_) => false,
-        Ok(count) => body + 64 + count as usize * SECTION_LENGTH <= bytes.len(),
+        Ok(count) => {
+            (body + 64) as u64 + u64::from(count) * SECTION_LENGTH as u64 <= bytes.len() as u64
+        }
     }
 }

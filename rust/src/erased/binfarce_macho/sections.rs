@@ -7,7 +7,7 @@ use crate::erased::binfarce_macho::commands::{
 };
 use crate::erased::binfarce_macho::header::MachoHeader;
 use crate::erased::binfarce_bytes::parser::{
-    Stream, UnexpectedEof, number_at, range, up_to_nul, utf8_text,
+    Stream, UnexpectedEof, number_at, range, slice_at, to_index, up_to_nul, utf8_text,
 };
 use crate::erased::binfarce_bytes::{ByteOrder, ParseError};
 use std::ops::Range;
@@ -32,14 +32,16 @@ impl Section<'_> {
     ///
     /// `MalformedInput` where the range's end exceeds `usize`.
     pub fn range(&self) -> Result<Range<usize>, ParseError> {
-        range(self.offset as usize, self.size as usize)
+        range(self.offset as u64, self.size)
     }
 }
 
-/// The section's bytes, a slice of the file. `MalformedInput` where their end exceeds `usize`, `UnexpectedEof` where it
-/// lies past the file.
+/// The section's bytes, a slice of the file. `MalformedInput` where their end exceeds 64 bits, `UnexpectedEof` where
+/// it lies past the file.
 pub fn section_data<'a>(file: &'a [u8], section: &Section<'_>) -> Result<&'a [u8], ParseError> {
-    file.get(section.range()?).ok_or(ParseError::UnexpectedEof)
+    let (offset, size) = (section.offset as u64, section.size);
+    offset.checked_add(size).ok_or(ParseError::MalformedInput)?;
+    Ok(slice_at(file, to_index(offset), to_index(size))?)
 }
 
 /// An iterator over the sections of a file, in file order: the result of `sections` of a reader. It borrows the file's
@@ -48,11 +50,13 @@ pub fn section_data<'a>(file: &'a [u8], section: &Section<'_>) -> Result<&'a [u8
 /// A section is read on demand. An error is given for a segment command or a section that is truncated
 /// (`UnexpectedEof`), and for a load command whose size is below 8 (`MalformedInput`); nothing follows it.
 #[must_use = "iterators are lazy and do nothing unless consumed"]
+#[derive(Clone)]
 pub struct Sections<'a> {
     left: Left<'a>,
 }
 
 // The load commands after a segment command, and the rest of that segment.
+#[derive(Clone)]
 struct Left<'a> {
     commands: MachoCommandsIterator<'a>,
     segment: Segment,

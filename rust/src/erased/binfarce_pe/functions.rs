@@ -10,7 +10,7 @@ use crate::erased::binfarce_pe::symbols::{
     SYMBOL_LENGTH, SymbolRow, SymbolTable, is_function, name_of, symbol_of, symbol_table,
 };
 use crate::erased::binfarce_bytes::functions::{FunctionSymbol, SectionFunction, Selection};
-use crate::erased::binfarce_bytes::parser::{number_at, slice_at};
+use crate::erased::binfarce_bytes::parser::{number_at, slice_at, to_index};
 use crate::erased::binfarce_bytes::sizes::{RowAddress, arrange};
 use crate::erased::binfarce_bytes::{ByteOrder, ParseError};
 use crate::shim::alloc::{AllocError, Global};
@@ -40,8 +40,9 @@ impl SelectedSections<'_> {
     }
 }
 
-/// The function symbols of a selection in a file whose tables are at these places, and the size of the selected section:
-/// the answer of `functions` of a reader, with its refusals. `OutOfMemory` only instead of a list that isn't empty.
+/// The function symbols of a selection in a file whose tables are at these places, and the size of the selected
+/// section: the answer of `functions` of a reader, with its refusals. `OutOfMemory` only instead of a list that isn't
+/// empty.
 pub fn functions_of_file<'a>(
     alloc: Global,
     file: &'a [u8],
@@ -71,7 +72,8 @@ fn all_sections<'a>(
     file: &'a [u8],
     places: TableOffsets,
 ) -> Result<SelectedSections<'a>, ParseError> {
-    let header = slice_at(file, places.optional_header, places.optional_header_size)?;
+    let optional_header = to_index(places.optional_header);
+    let header = slice_at(file, optional_header, places.optional_header_size)?;
     let headers = whole_sections(section_table(file, places))?;
     Ok(SelectedSections::All(image_base(header), headers))
 }

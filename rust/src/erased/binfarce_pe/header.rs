@@ -44,8 +44,8 @@ pub(crate) fn header_after(file: &[u8], signature: usize) -> Result<PeHeader, Un
     })
 }
 
-/// The image base (`ImageBase`) by an optional header that begins with these bytes. `None` for less than 32 bytes, and where
-/// the magic number is neither that of PE32 nor that of PE32+, as in an object file.
+/// The image base (`ImageBase`) by an optional header that begins with these bytes. `None` for less than 32 bytes, and
+/// where the magic number is neither that of PE32 nor that of PE32+, as in an object file.
 pub fn image_base(optional_header: &[u8]) -> Option<u64> {
     if optional_header.len() < OPTIONAL_HEADER_LENGTH {
         return None;

@@ -3,7 +3,9 @@
 //! The sections of a file (Microsoft PE Format, "Section Table").
 
 use crate::erased::binfarce_pe::parts::{SECTION_LENGTH, TableOffsets};
-use crate::erased::binfarce_bytes::parser::{Stream, UnexpectedEof, range, up_to_nul, utf8_text};
+use crate::erased::binfarce_bytes::parser::{
+    Stream, UnexpectedEof, range, slice_at, to_index, up_to_nul, utf8_text,
+};
 use crate::erased::binfarce_bytes::{ByteOrder, ParseError};
 use std::ops::Range;
 
@@ -27,18 +29,19 @@ impl Section<'_> {
     ///
     /// # Errors
     ///
-    /// None: the range always fits a `usize`.
+    /// None: the range always fits a `usize` of 64 bits. `MalformedInput` where its end exceeds one of 32 bits.
     pub fn range(&self) -> Result<Range<usize>, ParseError> {
         range(
-            self.pointer_to_raw_data as usize,
-            self.size_of_raw_data as usize,
+            self.pointer_to_raw_data as u64,
+            self.size_of_raw_data as u64,
         )
     }
 }
 
 /// The section's bytes, a slice of the file; `UnexpectedEof` where they end past the file.
 pub fn section_data<'a>(file: &'a [u8], section: &Section<'_>) -> Result<&'a [u8], ParseError> {
-    file.get(section.range()?).ok_or(ParseError::UnexpectedEof)
+    let (offset, size) = (section.pointer_to_raw_data, section.size_of_raw_data);
+    Ok(slice_at(file, offset as usize, size as usize)?)
 }
 
 /// An iterator over the sections of a file, in file order: the result of `Pe::sections`. It borrows the file's bytes.
@@ -46,6 +49,7 @@ pub fn section_data<'a>(file: &'a [u8], section: &Section<'_>) -> Result<&'a [u8
 /// A section header is read on demand. `UnexpectedEof` is given for a header that is truncated, and where the section
 /// table doesn't begin in the file; nothing follows it.
 #[must_use = "iterators are lazy and do nothing unless consumed"]
+#[derive(Clone)]
 pub struct Sections<'a> {
     table: Table<'a>,
     // The index of the next section header; none after a refusal.
@@ -72,7 +76,7 @@ pub fn sections_of<'a>(file: &'a [u8], places: TableOffsets) -> Sections<'a> {
 pub(crate) fn section_table<'a>(file: &'a [u8], places: TableOffsets) -> Table<'a> {
     Table {
         bytes: file,
-        offset: places.sections,
+        offset: to_index(places.sections),
         count: places.section_count,
     }
 }
@@ -96,8 +100,8 @@ impl<'a> Iterator for Sections<'a> {
     }
 }
 
-// The first section from this index on, where the headers before it were whole, and the index after its own; `None` where
-// there are no more.
+// The first section from this index on, where the headers before it were whole, and the index after its own; `None`
+// where there are no more.
 fn section_left(table: Table<'_>, from: u16) -> Result<Option<(Section<'_>, u16)>, UnexpectedEof> {
     if table.offset >= table.bytes.len() {
         return Err(UnexpectedEof {});

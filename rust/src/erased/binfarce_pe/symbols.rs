@@ -4,7 +4,9 @@
 
 use crate::erased::binfarce_pe::parts::TableOffsets;
 use crate::erased::binfarce_pe::sections::short_name;
-use crate::erased::binfarce_bytes::parser::{Stream, UnexpectedEof, parse_null_string, slice_at};
+use crate::erased::binfarce_bytes::parser::{
+    Stream, UnexpectedEof, parse_null_string, slice_at, to_index,
+};
 use crate::erased::binfarce_bytes::{ByteOrder, ParseError};
 
 pub(crate) const SYMBOL_LENGTH: usize = 18;
@@ -37,11 +39,11 @@ pub(crate) fn symbol_table<'a>(
     places: TableOffsets,
 ) -> Result<SymbolTable<'a>, ParseError> {
     let offset = places.symbols;
-    if offset >= file.len() {
+    if offset >= file.len() as u64 {
         return Err(ParseError::UnexpectedEof);
     }
-    let rows = slice_at(file, offset, places.symbols_size)?;
-    let strings = &file[offset + places.symbols_size..];
+    let rows = slice_at(file, to_index(offset), to_index(places.symbols_size))?;
+    let strings = &file[to_index(offset + places.symbols_size)..];
     Ok(SymbolTable { rows, strings })
 }
 

@@ -6,6 +6,7 @@ use crate::erased::binfarce_sections::error::SectionError;
 use crate::erased::binfarce_sections::sections::{Section, Sections, sections_of};
 use crate::erased::binfarce_sections::tables::read_named;
 use crate::erased::binfarce::ParseError;
+use crate::erased::binfarce_bytes::parser::{slice_at, to_index};
 use crate::erased::binfarce_bytes::source::Source;
 use crate::erased::binfarce_tools::list::Sink;
 use crate::erased::binfarce_tools::writing::write_whole;
@@ -20,8 +21,8 @@ use crate::shim::alloc::Global;
 /// # Errors
 ///
 /// `Unknown` where the format isn't one that is read; `Parse` where the reader refuses the file before the section is
-/// found; `NoSection` where no section has the name; `NoBytes` where the section has no bytes in the file (`SHT_NOBITS`,
-/// in Mach-O an offset of 0, in PE no raw data); `PastEnd` where its bytes end past the file.
+/// found; `NoSection` where no section has the name; `NoBytes` where the section has no bytes in the file
+/// (`SHT_NOBITS`, in Mach-O an offset of 0, in PE no raw data); `PastEnd` where its bytes end past the file.
 pub fn section_bytes<'a>(file: &'a [u8], name: &str) -> Result<&'a [u8], SectionError> {
     match first_section(file, name)? {
         Some(section) => bytes_of(file, section),
@@ -45,7 +46,7 @@ fn write_all<S: Sink>(bytes: &[u8], out: &mut S) -> Result<(), SectionError> {
     write_whole(out, bytes).map_err(|_| SectionError::Write)
 }
 
-/// The same for a source, of which only these bytes are read: the first 8 bytes, those that `read_sections` of
+/// As `write_section`, from a source. Only these bytes are read: the first 8 bytes, those that `read_sections` of
 /// `binfarce_tables` reads of a file of that format, and the section's bytes, into memory of its size.
 ///
 /// # Errors
@@ -96,11 +97,8 @@ fn bytes_of<'a>(file: &'a [u8], section: Section<'_>) -> Result<&'a [u8], Sectio
     if !section.has_bytes {
         return Err(SectionError::NoBytes);
     }
-    let start = section.offset as usize;
-    let end = start
-        .checked_add(section.size as usize)
-        .ok_or(SectionError::PastEnd)?;
-    file.get(start..end).ok_or(SectionError::PastEnd)
+    let (start, size) = (to_index(section.offset), to_index(section.size));
+    slice_at(file, start, size).map_err(|_| SectionError::PastEnd)
 }
 
 // Whether the word names the section.

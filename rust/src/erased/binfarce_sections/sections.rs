@@ -24,8 +24,8 @@ pub struct Section<'a> {
     /// Its size in bytes (`sh_size`, `size`), as the file states it. In a PE file, the smaller one of `VirtualSize` and
     /// `SizeOfRawData`, or the other one where one is 0.
     pub size: u64,
-    /// Whether it has bytes in the file: not in ELF where its type is `SHT_NOBITS`, not in Mach-O where its offset is 0,
-    /// and not in PE where `PointerToRawData` or `SizeOfRawData` is 0.
+    /// Whether it has bytes in the file: not in ELF where its type is `SHT_NOBITS`, not in Mach-O where its offset is
+    /// 0, and not in PE where `PointerToRawData` or `SizeOfRawData` is 0.
     pub has_bytes: bool,
 }
 
@@ -33,6 +33,7 @@ pub struct Section<'a> {
 ///
 /// A section is read on demand. An error is given for one that can't be read; nothing follows it.
 #[must_use = "iterators are lazy and do nothing unless consumed"]
+#[derive(Clone)]
 pub enum Sections<'a> {
     Elf(ElfSections<'a>),
     Macho(macho::Sections<'a>),
@@ -40,6 +41,7 @@ pub enum Sections<'a> {
 }
 
 /// The sections of an ELF file that are left, and the bytes of the section names, where the file has them.
+#[derive(Clone)]
 pub struct ElfSections<'a> {
     names: Option<&'a [u8]>,
     left: AnySections<'a>,

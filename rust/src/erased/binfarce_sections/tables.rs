@@ -117,11 +117,5 @@ fn read_bytes<F: Source>(
     if end > len {
         return Err(SectionError::PastEnd);
     }
-    Ok(part(
-        alloc,
-        source,
-        log,
-        section.offset as usize,
-        section.size as usize,
-    )?)
+    Ok(part(alloc, source, log, section.offset, section.size)?)
 }

@@ -6,6 +6,7 @@ use crate::shim::Vec;
 use crate::erased::binfarce_tables::error::ReadError;
 pub use crate::erased::binfarce_tables::sections::{SectionParts, read_sections};
 use crate::erased::binfarce_bytes::functions::Selection;
+use crate::erased::binfarce_bytes::parser::to_index;
 use crate::erased::binfarce_bytes::source::{Source, read_part};
 use crate::erased::binfarce_bytes::{ByteOrder, ParseError};
 use crate::erased::binfarce_elf::class::{Half, Width};
@@ -53,16 +54,16 @@ impl Parts {
     }
 }
 
-/// Reads the parts of a file of this class that have the function symbols of a selection, by this symbol table, and the
+/// Reads the parts of a file of this class that a selection's function symbols need by this symbol table, and the
 /// section names, numbers in the given order. These are the file header of 52 or 64 bytes, the header of the section
-/// names' own section, the section names, all section headers, the symbol table and its strings. Each is read once, into
-/// memory of its size, which is never more than the file has of it. No other byte is read, except the first byte of a
-/// section header table without headers. The magic number isn't checked.
+/// names' own section, the section names, all section headers, the symbol table and its strings. Each is read once,
+/// into memory of its size, which is never more than the file has of it. No other byte is read, except the first byte
+/// of a section header table without headers. The magic number isn't checked.
 ///
 /// # Errors
 ///
-/// `Refused` with the error of `parse` or `functions` of a reader of the whole file; `Unreadable` where the source can't
-/// be read at offsets, or a read of it fails, and never for a source that can't fail, such as bytes in memory;
+/// `Refused` with the error of `parse` or `functions` of a reader of the whole file; `Unreadable` where the source
+/// can't be read at offsets, or a read of it fails, and never for a source that can't fail, such as bytes in memory;
 /// `OutOfMemory` where an allocation fails.
 pub fn read<S: Source>(
     alloc: Global,
@@ -75,7 +76,7 @@ pub fn read<S: Source>(
 ) -> Result<Parts, ReadError> {
     let sections = read_sections(alloc, source, log, width, byte_order)?;
     let needed = needed_of(&sections, which, selection)?;
-    let len = sections.file_length as usize;
+    let len = sections.file_length;
     let table = read_rows(alloc, source, log, len, sections.width, needed.table)?;
     Ok(Parts {
         sections,
@@ -105,11 +106,11 @@ pub(crate) fn read_place<S: Source>(
     alloc: Global,
     source: &S,
     log: &mut S::Log,
-    len: usize,
+    len: u64,
     width: Width,
     byte_order: ByteOrder,
 ) -> Result<HeaderTable, ReadError> {
-    let size = width.header_length();
+    let size = width.header_length() as u64;
     if len < size {
         return Err(ReadError::Refused(ParseError::UnexpectedEof));
     }
@@ -129,13 +130,13 @@ pub(crate) fn read_headers<S: Source>(
     alloc: Global,
     source: &S,
     log: &mut S::Log,
-    len: usize,
+    len: u64,
     width: Width,
     place: HeaderTable,
 ) -> Result<Vec<u8>, ReadError> {
-    let size = width.section_length();
+    let size = width.section_length() as u64;
     let whole = len.saturating_sub(place.shoff) / size;
-    let count = whole.min(place.shnum as usize);
+    let count = whole.min(place.shnum as u64);
     part(alloc, source, log, place.shoff, count * size)
 }
 
@@ -144,16 +145,16 @@ pub(crate) fn read_names<S: Source>(
     alloc: Global,
     source: &S,
     log: &mut S::Log,
-    len: usize,
+    len: u64,
     width: Width,
     place: HeaderTable,
 ) -> Result<Option<Vec<u8>>, ReadError> {
-    let size = width.section_length();
+    let size = width.section_length() as u64;
     let whole = len.saturating_sub(place.shoff) / size;
-    if place.shstrndx as usize >= whole {
+    if place.shstrndx as u64 >= whole {
         return Ok(None);
     }
-    let start = place.shoff + place.shstrndx as usize * size;
+    let start = place.shoff + place.shstrndx as u64 * size;
     let header = part(alloc, source, log, start, size)?;
     match section_at(&header, 0, width, place.byte_order, place.shstrndx) {
         Ok(section) => read_contents(alloc, source, log, len, section),
@@ -172,7 +173,7 @@ fn read_rows<S: Source>(
     alloc: Global,
     source: &S,
     log: &mut S::Log,
-    len: usize,
+    len: u64,
     width: Width,
     sections: TableSections,
 ) -> Result<TableParts, ReadError> {
@@ -187,7 +188,7 @@ fn read_contents<S: Source>(
     alloc: Global,
     source: &S,
     log: &mut S::Log,
-    len: usize,
+    len: u64,
     section: Section<u64>,
 ) -> Result<Option<Vec<u8>>, ReadError> {
     match read_section(alloc, source, log, len, section) {
@@ -202,14 +203,17 @@ fn read_section<S: Source>(
     alloc: Global,
     source: &S,
     log: &mut S::Log,
-    len: usize,
+    len: u64,
     section: Section<u64>,
 ) -> Result<Vec<u8>, ReadError> {
-    let range = section.range()?;
-    if range.end > len {
+    let (offset, size) = (section.offset(), section.size());
+    let Some(end) = offset.checked_add(size) else {
+        return Err(ReadError::Refused(ParseError::MalformedInput));
+    };
+    if end > len {
         return Err(ReadError::Refused(ParseError::UnexpectedEof));
     }
-    part(alloc, source, log, range.start, range.end - range.start)
+    part(alloc, source, log, offset, size)
 }
 
 /// The `size` bytes of a file from the offset on, in memory of that size.
@@ -217,13 +221,13 @@ fn read_section<S: Source>(
 /// # Errors
 ///
 /// `Unreadable` where a read of the source fails, for instance where it ends before `offset + size` (an opened file
-/// doesn't fail where `size` is 0). `OutOfMemory` where the allocation fails.
+/// doesn't fail where `size` is 0). `OutOfMemory` where the allocation fails, and where `size` exceeds `usize`.
 pub fn part<S: Source>(
     alloc: Global,
     source: &S,
     log: &mut S::Log,
-    offset: usize,
-    size: usize,
+    offset: u64,
+    size: u64,
 ) -> Result<Vec<u8>, ReadError> {
-    Ok(read_part(alloc, source, log, offset as u64, size)?)
+    Ok(read_part(alloc, source, log, offset, to_index(size))?)
 }

@@ -9,7 +9,7 @@ use crate::erased::binfarce_bytes::source::Source;
 use crate::shim::alloc::Global;
 
 // How many of a file's first bytes name its format.
-const MAGIC_LENGTH: usize = 8;
+const MAGIC_LENGTH: u64 = 8;
 
 /// The format of a file, as `detect_format` gives it. Its first 8 bytes are read, or all of a shorter file, and no
 /// other byte.
@@ -23,7 +23,7 @@ pub fn read_format<S: Source>(
     source: &S,
     log: &mut S::Log,
 ) -> Result<Format, ReadError> {
-    let len = source.length()? as usize;
+    let len = source.length()?;
     let head = part(alloc, source, log, 0, MAGIC_LENGTH.min(len))?;
     Ok(detect_format(&head))
 }

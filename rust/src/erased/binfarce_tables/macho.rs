@@ -17,7 +17,7 @@ use crate::erased::binfarce_macho::symbols::{SYMBOL_LENGTH, SymbolBytes, SymbolT
 use crate::shim::alloc::Global;
 
 // The number of the header's bytes that are read.
-const HEADER: usize = 28;
+const HEADER: u64 = 28;
 
 /// The parts of a file that have the function symbols of a selection, in memory.
 pub struct Parts {
@@ -33,8 +33,8 @@ struct SymbolParts {
 }
 
 impl Parts {
-    /// The function symbols that a reader of the whole file gives for the selection, in its order. Nothing is read: names
-    /// are slices of the parts.
+    /// The function symbols that a reader of the whole file gives for the selection, in its order. Nothing is read:
+    /// names are slices of the parts.
     ///
     /// # Errors
     ///
@@ -50,8 +50,8 @@ impl Parts {
         self.sections.size(self.symbols.is_some())
     }
 
-    /// The name of the section of this number, `SEGMENT,SECTION`; nothing is copied. `None` where there is no such section,
-    /// where one of its two names isn't valid, and where the text alone is selected.
+    /// The name of the section of this number, `SEGMENT,SECTION`; nothing is copied. `None` where there is no such
+    /// section, where one of its two names isn't valid, and where the text alone is selected.
     pub fn section_name(&self, number: u32) -> Option<&str> {
         self.sections.name(number)
     }
@@ -73,24 +73,25 @@ fn bytes_of(symbols: &SymbolParts) -> SymbolBytes<'_> {
     }
 }
 
-/// Reads the parts of a file that have the function symbols of a selection: the header of 28 bytes, the file's first
-/// bytes up to the end of the load commands that the header states (`sizeofcmds`), the string table and the symbol
-/// table. Each is read into memory of its size, which is never more than the file has of it. No other byte is read,
-/// unless the commands, or the sections of a segment command, extend past that end: then the whole file is read for
-/// them. The magic number isn't checked.
+/// Reads the parts of a file that a selection's function symbols need: the header of 28 bytes, the file's first bytes
+/// up to the end of the load commands that the header states (`sizeofcmds`), the string table and the symbol table.
+/// Each is read into memory of its size, which is never more than the file has of it. No other byte is read, unless the
+/// commands, or the sections of a segment command, extend past that end: then the whole file is read for them. The
+/// magic number isn't checked.
 ///
 /// # Errors
 ///
-/// `Refused` with the error of `parse`, or of a reader of the whole file for the selection, if it comes before they look
-/// at the text's end and the symbol table's rows; `Unreadable` where the source can't be read at offsets, or a read of
-/// it fails, and never for a source that can't fail, such as bytes in memory; `OutOfMemory` where an allocation fails.
+/// `Refused` with the error of `parse`, or of a reader of the whole file for the selection, if it comes before they
+/// look at the text's end and the symbol table's rows; `Unreadable` where the source can't be read at offsets, or a
+/// read of it fails, and never for a source that can't fail, such as bytes in memory; `OutOfMemory` where an allocation
+/// fails.
 pub fn read<S: Source>(
     alloc: Global,
     source: &S,
     log: &mut S::Log,
     selection: Selection<'_>,
 ) -> Result<Parts, ReadError> {
-    let len = source.length()? as usize;
+    let len = source.length()?;
     if len < HEADER {
         return Err(ReadError::Refused(ParseError::UnexpectedEof));
     }
@@ -139,31 +140,19 @@ fn read_symbols<S: Source>(
     alloc: Global,
     source: &S,
     log: &mut S::Log,
-    len: usize,
+    len: u64,
     table: Option<SymbolTable>,
 ) -> Result<Option<SymbolParts>, ReadError> {
     let table = match table {
         None => return Ok(None),
         Some(table) => table,
     };
-    let strings_at = table.strings_offset as usize;
-    let strings = read_table(
-        alloc,
-        source,
-        log,
-        len,
-        strings_at,
-        table.strings_size as usize,
-    )?;
-    let rows_size = SYMBOL_LENGTH * table.row_count as usize;
-    let rows = read_table(
-        alloc,
-        source,
-        log,
-        len,
-        table.symbol_offset as usize,
-        rows_size,
-    )?;
+    let strings_at = table.strings_offset as u64;
+    let strings_size = table.strings_size as u64;
+    let strings = read_table(alloc, source, log, len, strings_at, strings_size)?;
+    let rows_at = table.symbol_offset as u64;
+    let rows_size = SYMBOL_LENGTH as u64 * table.row_count as u64;
+    let rows = read_table(alloc, source, log, len, rows_at, rows_size)?;
     Ok(Some(SymbolParts { strings, rows }))
 }
 
@@ -183,11 +172,10 @@ pub fn read_sections<S: Source>(
     log: &mut S::Log,
 ) -> Result<Beginning, ReadError> {
     let file_length = source.length()?;
-    let len = file_length as usize;
-    if HEADER > len {
+    if HEADER > file_length {
         return Err(ReadError::Refused(ParseError::UnexpectedEof));
     }
-    let bytes = read_commands(alloc, source, log, len)?;
+    let bytes = read_commands(alloc, source, log, file_length)?;
     Ok(Beginning { bytes, file_length })
 }
 
@@ -196,7 +184,7 @@ fn read_commands<S: Source>(
     alloc: Global,
     source: &S,
     log: &mut S::Log,
-    len: usize,
+    len: u64,
 ) -> Result<Vec<u8>, ReadError> {
     let end = read_end(alloc, source, log, len)?;
     let commands = part(alloc, source, log, 0, end)?;
@@ -212,8 +200,8 @@ fn read_end<S: Source>(
     alloc: Global,
     source: &S,
     log: &mut S::Log,
-    len: usize,
-) -> Result<usize, ReadError> {
+    len: u64,
+) -> Result<u64, ReadError> {
     let bytes = part(alloc, source, log, 0, HEADER)?;
     let header = header_in(&bytes)?;
     Ok(commands_end(header).min(len))
@@ -236,9 +224,9 @@ fn read_table<S: Source>(
     alloc: Global,
     source: &S,
     log: &mut S::Log,
-    len: usize,
-    offset: usize,
-    size: usize,
+    len: u64,
+    offset: u64,
+    size: u64,
 ) -> Result<Vec<u8>, ReadError> {
     if offset > len || size > len - offset {
         return Err(ReadError::Refused(ParseError::UnexpectedEof));

@@ -20,10 +20,10 @@ use crate::erased::binfarce_pe::symbols::SymbolTable;
 use crate::shim::alloc::Global;
 
 // The length of the MS-DOS stub in bytes.
-const STUB_LENGTH: usize = 64;
+const STUB_LENGTH: u64 = 64;
 
 // How many bytes at the end of the last section header may be missing.
-const SECTION_UNREAD: usize = 16;
+const SECTION_UNREAD: u64 = 16;
 
 /// The parts of a file that have the function symbols of a selection, in memory.
 pub struct Parts {
@@ -92,10 +92,10 @@ impl Sections {
     }
 }
 
-/// Reads the parts of a file that have the function symbols of a selection: the offset of the signature, the signature
-/// and the file header, which are 24 bytes, the section headers, the symbol table, and the strings, which are all that
-/// follows it; for all sections up to 32 bytes of the optional header. Each is read once, into memory of its size, which
-/// is never more than the file has of it. No other byte is read. The signature isn't checked.
+/// Reads the parts of a file that a selection's function symbols need: the offset of the signature, the signature and
+/// the file header, which are 24 bytes, the section headers, the symbol table, and the strings, which are all that
+/// follows it; for all sections up to 32 bytes of the optional header. Each is read once, into memory of its size,
+/// which is never more than the file has of it. No other byte is read. The signature isn't checked.
 ///
 /// # Errors
 ///
@@ -108,7 +108,7 @@ pub fn read<S: Source>(
     log: &mut S::Log,
     selection: Selection<'_>,
 ) -> Result<Parts, ReadError> {
-    let len = source.length()? as usize;
+    let len = source.length()?;
     let places = read_places(alloc, source, log, len)?;
     let sections = read_selected(alloc, source, log, len, places, selection)?;
     let records = read_records(alloc, source, log, len, places)?;
@@ -120,7 +120,7 @@ fn read_selected<S: Source>(
     alloc: Global,
     source: &S,
     log: &mut S::Log,
-    len: usize,
+    len: u64,
     places: TableOffsets,
     selection: Selection<'_>,
 ) -> Result<Sections, ReadError> {
@@ -137,7 +137,7 @@ fn read_all_sections<S: Source>(
     alloc: Global,
     source: &S,
     log: &mut S::Log,
-    len: usize,
+    len: u64,
     places: TableOffsets,
 ) -> Result<Sections, ReadError> {
     let headers = read_headers(alloc, source, log, len, places)?;
@@ -146,7 +146,7 @@ fn read_all_sections<S: Source>(
         source,
         log,
         places.optional_header,
-        places.optional_header_size,
+        places.optional_header_size as u64,
     )?;
     Ok(Sections::All(image_base(&header), headers, places.section_count))
 }
@@ -166,14 +166,13 @@ pub fn read_sections<S: Source>(
     log: &mut S::Log,
 ) -> Result<Beginning, ReadError> {
     let file_length = source.length()?;
-    let len = file_length as usize;
-    let places = read_places(alloc, source, log, len)?;
-    let headers = places.section_count as usize * SECTION_LENGTH;
+    let places = read_places(alloc, source, log, file_length)?;
+    let headers = places.section_count as u64 * SECTION_LENGTH as u64;
     let end = places
         .sections
         .saturating_add(headers.max(1))
         .max(STUB_LENGTH);
-    let bytes = part(alloc, source, log, 0, end.min(len))?;
+    let bytes = part(alloc, source, log, 0, end.min(file_length))?;
     Ok(Beginning { bytes, file_length })
 }
 
@@ -182,10 +181,10 @@ fn read_places<S: Source>(
     alloc: Global,
     source: &S,
     log: &mut S::Log,
-    len: usize,
+    len: u64,
 ) -> Result<TableOffsets, ReadError> {
     let signature = read_signature(alloc, source, log, len)?;
-    let offset = signature as usize;
+    let offset = signature as u64;
     if len < offset + HEADERS_LENGTH {
         return Err(ReadError::Refused(ParseError::UnexpectedEof));
     }
@@ -197,12 +196,13 @@ fn read_signature<S: Source>(
     alloc: Global,
     source: &S,
     log: &mut S::Log,
-    len: usize,
+    len: u64,
 ) -> Result<u32, ReadError> {
-    if len < SIGNATURE_POINTER + 4 {
+    let offset = SIGNATURE_POINTER as u64;
+    if len < offset + 4 {
         return Err(ReadError::Refused(ParseError::UnexpectedEof));
     }
-    let pointer = part(alloc, source, log, SIGNATURE_POINTER, 4)?;
+    let pointer = part(alloc, source, log, offset, 4)?;
     Ok(signature_in(&pointer)?)
 }
 
@@ -211,7 +211,7 @@ fn read_text<S: Source>(
     alloc: Global,
     source: &S,
     log: &mut S::Log,
-    len: usize,
+    len: u64,
     places: TableOffsets,
 ) -> Result<Text, ReadError> {
     let offset = places.sections;
@@ -221,7 +221,7 @@ fn read_text<S: Source>(
     if places.section_count == 0 {
         return Err(ReadError::Refused(ParseError::SymbolsSectionIsMissing));
     }
-    let size = places.section_count as usize * SECTION_LENGTH;
+    let size = places.section_count as u64 * SECTION_LENGTH as u64;
     let headers = part(alloc, source, log, offset, size.min(len - offset))?;
     let table = Table {
         bytes: &headers,
@@ -236,7 +236,7 @@ fn read_headers<S: Source>(
     alloc: Global,
     source: &S,
     log: &mut S::Log,
-    len: usize,
+    len: u64,
     places: TableOffsets,
 ) -> Result<Vec<u8>, ReadError> {
     let offset = places.sections;
@@ -244,7 +244,7 @@ fn read_headers<S: Source>(
         return Err(ReadError::Refused(ParseError::UnexpectedEof));
     }
     let rest = len - offset;
-    let size = places.section_count as usize * SECTION_LENGTH;
+    let size = places.section_count as u64 * SECTION_LENGTH as u64;
     if size.saturating_sub(SECTION_UNREAD) > rest {
         return Err(ReadError::Refused(ParseError::UnexpectedEof));
     }
@@ -262,7 +262,7 @@ fn read_records<S: Source>(
     alloc: Global,
     source: &S,
     log: &mut S::Log,
-    len: usize,
+    len: u64,
     places: TableOffsets,
 ) -> Result<Records, ReadError> {
     let offset = places.symbols;

@@ -68,7 +68,7 @@ pub fn read_sections<S: Source>(
     width: Width,
     byte_order: ByteOrder,
 ) -> Result<SectionParts, ReadError> {
-    let len = source.length()? as usize;
+    let len = source.length()?;
     let place = read_place(alloc, source, log, len, width, byte_order)?;
     let names = read_names(alloc, source, log, len, width, place)?;
     let headers = read_table(alloc, source, log, len, width, place)?;
@@ -77,7 +77,7 @@ pub fn read_sections<S: Source>(
         names,
         width,
         place,
-        file_length: len as u64,
+        file_length: len,
     })
 }
 
@@ -87,7 +87,7 @@ fn read_table<S: Source>(
     alloc: Global,
     source: &S,
     log: &mut S::Log,
-    len: usize,
+    len: u64,
     width: Width,
     place: HeaderTable,
 ) -> Result<Vec<u8>, ReadError> {

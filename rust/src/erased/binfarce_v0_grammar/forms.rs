@@ -3,8 +3,8 @@
 //! The form of the grammar at a position of a v0 name: the front of a production, up to its first path, type or const
 //! (RFC 2603, "Syntax of mangled names").
 
-mod consts;
-mod signature;
+pub(crate) mod consts;
+pub(crate) mod signature;
 
 use crate::erased::binfarce_v0_grammar::identifiers::undisambiguated_at;
 use crate::erased::binfarce_v0_grammar::numbers::{base_62_number, byte_at, past};

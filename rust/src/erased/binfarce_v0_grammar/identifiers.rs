@@ -6,7 +6,8 @@ use crate::erased::binfarce_v0_grammar::numbers::{
     byte_at, length_at, optional_base_62_number, past, skip_optional_base_62_number,
 };
 
-/// `<undisambiguated-identifier>`: its ASCII part, and its Punycode part. Both are slices of the name: nothing is copied.
+/// `<undisambiguated-identifier>`: its ASCII part, and its Punycode part. Both are slices of the name: nothing is
+/// copied.
 #[derive(Clone, Copy)]
 pub struct UndisambiguatedIdentifier<'a> {
     /// The characters before the last `_` of a Punycode identifier, and all of any other.
@@ -64,7 +65,7 @@ fn identifier_bytes<'a>(
     start: usize,
     size: u64,
 ) -> Option<(UndisambiguatedIdentifier<'a>, usize)> {
-    let end = start.checked_add(size as usize)?;
+    let end = start.checked_add(usize::try_from(size).ok()?)?;
     if end > part.len() {
         return None;
     }

@@ -121,7 +121,8 @@ fn write_small(part: &[u8], start: usize, end: usize) -> bool {
     count <= 10 || (count == 11 && are_small(part[start], part[start + 1]))
 }
 
-/// The position after the number after a tag. Its digits are decoded only where the number may be too large.
+/// Skips an optional tag and the base-62 number after it: the position behind them. `None` where the number is invalid.
+/// Its digits are decoded only where the number may be too large.
 #[cfg_attr(not(debug_assertions), inline(always))]
 pub fn skip_optional_base_62_number(part: &[u8], tag: u8, at: usize) -> Option<usize> {
     if byte_at(part, at) != tag {
@@ -144,9 +145,8 @@ pub fn skip_optional_base_62_number(part: &[u8], tag: u8, at: usize) -> Option<u
 #[cfg_attr(not(debug_assertions), inline(always))]
 pub fn back_reference(part: &[u8], at: usize) -> Option<(usize, usize)> {
     let (target, after) = base_62_number(part, at + 1)?;
-    let target = target as usize;
-    if target < at {
-        Some((target, after))
+    if target < at as u64 {
+        Some((target as usize, after))
     } else {
         None
     }
@@ -192,7 +192,8 @@ pub fn length_at(part: &[u8], at: usize) -> Option<(u64, usize)> {
     }
 }
 
-/// The position of the `_` that ends the lower-case hexadecimal digits at a position. None where another byte ends them.
+/// The position of the `_` that ends the lower-case hexadecimal digits at a position. None where another byte ends
+/// them.
 pub fn hex_end(part: &[u8], start: usize) -> Option<usize> {
     for at in start..part.len() {
         match part[at] {

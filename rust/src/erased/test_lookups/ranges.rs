@@ -5,6 +5,7 @@
 use crate::shim::Vec;
 use crate::erased::test_lookups::words::{known, number, numbers, push_number, push_words};
 use crate::erased::binfarce_addresses::ranges::{AddressRange, Ranges};
+use crate::erased::binfarce_bytes::parser::to_index;
 use crate::erased::binfarce_bytes::source::read_part;
 use crate::shim::alloc::Global;
 use crate::shim::io::{self, ErrorKind};
@@ -39,8 +40,8 @@ fn push_places(alloc: Global, words: &str, text: &mut Vec<u8>) -> io::Result<()>
     Ok(())
 }
 
-// Each of these many ranges lies within the one before it, and each address is behind the ends of all but a few. A walk from
-// range to range would take more steps than a test has time for.
+// Each of these many ranges lies within the one before it, and each address is behind the ends of all but a few. A walk
+// from range to range would take more steps than a test has time for.
 fn push_nested(alloc: Global, words: &str, text: &mut Vec<u8>) -> io::Result<()> {
     let count: u32 = known(words.parse().ok())?;
     let count = u64::from(count);
@@ -66,7 +67,7 @@ const BYTES: &[u8] = &[1, 2, 3, 4];
 // The bytes of a part.
 fn push_part(alloc: Global, words: &str, text: &mut Vec<u8>) -> io::Result<()> {
     for (offset, size) in numbers(alloc, words, false)?.iter() {
-        match read_part(alloc, &BYTES, &mut (), *offset, *size as usize) {
+        match read_part(alloc, &BYTES, &mut (), *offset, to_index(*size)) {
             Ok(part) => {
                 for byte in &part {
                     push_number(text, u64::from(*byte))?;

@@ -7,8 +7,9 @@
 //! - 0 and 0: the file header: relocatable, 5 section headers, and section 4 has the section names
 //! - 52 and 64: section 1, `.text`, 32 bytes of code
 //! - 84 and 96: section 2, `.symtab`, five rows: `_ZN3foo3barE` at 0x1000 and `bad` at 0x1010, functions of 16 bytes of
-//!   section 1 and of section 2; and at 0x1010 three of section 1: the function `bad` of no size, a function of 16 bytes
-//!   without a name, and the object `bad` of 16 bytes. So the first alone is a function of `.text` with a size and a name.
+//!   section 1 and of section 2; and at 0x1010 three of section 1: the function `bad` of no size, a function of 16
+//!   bytes without a name, and the object `bad` of 16 bytes. So the first alone is a function of `.text` with a size
+//!   and a name.
 //! - 164 and 216: section 3, `.strtab`
 //! - 182 and 234: section 4, `.shstrtab`
 //! - 215 and 267: the section headers of 40 and 64 bytes, the first of no section

@@ -2,12 +2,12 @@
 
 //! A PE file of one section and five symbols.
 //!
-//! - 0: MS-DOS header, which has at 60 that the signature is at 64. Readers don't look at the signature, nor at the magic
-//!   number, which is zero here.
+//! - 0: MS-DOS header, which has at 60 that the signature is at 64. Readers don't look at the signature, nor at the
+//!   magic number, which is zero here.
 //! - 68: file header: 1 section, 5 symbols at 128, no optional header
 //! - 88: section header: `.text`, 0x100 bytes of raw data
-//! - 128: rows of section 1, type 0x20 (function), class 2 (external), without auxiliary records: `a` at 0x180, `b` at 0,
-//!   `c` at 0x40, `d` at 0, `e` at 0x100
+//! - 128: rows of section 1, type 0x20 (function), class 2 (external), without auxiliary records: `a` at 0x180, `b` at
+//!   0, `c` at 0x40, `d` at 0, `e` at 0x100
 
 use crate::erased::test_samples::Patch;
 

@@ -37,7 +37,7 @@ loop-k-preserved c =
     let held = c.holds_body.ensures in
     let left : ((header_of file).ncmds - c.loop-k._k) - 1 ≡ (header_of file).ncmds - (c.loop-k._k + 1) = omega arith in
     sym (one_held file ((header_of file).ncmds - c.loop-k._k) c.loop-k.offset (omega (arith, count, c.loop-k-test.true)) at.0 (omega (arith, size, c.if-command-lt-COMMAND_HEAD.false)) (ap (holds_body file) (sym at.1) ∙ sym held ∙ c.if-not-holds_body.false)
-    ∙ ap₂ (λ (n o : ℕ). holds_from file n o) left (ap (λ (s : ℕ). c.loop-k.offset + s) (sym size)))
+    ∙ ap₂ (λ (n o : ℕ). holds_from file n o) left (ap (λ (s : ℕ). c.loop-k.offset + s) (sym size) ∙ sym c.to_index-offset.ensures))
     ∙ c.loop-k.invariant
 
 pub returns : goal.returns

@@ -1,38 +1,33 @@
-use Rattle.std.proofs.Common.{◌≡◌, ℕ, ◌+◌, ◌-◌, ◌<◌, ◌≤◌, ◌^◌, Ok, Err, ap, ap₂, sym, ◌∙◌, arith, length, subst}
+use Rattle.std.proofs.Common.{◌≡◌, ℕ, ◌+◌, ◌≤◌, Ok, ap, ap₂, sym, ◌∙◌, arith, length, subst}
 use Rattle.binfarce_bytes.specs.Number.{bytes_at}
 use Rattle.binfarce_bytes.specs.Part.{part}
 use Rattle.binfarce_elf.specs.ElfViews.{section_view}
 use Rattle.binfarce_tables.proofs.Contents.{data_malformed, data_past, data_inside}
-use Rattle.binfarce_tables.proofs.Readings.{instead, converted}
-use Rattle.binfarce_tables.proofs.Sure.{in_file, one, nothing, converted_surely}
+use Rattle.binfarce_tables.proofs.Readings.{instead}
+use Rattle.binfarce_tables.proofs.Sure.{in_file, one}
 use Rattle.binfarce_tables.proofs.elf.read_section.Goals as goal
 
-pub returns-in_err-range-clause-answer : goal.returns-in_err-range-clause-answer
-returns-in_err-range-clause-answer g c = λ file known.
-    converted _ _ _ c.in_err-range.field-0.0 c.from_residual.result c.from_residual.ensures
-    (data_malformed file (section_view (λ n. n) c.args.section) c.in_err-range.ensures.0 ∙ ap Err (sym c.in_err-range.ensures.1))
+pub returns-in_default-clause-answer : goal.returns-in_default-clause-answer
+returns-in_default-clause-answer g c = λ file known.
+    data_malformed file (section_view (λ n. n) c.args.section) (omega (arith, c.offset-offset.ensures, c.size-size.ensures, c.in_default.ensures))
 
-pub returns-then-range-len-clause-answer : goal.returns-then-range-len-clause-answer
-returns-then-range-len-clause-answer g c = λ file known.
+pub returns-then-end-len-clause-answer : goal.returns-then-end-len-clause-answer
+returns-then-end-len-clause-answer g c = λ file known.
     let s = section_view (λ n. n) c.args.section in
-    let t = rw c.in_ok-range.was at c.range.type_inv in
-    let end : c.in_ok-range.range.end < 2 ^ 64 = omega (arith, t) in
-    data_past file s (omega (arith, c.in_ok-range.ensures.1, end)) (omega (arith, known.1, c.in_ok-range.ensures.1, c.if-range-len.true))
+    let end : c.in-Some.end ≡ s.offset + s.size = omega (arith, c.in-Some.ensures.1, c.offset-offset.ensures, c.size-size.ensures) in
+    data_past file s (omega (arith, end, c.in-Some.ensures)) (omega (arith, known.1, end, c.if-end-len.true))
 
 pub returns-clause-answer : goal.returns-clause-answer
 returns-clause-answer g c = λ file known.
     let s = section_view (λ n. n) c.args.section in
-    let inside : s.offset + s.size ≤ length file = omega (arith, known.1, c.in_ok-range.ensures.1, c.if-range-len.false) in
-    let size : c.in_ok-range.range.end - c.in_ok-range.range.start ≡ s.size = omega (arith, c.in_ok-range.ensures.0, c.in_ok-range.ensures.1) in
-    let is = data_inside file s (omega (arith, inside, known.1, c.ranges.len.fits)) inside in
-    instead _ _ _ _ _ (is ∙ ap Ok (sym (ap₂ (λ (a b : ℕ). bytes_at file a b) c.in_ok-range.ensures.0 size))) (c.part.ensures.part file known.0 (omega (arith, inside, size, c.in_ok-range.ensures.0)))
-
-pub returns-in_err-range-clause-only : goal.returns-in_err-range-clause-only
-returns-in_err-range-clause-only g c = λ file known. nothing (converted_surely c.in_err-range.field-0.0 c.from_residual.result c.from_residual.ensures)
+    let end : c.in-Some.end ≡ s.offset + s.size = omega (arith, c.in-Some.ensures.1, c.offset-offset.ensures, c.size-size.ensures) in
+    let inside : s.offset + s.size ≤ length file = omega (arith, known.1, end, c.if-end-len.false) in
+    let same : bytes_at file c.offset-offset.result c.size-size.result ≡ bytes_at file s.offset s.size = ap₂ (λ (a b : ℕ). bytes_at file a b) c.offset-offset.ensures c.size-size.ensures in
+    instead _ _ _ _ _ (data_inside file s (omega (arith, end, c.in-Some.ensures)) inside ∙ ap Ok (sym same)) (c.part.ensures.part file known.0 (omega (arith, inside, c.offset-offset.ensures, c.size-size.ensures)))
 
 pub returns-clause-only : goal.returns-clause-only
 returns-clause-only g c = λ file known.
     let s = section_view (λ n. n) c.args.section in
-    let inside : s.offset + s.size ≤ length file = omega (arith, known.1, c.in_ok-range.ensures.1, c.if-range-len.false) in
-    let size : c.in_ok-range.range.end - c.in_ok-range.range.start ≡ s.size = omega (arith, c.in_ok-range.ensures.0, c.in_ok-range.ensures.1) in
-    one (λ P all. subst P (sym (ap₂ (λ (a b : ℕ). part a b) c.in_ok-range.ensures.0 size)) (in_file P file s.offset s.size inside all)) c.part.ensures.only
+    let end : c.in-Some.end ≡ s.offset + s.size = omega (arith, c.in-Some.ensures.1, c.offset-offset.ensures, c.size-size.ensures) in
+    let inside : s.offset + s.size ≤ length file = omega (arith, known.1, end, c.if-end-len.false) in
+    one (λ P all. subst P (sym (ap₂ (λ (a b : ℕ). part a b) c.offset-offset.ensures c.size-size.ensures)) (in_file P file s.offset s.size inside all)) c.part.ensures.only

@@ -1,6 +1,7 @@
-use Rattle.std.proofs.Common.{◌≡◌, ◌+◌, ◌-◌, ap, sym, ◌∙◌, refl, arith}
+use Rattle.std.proofs.Common.{◌≡◌, ℕ, ◌+◌, ◌-◌, ap, sym, ◌∙◌, refl, arith}
 use Rattle.binfarce_bytes.specs.Walk.{ahead_of}
 use Rattle.binfarce_macho.specs.Macho.{Command, command_at, commands_from}
+use Rattle.binfarce_macho.specs.machine.RawMacho.{command_view}
 use Rattle.binfarce_macho.proofs.CommandWalks.{none_left, truncated, bad, given}
 use Rattle.binfarce_macho.proofs.commands.MachoCommandsIteratorIterator.next.Goals as goal
 
@@ -32,5 +33,6 @@ returns-else-command-lt-COMMAND_HEAD-clause-steps c =
     let enough = c.if-command-lt-COMMAND_HEAD.false in (
       refl,
       given file left offset (omega arith) c.in-Ok.ensures.0 (omega arith)
-          ∙ ap (λ (k : Command). ahead_of k (commands_from file (left - 1) (offset + k.size))) (sym is),
+          ∙ ap (λ (k : Command). ahead_of k (commands_from file (left - 1) (offset + k.size))) (sym is)
+          ∙ ap (λ (n : ℕ). ahead_of (command_view c.in-Ok.command) (commands_from file (left - 1) n)) (sym c.to_index-self.ensures),
     )

@@ -1,10 +1,10 @@
 -- What a file comes to, by what is read of it and by how its showing ended.
-use Rattle.std.proofs.Common.{◌≡◌, ◌≢◌, ◌∙◌, ◌⊎◌, inl, inr, ℕ, Bool, true, false, List, [], ◌∷◌, ◌++◌, take, Option, Some, None, Result, Ok, Err, refl, sym, ap, subst, append_assoc, append-nil, IsErrAnd}
+use Rattle.std.proofs.Common.{◌≡◌, ◌≢◌, ◌∙◌, ◌⊎◌, inl, inr, ℕ, Bool, true, false, List, [], ◌∷◌, ◌++◌, take, Option, Some, None, Result, Ok, Err, refl, sym, ap, subst, append_assoc, append-nil, IsErrAnd, if◌then◌else◌}
 use Rattle.std.specs.Option.{option_map}
 use Rattle.std.specs.Prelude.{IfErr, OnOk}
 use Rattle.std.specs.Io.KnownBytes.{Appends, Keeps}
 use Rattle.binfarce_bytes.specs.Format.{format_of}
-use Rattle.binfarce_bytes.specs.Refusal.{Refusal}
+use Rattle.binfarce_bytes.specs.Refusal.{Refusal, symbols_section_is_missing}
 use Rattle.binfarce.specs.Symbol.{Listed}
 use Rattle.binfarce_bytes.specs.declared.format.Format.{Format}
 use Rattle.binfarce_bytes.specs.declared.format.Format.TheVariants as formats
@@ -14,12 +14,12 @@ use Rattle.binfarce_tools.specs.AllAnswer.{selected_symbols, one_answer}
 use Rattle.binfarce_tools.specs.Answer.{symbols_answer}
 use Rattle.binfarce_bytes.specs.Selection.{section_of}
 use Rattle.binfarce_tools.specs.Selection.{answer_in}
-use Rattle.binfarce_tools.specs.Writing.{AppendsBeginning, IsDue, Leaves, Outcome, EndsAs, unknown_format, wrong_usage}
+use Rattle.binfarce_tools.specs.Writing.{AppendsBeginning, IsDue, Leaves, Outcome, EndsAs, wrong_usage}
 use Rattle.binfarce_command.specs.Faults.{outcome_of}
 use Rattle.binfarce_command.specs.Files.{Files, IsUnreadable, Reports, ReportsWhy, ShowsSource, ShowsOne, State, heading, refused, shown}
 use Rattle.binfarce_command.specs.Output.{pending, taken, writer_of}
 use Rattle.binfarce_command.specs.Input.{IsReadOf}
-use Rattle.binfarce_command.specs.Show.{Fits, IsAskedText, IsShownText, MayEnd, MemoryFor, TakesText, answer_for}
+use Rattle.binfarce_command.specs.Show.{Fits, IsAskedText, IsShownText, MayEnd, MemoryFor, TakesText, answer_for, answer_taken, is_taken}
 use Rattle.binfarce_command.specs.declared.fault.Fault.{Fault}
 use Rattle.binfarce_command.specs.declared.fault.Fault.TheVariants.{Unreadable, Input, OutOfMemory, Write, Unknown, Parse, TooLarge, NoSection, NoBytes, PastEnd, SharedAddresses, Missing, Grown}
 use Rattle.binfarce_command.specs.declared.output.Output.{Output}
@@ -38,8 +38,17 @@ no_answer which file None is = ap (λ (f : Format). one_answer (selected_symbols
 unknown_too : (file bytes : List ℕ) → format_of file ≡ formats.Unknown → bytes ≡ take 8 file → format_of bytes ≡ formats.Unknown
 unknown_too file bytes unknown is = ap format_of is ∙ format_of_first file ∙ unknown
 
+-- any section can be selected in it
+unknown_taken : (section : Option (List ℕ)) → is_taken section formats.Unknown ≡ true
+unknown_taken None = refl
+unknown_taken (Some name) = refl
+
+no_taken : (which : SymbolTable) (file : List ℕ) (section : Option (List ℕ)) → format_of file ≡ formats.Unknown → answer_taken which file section ≡ None
+no_taken which file section is =
+    ap (λ (b : Bool). if b then answer_in which file section else Some (Err symbols_section_is_missing)) (ap (is_taken section) is ∙ unknown_taken section) ∙ no_answer which file section is
+
 no_shown : (asked : Request) (file : List ℕ) → format_of file ≡ formats.Unknown → answer_for asked.symbols file ≡ None
-no_shown asked file is = no_answer asked.symbols.which file (section_of asked.symbols.selection) is
+no_shown asked file is = no_taken asked.symbols.which file (section_of asked.symbols.selection) is
 
 -- a text of what was read of a file is one of the file
 pub text_of_file : (asked : Request) (path file bytes text : List ℕ) → IsReadOf file bytes → IsShownText asked path bytes text → IsShownText asked path file text

@@ -2,7 +2,8 @@
 use Rattle.std.proofs.Common.{◌≡◌, ◌≢◌, ◌∙◌, inl, inr, ℕ, Bool, true, List, Option, Some, None, Result, Ok, Err, IsErrAnd, refl, sym, ap, subst}
 use Rattle.binfarce.specs.Refusal.{Refusal, refusal_of}
 use Rattle.binfarce.specs.SectionEntries.{SelectedSymbols, as_listed}
-use Rattle.binfarce.specs.Symbol.{Listed}
+use Rattle.binfarce.specs.Symbol.{Entry, Listed}
+use Rattle.binfarce_bytes.specs.Selection.{section_of}
 use Rattle.binfarce_addresses.specs.PlacesViews.{IsMadeOf}
 use Rattle.binfarce_tables.specs.declared.error.ReadError.{ReadError}
 use Rattle.binfarce_tables.specs.declared.error.ReadError.TheVariants as reading
@@ -10,10 +11,13 @@ use Rattle.binfarce_tools.specs.AllAnswer.{all_answer_of, one_answer}
 use Rattle.binfarce_tools.specs.Selection.{addresses_are_shared, answer_in, share_in}
 use Rattle.binfarce_tools.specs.Tables.{ReadsAs}
 use Rattle.binfarce_tools.specs.declared.SymbolTable.{SymbolTable}
+use Rattle.binfarce_tools.specs.declared.tables.Tables.{Tables}
 use Rattle.binfarce_tools.specs.declared.list.ListError.TheVariants as listing
 use Rattle.binfarce_tools.specs.Writing.{Fails}
-use Rattle.binfarce_command.specs.At.{HasPlaces, IsShared, lines_outcome}
+use Rattle.binfarce_command.specs.At.{HasPlaces, IsShared, lines_outcome, share_addresses}
 use Rattle.binfarce_command.specs.Faults.{list_fault, outcome_of, read_fault}
+use Rattle.binfarce_command.specs.Show.{AreTablesFor, MemoryFor, answer_for, answer_taken}
+use Rattle.binfarce_command.specs.declared.show.Symbols.{Symbols}
 use Rattle.binfarce_command.specs.declared.fault.Fault.{Fault}
 use Rattle.binfarce_command.specs.declared.fault.Fault.TheVariants.{Unreadable, Input, OutOfMemory, Write, Unknown, Parse, TooLarge, NoSection, NoBytes, PastEnd, SharedAddresses, Missing, Grown}
 
@@ -52,13 +56,18 @@ shared_answer which file None shared = by_answer (all_answer_of which file) shar
     by_answer (Some (Err refusal)) shared = absurd cc
     by_answer (Some (Ok all)) shared = (as_listed all, refl)
 
+-- they were selected without a name
+shared_taken : (which : SymbolTable) (file : List ℕ) (section : Option (List ℕ)) → share_in which file section ≡ true → answer_taken which file section ≡ answer_in which file section
+shared_taken which file (Some name) shared = absurd cc
+shared_taken which file None shared = refl
+
 -- so they aren't refused, and where they aren't read it is for another reason
 pub shared_unread : {T : Type 0} (AreTables : T → Type 0) (MayFail : Type 0) (which : SymbolTable) (file : List ℕ) (section : Option (List ℕ)) (e : ReadError) (result : Result (Unit {0}) Fault)
-    → share_in which file section ≡ true → ReadsAs AreTables MayFail (answer_in which file section) (Err e) → IsErrAnd result (λ f. f ≡ read_fault e) → IsShared MayFail result
+    → share_in which file section ≡ true → ReadsAs AreTables MayFail (answer_taken which file section) (Err e) → IsErrAnd result (λ f. f ≡ read_fault e) → IsShared MayFail result
 shared_unread AreTables MayFail which file section e (Ok x) shared reads is = absurd is
 shared_unread AreTables MayFail which file section (reading.Refused p) (Err f) shared reads is =
     let answered = shared_answer which file section shared in
-    let never : Path (Option (Result Listed Refusal)) (Some (Ok answered.0)) (Some (Err (refusal_of p))) = sym answered.1 ∙ reads in absurd cc
+    let never : Path (Option (Result Listed Refusal)) (Some (Ok answered.0)) (Some (Err (refusal_of p))) = sym answered.1 ∙ sym (shared_taken which file section shared) ∙ reads in absurd cc
 shared_unread AreTables MayFail which file section reading.Unreadable (Err f) shared reads is = inr (inl (reads, is))
 shared_unread AreTables MayFail which file section reading.OutOfMemory (Err f) shared reads is = inr (inr is)
 
@@ -71,3 +80,8 @@ shared_places MayFail which file section memory e (Err f) shared (inr (error, ma
     let answered = shared_answer which file section shared in
     let full : error ≡ listing.OutOfMemory = subst (λ (answer : Option (Result Listed Refusal)). IsMadeOf memory answer (Err error)) answered.1 made in
     inr (inr (is ∙ same ∙ ap list_fault full))
+
+-- the places that are made of the tables for function symbols are those of what the file answers for them
+pub places_for : (symbols : Symbols) (file : List ℕ) (tables : Tables) (result : Result (List Entry) Fault) → AreTablesFor symbols file tables
+    → HasPlaces (share_addresses symbols file) (MemoryFor symbols file) (answer_in symbols.which file (section_of symbols.selection)) result → HasPlaces (share_addresses symbols file) (MemoryFor symbols file) (answer_for symbols file) result
+places_for symbols file tables result are has = subst (λ (answer : Option (Result Listed Refusal)). HasPlaces (share_addresses symbols file) (MemoryFor symbols file) answer result) (sym are.1) has

@@ -1,12 +1,17 @@
 -- How a call of another crate ended is how the work that makes it ended.
-use Rattle.std.proofs.Common.{◌≡◌, inl, inr, Option, Result, Ok, Err, IsErrAnd, refl, sym, subst}
-use Rattle.binfarce.specs.Refusal.{Refusal, refusal_of}
+use Rattle.std.proofs.Common.{◌≡◌, ◌∙◌, inl, inr, ap, ℕ, Bool, true, false, List, Option, Some, Result, Ok, Err, IsErrAnd, if◌then◌else◌, refl, sym, subst}
+use Rattle.binfarce.specs.Format.{format_of}
+use Rattle.binfarce.specs.Refusal.{Refusal, refusal_of, symbols_section_is_missing}
 use Rattle.binfarce.specs.Symbol.{Listed}
+use Rattle.binfarce.specs.declared.Format.{Format}
+use Rattle.binfarce_bytes.specs.Selection.{section_of}
 use Rattle.binfarce_tables.specs.declared.error.ReadError.{ReadError}
 use Rattle.binfarce_tables.specs.declared.error.ReadError.TheVariants.{Refused, Unreadable, OutOfMemory}
 use Rattle.binfarce_tools.specs.ListWords as list
 use Rattle.binfarce_tools.specs.ReportWords as report
-use Rattle.binfarce_tools.specs.Tables.{ReadsAs}
+use Rattle.binfarce_tools.specs.Selection.{answer_in}
+use Rattle.binfarce_tools.specs.Tables.{ReadsAs, ReadsTables}
+use Rattle.binfarce_tools.specs.declared.tables.Tables.{Tables}
 use Rattle.binfarce_tools.specs.Writing.{Outcome, EndsAs, ProgramEndsAs, refused}
 use Rattle.binfarce_tools.specs.declared.list.ListError.{ListError}
 use Rattle.binfarce_tools.specs.declared.list.ListError.TheVariants as listing
@@ -14,7 +19,9 @@ use Rattle.binfarce_tools.specs.declared.report.ReportError.{ReportError}
 use Rattle.binfarce_tools.specs.declared.report.ReportError.TheVariants as sums
 use Rattle.binfarce_command.specs.Faults.{list_fault, read_fault, report_fault, outcome_of}
 use Rattle.binfarce_command.specs.declared.fault.Fault.{Fault}
+use Rattle.binfarce_command.specs.Show.{AreTablesFor, answer_for, is_taken}
 use Rattle.binfarce_command.specs.declared.show.Kind.{Kind}
+use Rattle.binfarce_command.specs.declared.show.Symbols.{Symbols}
 
 list_ended : (e : ListError) (P : Outcome → Type 0) → P (list.outcome_of (Err e)) → P (outcome_of (Err (list_fault e)))
 list_ended listing.Unknown P h = h
@@ -43,6 +50,29 @@ list_in P kind found is e result err h = of_list e result (λ (o : Outcome). P k
 
 pub report_in : (P : Kind → Outcome → Type 0) (kind found : Kind) → kind ≡ found → (e : ReportError) (result : Result (Unit {0}) Fault) → IsErrAnd result (λ f. f ≡ report_fault e) → P found (report.outcome_of (Err e)) → P kind (outcome_of result)
 report_in P kind found is e result err h = of_report e result (λ (o : Outcome). P kind o) err (subst (λ (k : Kind). P k (report.outcome_of (Err e))) (sym is) h)
+
+-- the tables that are read of a file are those for the function symbols that are taken, where the section can be selected
+pub read_for : (MayFail : Type 0) (symbols : Symbols) (file : List ℕ) (format : Format) (result : Result Tables ReadError) → format ≡ format_of file → is_taken (section_of symbols.selection) format ≡ true
+    → ReadsTables MayFail symbols.which file (section_of symbols.selection) result → ReadsAs (AreTablesFor symbols file) MayFail (answer_for symbols file) result
+read_for MayFail symbols file format result is taken reads = by_result result reads
+  where
+    section : Option (List ℕ)
+    section = section_of symbols.selection
+
+    same : answer_for symbols file ≡ answer_in symbols.which file section
+    same = ap (λ (b : Bool). if b then answer_in symbols.which file section else Some (Err symbols_section_is_missing)) (ap (is_taken section) (sym is) ∙ taken)
+
+    by_result : (result : Result Tables ReadError) → ReadsTables MayFail symbols.which file section result → ReadsAs (AreTablesFor symbols file) MayFail (answer_for symbols file) result
+    by_result (Ok tables) reads = (reads, same)
+    by_result (Err (Refused e)) reads = same ∙ reads
+    by_result (Err Unreadable) reads = reads
+    by_result (Err OutOfMemory) reads = reads
+
+-- and where it can't be, it is missing
+pub missing_for : (symbols : Symbols) (file : List ℕ) (format : Format) → format ≡ format_of file → is_taken (section_of symbols.selection) format ≡ false → answer_for symbols file ≡ Some (Err symbols_section_is_missing)
+missing_for symbols file format is untaken =
+    let section = section_of symbols.selection in
+    ap (λ (b : Bool). if b then answer_in symbols.which file section else Some (Err symbols_section_is_missing)) (ap (is_taken section) (sym is) ∙ untaken)
 
 -- the tables weren't read
 pub unread : (MayFail : Type 0) {T : Type 0} (AreTables : T → Type 0) (Fits : Listed → Type 0) (memory : Result Listed Refusal → Type 0) (answer : Option (Result Listed Refusal)) (e : ReadError) (result : Result (Unit {0}) Fault)

@@ -14,7 +14,7 @@ refused_words (section_is_missing name) =
     if bytes_eq name (codes ".symtab") then codes "no symbol table (.symtab); --dynamic lists its dynamic symbols"
     else if bytes_eq name (codes ".dynsym") then codes "no dynamic symbol table (.dynsym)"
     else words (section_is_missing name)
-refused_words symbols_section_is_missing = codes "no such section; binfarce section lists those of the file"
+refused_words symbols_section_is_missing = codes "no such section; binfarce section lists those of an ELF file; in others .text is the code"
 refused_words refusal = words refusal
 
 -- of so many lines without an address

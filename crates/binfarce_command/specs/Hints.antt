@@ -1,7 +1,7 @@
 -- Hints on files.
-use Rattle.std.specs.Prelude.{◌≡◌, ℕ, zero, suc, Bool, ◌&&◌, ◌||◌, List, [], ◌∷◌, ◌++◌, length, slice_index, codes, nat_eq, nat_lt, Option, Some, None, Ok, if◌then◌else◌}
+use Rattle.std.specs.Prelude.{◌≡◌, ◌<◌, ℕ, zero, suc, ◌&&◌, ◌||◌, List, [], ◌∷◌, ◌++◌, length, slice_index, codes, nat_eq, nat_lt, Option, Some, None, Ok, if◌then◌else◌}
 use Rattle.std.specs.Fmt.{decimal}
-use Rattle.std.specs.List.{starts_with}
+use Rattle.std.specs.List.{starts_with, sum_by}
 use Rattle.std.specs.String.{string_bytes}
 use Rattle.binfarce.specs.Symbol.{Listed}
 use Rattle.binfarce.specs.declared.SymbolTable.{SymbolTable}
@@ -32,6 +32,12 @@ abbrev pub others : (count : ℕ) → Hint
 others zero = hints.None
 others (suc n) = hints.Others (suc n)
 
--- the hint is that a section has no function symbol, and it has none
+-- the hint is true of a section: it has no function symbol, or the sum of their sizes exceeds its size
+abbrev pub IsHintOf : Listed → Hint → Type 0
+IsHintOf listed hints.None = listed.entries ≡ []
+IsHintOf listed hints.Overlap = listed.section_size < sum_by (λ e. e.size) listed.entries
+IsHintOf listed hint = ⊥
+
+-- it is true of this section of a file
 abbrev pub IsHintOn : SymbolTable → (file section : List ℕ) → Hint → Type 0
-IsHintOn which file section hint = (hint ≡ hints.None) × (listed : Listed) × (answer_in which file (Some section) ≡ Some (Ok listed)) × (listed.entries ≡ [])
+IsHintOn which file section hint = (listed : Listed) × (answer_in which file (Some section) ≡ Some (Ok listed)) × IsHintOf listed hint

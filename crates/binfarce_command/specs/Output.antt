@@ -1,4 +1,4 @@
--- What clauses see of a sink with headings.
+-- The views of a sink with headings that clauses use.
 use Rattle.std.specs.Prelude.{ℕ, Bool, List, ◌++◌, drop, Option, is_some}
 use Rattle.std.specs.Option.{option_map}
 use Rattle.binfarce_command.specs.Files.{Refused, State}

@@ -1,6 +1,10 @@
 -- How function symbols are shown.
-use Rattle.std.specs.Prelude.{ℕ, List, [], Option, Some, None, Result, if◌then◌else◌}
-use Rattle.binfarce.specs.Refusal.{Refusal}
+use Rattle.std.specs.Prelude.{◌≡◌, ℕ, Bool, true, List, [], codes, Option, Some, None, Result, Err, if◌then◌else◌}
+use Rattle.std.specs.Str.{bytes_eq}
+use Rattle.binfarce.specs.Format.{format_of}
+use Rattle.binfarce.specs.declared.Format.{Format}
+use Rattle.binfarce.specs.declared.Format.TheVariants as formats
+use Rattle.binfarce.specs.Refusal.{Refusal, symbols_section_is_missing}
 use Rattle.binfarce.specs.Symbol.{Listed}
 use Rattle.binfarce_figures.specs.Figures.{AreFiguresBy}
 use Rattle.binfarce_figures.specs.RowListing.{IsListingBy}
@@ -12,8 +16,10 @@ use Rattle.binfarce_tools.specs.Listing.{ListingFits}
 use Rattle.binfarce_tools.specs.Report.{IsReportIn, ReportFits}
 use Rattle.binfarce_bytes.specs.Selection.{section_of}
 use Rattle.binfarce_tools.specs.Selection.{answer_in, MemoryIn}
+use Rattle.binfarce_tools.specs.Tables.{AreTablesOf}
 use Rattle.binfarce_tools.specs.Writing.{Outcome, IsDue, ProgramEndsAs, Takes}
 use Rattle.binfarce_tools.specs.declared.SymbolTable.{SymbolTable}
+use Rattle.binfarce_tools.specs.declared.tables.Tables.{Tables}
 use Rattle.binfarce_command.specs.declared.show.Request.{Request}
 use Rattle.binfarce_command.specs.declared.show.Kind.{Kind}
 use Rattle.binfarce_command.specs.declared.show.Kind.TheVariants.{Listing, Rows, Sums, Figures, Picture, Stacks}
@@ -46,9 +52,23 @@ Fits (Figures figures) = ReportFits
 Fits Picture = ReportFits
 Fits Stacks = ListingFits
 
--- what a file answers for the function symbols that are taken
+-- the section can be selected in a file of this format: in a Mach-O or PE file `.text` is the code section, and there is no other name
+abbrev pub is_taken : (section : Option (List ℕ)) → Format → Bool
+is_taken (Some name) formats.Macho = bytes_eq name (codes ".text")
+is_taken (Some name) formats.PE = bytes_eq name (codes ".text")
+is_taken section format = true
+
+-- what a file answers for a selection: a section that can't be selected is missing
+abbrev pub answer_taken : SymbolTable → (file : List ℕ) → (section : Option (List ℕ)) → Option (Result Listed Refusal)
+answer_taken which file section = if is_taken section (format_of file) then answer_in which file section else Some (Err symbols_section_is_missing)
+
+-- so for the function symbols that are taken
 abbrev pub answer_for : Symbols → (file : List ℕ) → Option (Result Listed Refusal)
-answer_for symbols file = answer_in symbols.which file (section_of symbols.selection)
+answer_for symbols file = answer_taken symbols.which file (section_of symbols.selection)
+
+-- the tables are those of the file for these function symbols
+abbrev pub AreTablesFor : Symbols → (file : List ℕ) → Tables → Type 0
+AreTablesFor symbols file tables = AreTablesOf symbols.which file (section_of symbols.selection) tables × (answer_for symbols file ≡ answer_in symbols.which file (section_of symbols.selection))
 
 -- the answers that need memory
 abbrev pub MemoryFor : Symbols → (file : List ℕ) → Result Listed Refusal → Type 0

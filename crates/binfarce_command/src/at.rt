@@ -14,14 +14,14 @@ ghost use Rattle.binfarce_command.specs.declared.fault.Fault.TheVariants.{Input,
 ghost use Rattle.binfarce_words.specs.WordViews.{Gives};
 
 use crate::fault::Fault;
-use crate::show::Symbols;
+use crate::show::{Symbols, tables_of};
 use binfarce_addresses::annotate::annotate_stream;
 use binfarce_addresses::at::{Places, write_lines};
 use binfarce_addresses::stream::answer_lines;
 use binfarce_addresses::{Lookup, parse_address};
 use binfarce_bytes::source::Source;
 use binfarce_tools::list::Sink;
-use binfarce_tools::tables::{Tables, read};
+use binfarce_tools::tables::Tables;
 use binfarce_words::words::Wrong;
 use std::alloc::Global;
 use std::io::Read;
@@ -52,8 +52,8 @@ pub fn read_addresses<'a>(alloc: Global, words: &[&'a str]) -> Result<Vec<u64>, 
 ///
 /// # Errors
 ///
-/// `Unreadable` where a read fails; `Unknown`, `Parse`, `OutOfMemory` and `Write` as `at` refuses; `SharedAddresses` for all
-/// sections of an object file.
+/// `Unreadable` where a read fails; `Unknown`, `Parse`, `OutOfMemory` and `Write` as `at` refuses; `SharedAddresses`
+/// for all sections of an object file.
 pub fn answer_all<S: Source<Log = ()>, K: Sink>(
     alloc: Global,
     source: &S,
@@ -73,7 +73,7 @@ pub fn answer_all<S: Source<Log = ()>, K: Sink>(
     ensures fails { Fails (K.has_failed out.old) (K.has_failed out.new) (outcome_of result) }
     ensures leaves { Leaves out.old out.new (outcome_of result) }
 {
-    let tables = read(alloc, source, &mut (), symbols.which, symbols.selection)?;
+    let tables = tables_of(alloc, source, symbols)?;
     let places = places_of(alloc, &tables)?;
     Ok(write_lines(alloc, &places, lookup, addresses, out)?)
 }
@@ -114,7 +114,7 @@ pub fn answer_input<S: Source<Log = ()>, I: Read, K: Sink>(
         (I.remaining input.old) (I.remaining input.new) (K.taken out.old) (K.taken out.new) result }
     ensures fails { Fails (K.has_failed out.old) (K.has_failed out.new) (lines_outcome result) }
 {
-    let tables = read(alloc, source, &mut (), symbols.which, symbols.selection)?;
+    let tables = tables_of(alloc, source, symbols)?;
     let places = places_of(alloc, &tables)?;
     if annotates {
         annotate_stream(alloc, &places, lookup, input, out)?;

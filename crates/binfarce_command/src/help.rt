@@ -25,8 +25,8 @@ usage: binfarce COMMAND [OPTION..] ..
   --version                          the version
 
 `--` ends the options, and `-` as a FILE is standard input. Status: 0; 1 if a file
-was refused, or a read or a write failed; 2 for a wrong call, or for lines without
-an address; 3 where `diff --fail-above` found more growth.
+was refused, a read or a write failed, or memory ran out; 2 for a wrong call, or for
+lines without an address; 3 where `diff --fail-above` found more growth.
 ";
 
 const LIST: &str = "\
@@ -34,7 +34,7 @@ usage: binfarce list [OPTION..] FILE..
 
 Writes a line for each function symbol: its address, its size in bytes, and its
 readable name; last the size of the section. Several files are each listed under a
-line with the file's name.
+line with the file's name, and with --all each line has its section's name.
 
   --sort=KEY       by rising address, falling size or name (address, size, name),
                    without the last line
@@ -43,11 +43,6 @@ line with the file's name.
   --full           names with hashes and disambiguators
   --raw            names as they are stored
   --json           each function symbol as a JSON object
-  --dynamic        by the dynamic symbol table of an ELF file (.dynsym)
-  --section=NAME   the section of an ELF file, by default .text; of Mach-O and PE
-                   files the code section is listed
-  --all            the symbols of all sections, each line with its section's name
-  --help           this text
 ";
 
 const SIZE: &str = "\
@@ -57,18 +52,13 @@ Writes a line for each crate: the sum of the sizes of its function symbols, and 
 name; last the sum of all, and the size of the section.
 
   --by=KEY         sums by crate, function, generic (functions that differ by their
-                   generic arguments, with their number) or section
+                   generic arguments, with their number), or section (of all)
   --std            the crates of Rust's standard library as one, [std]
   --percent        each sum's share of the section, or of the sum of all sections
   -n N, --first=N  the N largest sums, and one of all others
-                   (with one of these four the largest sum comes first, and each
-                   byte counts once; without, overlapping symbols count twice)
   --json           each sum as a JSON object
-  --dynamic        by the dynamic symbol table of an ELF file (.dynsym)
-  --section=NAME   the section of an ELF file, by default .text; of Mach-O and PE
-                   files the code section is taken
-  --all            the symbols of all sections
-  --help           this text
+                   (with one of these five the largest sum comes first, and each
+                   byte counts once; without, overlapping symbols count twice)
 ";
 
 const DIFF: &str = "\
@@ -84,11 +74,6 @@ counts once.
   -n N, --first=N  the N largest changes, and one of all others
   --fail-above=N   status 3 where the sum of all grew by more than N bytes
   --json           each change as a JSON object
-  --dynamic        by the dynamic symbol table of an ELF file (.dynsym)
-  --section=NAME   the section of an ELF file, by default .text; of Mach-O and PE
-                   files the code section is taken
-  --all            the symbols of all sections
-  --help           this text
 ";
 
 const MAP: &str = "\
@@ -99,11 +84,6 @@ Draws the sums of `binfarce size` as an SVG picture, the largest first.
   --folded         no picture, but a line for each function symbol: its crate,
                    modules and name, separated by `;`, and its size, as tools for
                    flame graphs read it
-  --dynamic        by the dynamic symbol table of an ELF file (.dynsym)
-  --section=NAME   the section of an ELF file, by default .text; of Mach-O and PE
-                   files the code section is drawn
-  --all            the symbols of all sections
-  --help           this text
 ";
 
 const FILTER: &str = "\
@@ -112,7 +92,6 @@ usage: binfarce filter [--full] [NAME..]
 Writes standard input with its mangled Rust names readable, or each NAME on a line.
 
   --full           keeps hashes and disambiguators
-  --help           this text
 ";
 
 const AT: &str = "\
@@ -128,11 +107,10 @@ it. Without an ADDRESS the addresses are the lines of standard input.
   --base=ADDRESS   is subtracted from each address: where the file is loaded
   --dynamic        by the dynamic symbol table of an ELF file (.dynsym)
   --section=NAME   the symbols of a section of an ELF file; of Mach-O and PE files
-                   those of the code section
+                   .text is the code section, and there is no other name
   --all            the symbols of all sections, as without --section; refused of an
                    object file, whose sections share addresses
   --json           an object for each address, with its name and offset or null
-  --help           this text
 ";
 
 const SECTION: &str = "\
@@ -142,19 +120,28 @@ Writes the bytes of the section, or without SECTION a line for each section. A
 section of a Mach-O file is named SECTION or SEGMENT,SECTION.
 
   --json           an object for each section
+";
+
+// The options of all commands that take function symbols of `.text` by default.
+const SYMBOLS: &str = "  --dynamic        by the dynamic symbol table of an ELF file (.dynsym)
+  --section=NAME   the section of an ELF file, by default .text; of Mach-O and PE
+                   files .text is the code section, and there is no other name
+  --all            the symbols of all sections
   --help           this text
 ";
 
-/// The help on the program, or on a command.
-pub fn help(topic: Option<Command>) -> &'static str {
+const HELP: &str = "  --help           this text\n";
+
+/// The help on the program, or on a command: two texts, one after the other.
+pub fn help(topic: Option<Command>) -> (&'static str, &'static str) {
     match topic {
-        None => PROGRAM,
-        Some(Command::List) => LIST,
-        Some(Command::Size) => SIZE,
-        Some(Command::Map) => MAP,
-        Some(Command::Diff) => DIFF,
-        Some(Command::Filter) => FILTER,
-        Some(Command::At) => AT,
-        Some(Command::Section) => SECTION,
+        None => (PROGRAM, ""),
+        Some(Command::List) => (LIST, SYMBOLS),
+        Some(Command::Size) => (SIZE, SYMBOLS),
+        Some(Command::Map) => (MAP, SYMBOLS),
+        Some(Command::Diff) => (DIFF, SYMBOLS),
+        Some(Command::Filter) => (FILTER, HELP),
+        Some(Command::At) => (AT, HELP),
+        Some(Command::Section) => (SECTION, HELP),
     }
 }

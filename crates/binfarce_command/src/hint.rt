@@ -1,22 +1,26 @@
-//! Hints on files: what a person may want to know beside the result. Standard output and the status don't depend on them.
+//! Hints on files: what a person may want to know beside the result. Standard output and the status don't depend on
+//! them.
 
-ghost use Rattle.std.specs.Prelude.{◌≡◌, ℕ, List, Some, IfSome, take};
+ghost use Rattle.std.specs.Prelude.{◌≡◌, ◌+◌, ◌<◌, ℕ, List, true, Some, IfSome, take};
+ghost use Rattle.std.specs.List.{sum_by};
+ghost use Rattle.binfarce.specs.Symbol.{Listed};
 ghost use Rattle.binfarce.specs.declared.SymbolTable.{SymbolTable};
+ghost use Rattle.binfarce_tools.specs.Entries.{HoldsLeft, functions_left};
 ghost use Rattle.binfarce_tools.specs.Tables.{AreTablesOf};
-ghost use Rattle.binfarce_command.specs.Hints.{IsHintOn, named_by, others};
+ghost use Rattle.binfarce_command.specs.Hints.{IsHintOf, IsHintOn, named_by, others};
 
 use crate::fault::Fault;
 use binfarce_bytes::ParseError;
 use binfarce_bytes::source::Source;
 use binfarce_sections::bytes::write_section_of;
 use binfarce_tools::SymbolTable;
-use binfarce_tools::functions::{AllFunctions, Selected};
+use binfarce_tools::functions::{AllFunctions, Functions, Selected};
 use binfarce_tools::list::Out;
 use binfarce_tools::tables::{Selection, Tables, read};
 use std::alloc::Global;
 use std::fmt;
 
-/// What a person may want to know of a file.
+/// A hint on a file.
 #[derive(Debug, Drop)]
 pub enum Hint {
     /// The sizes in the section add up to more than the section's.
@@ -62,7 +66,7 @@ impl fmt::Display for Hint {
     }
 }
 
-/// What the first 8 bytes name, of a file that isn't in a supported format.
+/// The hint that the first 8 bytes give on a file in no supported format, if any.
 pub fn named_by(magic: &[u8]) -> Option<Hint>
     ensures { result ≡ named_by magic.now }
 {
@@ -79,25 +83,39 @@ pub fn named_by(magic: &[u8]) -> Option<Hint>
     None
 }
 
-/// A hint on a section that is shown: it has no function symbol.
-pub fn hint_of(alloc: Global, tables: &Tables<'_>) -> Option<Hint>
+/// A hint on a section that is shown: it has no function symbol; or if sizes are summed, their sum exceeds its size.
+pub fn hint_of(alloc: Global, tables: &Tables<'_>, are_summed: bool) -> Option<Hint>
     ensures { (which : SymbolTable) (file section : List ℕ) → AreTablesOf which file (Some section) tables.now
         → IfSome result (IsHintOn which file section) }
 {
     match tables.functions(alloc) {
-        Ok(Selected::Section(mut functions, _)) => match functions.next() {
-            None => Some(Hint::None),
-            Some(_) => None,
-        },
+        Ok(Selected::Section(functions, size)) => hint_on(functions, size, are_summed),
         _ => None,
     }
 }
 
-/// Gives the hint that symbols overlap, if the sum of their sizes exceeds the section's.
-pub fn note_overlap(hint: &mut Option<Hint>, exceeds: bool) {
-    if exceeds {
-        *hint = Some(Hint::Overlap);
+// The hint on a section of this size with these function symbols.
+fn hint_on(mut functions: Functions<'_>, size: u64, are_summed: bool) -> Option<Hint>
+    ensures { (listed : Listed) → HoldsLeft listed (functions.entry, size) → IfSome result (IsHintOf listed) }
+{
+    let Some(first) = functions.next() else {
+        return Some(Hint::None);
+    };
+    if are_summed && exceeds(functions, first.size, size) {
+        return Some(Hint::Overlap);
     }
+    None
+}
+
+// Whether a size and those of function symbols add up to more than a limit.
+fn exceeds(functions: Functions<'_>, first: u64, limit: u64) -> bool
+    ensures { result ≡ true → limit < first + sum_by (λ f. f.size) (functions_left functions.entry) }
+{
+    let mut total = first;
+    for function in functions {
+        total = total.saturating_add(function.size);
+    }
+    total > limit
 }
 
 /// The hint, with the number of function symbols of all sections where the section has none.
@@ -138,8 +156,8 @@ fn others(count: usize) -> Hint
     }
 }
 
-/// A hint on a file that is refused for this reason: where the debug symbols of a stripped one may be, or what its first bytes
-/// name.
+/// A hint on a file that is refused for this reason: where the debug symbols of a stripped one may be, or what its
+/// first bytes name.
 pub fn refusal_hint<S: Source<Log = ()>>(alloc: Global, source: &S, fault: Fault) -> Option<Hint> {
     match fault {
         Fault::Parse(ParseError::SectionIsMissing(".symtab")) => {
@@ -150,7 +168,8 @@ pub fn refusal_hint<S: Source<Log = ()>>(alloc: Global, source: &S, fault: Fault
     }
 }
 
-// The files with the debug symbols: by the build ID, after the 16 bytes of its note's head, and by the debug link, up to a NUL.
+// The files with the debug symbols: by the build ID, after the 16 bytes of its note's head, and by the debug link, up
+// to a NUL.
 fn debug_files<S: Source<Log = ()>>(alloc: Global, source: &S) -> Option<String> {
     let note = section_bytes_of(alloc, source, ".note.gnu.build-id")?;
     let (first, others) = note.get(16..)?.split_first()?;
@@ -174,7 +193,7 @@ fn section_bytes_of<S: Source<Log = ()>>(alloc: Global, source: &S, name: &str) 
     Some(out.into_inner())
 }
 
-// What the first bytes of a file name.
+// The hint that the first 8 bytes of a file give, if any.
 fn format_hint<S: Source<Log = ()>>(source: &S) -> Option<Hint>
     ensures { (file : List ℕ) → S.bytes source.now ≡ Some file
         → IfSome result (λ hint. named_by (take 8 file) ≡ Some hint) }

@@ -8,7 +8,6 @@ ghost use Rattle.binfarce_command.specs.FaultWords.{refusal_object};
 ghost use Rattle.binfarce_command.specs.Status.{fault_status, is_broken_pipe, judged, status_of, write_status, wrong_status};
 
 use crate::fault::Fault;
-use crate::hint::Hint;
 use binfarce_figures::diff::Growth;
 use binfarce_tools::json::{push_start, push_text_member};
 use binfarce_words::words::Wrong;
@@ -141,11 +140,6 @@ pub fn push_refusal(text: &mut String, file: &str, message: &str) -> Result<(), 
     push_text_member(text, "error", Some(message))?;
     text.push_str("}\n")?;
     Ok(())
-}
-
-/// Prints a hint on a file.
-pub fn report_hint(rt: &HostRuntime, name: &str, hint: Hint) {
-    let _ = eprintln!(rt; "binfarce: {name}: {hint}");
 }
 
 // The system's message without the number that is printed after it.

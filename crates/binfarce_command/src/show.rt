@@ -1,26 +1,31 @@
 //! Shows the function symbols of a file: as a listing, as sums by crate, or as a picture.
 
 ghost use Rattle.std.specs.Prelude.{◌≡◌, ◌≢◌, ℕ, List, Option, true, Some, Err};
+ghost use Rattle.binfarce_bytes.specs.Selection.{section_of};
 ghost use Rattle.binfarce_tools.specs.Json.{style_of};
 ghost use Rattle.binfarce_tools.specs.Selection.{answer_in, MemoryIn};
-ghost use Rattle.binfarce_tools.specs.Tables.{AreTablesOf};
+ghost use Rattle.binfarce_tools.specs.Tables.{AreTablesOf, ReadsAs};
 ghost use Rattle.binfarce_tools.specs.declared.SymbolTable.{SymbolTable};
 ghost use Rattle.binfarce_tools.specs.Writing.{EndsAs, Takes, Fails, Leaves};
 ghost use Rattle.binfarce_command.specs.Faults.{outcome_of};
-ghost use Rattle.binfarce_command.specs.Show.{Fits, IsTextOf, MayEnd, TakesText, style_for};
+ghost use Rattle.binfarce_command.specs.Show.{AreTablesFor, Fits, IsTextOf, MayEnd, TakesText, answer_for, is_taken, style_for};
 ghost use Rattle.binfarce_command.specs.declared.fault.Fault.TheVariants.{Input};
 
 use crate::fault::Fault;
-use crate::hint::{Hint, hint_of, note_overlap};
+use crate::hint::{Hint, hint_of};
+use binfarce_bytes::ParseError;
+use binfarce_bytes::format::Format;
 use binfarce_bytes::source::Source;
 use binfarce_figures::rows::{Shown, list_by};
 use binfarce_figures::stacks::fold_tables;
 use binfarce_figures::sums::{Figures, sum_by};
+use binfarce_tables::ReadError;
+use binfarce_tables::format::read_format;
 use binfarce_tools::SymbolTable;
 use binfarce_tools::json::Form;
 use binfarce_tools::list::{Sink, list_tables};
 use binfarce_tools::map::map_tables;
-use binfarce_tools::report::report_noted;
+use binfarce_tools::report::report_tables;
 use binfarce_tools::tables::{Selection, Tables, read};
 use std::alloc::Global;
 
@@ -61,6 +66,37 @@ pub struct Request<'a> {
     pub is_json: bool,
 }
 
+/// The tables of the source for these function symbols.
+///
+/// # Errors
+///
+/// Those of `read`. Of a Mach-O or PE file `.text` is the code section, and `SymbolsSectionIsMissing` refuses any other
+/// name.
+pub fn tables_of<S: Source<Log = ()>>(
+    alloc: Global,
+    source: &S,
+    symbols: &Symbols<'_>,
+) -> Result<Tables<'static>, ReadError>
+    ensures { (file : List ℕ) → S.bytes source.now ≡ Some file → ReadsAs (AreTablesFor symbols.now file)
+        (S.may_fail source.now ≡ true) (answer_for symbols.now file) result }
+{
+    let format = read_format(alloc, source, &mut ())?;
+    if !is_taken(format, symbols.selection) {
+        return Err(ReadError::Refused(ParseError::SymbolsSectionIsMissing));
+    }
+    read(alloc, source, &mut (), symbols.which, symbols.selection)
+}
+
+// Whether a file of this format has what is selected: a Mach-O or PE file has the section `.text` alone.
+fn is_taken(format: Format, selection: Selection<'_>) -> bool
+    ensures { result ≡ is_taken (section_of selection.entry) format }
+{
+    match (format, selection) {
+        (Format::Macho | Format::PE, Selection::Section(name)) => name == ".text",
+        _ => true,
+    }
+}
+
 // The form in which the file at this path is shown.
 fn form_for<'a>(asked: &Request<'a>, path: &'a str) -> Form<'a>
     ensures { style_of result ≡ style_for asked.entry.now path.entry.now }
@@ -72,9 +108,8 @@ fn form_for<'a>(asked: &Request<'a>, path: &'a str) -> Form<'a>
     }
 }
 
-/// Shows the function symbols of the source that are asked for, and says if there is a hint on them; a picture has the path
-/// as its title. Of the source it reads the headers, the symbol table and the names
-/// alone.
+/// Writes the requested function symbols of the source, and sets `hint` to the hint on them, if any; a picture's title
+/// is the path. Of the source it reads the headers, the symbol table and the names alone.
 ///
 /// # Errors
 ///
@@ -96,33 +131,18 @@ pub fn show<S: Source<Log = ()>, K: Sink>(
     ensures fails { Fails (K.has_failed out.old) (K.has_failed out.new) (outcome_of result) }
     ensures leaves { Leaves out.old out.new (outcome_of result) }
 {
-    let tables = read(
-        alloc,
-        source,
-        &mut (),
-        asked.symbols.which,
-        asked.symbols.selection,
-    )?;
-    *hint = hint_of(alloc, &tables);
-    show_tables(
-        alloc,
-        asked.kind,
-        path,
-        form_for(asked, path),
-        &tables,
-        hint,
-        out,
-    )
+    let tables = tables_of(alloc, source, &asked.symbols)?;
+    *hint = hint_of(alloc, &tables, asked.kind == Kind::Sums);
+    show_tables(alloc, asked.kind, path, form_for(asked, path), &tables, out)
 }
 
-// The same, of the tables of the source.
+// Shows the function symbols of these tables.
 fn show_tables<K: Sink>(
     alloc: Global,
     kind: Kind,
     path: &str,
     form: Form<'_>,
     tables: &Tables<'_>,
-    hint: &mut Option<Hint>,
     out: &mut K,
 ) -> Result<(), Fault>
     ensures outcome { (which : SymbolTable) (file : List ℕ) (section : Option (List ℕ))
@@ -139,12 +159,7 @@ fn show_tables<K: Sink>(
     match kind {
         Kind::Listing => Ok(list_tables(alloc, tables, out)?),
         Kind::Rows(shown) => Ok(list_by(alloc, tables, &shown, form, out)?),
-        Kind::Sums => {
-            let mut exceeds = false;
-            report_noted(alloc, tables, &mut exceeds, out)?;
-            note_overlap(hint, exceeds);
-            Ok(())
-        }
+        Kind::Sums => Ok(report_tables(alloc, tables, out)?),
         Kind::Figures(figures) => Ok(sum_by(alloc, tables, &figures, form, out)?),
         Kind::Picture => Ok(map_tables(alloc, path, tables, out)?),
         Kind::Stacks => Ok(fold_tables(alloc, tables, out)?),

@@ -1,4 +1,4 @@
--- What clauses see of an `Out`.
+-- The views of an `Out` that clauses use.
 use Rattle.std.specs.Prelude.{Bool}
 use Rattle.binfarce_tools.specs.declared.list.Out.{Out}
 

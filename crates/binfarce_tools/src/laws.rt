@@ -40,7 +40,7 @@ pub fn parts_decide(file: &[u8], other: &[u8])
     let _ = other;
 }
 
-/// The same for the answers of the readers of both classes, in either order.
+/// As `parts_decide`, for the answers of the readers of both ELF classes, in either byte order.
 pub fn elf_parts_decide(file: &[u8], other: &[u8], byte_order: ByteOrder, section: &str)
     ensures of_32_bits { (which : SymbolTable)
         → SameParts (elf_parts which elf32 byte_order file.now) file.now other.now
@@ -61,7 +61,7 @@ pub fn elf_parts_decide(file: &[u8], other: &[u8], byte_order: ByteOrder, sectio
     let _ = section;
 }
 
-/// The same for the answers of the Mach-O reader.
+/// As `parts_decide`, for the answers of the Mach-O reader.
 pub fn macho_parts_decide(file: &[u8], other: &[u8])
     ensures { SameParts (macho_parts file.now) file.now other.now
         → (macho_file_answer other.now ≡ macho_file_answer file.now)
@@ -72,7 +72,7 @@ pub fn macho_parts_decide(file: &[u8], other: &[u8])
     let _ = other;
 }
 
-/// The same for the answers of the PE reader.
+/// As `parts_decide`, for the answers of the PE reader.
 pub fn pe_parts_decide(file: &[u8], other: &[u8])
     ensures text { (name : List ℕ) → SameParts (pe_parts (Some name) file.now) file.now other.now
         → pe_file_answer other.now ≡ pe_file_answer file.now }
@@ -83,7 +83,8 @@ pub fn pe_parts_decide(file: &[u8], other: &[u8])
     let _ = other;
 }
 
-/// The section headers of a table at 2 that has three by its count: all three, and two where the file ends in the third.
+/// The section headers of a table at 2 that has three by its count: all three, and two where the file ends in the
+/// third.
 #[tactic(auto, unfolding(binfarce_elf::specs::Elf::elf32))]
 fn worked_sizes()
     ensures whole { headers_size elf32
@@ -101,8 +102,8 @@ fn worked_answers()
         ≡ Err unexpected_eof }
 {}
 
-/// The same of Mach-O and PE: two counts of load commands, and two headers that differ in the last byte of the size of the
-/// optional header.
+/// As `worked_answers`, for Mach-O and PE: two counts of load commands, and two headers that differ in the last byte of
+/// the size of the optional header.
 #[tactic(auto, unfolding(binfarce_macho::specs::Macho::header_fields, binfarce_macho::specs::Macho::header_of, binfarce_macho::specs::Macho::commands_from, binfarce_macho::specs::Macho::sections_of, binfarce_macho::specs::Macho::walk, binfarce_macho::specs::MachoSymbols::macho_answer, binfarce_macho::specs::MachoSymbols::located, binfarce_pe::specs::Pe::header_fields, binfarce_pe::specs::Pe::header_after, binfarce_pe::specs::Pe::walk, binfarce_pe::specs::PeSymbols::pe_answer, binfarce_pe::specs::PeSymbols::located, binfarce_bytes::proofs::Computing::computing))]
 fn worked_other_answers()
     ensures no_command { macho_file_answer (replicate 40 0) ≡ Err symbols_section_is_missing }
@@ -120,8 +121,8 @@ fn worked_elf_parts()
         ≡ part 0 52 ∷ part 0 40 ∷ part 0 0 ∷ part 0 1 ∷ [] }
 {}
 
-/// The parts of a file with one load command, a symbol table's of 24 bytes: its strings lie in the file, or end past it,
-/// or the header states that the commands have 23 bytes, and the whole file is read.
+/// The parts of a file with one load command, a symbol table's of 24 bytes: its strings lie in the file, or end past
+/// it, or the header states that the commands have 23 bytes, and the whole file is read.
 #[tactic(auto, unfolding(binfarce_tables::specs::MachoReads::macho_section_parts, binfarce_tables::specs::MachoReads::macho_parts, binfarce_macho::specs::MachoParts::holds_from, binfarce_macho::specs::Macho::header_fields, binfarce_macho::specs::Macho::header_of, binfarce_macho::specs::Macho::commands_from, binfarce_macho::specs::MachoSymbols::symbol_table_fields, binfarce_macho::specs::MachoSymbols::symbol_table_at, binfarce_bytes::proofs::Computing::computing))]
 fn worked_macho_parts()
     ensures symbol_table { macho_parts
@@ -138,8 +139,9 @@ fn worked_macho_parts()
         ≡ part 0 28 ∷ part 0 55 ∷ part 0 76 ∷ part 72 4 ∷ part 56 16 ∷ [] }
 {}
 
-/// The parts of a file with one section header right after the file header, and a symbol table of one record at 112: that
-/// with a string byte after it, or cut off in it. Last, of a file without sections, with an optional header of 40 bytes.
+/// The parts of a file with one section header right after the file header, and a symbol table of one record at 112:
+/// that with a string byte after it, or cut off in it. Last, of a file without sections, with an optional header of 40
+/// bytes.
 #[tactic(auto, unfolding(binfarce_tables::specs::PeReads::pe_parts, binfarce_pe::specs::Pe::header_fields, binfarce_pe::specs::Pe::header_after, binfarce_bytes::proofs::Computing::computing))]
 fn worked_pe_parts()
     ensures whole { pe_parts (Some [])

@@ -23,9 +23,9 @@ use std::alloc::{AllocError, Global};
 /// Draws the sizes of the function symbols of a file's section by crate: an SVG document with a bar for each crate, the
 /// greatest first.
 ///
-/// The sums are those that `report` shows, and the picture is that of `binfarce_chart::svg::chart`, with this title, such as
-/// the file's name: of more than 40 crates, the last bar sums up all from the 40th on. The picture is made before its first
-/// byte is written.
+/// The sums are those that `report` shows, and the picture is that of `binfarce_chart::svg::chart`, with this title,
+/// such as the file's name: of more than 40 crates, the last bar sums up all from the 40th on. The picture is made
+/// before its first byte is written.
 ///
 /// # Errors
 ///
@@ -48,8 +48,8 @@ pub fn map<S: Sink>(
     map_tables(alloc, title, &Tables::whole(file, section), out)
 }
 
-/// As `map`, from the tables of a file: for the selection that they were read for. The whole of all sections is the sum of
-/// all sizes.
+/// As `map`, from the tables of a file: for the selection that they were read for. For all sections the title shows the
+/// sum of all sizes as the section size.
 ///
 /// # Errors
 ///

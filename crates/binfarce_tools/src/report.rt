@@ -141,32 +141,8 @@ pub fn report_tables<S: Sink>(
     ensures fails { Fails (S.has_failed out.old) (S.has_failed out.new) (outcome_of result) }
     ensures leaves { Leaves out.old out.new (outcome_of result) }
 {
-    report_noted(alloc, tables, &mut false, out)
-}
-
-/// As `report_tables`, and sets whether the sum of all sizes exceeds the section's, which it does where symbols overlap.
-///
-/// # Errors
-///
-/// Those of `report_tables`.
-pub fn report_noted<S: Sink>(
-    alloc: Global,
-    tables: &Tables<'_>,
-    exceeds: &mut bool,
-    out: &mut S,
-) -> Result<(), ReportError>
-    ensures outcome { (which : SymbolTable) (file : List ℕ) (section : Option (List ℕ))
-        → AreTablesOf which file section tables.now
-        → EndsAs ReportFits (MemoryIn file section) (answer_in which file section) (outcome_of result) }
-    ensures takes { (which : SymbolTable) (file : List ℕ) (section : Option (List ℕ))
-        → AreTablesOf which file section tables.now → Takes (IsReportIn section)
-        (answer_in which file section) (S.taken out.old) (S.taken out.new) (outcome_of result) }
-    ensures fails { Fails (S.has_failed out.old) (S.has_failed out.new) (outcome_of result) }
-    ensures leaves { Leaves out.old out.new (outcome_of result) }
-{
     let (functions, size) = tables.functions(alloc)?.into_list();
     let sums = crate_sums(alloc, functions, size)?;
-    *exceeds = sums.total > sums.section_size;
     write_made(out, report_text(alloc, &sums, size))
 }
 
@@ -210,8 +186,8 @@ pub fn sums_of_tables(alloc: Global, tables: &Tables<'_>) -> Result<CrateSums, R
     crate_sums(alloc, functions, size)
 }
 
-// The sums of the functions, with the section's size, or without one the sum of all sizes. `TooLarge` where the sum of all
-// exceeds 64 bits.
+// The sums of the functions, with the section's size, or without one the sum of all sizes. `TooLarge` where the sum of
+// all exceeds 64 bits.
 fn crate_sums(
     alloc: Global,
     functions: Functions<'_>,

@@ -51,9 +51,9 @@ impl<'a> Tables<'a> {
         Self::Whole { file, section }
     }
 
-    /// The function symbols that the tables were read for, by the symbol table that they were read by. Those of a section
-    /// are, for the symbol table, the answer of `functions_of_file`, and those of all sections that of `all_functions` of
-    /// a reader.
+    /// The function symbols that the tables were read for, by the symbol table that they were read by. Those of a
+    /// section are, for the symbol table, the answer of `functions_of_file`, and those of all sections that of
+    /// `all_functions` of a reader.
     ///
     /// # Errors
     ///
@@ -86,8 +86,8 @@ impl<'a> Tables<'a> {
         }
     }
 
-    /// The name of the section of this number, a slice of the tables. `None` where there is no such section, where it has
-    /// no valid name, and where the tables are those of one section of a Mach-O or PE file, or of a whole file.
+    /// The name of the section of this number, a slice of the tables. `None` where there is no such section, where it
+    /// has no valid name, and where the tables are those of one section of a Mach-O or PE file, or of a whole file.
     pub fn section_name(&self, number: u32) -> Option<&str>
         ensures read { option_map (λ t. t.now) result ≡ section_names self.entry.now number }
         ensures file { (which : SymbolTable) (file : List ℕ) (all : SelectedSymbols)

@@ -2,17 +2,17 @@
 
 //! `binfarce COMMAND [OPTION..] ..`: reads executables, and demangles Rust names.
 
-mod at;
-mod fault;
-mod files;
-mod filter;
-mod help;
-mod hint;
-mod input;
-mod output;
-mod report;
-mod section;
-mod show;
+pub(crate) mod at;
+pub(crate) mod fault;
+pub(crate) mod files;
+pub(crate) mod filter;
+pub(crate) mod help;
+pub(crate) mod hint;
+pub(crate) mod input;
+pub(crate) mod output;
+pub(crate) mod report;
+pub(crate) mod section;
+pub(crate) mod show;
 
 use crate::shim::{CollectIn, HostRuntime, String, Vec};
 use crate::erased::binfarce_command::at::{answer_all, answer_input, read_addresses};
@@ -24,10 +24,10 @@ use crate::erased::binfarce_command::hint::Hint;
 use crate::erased::binfarce_command::input::{FileOrStdin, OpenFile};
 use crate::erased::binfarce_command::output::Output;
 use crate::erased::binfarce_command::report::{
-    Message, ended, judged, message_of, push_refusal, refuse, report, report_hint,
+    ended, judged, message_of, push_refusal, refuse, report,
 };
 use crate::erased::binfarce_command::section::write_or_list;
-use crate::erased::binfarce_command::show::{Kind, Request, Symbols};
+use crate::erased::binfarce_command::show::{Kind, Request, Symbols, tables_of};
 use crate::erased::binfarce_addresses::Lookup;
 use crate::erased::binfarce_bytes::source::Source;
 use crate::erased::binfarce_figures::diff::diff;
@@ -38,13 +38,13 @@ use crate::erased::binfarce_filtering::stream::{StreamError, filter_stream};
 use crate::erased::binfarce_tools::SymbolTable;
 use crate::erased::binfarce_tools::json::Form;
 use crate::erased::binfarce_tools::report::{ReportError, sums_of_tables};
-use crate::erased::binfarce_tools::tables::{Selection, Tables, read};
+use crate::erased::binfarce_tools::tables::{Selection, Tables};
 use crate::erased::binfarce_words::words::{Arguments, Call, Command, Flag, Wrong, read_call};
-use crate::shim::alloc::{AllocError, Global};
-use crate::shim::env;
 use crate::shim::fs::File;
 use crate::shim::io::{self, Error, ErrorKind, Write};
 use std::process::ExitCode;
+use crate::shim::env;
+use std::mem;
 
 pub fn main(rt: HostRuntime) -> ExitCode {
     let status = match arguments(&rt) {
@@ -65,28 +65,21 @@ fn arguments(rt: &HostRuntime) -> io::Result<Vec<String>> {
 
 // Runs a call, and returns the program's exit status.
 fn run(rt: &HostRuntime, call: &Call<'_>) -> u8 {
-    match addresses_of(rt.alloc(), call) {
-        Ok(addresses) => run_with(rt, call, &addresses),
-        Err(wrong) => refuse(rt, &wrong),
-    }
-}
-
-fn run_with(rt: &HostRuntime, call: &Call<'_>, addresses: &[u64]) -> u8 {
+    let read = match call {
+        Call::Run(Command::At, given) => read_addresses(rt.alloc(), others(given)),
+        _ => Ok(Vec::new(rt.alloc())),
+    };
+    let addresses = match read {
+        Ok(addresses) => addresses,
+        Err(wrong) => return refuse(rt, &wrong),
+    };
     let mut out = Output::new(rt.alloc(), io::writer(rt));
     let mut host = Host {
         rt,
         refusals: String::new(rt.alloc()),
     };
-    let done = answer(&mut host, call, addresses, &mut out);
+    let done = answer(&mut host, call, &addresses, &mut out);
     ended(rt, done, out.into_parts().1)
-}
-
-// The addresses of a call.
-fn addresses_of<'a>(alloc: Global, call: &Call<'a>) -> Result<Vec<u64>, Wrong<'a>> {
-    match call {
-        Call::Run(Command::At, given) => read_addresses(alloc, others(given)),
-        _ => Ok(Vec::new(alloc)),
-    }
 }
 
 // The operands after the first one.
@@ -105,13 +98,14 @@ fn answer<W: Write>(
     out: &mut Output<W>,
 ) -> Result<bool, Fault> {
     let is_done = match call {
-        Call::Help(topic) => print(help(*topic), out)?,
+        Call::Help(topic) => {
+            let (text, options) = help(*topic);
+            print(text, out)? && print(options, out)?
+        }
         Call::Version => print(VERSION, out)?,
         Call::Run(command, given) => {
             let is_done = work(host, *command, given, addresses, out)?;
-            if given.has(Flag::Json) {
-                print(host.refusals.as_str(), out)?;
-            }
+            print_refusals(host, given, out)?;
             is_done
         }
     };
@@ -126,6 +120,19 @@ fn print<W: Write>(text: &str, out: &mut Output<W>) -> Result<bool, Fault> {
         Ok(()) => Ok(true),
         Err(_) => Err(Fault::Write),
     }
+}
+
+// Prints the objects of the files that were refused since the last time, if objects are asked for.
+fn print_refusals<W: Write>(
+    host: &mut Host<'_>,
+    given: &Arguments<'_>,
+    out: &mut Output<W>,
+) -> Result<bool, Fault> {
+    let refusals = mem::replace(&mut host.refusals, String::new(host.rt.alloc()));
+    if !given.has(Flag::Json) {
+        return Ok(true);
+    }
+    print(refusals.as_str(), out)
 }
 
 fn work<W: Write>(
@@ -191,14 +198,6 @@ fn figures_of(given: &Arguments<'_>) -> Figures {
     }
 }
 
-// The text section, but all sections for sums by section.
-fn default_of(given: &Arguments<'_>) -> Selection<'static> {
-    match given.key() {
-        Some(Key::Section) => Selection::All,
-        _ => Selection::Section(".text"),
-    }
-}
-
 // Compares the sizes of two files. `false` where one is refused.
 fn compare<W: Write>(
     host: &mut Host<'_>,
@@ -231,17 +230,10 @@ fn tables_at(
     given: &Arguments<'_>,
     path: &str,
 ) -> Result<Option<Tables<'static>>, Fault> {
-    let symbols = symbols_of(given, default_of(given));
     let Some(input) = open_input(host.rt.alloc(), host, path) else {
         return Ok(None);
     };
-    match read(
-        host.rt.alloc(),
-        &input,
-        &mut (),
-        symbols.which,
-        symbols.selection,
-    ) {
+    match tables_of(host.rt.alloc(), &input, &symbols_of(given, false)) {
         Ok(tables) => Ok(Some(tables)),
         Err(e) => {
             reported(host.rt.alloc(), host, path, &input, Err(Fault::from(e)))?;
@@ -259,7 +251,7 @@ fn show_all<W: Write>(
 ) -> Result<bool, Fault> {
     let asked = Request {
         kind,
-        symbols: symbols_of(given, default_of(given)),
+        symbols: symbols_of(given, false),
         is_json: given.has(Flag::Json),
     };
     if asked.is_json {
@@ -267,6 +259,7 @@ fn show_all<W: Write>(
         let mut are_shown = true;
         for path in &given.operands {
             are_shown &= show_files(host.rt.alloc(), host, &asked, &[*path], out)?;
+            print_refusals(host, given, out)?;
         }
         return Ok(are_shown);
     }
@@ -285,24 +278,12 @@ fn filter_text<W: Write>(
     given: &Arguments<'_>,
     out: &mut Output<W>,
 ) -> Result<bool, Fault> {
-    if given.operands.is_empty() {
-        return filter_input(host, given.has(Flag::Full), out);
+    let full = given.has(Flag::Full);
+    if !given.operands.is_empty() {
+        let text = lines_of(host.rt.alloc(), given.operands.as_slice())?;
+        filter_stream(host.rt.alloc(), full, &mut text.as_slice(), out)?;
+        return Ok(true);
     }
-    let text = lines_of(host.rt.alloc(), given.operands.as_slice())?;
-    filter_stream(
-        host.rt.alloc(),
-        given.has(Flag::Full),
-        &mut text.as_slice(),
-        out,
-    )?;
-    Ok(true)
-}
-
-fn filter_input<W: Write>(
-    host: &mut Host<'_>,
-    full: bool,
-    out: &mut Output<W>,
-) -> Result<bool, Fault> {
     let mut input = OpenFile::new(host.rt.stdin());
     match filter_stream(host.rt.alloc(), full, &mut input, out) {
         Ok(()) => Ok(true),
@@ -322,7 +303,7 @@ fn symbolize<W: Write>(
     out: &mut Output<W>,
 ) -> Result<bool, Fault> {
     let path = first(given);
-    let symbols = symbols_of(given, Selection::All);
+    let symbols = symbols_of(given, true);
     let lookup = Lookup {
         base: given.address(Flag::Base).unwrap_or(0),
         is_return: given.has(Flag::Return),
@@ -396,8 +377,9 @@ fn form_of<'a>(given: &Arguments<'_>, path: &'a str) -> Form<'a> {
     }
 }
 
-// The function symbols that are asked for: of the section that is named, or of this one, or of all.
-fn symbols_of<'a>(given: &Arguments<'a>, default: Selection<'a>) -> Symbols<'a> {
+// The function symbols that are asked for: of the section that is named, or if none is, of `.text`; but of all sections
+// for sums by section, and where all are the default.
+fn symbols_of<'a>(given: &Arguments<'a>, are_all: bool) -> Symbols<'a> {
     let which = if given.has(Flag::Dynamic) {
         SymbolTable::Dynsym
     } else {
@@ -406,7 +388,8 @@ fn symbols_of<'a>(given: &Arguments<'a>, default: Selection<'a>) -> Symbols<'a> 
     let selection = match given.value(Flag::Section) {
         _ if given.has(Flag::All) => Selection::All,
         Some(section) => Selection::Section(section),
-        None => default,
+        None if are_all || given.key() == Some(Key::Section) => Selection::All,
+        None => Selection::Section(".text"),
     };
     Symbols { which, selection }
 }
@@ -436,19 +419,15 @@ impl System<FileOrStdin> for Host<'_> {
     fn report(&mut self, path: &str, fault: Fault, reason: Option<Error>) {
         let message = message_of(self.rt.alloc(), fault, reason);
         report(self.rt, path, &message);
-        let _ = self.push_refusal(path, &message);
+        // Where an allocation fails, the message alone says it.
+        let alloc = self.rt.alloc();
+        if let Ok(words) = String::formatted(alloc, format_args!("{message}")) {
+            let _ = push_refusal(&mut self.refusals, path, words.as_str());
+        }
     }
 
     fn hint(&mut self, path: &str, hint: Hint) {
-        report_hint(self.rt, path, hint);
-    }
-}
-
-impl Host<'_> {
-    // Keeps why a file was refused. Where an allocation fails, the message alone says it.
-    fn push_refusal(&mut self, path: &str, message: &Message) -> Result<(), AllocError> {
-        let alloc = self.rt.alloc();
-        let words = String::formatted(alloc, format_args!("{message}"))?;
-        push_refusal(&mut self.refusals, path, words.as_str())
+        let rt = self.rt;
+        let _ = rt.eprintln(format_args!("binfarce: {path}: {hint}"));
     }
 }

@@ -4,14 +4,14 @@
 
 use crate::shim::Vec;
 use crate::erased::binfarce_command::fault::Fault;
-use crate::erased::binfarce_command::show::Symbols;
+use crate::erased::binfarce_command::show::{Symbols, tables_of};
 use crate::erased::binfarce_addresses::annotate::annotate_stream;
 use crate::erased::binfarce_addresses::at::{Places, write_lines};
 use crate::erased::binfarce_addresses::stream::answer_lines;
 use crate::erased::binfarce_addresses::{Lookup, parse_address};
 use crate::erased::binfarce_bytes::source::Source;
 use crate::erased::binfarce_tools::list::Sink;
-use crate::erased::binfarce_tools::tables::{Tables, read};
+use crate::erased::binfarce_tools::tables::Tables;
 use crate::erased::binfarce_words::words::Wrong;
 use crate::shim::alloc::Global;
 use crate::shim::io::Read;
@@ -40,8 +40,8 @@ pub fn read_addresses<'a>(alloc: Global, words: &[&'a str]) -> Result<Vec<u64>, 
 ///
 /// # Errors
 ///
-/// `Unreadable` where a read fails; `Unknown`, `Parse`, `OutOfMemory` and `Write` as `at` refuses; `SharedAddresses` for all
-/// sections of an object file.
+/// `Unreadable` where a read fails; `Unknown`, `Parse`, `OutOfMemory` and `Write` as `at` refuses; `SharedAddresses`
+/// for all sections of an object file.
 pub fn answer_all<S: Source<Log = ()>, K: Sink>(
     alloc: Global,
     source: &S,
@@ -50,7 +50,7 @@ pub fn answer_all<S: Source<Log = ()>, K: Sink>(
     addresses: &[u64],
     out: &mut K,
 ) -> Result<(), Fault> {
-    let tables = read(alloc, source, &mut (), symbols.which, symbols.selection)?;
+    let tables = tables_of(alloc, source, symbols)?;
     let places = places_of(alloc, &tables)?;
     Ok(write_lines(alloc, &places, lookup, addresses, out)?)
 }
@@ -79,7 +79,7 @@ pub fn answer_input<S: Source<Log = ()>, I: Read, K: Sink>(
     input: &mut I,
     out: &mut K,
 ) -> Result<u64, Fault> {
-    let tables = read(alloc, source, &mut (), symbols.which, symbols.selection)?;
+    let tables = tables_of(alloc, source, symbols)?;
     let places = places_of(alloc, &tables)?;
     if annotates {
         annotate_stream(alloc, &places, lookup, input, out)?;

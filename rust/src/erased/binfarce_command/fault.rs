@@ -38,7 +38,7 @@ pub enum Fault {
     PastEnd,
     /// The sections of an object file share addresses, so one has to be named.
     SharedAddresses,
-    /// So many lines of standard input have no address; all were answered.
+    /// This many lines of standard input have no address; all lines were answered.
     Missing(u64),
     /// The sum grew by so many bytes, more than is allowed.
     Grown(u64),
@@ -62,7 +62,7 @@ impl fmt::Display for Fault {
             ),
             Fault::Parse(ParseError::SymbolsSectionIsMissing) => write!(
                 f,
-                "no such section; binfarce section lists those of the file"
+                "no such section; binfarce section lists those of an ELF file; in others .text is the code"
             ),
             Fault::Parse(e) => write!(f, "{e}"),
             Fault::TooLarge => write!(f, "sizes are too large"),

@@ -82,7 +82,8 @@ impl<F> OpenFile<F> {
 }
 
 impl<F: Read + Source<Log = ()>> OpenFile<F> {
-    /// Loads the file unless it can be read at offsets: to its end, or only the first 8 bytes where these name no format.
+    /// Loads the file unless it can be read at offsets: to its end, or only the first 8 bytes where these name no
+    /// format.
     ///
     /// # Errors
     ///

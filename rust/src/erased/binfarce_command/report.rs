@@ -4,7 +4,6 @@
 
 use crate::shim::{HostRuntime, String};
 use crate::erased::binfarce_command::fault::Fault;
-use crate::erased::binfarce_command::hint::Hint;
 use crate::erased::binfarce_figures::diff::Growth;
 use crate::erased::binfarce_tools::json::{push_start, push_text_member};
 use crate::erased::binfarce_words::words::Wrong;
@@ -122,11 +121,6 @@ pub fn push_refusal(text: &mut String, file: &str, message: &str) -> Result<(), 
     push_text_member(text, "error", Some(message))?;
     text.push_str("}\n")?;
     Ok(())
-}
-
-/// Prints a hint on a file.
-pub fn report_hint(rt: &HostRuntime, name: &str, hint: Hint) {
-    let _ = rt.eprintln(format_args!("binfarce: {name}: {hint}"));
 }
 
 // The system's message without the number that is printed after it.

@@ -3,16 +3,20 @@
 //! Shows the function symbols of a file: as a listing, as sums by crate, or as a picture.
 
 use crate::erased::binfarce_command::fault::Fault;
-use crate::erased::binfarce_command::hint::{Hint, hint_of, note_overlap};
+use crate::erased::binfarce_command::hint::{Hint, hint_of};
+use crate::erased::binfarce_bytes::ParseError;
+use crate::erased::binfarce_bytes::format::Format;
 use crate::erased::binfarce_bytes::source::Source;
 use crate::erased::binfarce_figures::rows::{Shown, list_by};
 use crate::erased::binfarce_figures::stacks::fold_tables;
 use crate::erased::binfarce_figures::sums::{Figures, sum_by};
+use crate::erased::binfarce_tables::ReadError;
+use crate::erased::binfarce_tables::format::read_format;
 use crate::erased::binfarce_tools::SymbolTable;
 use crate::erased::binfarce_tools::json::Form;
 use crate::erased::binfarce_tools::list::{Sink, list_tables};
 use crate::erased::binfarce_tools::map::map_tables;
-use crate::erased::binfarce_tools::report::report_noted;
+use crate::erased::binfarce_tools::report::report_tables;
 use crate::erased::binfarce_tools::tables::{Selection, Tables, read};
 use crate::shim::alloc::Global;
 
@@ -53,6 +57,32 @@ pub struct Request<'a> {
     pub is_json: bool,
 }
 
+/// The tables of the source for these function symbols.
+///
+/// # Errors
+///
+/// Those of `read`. Of a Mach-O or PE file `.text` is the code section, and `SymbolsSectionIsMissing` refuses any other
+/// name.
+pub fn tables_of<S: Source<Log = ()>>(
+    alloc: Global,
+    source: &S,
+    symbols: &Symbols<'_>,
+) -> Result<Tables<'static>, ReadError> {
+    let format = read_format(alloc, source, &mut ())?;
+    if !is_taken(format, symbols.selection) {
+        return Err(ReadError::Refused(ParseError::SymbolsSectionIsMissing));
+    }
+    read(alloc, source, &mut (), symbols.which, symbols.selection)
+}
+
+// Whether a file of this format has what is selected: a Mach-O or PE file has the section `.text` alone.
+fn is_taken(format: Format, selection: Selection<'_>) -> bool {
+    match (format, selection) {
+        (Format::Macho | Format::PE, Selection::Section(name)) => name == ".text",
+        _ => true,
+    }
+}
+
 // The form in which the file at this path is shown.
 fn form_for<'a>(asked: &Request<'a>, path: &'a str) -> Form<'a> {
     match asked.symbols.selection {
@@ -62,9 +92,8 @@ fn form_for<'a>(asked: &Request<'a>, path: &'a str) -> Form<'a> {
     }
 }
 
-/// Shows the function symbols of the source that are asked for, and says if there is a hint on them; a picture has the path
-/// as its title. Of the source it reads the headers, the symbol table and the names
-/// alone.
+/// Writes the requested function symbols of the source, and sets `hint` to the hint on them, if any; a picture's title
+/// is the path. Of the source it reads the headers, the symbol table and the names alone.
 ///
 /// # Errors
 ///
@@ -78,44 +107,24 @@ pub fn show<S: Source<Log = ()>, K: Sink>(
     hint: &mut Option<Hint>,
     out: &mut K,
 ) -> Result<(), Fault> {
-    let tables = read(
-        alloc,
-        source,
-        &mut (),
-        asked.symbols.which,
-        asked.symbols.selection,
-    )?;
-    *hint = hint_of(alloc, &tables);
-    show_tables(
-        alloc,
-        asked.kind,
-        path,
-        form_for(asked, path),
-        &tables,
-        hint,
-        out,
-    )
+    let tables = tables_of(alloc, source, &asked.symbols)?;
+    *hint = hint_of(alloc, &tables, asked.kind == Kind::Sums);
+    show_tables(alloc, asked.kind, path, form_for(asked, path), &tables, out)
 }
 
-// The same, of the tables of the source.
+// Shows the function symbols of these tables.
 fn show_tables<K: Sink>(
     alloc: Global,
     kind: Kind,
     path: &str,
     form: Form<'_>,
     tables: &Tables<'_>,
-    hint: &mut Option<Hint>,
     out: &mut K,
 ) -> Result<(), Fault> {
     match kind {
         Kind::Listing => Ok(list_tables(alloc, tables, out)?),
         Kind::Rows(shown) => Ok(list_by(alloc, tables, &shown, form, out)?),
-        Kind::Sums => {
-            let mut exceeds = false;
-            report_noted(alloc, tables, &mut exceeds, out)?;
-            note_overlap(hint, exceeds);
-            Ok(())
-        }
+        Kind::Sums => Ok(report_tables(alloc, tables, out)?),
         Kind::Figures(figures) => Ok(sum_by(alloc, tables, &figures, form, out)?),
         Kind::Picture => Ok(map_tables(alloc, path, tables, out)?),
         Kind::Stacks => Ok(fold_tables(alloc, tables, out)?),

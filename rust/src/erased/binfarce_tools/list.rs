@@ -108,9 +108,9 @@ impl From<ParseError> for ListError {
 
 /// Lists the function symbols of a file's section: a line for each, and then the section's size.
 ///
-/// The format is the one that the file's first bytes name; the section is that of an ELF file, and of a Mach-O or PE file
-/// it is the text. A line is `{address:016x} {size:>10} {trimmed}`, the last one `text {size}`. The listing is made before
-/// its first byte is written.
+/// The format is the one that the file's first bytes name; the section is that of an ELF file, and of a Mach-O or PE
+/// file it is the text. A line is `{address:016x} {size:>10} {trimmed}`, the last one `text {size}`. The listing is
+/// made before its first byte is written.
 ///
 /// # Errors
 ///
@@ -127,8 +127,8 @@ pub fn list<S: Sink>(
 }
 
 /// As `list`, from the tables of a file: for the selection that they were read for. Of all sections a line is
-/// `{address:016x} {size:>10} {section} {trimmed}`, with the section's name, or its number in brackets where it has none;
-/// and there is no last line.
+/// `{address:016x} {size:>10} {section} {trimmed}`, with the section's name, or its number in brackets where it has
+/// none; and there is no last line.
 ///
 /// # Errors
 ///

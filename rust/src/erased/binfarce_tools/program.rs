@@ -59,8 +59,8 @@ pub fn open(rt: &HostRuntime, path: &str) -> Result<File, Failure> {
 
 /// Whether the file can be read at offsets: it has a length above 0, and the last byte of that length.
 ///
-/// A pipe has no length, a file of `/proc` has one of 0, and a file of `/sys` may have fewer bytes than its length: these are
-/// read to their end.
+/// A pipe has no length, a file of `/proc` has one of 0, and a file of `/sys` may have fewer bytes than its length:
+/// these are read to their end.
 pub fn is_read_at_offsets<S: Source<Log = ()>>(file: &S) -> bool {
     match file.length() {
         Ok(length) if length > 0 => file.fill_at(&mut (), length - 1, &mut [0]).is_ok(),
@@ -111,7 +111,7 @@ pub fn tables_of<F: Read + Source<Log = ()>>(
     symbols_of(alloc, &bytes.as_slice(), section)
 }
 
-// The same, of a source that is read at offsets.
+// The tables of a source that is read at offsets, for the function symbols of a section.
 fn symbols_of<S: Source<Log = ()>>(
     alloc: Global,
     source: &S,

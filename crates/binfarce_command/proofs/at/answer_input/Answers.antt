@@ -1,22 +1,22 @@
-use Rattle.std.proofs.Common.{Ok}
+use Rattle.std.proofs.Common.{Ok, Err}
 use Rattle.binfarce_bytes.specs.Selection.{section_of}
-use Rattle.binfarce_tools.specs.Tables.{AreTablesOf}
 use Rattle.binfarce_command.specs.At.{share_addresses}
-use Rattle.binfarce_command.specs.Show.{MemoryFor, answer_for}
-use Rattle.binfarce_command.proofs.Outcomes.{lines_still_so}
+use Rattle.binfarce_command.specs.Show.{AreTablesFor, MemoryFor, answer_for}
+use Rattle.binfarce_command.proofs.Outcomes.{lines_still_so, places_for}
 use Rattle.binfarce_command.proofs.Lines.{answered_less, answered_lines, of_lines, of_part, of_text, unread, without_places}
 use Rattle.binfarce_command.proofs.at.answer_input.Goals as goal
 
 pub returns-in_err-tables-clause-answers : goal.returns-in_err-tables-clause-answers
 returns-in_err-tables-clause-answers g c = λ file is.
     let symbols = c.args.symbols.now in
-    unread (AreTablesOf symbols.which file (section_of symbols.selection)) _ (share_addresses symbols file) (MemoryFor symbols file) (answer_for symbols file) c.args.annotates c.args.lookup _ _ c.in_err-tables.field-0.0 c.from_residual.result (c.in_err-tables.ensures.answer file is) c.from_residual.ensures.1
+    unread (AreTablesFor symbols file) _ (share_addresses symbols file) (MemoryFor symbols file) (answer_for symbols file) c.args.annotates c.args.lookup _ _ c.in_err-tables.field-0.0 c.from_residual.result (c.in_err-tables.ensures file is) c.from_residual.ensures.1
 
 pub returns-in_err-places-clause-answers : goal.returns-in_err-places-clause-answers
 returns-in_err-places-clause-answers g c = λ file is.
     let symbols = c.args.symbols.now in
+    let are = c.in_ok-tables.ensures file is in
     without_places _ (share_addresses symbols file) (MemoryFor symbols file) (answer_for symbols file) c.args.annotates c.args.lookup _ _ c.in_err-places.field-0.0 c.from_residual-in_err-places.result
-    (c.in_err-places.ensures.has symbols.which file (section_of symbols.selection) (c.in_ok-tables.ensures.answer file is)) c.from_residual-in_err-places.ensures.1
+    (places_for symbols file c.in_ok-tables.tables (Err c.in_err-places.field-0.0) are (c.in_err-places.ensures.has symbols.which file (section_of symbols.selection) are.0)) c.from_residual-in_err-places.ensures.1
 
 pub returns-in_err-places-clause-fails : goal.returns-in_err-places-clause-fails
 returns-in_err-places-clause-fails g c = lines_still_so (g.K.Sink.has_failed c.args.out.now) c.in_err-places.field-0.0 c.from_residual-in_err-places.result c.from_residual-in_err-places.ensures.1 c.in_err-places.ensures.unwritten
@@ -24,26 +24,30 @@ returns-in_err-places-clause-fails g c = lines_still_so (g.K.Sink.has_failed c.a
 pub returns-in_err-missing-clause-answers : goal.returns-in_err-missing-clause-answers
 returns-in_err-missing-clause-answers g c = λ file is.
     let symbols = c.args.symbols.now in
-    let has = c.in_ok-places.ensures.has symbols.which file (section_of symbols.selection) (c.in_ok-tables.ensures.answer file is) in
+    let are = c.in_ok-tables.ensures file is in
+    let has = places_for symbols file c.in_ok-tables.tables (Ok c.in_ok-places.places) are (c.in_ok-places.ensures.has symbols.which file (section_of symbols.selection) are.0) in
     answered_less _ (share_addresses symbols file) (MemoryFor symbols file) (answer_for symbols file) c.in_ok-places.places c.args.annotates c.args.lookup _ _ _ _ c.in_err-missing.field-0.0 c.from_residual-in_err-missing.result
     has.0 has.1 (of_lines c.args.annotates _ c.args.lookup _ _ _ _ _ c.if-annotates.false c.in_err-missing.ensures.answers) c.from_residual-in_err-missing.ensures.1
 
 pub returns-clause-answers : goal.returns-clause-answers
 returns-clause-answers g c = λ file is.
     let symbols = c.args.symbols.now in
-    let has = c.in_ok-places.ensures.has symbols.which file (section_of symbols.selection) (c.in_ok-tables.ensures.answer file is) in
+    let are = c.in_ok-tables.ensures file is in
+    let has = places_for symbols file c.in_ok-tables.tables (Ok c.in_ok-places.places) are (c.in_ok-places.ensures.has symbols.which file (section_of symbols.selection) are.0) in
     answered_lines _ (share_addresses symbols file) (MemoryFor symbols file) (answer_for symbols file) c.in_ok-places.places c.args.annotates c.args.lookup _ _ _ _ (Ok c.in_ok-missing.missing) has.0 has.1 (of_lines c.args.annotates _ c.args.lookup _ _ _ _ _ c.if-annotates.false c.in_ok-missing.ensures.answers)
 
 pub returns-in_err-annotate_stream-clause-answers : goal.returns-in_err-annotate_stream-clause-answers
 returns-in_err-annotate_stream-clause-answers g c = λ file is.
     let symbols = c.args.symbols.now in
-    let has = c.in_ok-places.ensures.has symbols.which file (section_of symbols.selection) (c.in_ok-tables.ensures.answer file is) in
+    let are = c.in_ok-tables.ensures file is in
+    let has = places_for symbols file c.in_ok-tables.tables (Ok c.in_ok-places.places) are (c.in_ok-places.ensures.has symbols.which file (section_of symbols.selection) are.0) in
     answered_less _ (share_addresses symbols file) (MemoryFor symbols file) (answer_for symbols file) c.in_ok-places.places c.args.annotates c.args.lookup _ _ _ _ c.in_err-annotate_stream.field-0.0 c.from_residual-in_err-annotate_stream.result
     has.0 has.1 (of_part c.args.annotates _ c.args.lookup _ _ _ _ _ c.if-annotates.true c.in_err-annotate_stream.ensures.annotates) c.from_residual-in_err-annotate_stream.ensures.1
 
 pub returns-then-annotates-clause-answers : goal.returns-then-annotates-clause-answers
 returns-then-annotates-clause-answers g c = λ file is.
     let symbols = c.args.symbols.now in
-    let has = c.in_ok-places.ensures.has symbols.which file (section_of symbols.selection) (c.in_ok-tables.ensures.answer file is) in
+    let are = c.in_ok-tables.ensures file is in
+    let has = places_for symbols file c.in_ok-tables.tables (Ok c.in_ok-places.places) are (c.in_ok-places.ensures.has symbols.which file (section_of symbols.selection) are.0) in
     answered_lines _ (share_addresses symbols file) (MemoryFor symbols file) (answer_for symbols file) c.in_ok-places.places c.args.annotates c.args.lookup _ _ _ _ (Ok 0) has.0 has.1
     (of_text c.args.annotates _ c.args.lookup _ _ _ _ c.if-annotates.true c.in_ok-annotate_stream.ensures.annotates)

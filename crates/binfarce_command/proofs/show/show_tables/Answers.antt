@@ -26,14 +26,14 @@ pub returns-in_ok-list_by-in-Rows-clause-takes : goal.returns-in_ok-list_by-in-R
 returns-in_ok-list_by-in-Rows-clause-takes g c = λ which file section are.
     subst (λ (k : Kind). Takes (IsTextOf k c.args.path.now (style_of c.args.form) which file section) (answer_in which file section) (g.K.Sink.taken c.args.out.now) (g.K.Sink.taken c.list_by.new.out) written) (sym c.in-Rows.is) (c.in_ok-list_by-in-Rows.ensures.takes which file section are)
 
-pub returns-in_err-report_noted-in-Sums-clause-takes : goal.returns-in_err-report_noted-in-Sums-clause-takes
-returns-in_err-report_noted-in-Sums-clause-takes g c = λ which file section are.
-    report_in (λ (k : Kind) (o : Outcome). Takes (IsTextOf k c.args.path.now (style_of c.args.form) which file section) (answer_in which file section) (g.K.Sink.taken c.args.out.now) (g.K.Sink.taken c.report_noted.new.out) o) c.args.kind Sums c.in-Sums.is c.in_err-report_noted-in-Sums.field-0.0 c.from_residual-in_err-report_noted-in-Sums.result c.from_residual-in_err-report_noted-in-Sums.ensures.1
-    (c.in_err-report_noted-in-Sums.ensures.takes which file section are)
+pub returns-in_err-report_tables-in-Sums-clause-takes : goal.returns-in_err-report_tables-in-Sums-clause-takes
+returns-in_err-report_tables-in-Sums-clause-takes g c = λ which file section are.
+    report_in (λ (k : Kind) (o : Outcome). Takes (IsTextOf k c.args.path.now (style_of c.args.form) which file section) (answer_in which file section) (g.K.Sink.taken c.args.out.now) (g.K.Sink.taken c.report_tables.new.out) o) c.args.kind Sums c.in-Sums.is c.in_err-report_tables-in-Sums.field-0.0 c.from_residual-in_err-report_tables-in-Sums.result c.from_residual-in_err-report_tables-in-Sums.ensures.1
+    (c.in_err-report_tables-in-Sums.ensures.takes which file section are)
 
-pub returns-in_ok-report_noted-in-Sums-clause-takes : goal.returns-in_ok-report_noted-in-Sums-clause-takes
-returns-in_ok-report_noted-in-Sums-clause-takes g c = λ which file section are.
-    subst (λ (k : Kind). Takes (IsTextOf k c.args.path.now (style_of c.args.form) which file section) (answer_in which file section) (g.K.Sink.taken c.args.out.now) (g.K.Sink.taken c.report_noted.new.out) written) (sym c.in-Sums.is) (c.in_ok-report_noted-in-Sums.ensures.takes which file section are)
+pub returns-in_ok-report_tables-in-Sums-clause-takes : goal.returns-in_ok-report_tables-in-Sums-clause-takes
+returns-in_ok-report_tables-in-Sums-clause-takes g c = λ which file section are.
+    subst (λ (k : Kind). Takes (IsTextOf k c.args.path.now (style_of c.args.form) which file section) (answer_in which file section) (g.K.Sink.taken c.args.out.now) (g.K.Sink.taken c.report_tables.new.out) written) (sym c.in-Sums.is) (c.in_ok-report_tables-in-Sums.ensures.takes which file section are)
 
 pub returns-in_err-sum_by-in-Figures-clause-takes : goal.returns-in_err-sum_by-in-Figures-clause-takes
 returns-in_err-sum_by-in-Figures-clause-takes g c = λ which file section are.

@@ -5,7 +5,7 @@ use Rattle.binfarce_tools.specs.ReportWords.{outcome_of}
 use Rattle.binfarce_tools.specs.Selection.{answer_in, MemoryIn}
 use Rattle.binfarce_tools.proofs.Reports.{ends, none_reported, none_taken, size_of_all, summed_or_not}
 use Rattle.binfarce_tools.proofs.Selections.{list_in, report_takes, size_in}
-use Rattle.binfarce_tools.proofs.report.report_noted.Goals as goal
+use Rattle.binfarce_tools.proofs.report.report_tables.Goals as goal
 
 pub returns-in_err-sums-clause-outcome : goal.returns-in_err-sums-clause-outcome
 returns-in_err-sums-clause-outcome g c = λ which file section are.

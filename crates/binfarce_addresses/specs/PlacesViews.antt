@@ -1,4 +1,4 @@
--- What clauses see of the places of a file.
+-- The views of the places of a file that clauses use.
 use Rattle.std.specs.Prelude.{◌≡◌, ◌⊎◌, List, Option, Some, None, Result, Ok, Err}
 use Rattle.binfarce.specs.declared.ParseError.{ParseError}
 use Rattle.binfarce.specs.Refusal.{Refusal, refusal_of}

@@ -1,4 +1,4 @@
-//! What is looked up of an address, and how it is answered.
+//! How an address is looked up, and the form of the answer.
 
 ghost use Rattle.std.specs.Prelude.{◌≡◌, ◌-◌};
 ghost use Rattle.binfarce_addresses.specs.Lookup.{looked_up};
@@ -18,7 +18,8 @@ pub struct Lookup<'a> {
 }
 
 impl Lookup<'_> {
-    /// The address in the file that is looked up. `None` for an address below the base, and for the return address 0 in the file.
+    /// The address in the file that is looked up. `None` for an address below the base, and for the return address 0 in
+    /// the file.
     pub(crate) fn in_file(self, address: u64) -> Option<u64>
         ensures { result ≡ looked_up self.entry address }
     {
@@ -26,7 +27,7 @@ impl Lookup<'_> {
         given.checked_sub(u64::from(self.is_return))
     }
 
-    /// The offset of an address into what begins at `start` in the file, or 0 where it begins behind the address.
+    /// The offset of the address in the file from `start`, or 0 if `start` is greater.
     pub(crate) fn offset_in(self, address: u64, start: u64) -> u64
         ensures { result ≡ address - self.entry.base - start }
     {

@@ -23,7 +23,7 @@ pub struct Sections {
     pub count: usize,
 }
 
-/// All sections of a 32-bit ELF file.
+/// All sections of a 32-bit ELF file. See `binfarce.h`.
 #[unsafe(no_mangle)]
 #[tactic(auto, using(crate::proofs::Drained::of_32_bits))]
 pub extern "C" fn binfarce_elf32_sections(
@@ -44,7 +44,7 @@ pub extern "C" fn binfarce_elf32_sections(
     }
 }
 
-/// All sections of a 64-bit ELF file.
+/// All sections of a 64-bit ELF file. See `binfarce.h`.
 #[unsafe(no_mangle)]
 #[tactic(auto, using(crate::proofs::Drained::of_64_bits))]
 pub extern "C" fn binfarce_elf64_sections(
@@ -65,7 +65,7 @@ pub extern "C" fn binfarce_elf64_sections(
     }
 }
 
-/// All sections of a Mach-O file.
+/// All sections of a Mach-O file. See `binfarce.h`.
 #[unsafe(no_mangle)]
 pub extern "C" fn binfarce_macho_sections(file: &[u8], out: &mut [Section]) -> Sections
     ensures { GivesWalk macho_details (walk_of macho.least_length file.now (macho.walk file.now))
@@ -80,7 +80,7 @@ pub extern "C" fn binfarce_macho_sections(file: &[u8], out: &mut [Section]) -> S
     }
 }
 
-/// All sections of a PE file.
+/// All sections of a PE file. See `binfarce.h`.
 #[unsafe(no_mangle)]
 pub extern "C" fn binfarce_pe_sections(file: &[u8], out: &mut [Section]) -> Sections
     ensures { GivesWalk pe_details (walk_of (pe.least_length file.now) file.now (pe.walk file.now)) out.old

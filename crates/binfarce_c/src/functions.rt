@@ -52,7 +52,7 @@ pub struct Functions {
     pub section_size: u64,
 }
 
-/// The function symbols of a section of a 32-bit ELF file.
+/// The function symbols of a section of a 32-bit ELF file. See `binfarce.h`.
 #[unsafe(no_mangle)]
 pub extern "C" fn binfarce_elf32_functions(
     alloc: Global,
@@ -70,7 +70,7 @@ pub extern "C" fn binfarce_elf32_functions(
     }
 }
 
-/// The function symbols of a section of a 64-bit ELF file.
+/// The function symbols of a section of a 64-bit ELF file. See `binfarce.h`.
 #[unsafe(no_mangle)]
 pub extern "C" fn binfarce_elf64_functions(
     alloc: Global,
@@ -88,7 +88,7 @@ pub extern "C" fn binfarce_elf64_functions(
     }
 }
 
-/// The function symbols of a Mach-O file.
+/// The function symbols of a Mach-O file. See `binfarce.h`.
 #[unsafe(no_mangle)]
 pub extern "C" fn binfarce_macho_functions(
     alloc: Global,
@@ -100,7 +100,7 @@ pub extern "C" fn binfarce_macho_functions(
     give(of_macho(alloc, file), out)
 }
 
-/// The function symbols of a PE file.
+/// The function symbols of a PE file. See `binfarce.h`.
 #[unsafe(no_mangle)]
 pub extern "C" fn binfarce_pe_functions(
     alloc: Global,

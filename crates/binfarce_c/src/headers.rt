@@ -44,7 +44,7 @@ pub struct ElfHeader {
 }
 
 /// The format that a file's first bytes name: 0 for none, and then ELF of 32 bits in little-endian and in big-endian
-/// order, of 64 bits the same, Mach-O, PE.
+/// order, of 64 bits the same, Mach-O, PE. See `binfarce.h`.
 #[unsafe(no_mangle)]
 pub extern "C" fn binfarce_detect_format(file: &[u8]) -> u32
     ensures { result ≡ format_number (format_of file.now) }
@@ -67,7 +67,7 @@ fn of_order(byte_order: ByteOrder) -> u32
     }
 }
 
-/// The file header of a 32-bit ELF file.
+/// The file header of a 32-bit ELF file. See `binfarce.h`.
 #[unsafe(no_mangle)]
 #[tactic(auto, using(crate::proofs::Drained::of_32_bits))]
 pub extern "C" fn binfarce_elf32_header(file: &[u8], big_endian: bool, out: &mut ElfHeader) -> u32
@@ -82,7 +82,7 @@ pub extern "C" fn binfarce_elf32_header(file: &[u8], big_endian: bool, out: &mut
     }
 }
 
-/// The file header of a 64-bit ELF file.
+/// The file header of a 64-bit ELF file. See `binfarce.h`.
 #[unsafe(no_mangle)]
 #[tactic(auto, using(crate::proofs::Drained::of_64_bits))]
 pub extern "C" fn binfarce_elf64_header(file: &[u8], big_endian: bool, out: &mut ElfHeader) -> u32
@@ -137,7 +137,7 @@ fn of_64_bits(header: elf64::Elf64Header) -> ElfHeader
     }
 }
 
-/// Whether a Mach-O file has its file header.
+/// Whether a Mach-O file has its file header. See `binfarce.h`.
 #[unsafe(no_mangle)]
 pub extern "C" fn binfarce_macho_header(file: &[u8]) -> u32
     ensures { ChecksHeader macho.least_length file.now result }
@@ -148,7 +148,7 @@ pub extern "C" fn binfarce_macho_header(file: &[u8]) -> u32
     }
 }
 
-/// Whether a PE file has its file header.
+/// Whether a PE file has its file header. See `binfarce.h`.
 #[unsafe(no_mangle)]
 pub extern "C" fn binfarce_pe_header(file: &[u8]) -> u32
     ensures { ChecksHeader (pe.least_length file.now) file.now result }

@@ -74,7 +74,8 @@ impl From<AllocError> for NameError {
     }
 }
 
-/// The readable form of a name, all of it: the complete text, the trimmed one and the crate, each in a buffer of its own.
+/// The readable form of a name, all of it: the complete text, the trimmed one and the crate, each in a buffer of its
+/// own. See `binfarce.h`.
 #[unsafe(no_mangle)]
 #[tactic(auto, unfolding(crate::specs::Names::Demangles))]
 pub extern "C" fn binfarce_demangle(
@@ -116,7 +117,7 @@ pub extern "C" fn binfarce_demangle(
     }
 }
 
-/// The trimmed text of a name, in a buffer.
+/// The trimmed text of a name, in a buffer. See `binfarce.h`.
 #[unsafe(no_mangle)]
 #[tactic(auto, unfolding(crate::specs::Names::Trims))]
 pub extern "C" fn binfarce_trimmed(alloc: Global, name: &[u8], out: &mut [u8]) -> Text
@@ -128,7 +129,7 @@ pub extern "C" fn binfarce_trimmed(alloc: Global, name: &[u8], out: &mut [u8]) -
     }
 }
 
-/// The crate of a name, in a buffer.
+/// The crate of a name, in a buffer. See `binfarce.h`.
 #[unsafe(no_mangle)]
 #[tactic(auto, unfolding(crate::specs::Names::GivesCrate))]
 pub extern "C" fn binfarce_crate_of(alloc: Global, name: &[u8], out: &mut [u8]) -> Text
@@ -141,7 +142,7 @@ pub extern "C" fn binfarce_crate_of(alloc: Global, name: &[u8], out: &mut [u8]) 
     }
 }
 
-/// How a name is mangled. Nothing is allocated.
+/// How a name is mangled. Nothing is allocated. See `binfarce.h`.
 #[unsafe(no_mangle)]
 #[tactic(auto, unfolding(crate::specs::Names::GivesMangling))]
 pub extern "C" fn binfarce_mangling(name: &[u8], out: &mut Mangling) -> u32

@@ -50,7 +50,7 @@ pub struct Section {
     pub has_name: bool,
 }
 
-/// The first section of a 32-bit ELF file with this name.
+/// The first section of a 32-bit ELF file with this name. See `binfarce.h`.
 #[unsafe(no_mangle)]
 #[tactic(auto, using(crate::proofs::Sought::given))]
 pub extern "C" fn binfarce_elf32_section(
@@ -69,7 +69,7 @@ pub extern "C" fn binfarce_elf32_section(
     }
 }
 
-/// The section of a 32-bit ELF file with this number.
+/// The section of a 32-bit ELF file with this number. See `binfarce.h`.
 #[unsafe(no_mangle)]
 #[tactic(auto, using(crate::proofs::Sought::given))]
 pub extern "C" fn binfarce_elf32_section_at(
@@ -83,7 +83,7 @@ pub extern "C" fn binfarce_elf32_section_at(
     give(numbered_32(file, order_of(big_endian), index), out)
 }
 
-/// The first section of a 64-bit ELF file with this name.
+/// The first section of a 64-bit ELF file with this name. See `binfarce.h`.
 #[unsafe(no_mangle)]
 #[tactic(auto, using(crate::proofs::Sought::given))]
 pub extern "C" fn binfarce_elf64_section(
@@ -102,7 +102,7 @@ pub extern "C" fn binfarce_elf64_section(
     }
 }
 
-/// The section of a 64-bit ELF file with this number.
+/// The section of a 64-bit ELF file with this number. See `binfarce.h`.
 #[unsafe(no_mangle)]
 #[tactic(auto, using(crate::proofs::Sought::given))]
 pub extern "C" fn binfarce_elf64_section_at(
@@ -116,7 +116,8 @@ pub extern "C" fn binfarce_elf64_section_at(
     give(numbered_64(file, order_of(big_endian), index), out)
 }
 
-/// The first section of a Mach-O file with this segment's and this section's name. A name that isn't UTF-8 is no section's.
+/// The first section of a Mach-O file with this segment's and this section's name. A name that isn't UTF-8 is no
+/// section's. See `binfarce.h`.
 #[unsafe(no_mangle)]
 #[tactic(auto, using(crate::proofs::Sought::given))]
 pub extern "C" fn binfarce_macho_section(
@@ -139,7 +140,7 @@ pub extern "C" fn binfarce_macho_section(
     }
 }
 
-/// The section of a Mach-O file with this number.
+/// The section of a Mach-O file with this number. See `binfarce.h`.
 #[unsafe(no_mangle)]
 #[tactic(auto, using(crate::proofs::Sought::given))]
 pub extern "C" fn binfarce_macho_section_at(file: &[u8], index: usize, out: &mut Section) -> u32
@@ -148,7 +149,7 @@ pub extern "C" fn binfarce_macho_section_at(file: &[u8], index: usize, out: &mut
     give(numbered_macho(file, index), out)
 }
 
-/// The first section of a PE file with this name.
+/// The first section of a PE file with this name. See `binfarce.h`.
 #[unsafe(no_mangle)]
 #[tactic(auto, using(crate::proofs::Sought::given))]
 pub extern "C" fn binfarce_pe_section(file: &[u8], name: &[u8], out: &mut Section) -> u32
@@ -161,7 +162,7 @@ pub extern "C" fn binfarce_pe_section(file: &[u8], name: &[u8], out: &mut Sectio
     }
 }
 
-/// The section of a PE file with this number.
+/// The section of a PE file with this number. See `binfarce.h`.
 #[unsafe(no_mangle)]
 #[tactic(auto, using(crate::proofs::Sought::given))]
 pub extern "C" fn binfarce_pe_section_at(file: &[u8], index: usize, out: &mut Section) -> u32

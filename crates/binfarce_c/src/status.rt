@@ -51,7 +51,7 @@ pub(crate) fn detail_of(error: ParseError) -> u32
     }
 }
 
-/// Writes the text of a status into a buffer, and returns its whole length.
+/// Writes the text of a status into a buffer, and returns its whole length. See `binfarce.h`.
 #[unsafe(no_mangle)]
 pub extern "C" fn binfarce_status_text(status: u32, out: &mut [u8]) -> usize
     ensures length { result ≡ length (status_words status) }

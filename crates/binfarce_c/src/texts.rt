@@ -16,7 +16,7 @@ use binfarce_tools::report::{ReportError, report};
 use std::alloc::Global;
 use std::str;
 
-/// The listing of a file's function symbols, in a buffer.
+/// The listing of a file's function symbols, in a buffer. See `binfarce.h`.
 #[unsafe(no_mangle)]
 #[tactic(auto, unfolding(crate::specs::Texts::GivesText))]
 pub extern "C" fn binfarce_list(alloc: Global, file: &[u8], section: &[u8], out: &mut [u8]) -> Text
@@ -34,7 +34,7 @@ pub extern "C" fn binfarce_list(alloc: Global, file: &[u8], section: &[u8], out:
     }
 }
 
-/// The report of how much of a file each crate takes, in a buffer.
+/// The report of how much of a file each crate takes, in a buffer. See `binfarce.h`.
 #[unsafe(no_mangle)]
 #[tactic(auto, unfolding(crate::specs::Texts::GivesText))]
 pub extern "C" fn binfarce_report(

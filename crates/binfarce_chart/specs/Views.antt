@@ -1,4 +1,4 @@
--- What clauses see of a bar.
+-- The views of a bar that clauses use.
 use Rattle.binfarce_chart.specs.declared.bars.Bar.{Bar}
 use Rattle.binfarce_chart.specs.Chart.{Row}
 

@@ -14,8 +14,8 @@ use std::alloc::{AllocError, Global};
 // Addresses and their ends, from section to section.
 const RANGE: u128 = 36893488147419103232;
 
-/// What function symbols with keys add, as rows with their keys: a byte that several of a section have counts for the
-/// first of them in the order of addresses.
+/// How many bytes each function symbol adds to its key's sum, as rows with the keys: a byte that several of a section
+/// have counts for the first of them in the order of addresses.
 pub(crate) fn claims_of<'a>(alloc: Global, keyed: &'a [Keyed]) -> Result<Vec<Row<'a>>, AllocError>
     ensures { IfOk result (λ v. AreClaimsWith keyed.entry.now v.items) }
 {

@@ -1,4 +1,4 @@
--- What clauses see of a symbol's name and of a mangling: texts as bytes.
+-- The views of a symbol's name and of a mangling that clauses use: texts as bytes.
 use Rattle.std.specs.Prelude.{ℕ, List, Option, Bool, true, false, nat_lt, length, if◌then◌else◌}
 use Rattle.std.specs.Option.{option_map}
 use Rattle.std.specs.String.{string_bytes}

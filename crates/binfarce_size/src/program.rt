@@ -55,8 +55,8 @@ impl binfarce_tools::program::Fault for Fault {
     }
 }
 
-/// Reports how much of a file's section each crate takes. Of a file that can be read at offsets only the headers, the symbol
-/// table and the names are read; any other is first read to its end.
+/// Reports how much of a file's section each crate takes. Of a file that can be read at offsets only the headers, the
+/// symbol table and the names are read; any other is first read to its end.
 ///
 /// `File` where it can't be read; `Report` where an allocation fails while it is read, and as `report` refuses.
 #[tactic(auto, unfolding(binfarce_tools::specs::Selection::answer_in, binfarce_tools::specs::Selection::MemoryIn))]

@@ -69,7 +69,8 @@ pub trait Pass<O> {
             ((more : List ℕ) × Goes Holds self.old self.new part.now more × (out.new.items ≡ out.old.items ++ more)) }
         ensures breaks_off { BreaksOff Holds MayBreakOff };
 
-    /// Ends the text, or where it didn't end breaks it off, and appends the rest of the output to `out`.
+    /// Finishes a text that ended, or breaks off one whose reader failed (`ended` is false), and appends the remaining
+    /// output to `out`.
     fn end(&mut self, ended: bool, out: &mut Vec<u8>) -> Result<(), AllocError>
         ensures makes { OnOk result
             ((more : List ℕ) × Ends Holds IsDone self.old self.new ended more

@@ -1,4 +1,5 @@
-//! The examples of `docs/API.md` as a caller writes them, each with a contract that follows from those of the calls in it.
+//! The examples of `docs/API.md` as a caller writes them, each with a contract that follows from those of the calls in
+//! it.
 #![tactic(auto)]
 
 pub mod addresses;

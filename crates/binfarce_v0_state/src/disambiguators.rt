@@ -5,7 +5,7 @@ ghost use Rattle.binfarce_v0_state.specs.LeafTexts.{disambiguator_text};
 
 use binfarce_text::digits::hex_digit;
 
-/// Puts a disambiguator at the end of 18 bytes: where it begins.
+/// Writes a disambiguator at the end of the 18 bytes; returns the index of its first byte.
 #[inline(always)]
 pub fn put_disambiguator(shown: &mut [u8], n: u64) -> usize
     requires { length shown.old ≡ 18 }

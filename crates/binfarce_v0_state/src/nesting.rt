@@ -13,7 +13,7 @@ pub struct Nesting {
 }
 
 impl Nesting {
-    /// The same under a binder of so many lifetimes, or of none.
+    /// This nesting under a binder of this many lifetimes, or of none.
     #[inline(always)]
     pub fn under(mut self, binder: usize) -> Nesting
         requires entered { WithinLevels (self.levels_left + 1) self.binder_depth }
@@ -25,7 +25,7 @@ impl Nesting {
         self
     }
 
-    /// The same outside all binders.
+    /// This nesting outside all binders.
     #[inline(always)]
     pub fn outside(mut self) -> Nesting
         ensures levels { result.levels_left ≡ self.levels_left }

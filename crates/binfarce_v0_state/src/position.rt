@@ -4,7 +4,8 @@ ghost use Rattle.std.specs.Prelude.{◌≡◌};
 ghost use Rattle.binfarce_v0_state.specs.TreeTexts.{parent_position, value_mark, closing, is_open_trait};
 ghost use Rattle.binfarce_v0_state.specs.machine.View.{position_view};
 
-/// Where a tree is shown: a path as a value, a path as a type, and a trait, whose `<..>` its bindings may go on with.
+/// The position of a tree: a path as a value, a path as a type, or a trait whose `<` stays open for associated type
+/// bindings.
 #[derive(Clone, Copy, PartialEq, Eq, PartialOrd, Ord)]
 pub enum Position {
     InValue,

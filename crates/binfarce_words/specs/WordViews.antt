@@ -1,4 +1,4 @@
--- What clauses see of a call, of its options and operands, and of a wrong call.
+-- The views of a call, of its options and operands, and of a wrong call that clauses use.
 use Rattle.std.specs.Prelude.{◌≡◌, ◌⊎◌, ◌++◌, ℕ, List, codes, map, Some, None, Result, Ok, Err}
 use Rattle.binfarce_words.specs.Named.{IsNearest}
 use Rattle.binfarce_words.specs.Words as words

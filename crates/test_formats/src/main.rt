@@ -1,10 +1,11 @@
-//! Answers questions about files: standard input has one in a line, and its answer is written below it. The answers in `stdout`
-//! are worked out by hand from the formats' descriptions.
+//! Answers questions about files: standard input has one in a line, and its answer is written below it. The answers in
+//! `stdout` are worked out by hand from the formats' descriptions.
 //!
-//! `QUESTION of FILE` asks about a file in words (`test_samples::cases`). Where these name several samples, it asks about each,
-//! and an answer that is also that of the sample before isn't repeated. `elf(NAME,NAME)` names a 64-bit ELF file of functions
-//! with these names. `fronts QUESTION of FILE` asks about the first bytes of the file, from none to all: each answer has before
-//! it the least number of bytes that it is given for. A line that begins with `#` is a heading.
+//! `QUESTION of FILE` asks about a file in words (`test_samples::cases`). Where these name several samples, it asks
+//! about each, and an answer that is also that of the sample before isn't repeated. `elf(NAME,NAME)` names a 64-bit ELF
+//! file of functions with these names. `fronts QUESTION of FILE` asks about the first bytes of the file, from none to
+//! all: each answer has before it the least number of bytes that it is given for. A line that begins with `#` is a
+//! heading.
 #![tactic(auto)]
 
 mod calls;

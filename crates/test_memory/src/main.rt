@@ -4,7 +4,8 @@
 //! Standard input has the name of a group of rows, a space, and the number of their allocation that is to fail. The
 //! toolchain lets the one of the same number fail in every run, `FAILED`; so many others are made before the rows that
 //! it is theirs. As many are made after the rows: if one of those fails, none of the rows' did, and then every row has
-//! to give its whole answer. With the number 0 no allocation fails; there `all` is every group, and the reading of a file.
+//! to give its whole answer. With the number 0 no allocation fails; there `all` is every group, and the reading of a
+//! file.
 #![tactic(auto)]
 
 mod addresses;

@@ -17,7 +17,8 @@
 //! | `limits PART` | the levels and steps of a v0 name without its prefix |
 //! | `visits PART` | how many of its parts are read for the complete text, for the trimmed text, and for none |
 //!
-//! In a question `\0A` is the byte 0x0A, and `\{3*ab}` is `ababab`. A remark begins with ` # `, and a line of its own with `#`.
+//! In a question `\0A` is the byte 0x0A, and `\{3*ab}` is `ababab`. A remark begins with ` # `, and a line of its own
+//! with `#`.
 #![tactic(auto)]
 
 mod long_texts;
@@ -50,8 +51,8 @@ fn main(rt: HostRuntime) -> ExitCode {
 ///
 /// # Errors
 ///
-/// `InvalidData` where a line is no question; the answers of those before were written. The other errors are those of the
-/// reader, of the writer, and of a failed allocation.
+/// `InvalidData` where a line is no question; the answers of those before were written. The other errors are those of
+/// the reader, of the writer, and of a failed allocation.
 pub fn run<R: Read, W: Write>(alloc: Global, input: &mut R, output: &mut W) -> io::Result<()> {
     let mut bytes = Vec::new(alloc);
     input.read_to_end(&mut bytes)?;

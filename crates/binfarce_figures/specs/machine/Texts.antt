@@ -1,4 +1,4 @@
--- What clauses see of a name's texts.
+-- The views of a name's texts that clauses use.
 use Rattle.std.specs.Prelude.{ℕ, List}
 use Rattle.std.specs.String.{string_bytes}
 use Rattle.binfarce_figures.specs.declared.rows.Texts.{Texts}

@@ -10,7 +10,7 @@ use binfarce_sections::error::SectionError;
 use binfarce_tools::list::Sink;
 use std::alloc::Global;
 
-/// The same, of an opened file.
+/// Writes the dependencies of an opened file.
 pub fn write_source_dependencies<F: Source<Log = ()>, S: Sink>(
     alloc: Global,
     file: &F,

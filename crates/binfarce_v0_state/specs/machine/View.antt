@@ -1,4 +1,4 @@
--- What clauses see of a position.
+-- The views of a position that clauses use.
 use Rattle.binfarce_v0_state.specs.TreeTexts as tree
 use Rattle.binfarce_v0_state.specs.declared.position.Position as position
 use Rattle.binfarce_v0_state.specs.declared.position.Position.TheVariants as positions

@@ -10,10 +10,10 @@ import subprocess
 import sys
 import tempfile
 
-TOKEN = re.compile(r"""//[^\n]*|[bc]?r(\#*)".*?"\1|[bc]?"(?:\\.|[^"\\])*"|b?'(?:\\(?:u\{\w*\}|x\w\w|.)|[^'\\])'
-    |'\w+|\w+|::|->|=>|[^\s\w]""", re.S | re.X)
+# Escaped quotes and backslashes are hidden when a text is cut into words; a literal is one word, without brackets.
+TOKEN = re.compile(r"""//.*|"[^"]*"|'(?:[^'\\]|\\[^']+|[\ue00c-\ue00e])'|'?\w+|::|->|=>|\S""")
 HIDDEN = str.maketrans(" \n(){}[]<>;,", "\ue000\ue001\ue002\ue003\ue004\ue005\ue006\ue007\ue008\ue009\ue00a\ue00b")
-SHOWN = {value: key for key, value in HIDDEN.items()}  # A literal is one word, without brackets.
+SHOWN = {value: key for key, value in HIDDEN.items()}
 # Imports of what Rattle has without one, and imports that the prover or a derive needs alone.
 PRELUDE = {f"std::{name}" for name in ("HostRuntime", "String", "Vec", "CollectIn", "ToSigned", "TrimAscii")}
 GHOSTS = {"std::marker::Model", "std::io::Input", "std::os::unix::fs::FileExt", "std::fmt::Write", "thiserror::Error"}
@@ -24,7 +24,7 @@ LACKS = [(r"\bghost (?=\w)", ";,"), (r"\b(?:requires|ensures) (?=(?:\w+ )?\{)", 
          (r"# (?:! )?\[ (?:tactic|cycle|rattlefmt|unsafe)\b", "]")]
 # A law is a function that does nothing.
 EITHER = [(r"(?:pub (?:\( crate \) )?)?fn \w+ (?:< [^{(]*> )?\( [^{]*\) \{ (?:let _ = [^;]*; )*\}", ""),
-          (r"\bpub mod (\w+) ;", r"mod \1 ;"), (r", (?=[)\]}>])", "")]
+          (r"\bpub (?:\( crate \) )?mod (\w+) ;", r"mod \1 ;"), (r", (?=[)\]}>])", "")]
 SOURCE = [
     (r"\bimpl (?:< [^{;]*> )?Model for [^{]*\{ \}", ""), (r"(?:pub )?mod laws ;", ""), (r"\bcrate ::", "OWN ::"),
     (r"# \[ derive \( Drop \) \]", ""), (r"\+ Drop\b|: Drop\b", ""), (r"# \[ error \( \S+ \) \]", ""),
@@ -40,7 +40,7 @@ ERASED = [
     (r"\bcollect_in\b", "collect"), (r"\bto_signed\b", "cast_signed"),
     (r"\bcrate :: erased ::", ""), (r"\bcrate :: shim ::", "std ::"),
 ]
-USE = r"(pub )?\buse ((?:\w+ :: )*)(\w+(?: as \w+)?|\{ [^{}]*\}) ;"
+USE = r"(pub )?\buse ([^;{]*)(?:\{([^}]*)\} )?;"
 # What the derive of an error makes; its texts are rows of tests/programs.py.
 SHOWS = (r"impl std :: fmt :: Display for (\w+) \{ fn fmt \( & self , f : & mut std :: fmt :: Formatter < '_ > \) "
          r"-> std :: fmt :: Result \{ match self \{ (?:\1 :: \w+ (?:\( e \) )?=> write ! \( f , \S+ \) , )*\} \} \} "
@@ -59,17 +59,18 @@ def without(text, start, ends):
 
 def plain(path, own, rules):
     """The words of a file that are compared in order, and its imports."""
-    words = [found[0] for found in TOKEN.finditer(path.read_text()) if not found[0].startswith("//")]
-    text = " ".join(word.translate(HIDDEN) if word[-1] in "\"'#" and len(word) > 1 else word for word in words)
+    text = path.read_text().replace("\\\\", "\ue00c").replace('\\"', "\ue00d").replace("\\'", "\ue00e")
+    words = [word for word in TOKEN.findall(text) if word[:2] != "//"]
+    text = " ".join(word.translate(HIDDEN) if word[0] in "\"'" and word[-1] in "\"'" else word for word in words)
     for start, ends in LACKS:
         text = without(text, start, ends)
     for pattern, new in [(SHOWS, ""), *rules, *EITHER]:
         text = " ".join(re.sub(pattern, new.replace("OWN", own), text).split())
     imports = set()
     for public, parent, names in re.findall(USE, text):
-        for name in names.strip("{ }").split(","):
-            path, _, short = (parent + name).partition(" as ")
-            path = re.sub(r"::self$", "", path.replace(" ", ""))
+        for name in names.split(","):
+            path, _, short = (parent + name).replace(":: self", "").partition(" as ")
+            path = re.sub("[: ]+$", "", path).replace(" ", "")
             imports.add((path, short.strip() or path.split("::")[-1], public))
     return re.sub(USE, "", text).split(), imports
 
@@ -84,16 +85,18 @@ def difference(source, erased, own):
         if item[0] not in (GHOSTS if item in wanted else PRELUDE):
             return f"{source if item in wanted else erased} alone has {' '.join(item).translate(SHOWN)}"
 
-# What means something else in Rust than in Rattle.
+# What means something else in Rust than in Rattle: what is refused by name, and a function's body that has it.
 FORMS = {
-    "size_of": "fn f() -> usize { std::mem::size_of::<(u8, u32, u8)>() }", "(250u8..)": "fn f() -> usize { (250u8..).take(9).count() }",
-    "for x in 250u8..{}": "fn f() { for x in 250u8.. {} }", "std::thread": "use std::thread;", "}": "fn f() }",
-    "sort_unstable_by_key": "fn f(a: &mut [(u8, u8)]) { a.sort_unstable_by_key(|x| x.0); }",
-    "is_alphanumeric": "fn f(a: char) -> bool { a.is_alphanumeric() }", "ghost=1;": "fn f() { let ghost = 1; }",
-    "binary_search": "fn f(a: &[u8]) -> bool { a.binary_search(&1).is_ok() }", "#[from]": "pub enum E { A(#[from] F) }",
-    "clone": "fn f(a: &[E]) -> usize { a.iter().map(|x| x.clone()).count() }",
-    "{a:1,..v[i]}": "fn f(v: &[S], i: usize) -> S { S { a: 1, ..v[i] } }", "stringify!": "fn f() -> &'static str { stringify!(a + b) }",
-    '#[error("bad {{0}}")]': '#[derive(Debug, Drop, Error)]\npub enum E {\n    #[error("bad {{0}}")]\n    A(u8),\n}',
+    "clone": "a.map(|x| x.clone());", "to_vec": "a.to_vec();", "anyhow": "let a: anyhow::Error;", "#[from]": "enum E { A(#[from] F) }",
+    "std::thread": "std::thread::spawn(a);", "std::sync": "std::sync::mpsc::channel();", "250u8..": "(250u8..).take(9);",
+    "(b)..": "for x in a(b).. {}", "1..": "S { a, b: if c { 2 } else { 1 }, d: 1.. }", "9..": "f([9..]);", "}": "}",
+    "<&Self": "trait T { fn f(w: W<&Self>) { w.f(); } }", "Index": "fn f<T: Index<u8>>(w: W<T::Output>) { w.f(); }",
+    "impl<X:Clone>A for X": "impl<X: Clone> A for X { fn f(&self) {} }", "std::iter": "std::iter::once(1).f();",
+    "std::convert": "impl A for std::convert::Infallible {}", "Drop": "impl Drop for S {}", "size_of": "size_of::<(u8, u32, u8)>()",
+    "{a:1,..v[i]}": "S { a: 1, ..v[i] }", "stringify!": "stringify!(a + b);", "macro_rules": "macro_rules! m { ($s:stmt) => {} }",
+    "module_path!": "module_path!();", "HashMap": "let a: HashMap<u8, u8>;", "binary_search": "a.binary_search(&1);",
+    "sort_unstable_by_key": "a.sort_unstable_by_key(|x| x.0);", "is_alphanumeric": "a.is_alphanumeric();", "ghost=1;": "let ghost = 1;",
+    '#[error("bad {{0}}")]': '#[derive(Debug, Drop, Error)]\npub enum E { #[error("bad {{0}}")] A(u8) }',
 }
 
 def not_refused():
@@ -104,7 +107,7 @@ def not_refused():
         pathlib.Path(top, "crates.txt").write_text("a:\nb: a\n")
         erase = shutil.copytree(TOP / "tools", f"{top}/tools") + "/erase"
         for form, text in FORMS.items():
-            source.write_text(f"//! A crate.\n\n{text}\n")
+            source.write_text(f"//! A crate.\n\nfn f() {{\n    {text}\n}}\n")
             said = subprocess.run([erase], capture_output=True, text=True).stderr
             if not said.startswith("crates/a/src/lib.rt:") or f"`{form}`" not in said:
                 yield f"{form} isn't refused by name: {said}"

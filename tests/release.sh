@@ -57,13 +57,11 @@ chroot "$chroot" dpkg --force-depends -i "${place#"$chroot"}/it.deb" >"$scratch/
 runs "$chroot/usr"
 chroot "$chroot" dpkg --purge binfarce >"$scratch/log" 2>&1
 files | diff "$scratch/before" -
-step "the crate: its tests and an example; installed by cargo and removed"
+step "the crate: its tests and an example; installed by cargo"
 tar -xf "$folder"/*.crate -C "$scratch"
 source=$(echo "$scratch"/binfarce-*)
 cargo test --quiet --manifest-path "$source/Cargo.toml" >"$scratch/log" 2>&1
 cargo run --quiet --manifest-path "$source/Cargo.toml" --example list "$sample" | cmp - "$listing"
 cargo install --quiet --path "$source" --root "$scratch/cargo"
 "$scratch/cargo/bin/binfarce-list" "$sample" | cmp - "$listing"
-cargo uninstall --quiet --root "$scratch/cargo" binfarce
-[ -z "$(find "$scratch/cargo" -type f ! -name '.crates*')" ]
 step "as it must be"

@@ -42,11 +42,8 @@ fn print_backtrace() -> Result<(), Box<dyn Error>> {
     let tables = Tables::read(fs::File::open(path)?, Selection::All, SymbolTable::Symtab)?;
     let symbolizer = Symbolizer::new(&tables)?.with_base(base);
     for address in addresses(&format!("{:#}", Backtrace::force_capture())) {
-        // A return address may lie at the end of its function.
-        match symbolizer.find(address.saturating_sub(1)) {
-            Some((function, offset)) => {
-                println!("{address:x} {}+0x{:x}", demangle::trimmed(function.name)?, offset + 1)
-            }
+        match symbolizer.find_return(address) {
+            Some((function, offset)) => println!("{address:x} {}+0x{offset:x}", demangle::trimmed(function.name)?),
             None => println!("{address:x} ??"),
         }
     }

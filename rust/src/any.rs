@@ -61,6 +61,7 @@ pub fn sections(file: &[u8]) -> Result<Sections<'_>, Error> {
 
 /// An iterator over the sections of a file: the answer of [`sections`]. After an error it ends.
 #[must_use = "iterators are lazy and do nothing unless consumed"]
+#[derive(Clone)]
 pub struct Sections<'a>(sections_of::Sections<'a>);
 
 impl<'a> Iterator for Sections<'a> {

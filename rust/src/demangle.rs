@@ -147,11 +147,17 @@ impl Demangler {
     ///
     /// [`OutOfMemory`] where an allocation failed. `text` is unchanged then.
     pub fn push_complete(&mut self, text: &mut String, name: &str) -> Result<(), OutOfMemory> {
-        let complete = self.0.demangle(name)?.complete;
-        if text.is_empty() && text.capacity() < complete.len() {
+        // Into an empty text it is printed itself.
+        let mut complete = if text.is_empty() { std::mem::take(text) } else { String::new() }.into();
+        let printed = self.0.short_text(&mut complete, name, true, usize::MAX);
+        if text.is_empty() {
+            if printed.is_err() {
+                complete.clear();
+            }
             *text = complete.into_std();
-            return Ok(());
+            return Ok(printed?);
         }
+        printed?;
         with_shim(text, |text| text.push_str(&complete))
     }
 
@@ -219,41 +225,37 @@ pub fn trimmed(name: &str) -> Result<String, OutOfMemory> {
     Ok(text)
 }
 
-/// A mangled name that was recognized and not yet printed: the answer of [`demangle`].
+/// A name that may be mangled, to be printed: the answer of [`demangle`].
 ///
 /// `{}` prints its [complete](SymbolName::complete) text, and `{:#}` its [trimmed](SymbolName::trimmed) one. Where an allocation
 /// fails, the program ends as it does where a `String` can't grow.
 #[derive(Debug, Clone, Copy, PartialEq, Eq, Hash)]
-pub struct Demangle<'a> {
-    name: &'a str,
-    kind: Kind,
-    part: &'a str,
-}
+pub struct Demangle<'a>(&'a str);
 
 impl fmt::Display for Demangle<'_> {
     fn fmt(&self, f: &mut fmt::Formatter<'_>) -> fmt::Result {
-        match self.kind {
-            Kind::Unknown => f.pad(self.name),
-            _ if f.alternate() => f.pad(&trimmed(self.name).unwrap_or_else(|_| out_of_memory())),
-            _ => f.pad(&SymbolName::demangle(self.name).complete),
-        }
+        let push = if f.alternate() { Demangler::push_trimmed } else { Demangler::push_complete };
+        let mut text = String::new();
+        push(&mut Demangler::new(), &mut text, self.0).unwrap_or_else(|_| out_of_memory());
+        f.pad(&text)
     }
 }
 
 impl<'a> Demangle<'a> {
-    /// Returns how the name is mangled, decided without printing it: a v0 name beyond the limits is [`Kind::V0`] here.
+    /// Returns how the name is mangled, decided without printing it: a v0 name beyond the limits is [`Kind::V0`] here. Nothing
+    /// is allocated.
     pub fn kind(&self) -> Kind {
-        self.kind
+        erased::demangle(self.0).kind()
     }
 
     /// Returns the name without the prefix of its mangling and without a suffix of LLVM (`.llvm.` and digits); all of a
-    /// name that isn't mangled.
+    /// name that isn't mangled. Nothing is allocated.
     pub fn part(&self) -> &'a str {
-        self.part
+        erased::demangle(self.0).part()
     }
 }
 
-/// Recognizes how `name` is mangled. Nothing is allocated.
+/// Returns `name` as what prints its readable form. The name is read when it is printed, or when it is asked for its kind.
 ///
 /// # Examples
 ///
@@ -265,6 +267,5 @@ impl<'a> Demangle<'a> {
 /// assert_eq!(format!("{name} {name:#}"), "a[0]::b a::b");
 /// ```
 pub fn demangle(name: &str) -> Demangle<'_> {
-    let recognized = erased::demangle(name);
-    Demangle { name, kind: recognized.kind(), part: recognized.part() }
+    Demangle(name)
 }

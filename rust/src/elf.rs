@@ -5,6 +5,7 @@ macro_rules! reader {
     ($erased:ident, $Elf:ident, $Header:ident, $Width:ident, $least:literal) => {
         use crate::demangle::SymbolData;
         use crate::erased::binfarce::$erased as erased;
+        use crate::erased::binfarce_elf::sections::HasSections;
         use crate::error::{Error, ParseError, out_of_memory};
         use crate::shim::alloc::Global;
         use crate::{ByteOrder, FunctionSymbol, SectionFunction, SymbolTable, symbols_of};
@@ -116,6 +117,13 @@ macro_rules! reader {
 
         /// An ELF file. It borrows the file's bytes.
         pub struct $Elf<'a>(erased::$Elf<'a>);
+
+        impl Clone for $Elf<'_> {
+            fn clone(&self) -> Self {
+                let table = self.0.section_table();
+                $Elf(erased::parse(table.data, table.byte_order).expect("the header was read before"))
+            }
+        }
 
         impl fmt::Debug for $Elf<'_> {
             fn fmt(&self, f: &mut fmt::Formatter<'_>) -> fmt::Result {
@@ -269,6 +277,7 @@ macro_rules! reader {
 
         /// An iterator over the sections of a file. After an error it ends.
         #[must_use = "iterators are lazy and do nothing unless consumed"]
+        #[derive(Clone)]
         pub struct Sections<'a>(erased::Sections<'a>);
 
         impl Iterator for Sections<'_> {
@@ -281,6 +290,7 @@ macro_rules! reader {
 
         /// An iterator over the function symbols of a section.
         #[must_use = "iterators are lazy and do nothing unless consumed"]
+        #[derive(Clone)]
         pub struct Functions<'a>(erased::Functions<'a>);
 
         impl<'a> Iterator for Functions<'a> {
@@ -293,6 +303,7 @@ macro_rules! reader {
 
         /// An iterator over the function symbols of all sections.
         #[must_use = "iterators are lazy and do nothing unless consumed"]
+        #[derive(Clone)]
         pub struct AllFunctions<'a>(erased::AllFunctions<'a>);
 
         impl<'a> Iterator for AllFunctions<'a> {

@@ -32,8 +32,8 @@
 
 #![warn(missing_docs)]
 
-#[cfg(not(target_pointer_width = "64"))]
-compile_error!("binfarce reads files on 64-bit machines only");
+#[cfg(not(any(target_pointer_width = "64", target_pointer_width = "32")))]
+compile_error!("binfarce needs a machine of 32 or 64 bits");
 
 /// Implements `Debug` for values that show their names alone.
 macro_rules! debug_by_name {
@@ -54,31 +54,49 @@ macro_rules! of_iterators {
     };
 }
 
-/// Implements the traits of values that are compared by all that they hold.
+/// Implements the traits of values that are compared by all that they hold; behind `else` only those that a `PartialEq` lacks.
 macro_rules! of_values {
-    ($($Value:ty: |$it:ident| $key:expr;)*) => {$(
-        impl PartialEq for $Value {
-            fn eq(&self, other: &Self) -> bool {
-                let key = |$it: &Self| $key;
-                key(self) == key(other)
+    ($($Value:ty: |$it:ident| $key:expr;)* $(else $($Other:ty: |$that:ident| $of:expr;)*)?) => {
+        $(
+            impl PartialEq for $Value {
+                fn eq(&self, other: &Self) -> bool {
+                    let key = |$it: &Self| $key;
+                    key(self) == key(other)
+                }
             }
-        }
 
-        impl Eq for $Value {}
+            of_values! { else $Value: |$it| $key; }
+        )*
+        $($(
+            impl Eq for $Other {}
 
-        impl std::hash::Hash for $Value {
-            fn hash<H: std::hash::Hasher>(&self, state: &mut H) {
-                let $it = self;
-                $key.hash(state);
+            impl std::hash::Hash for $Other {
+                fn hash<H: std::hash::Hasher>(&self, state: &mut H) {
+                    let $that = self;
+                    $of.hash(state);
+                }
             }
-        }
-    )*};
+        )*)?
+    };
 }
 
 of_values! {
     FunctionSymbol<'_>: |it| (it.name, it.address, it.size);
     SectionFunction<'_>: |it| (it.section, it.function);
     Section<'_>: |it| (it.segment, it.name, it.address, it.offset, it.size, it.has_bytes);
+    else
+    SymbolTable: |it| std::mem::discriminant(it);
+    figures::Figures: |it| (it.grouping, it.first, it.has_percent);
+    figures::Form<'_>: |it| match *it {
+        figures::Form::Lines => None,
+        figures::Form::Objects(file, section) => Some((file, section)),
+    };
+    figures::Grouping: |it| (it.key, it.joins_std);
+    figures::Growth: |it| (it.old, it.new);
+    figures::Key: |it| std::mem::discriminant(it);
+    figures::Naming: |it| std::mem::discriminant(it);
+    figures::Order: |it| std::mem::discriminant(it);
+    figures::Shown: |it| (it.order, it.first, it.naming, it.has_total);
 }
 
 impl Clone for Format {
@@ -89,14 +107,6 @@ impl Clone for Format {
 
 impl Copy for Format {}
 
-impl Eq for SymbolTable {}
-
-impl std::hash::Hash for SymbolTable {
-    fn hash<H: std::hash::Hasher>(&self, state: &mut H) {
-        std::mem::discriminant(self).hash(state);
-    }
-}
-
 mod any;
 pub mod demangle;
 mod elf;
@@ -104,6 +114,8 @@ pub mod elf32;
 pub mod elf64;
 #[doc(hidden)]
 #[allow(clippy::all, rustdoc::private_intra_doc_links)]
+// As for `if_let_rescope` in Cargo.toml. In std for 32 bits `io::Error` counts too, whose order of drops doesn't matter.
+#[cfg_attr(target_pointer_width = "64", deny(tail_expr_drop_order))]
 #[rustfmt::skip]
 pub mod erased;
 mod error;
@@ -119,6 +131,28 @@ mod tests;
 
 /// Listings in an order, sums by a key, and how they differ between two files: what [`Tables::rows_to`], [`Tables::figures_to`] and
 /// [`Tables::changes_to`] take and return.
+///
+/// # Examples
+///
+/// The largest function with its stored name, and how much the crates grew:
+///
+/// ```
+/// use binfarce::figures::{Figures, Form, Grouping, Key, Naming, Order, Shown};
+/// use binfarce::{Selection, SymbolTable, Tables};
+///
+/// # let path = concat!(env!("CARGO_MANIFEST_DIR"), "/samples/elf64-little.bin");
+/// let file = std::fs::read(path)?;
+/// let tables = Tables::new(&file, Selection::Section(".text"), SymbolTable::Symtab)?;
+/// let shown = Shown { order: Some(Order::Size), first: Some(1), naming: Naming::Stored, has_total: false };
+/// let mut text = Vec::new();
+/// tables.rows_to(&shown, Form::Lines, &mut text)?;
+/// assert_eq!(text, b"0000000000001000         16 _ZN3foo3barE\n");
+///
+/// let figures = Figures { grouping: Grouping { key: Key::Crate, joins_std: true }, first: None, has_percent: false };
+/// let growth = tables.changes_to(&tables, &figures, Form::Lines, std::io::stdout())?;
+/// assert_eq!((growth.old, growth.new), (16, 16));
+/// # Ok::<(), Box<dyn std::error::Error>>(())
+/// ```
 pub mod figures {
     pub use crate::erased::binfarce_figures::diff::Growth;
     pub use crate::erased::binfarce_figures::key::{Grouping, Key};

@@ -205,6 +205,7 @@ impl<'a> Macho<'a> {
 
 /// An iterator over the sections of a file: the answer of [`Macho::sections`]. After an error it ends.
 #[must_use = "iterators are lazy and do nothing unless consumed"]
+#[derive(Clone)]
 pub struct Sections<'a>(erased::Sections<'a>);
 
 impl<'a> Iterator for Sections<'a> {

@@ -179,8 +179,9 @@ impl<'a> Pe<'a> {
     /// Returns the function symbols of the section `.text` with readable names, by address, and the section's size in
     /// bytes.
     ///
-    /// A symbol's size is the distance to the next greater address, or to the end of the section. Where an allocation
-    /// fails, the program ends as it does where a `Vec` can't grow; [`Pe::try_symbols`] returns an error there.
+    /// A symbol's size is the distance to the next greater one of the symbols' addresses and the section's end, or 0 if
+    /// none is greater. Where an allocation fails, the program ends as it does where a `Vec` can't grow;
+    /// [`Pe::try_symbols`] returns an error there.
     ///
     /// # Errors
     ///
@@ -226,6 +227,7 @@ impl<'a> Pe<'a> {
 
 /// An iterator over the sections of a file: the answer of [`Pe::sections`]. After an error it ends.
 #[must_use = "iterators are lazy and do nothing unless consumed"]
+#[derive(Clone)]
 pub struct Sections<'a>(erased::Sections<'a>);
 
 impl<'a> Iterator for Sections<'a> {

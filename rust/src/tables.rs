@@ -3,15 +3,17 @@
 use crate::any::Functions;
 use crate::erased::binfarce_addresses::at::Places;
 use crate::erased::binfarce_addresses::lookup::Lookup;
-use crate::erased::binfarce_figures::{diff::diff, rows::list_by, stacks::fold_tables, sums::sum_by};
+use crate::erased::binfarce_figures::claims::claims_of;
+use crate::erased::binfarce_figures::sums::{keyed_in, sum_by, sums_of};
+use crate::erased::binfarce_figures::{diff::diff, rows::list_by, stacks::fold_tables};
 use crate::erased::binfarce_tables::ReadError;
 use crate::erased::binfarce_tools::functions::{self as functions_of, Selected};
 use crate::erased::binfarce_tools::list::list_tables;
 use crate::erased::binfarce_tools::map::map_tables;
-use crate::erased::binfarce_tools::report::{ReportError, report_tables, sums_of_tables};
+use crate::erased::binfarce_tools::report::{ReportError, report_tables};
 use crate::erased::binfarce_tools::tables;
 use crate::error::{Error, ParseError};
-use crate::figures::{Figures, Form, Growth, Shown};
+use crate::figures::{Figures, Form, Grouping, Growth, Shown};
 use crate::shim::{self, alloc::Global};
 use crate::streams::Kept;
 use crate::{FunctionSymbol, SectionFunction, SymbolTable};
@@ -147,8 +149,8 @@ impl<'a> Tables<'a> {
         write_to(output, |sink| report_tables(Global, &self.0, sink))
     }
 
-    /// Writes the sums of [`Tables::sums_by_crate`] as a picture: an SVG document with this title, such as the file's name,
-    /// and a bar for each crate, the greatest first.
+    /// Writes the sums of [`report`](crate::report) as a picture: an SVG document with this title, such as the file's name, and
+    /// a bar for each crate, the greatest first.
     ///
     /// # Errors
     ///
@@ -214,7 +216,8 @@ impl<'a> Tables<'a> {
         write_to(output, |sink| Ok(fold_tables(Global, &self.0, sink)?))
     }
 
-    /// Returns how many bytes each crate takes: the sums of [`report`](crate::report).
+    /// Returns the sums of [`Tables::figures_to`]: how many bytes each crate, function, generic function or section takes. A byte
+    /// of several function symbols counts once.
     ///
     /// # Errors
     ///
@@ -223,29 +226,33 @@ impl<'a> Tables<'a> {
     /// # Examples
     ///
     /// ```
+    /// use binfarce::figures::{Grouping, Key};
     /// use binfarce::{Selection, SymbolTable, Tables};
     ///
     /// # let path = concat!(env!("CARGO_MANIFEST_DIR"), "/samples/elf64-little.bin");
     /// let file = std::fs::read(path)?;
-    /// let sums = Tables::new(&file, Selection::Section(".text"), SymbolTable::Symtab)?.sums_by_crate()?;
+    /// let tables = Tables::new(&file, Selection::Section(".text"), SymbolTable::Symtab)?;
+    /// let sums = tables.sums_by_key(Grouping { key: Key::Crate, joins_std: false })?;
     /// assert_eq!(sums.rows, [("foo".to_string(), 16)]);
     /// assert_eq!((sums.total, sums.section_size), (16, 32));
     /// # Ok::<(), Box<dyn std::error::Error>>(())
     /// ```
-    pub fn sums_by_crate(&self) -> Result<Sums<String>, Error> {
-        let sums = sums_of_tables(Global, &self.0)?;
+    pub fn sums_by_key(&self, grouping: Grouping) -> Result<Sums<String>, Error> {
+        let (keyed, section_size) = keyed_in(Global, &self.0, grouping)?;
+        let sums = sums_of(Global, &claims_of(Global, &keyed)?, false)?;
         let mut rows = shim::Vec::new(Global);
         for (name, size) in sums.crates {
             rows.push((name.into_std(), size))?;
         }
-        Ok(Sums { rows: rows.into_std(), total: sums.total, section_size: sums.section_size })
+        Ok(Sums { rows: rows.into_std(), total: sums.total, section_size: section_size.unwrap_or(sums.total) })
     }
 
-    /// Returns how many bytes the function symbols of each key take.
+    /// Returns how many bytes the function symbols of each key take, by any key. A byte counts for each function symbol that has
+    /// it.
     ///
     /// # Errors
     ///
-    /// Those of [`Tables::sums_by_crate`], and of `key`.
+    /// Those of [`Tables::sums_by_key`], and of `key`.
     ///
     /// # Examples
     ///
@@ -327,7 +334,7 @@ where
     }
 }
 
-/// How many bytes function symbols take, by keys: the answer of [`Tables::sums_by_crate`] and [`Tables::sums_by`].
+/// How many bytes function symbols take, by keys: the answer of [`Tables::sums_by_key`] and [`Tables::sums_by`].
 #[derive(Debug, Clone, PartialEq, Eq, Hash)]
 #[non_exhaustive]
 pub struct Sums<K> {
@@ -353,6 +360,9 @@ pub struct Sums<K> {
 /// let symbolizer = Symbolizer::new(&tables)?.with_base(0x5555_5555_4000);
 /// let (function, offset) = symbolizer.find(0x5555_5555_5004).unwrap();
 /// assert_eq!((binfarce::demangle::trimmed(function.name)?.as_str(), offset), ("foo", 4));
+/// // A call that is the function's last instruction returns to its end.
+/// assert_eq!(symbolizer.find(0x5555_5555_5010).unwrap().0.name, "bad");
+/// assert_eq!(symbolizer.find_return(0x5555_5555_5010), Some((function, 16)));
 /// # Ok::<(), Box<dyn std::error::Error>>(())
 /// ```
 pub struct Symbolizer<'a> {
@@ -378,10 +388,18 @@ impl<'a> Symbolizer<'a> {
 
     /// Returns the function symbol at an address, and the offset into it. Of several that hold the address it is the one of
     /// greatest address, and of several there the first. `None` where none holds it, and for an address below the base.
-    ///
-    /// A return address may lie at the end of its function: look up the address before it.
     pub fn find(&self, address: u64) -> Option<(FunctionSymbol<'a>, u64)> {
-        self.places.find(Lookup { base: self.base, is_return: false, form: Form::Lines }, address)
+        self.look_up(address, false)
+    }
+
+    /// Returns the function symbol whose call has this return address, and the offset of the return address into it: the
+    /// symbol at the address before, since a call that doesn't return may be the last instruction of its function.
+    pub fn find_return(&self, address: u64) -> Option<(FunctionSymbol<'a>, u64)> {
+        self.look_up(address, true)
+    }
+
+    fn look_up(&self, address: u64, is_return: bool) -> Option<(FunctionSymbol<'a>, u64)> {
+        self.places.find(Lookup { base: self.base, is_return, form: Form::Lines }, address)
     }
 }
 

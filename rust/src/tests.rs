@@ -44,6 +44,8 @@ const FILES: [(&[u8], &str); 6] = [
     (PE, OF_PE),
 ];
 
+const BY_CRATE: Grouping = Grouping { key: Key::Crate, joins_std: false };
+
 /// A file's symbols as code written for the original asks for them.
 fn symbols(file: &[u8]) -> Result<(Vec<SymbolData>, u64), ParseError> {
     match detect_format(file) {
@@ -108,8 +110,18 @@ fn tables_in_memory_and_read_at_offsets() {
             }
             let text = written(|output| tables.list_to(output));
             assert_eq!(written(|output| read.list_to(output)), text);
-            let sums = tables.sums_by_crate().unwrap();
-            assert_eq!(read.sums_by_crate().unwrap(), sums);
+            for key in [Key::Crate, Key::Function, Key::Generic, Key::Section] {
+                let figures = Figures { grouping: Grouping { key, joins_std: false }, first: None, has_percent: false };
+                let sums = tables.sums_by_key(figures.grouping).unwrap();
+                assert_eq!(read.sums_by_key(figures.grouping).unwrap(), sums);
+                let objects = written(|output| read.figures_to(&figures, figures::Form::Objects("a", ""), output));
+                let row = |(name, size): &(String, u64)| format!("\"name\":\"{name}\",\"size\":{size},");
+                assert!(sums.rows.iter().all(|it| objects.contains(&row(it))), "{objects}");
+                assert_eq!(objects.lines().count(), sums.rows.len());
+                assert_eq!(sums.rows.iter().map(|row| row.1).sum::<u64>(), sums.total);
+            }
+            let crate_of = |f: FunctionSymbol<'_>| Ok(Demangler::new().crate_of(f.name)?.unwrap_or("[unknown]".into()));
+            let sums = tables.sums_by(crate_of).unwrap();
             let lines = sums.rows.iter().map(|(name, sum)| format!("{sum:>10} {name}\n")).collect::<String>();
             let size =
                 if selection == Selection::All { String::new() } else { format!("text {}\n", sums.section_size) };
@@ -122,8 +134,7 @@ fn tables_in_memory_and_read_at_offsets() {
             let shown = Shown { order: Some(Order::Size), first: Some(1), naming: Naming::Stored, has_total: false };
             let objects = written(|output| read.rows_to(&shown, figures::Form::Objects("a", ".text"), output));
             assert_eq!(objects.matches("{\"file\":\"a\"").count(), found.len().min(1));
-            let by_crate =
-                Figures { grouping: Grouping { key: Key::Crate, joins_std: false }, first: None, has_percent: false };
+            let by_crate = Figures { grouping: BY_CRATE, first: None, has_percent: false };
             let total = read.changes_to(&tables, &by_crate, figures::Form::Lines, io::sink()).unwrap();
             assert_eq!(total.old, total.new);
             if selection == Selection::All {
@@ -145,8 +156,10 @@ fn tables_in_memory_and_read_at_offsets() {
             for address in 0..0x1200 {
                 let wanted = symbol_at(&found, address).map(|function| (function, address - function.address));
                 assert_eq!(symbolizer.find(0x10_0000 + address), wanted);
+                let of_call = wanted.map(|(function, offset)| (function, offset + 1));
+                assert_eq!(symbolizer.find_return(0x10_0001 + address), of_call);
             }
-            assert_eq!(symbolizer.find(0xf_ffff), None);
+            assert_eq!((symbolizer.find(0xf_ffff), symbolizer.find_return(0x10_0000)), (None, None));
         }
         assert_eq!(read_section(Cursor::new(file), ".dep-v0").unwrap_err().to_string(), "no section of this name");
     }
@@ -163,7 +176,7 @@ fn tables_of_refused_files() {
     }
     let unknown = Tables::read(Cursor::new("#!/bin/sh"), Selection::All, SymbolTable::Symtab).unwrap();
     assert_eq!(unknown.functions().unwrap_err(), Error::UnknownFormat);
-    assert_eq!(unknown.sums_by_crate().unwrap_err(), Error::UnknownFormat);
+    assert_eq!(unknown.sums_by_key(BY_CRATE).unwrap_err(), Error::UnknownFormat);
     assert_eq!(unknown.list_to(io::sink()).unwrap_err().to_string(), "unknown file format");
     let truncated = Tables::read(Cursor::new(&PE[..90]), Selection::All, SymbolTable::Symtab).unwrap_err();
     assert_eq!((truncated.kind(), truncated.to_string().as_str()), (ErrorKind::InvalidData, "unexpected end of file"));
@@ -189,20 +202,31 @@ fn iterators_stay_at_their_end() {
     stays(file.all_functions(SymbolTable::Symtab).unwrap());
 }
 
-/// That these types have the traits of small values, and those of values.
+/// That each public type has the traits of its kind.
 #[allow(dead_code)]
 fn traits() {
     fn small<T: Copy + Eq + Hash + Debug + Send + Sync>() {}
     fn value<T: Clone + Eq + Hash + Debug + Send + Sync>() {}
+    fn error<T: std::error::Error + Send + Sync + 'static>() {}
     fn shown<T: Debug + Send + Sync>() {}
+    fn reader<T: Clone + Debug + Send + Sync>() {}
+    fn items<T: FusedIterator + Debug + Send + Sync>() {}
     small::<(ByteOrder, Format, SymbolTable, Selection<'_>, Form, Kind, demangle::Demangle<'_>)>();
     small::<(FunctionSymbol<'_>, SectionFunction<'_>, Section<'_>)>();
     small::<(elf32::Section, elf64::Section, macho::Section<'_>, pe::Section<'_>)>();
     small::<(elf32::Elf32Header, elf64::Elf64Header, macho::MachoHeader, pe::PeHeader)>();
+    small::<(Figures, figures::Form<'_>, figures::Growth, Grouping, Key, Naming, Order, Shown)>();
     small::<(ParseError, Error, UnexpectedEof, OutOfMemory)>();
+    let _: [fn(); 4] = [error::<ParseError>, error::<Error>, error::<UnexpectedEof>, error::<OutOfMemory>];
     value::<(SymbolData, SymbolName, Sums<String>)>();
-    shown::<(elf32::Elf32<'_>, elf64::Elf64<'_>, macho::Macho<'_>, pe::Pe<'_>)>();
-    shown::<(Tables<'_>, Symbolizer<'_>, Demangler, Functions<'_>, Sections<'_>, AllFunctions<'_>)>();
+    reader::<(elf32::Elf32<'_>, elf64::Elf64<'_>, macho::Macho<'_>, pe::Pe<'_>, Sections<'_>)>();
+    reader::<(elf32::Functions<'_>, elf32::Sections<'_>, elf32::AllFunctions<'_>, macho::Sections<'_>)>();
+    reader::<(elf64::Functions<'_>, elf64::Sections<'_>, elf64::AllFunctions<'_>, pe::Sections<'_>)>();
+    shown::<(Tables<'_>, Symbolizer<'_>, Demangler)>();
+    let _: [fn(); 3] = [items::<Functions<'_>>, items::<Sections<'_>>, items::<AllFunctions<'_>>];
+    let _: [fn(); 3] = [items::<elf32::Functions<'_>>, items::<elf32::Sections<'_>>, items::<elf32::AllFunctions<'_>>];
+    let _: [fn(); 3] = [items::<elf64::Functions<'_>>, items::<elf64::Sections<'_>>, items::<elf64::AllFunctions<'_>>];
+    let _: [fn(); 2] = [items::<macho::Sections<'_>>, items::<pe::Sections<'_>>];
 }
 
 #[test]
@@ -226,6 +250,7 @@ fn values_are_compared_by_their_fields() {
     let file = elf64::parse(ELF64_LITTLE, ByteOrder::LittleEndian).unwrap();
     let read = |index| file.section_with_index(index).unwrap().unwrap();
     assert_eq!(HashSet::from([read(1), read(2), read(1)]).len(), 2);
+    assert!(file.clone().sections().eq(file.sections()) && format!("{:?}", file.clone()) == format!("{file:?}"));
     assert_eq!((read(2).index(), read(2).offset(), read(2).size()), (2, 96, 120));
     let text = macho::parse(MACHO).unwrap().section_with_name("__TEXT", "__text").unwrap().unwrap();
     assert_eq!((text.offset(), text.size()), (0, 256));
@@ -353,7 +378,7 @@ fn a_failed_allocation_is_an_error() {
         for selection in [Selection::Section(".text"), Selection::All] {
             let read = || Tables::read(Cursor::new(file), selection, SymbolTable::Symtab).map_err(refused);
             refuses_each(|| Symbolizer::new(&read()?).map(|_| ()));
-            refuses_each(|| read()?.sums_by_crate());
+            refuses_each(|| read()?.sums_by_key(BY_CRATE));
             refuses_each(|| read()?.sums_by(|function| Ok(function.size)));
             refuses_each(|| read()?.map_to("file", io::sink()).map_err(refused));
         }
@@ -367,9 +392,23 @@ fn a_failed_allocation_is_an_error() {
 
 #[test]
 fn a_text_stays_where_an_allocation_fails() {
-    let mut text = String::from("at ");
-    let (pushed, refused) = refusing(1, || Demangler::new().push_trimmed(&mut text, "_RNvC6_123foo3bar"));
-    assert_eq!((pushed, refused, text.as_str()), (Err(OutOfMemory), true, "at "));
+    type Push = fn(&mut Demangler, &mut String, &str) -> Result<(), OutOfMemory>;
+    let push_crate: Push = |demangler, text, name| demangler.push_crate(text, name).map(|_| ());
+    for name in ["_RNvC6_123foo3bar", "_ZN3foo3bar17h05af221e174051e9E"] {
+        for push in [Demangler::push_trimmed, Demangler::push_complete, push_crate] {
+            for before in ["", "at "] {
+                for number in 1.. {
+                    let mut text = String::from(before);
+                    let (pushed, was_refused) = refusing(number, || push(&mut Demangler::new(), &mut text, name));
+                    if !was_refused {
+                        assert!(pushed.is_ok() && text.starts_with(before) && text != before);
+                        break;
+                    }
+                    assert_eq!((pushed, text.as_str()), (Err(OutOfMemory), before));
+                }
+            }
+        }
+    }
 }
 
 #[test]

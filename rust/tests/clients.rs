@@ -95,7 +95,7 @@ fn bloat_is_shown_by_crate_and_by_generic_function() {
         assert_eq!(sizes.iter().sum::<u64>().to_string(), total);
         assert!(sizes.windows(2).all(|pair| pair[0] >= pair[1]));
     }
-    assert!(functions.lines().any(|row| row.ends_with("% bloat::generic")));
+    assert!(functions.lines().any(|row| row.ends_with("% bloat::main")));
     let mut generic = functions.lines().filter(|row| row.contains("% core::ptr::drop_in_place")).peekable();
     assert!(
         generic.peek().is_some() && generic.all(|row| row.ends_with("drop_in_place<..>") || row.ends_with("::<..>"))

@@ -1,4 +1,3 @@
-// Written by rust/c/generate from include/binfarce.h.
 //! The library for C and C++, which `binfarce.h` declares: each function calls the erased export of its name.
 //!
 //! All of this repository's unsafe code is here: it borrows a pointer and a length from C as a slice. A panic doesn't unwind
@@ -32,6 +31,8 @@ unsafe fn values_mut<'a, T>(start: *mut T, length: usize) -> &'a mut [T] {
     // SAFETY: required of the caller.
     if length == 0 { &mut [] } else { unsafe { slice::from_raw_parts_mut(start, length) } }
 }
+
+// From here on written by rust/c/generate from include/binfarce.h.
 
 /// `struct binfarce_text` has the fields of the export's struct, at the same offsets.
 const _: () = {

@@ -5,11 +5,11 @@
 pub mod address;
 pub mod annotate;
 pub mod at;
-mod digits;
+pub(crate) mod digits;
 pub mod lookup;
-mod names;
+pub(crate) mod names;
 pub mod ranges;
-mod slices;
+pub(crate) mod slices;
 pub mod stream;
 
 pub use crate::erased::binfarce_addresses::address::parse_address;

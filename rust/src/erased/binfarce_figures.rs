@@ -2,9 +2,9 @@
 
 //! Function symbols of executables in an order, sums of their sizes by a key, and how the sums of two files differ.
 
-mod claims;
+pub(crate) mod claims;
 pub mod diff;
-mod generic;
+pub(crate) mod generic;
 pub mod key;
 pub mod order;
 pub mod rows;

@@ -3,6 +3,6 @@
 //! Legacy names of Rust symbols: reading them, and printing their readable form.
 
 pub mod elements;
-mod escapes;
+pub(crate) mod escapes;
 pub mod legacy;
-mod runs;
+pub(crate) mod runs;

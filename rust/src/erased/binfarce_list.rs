@@ -2,7 +2,7 @@
 
 //! `binfarce-list FILE [SECTION]`: lists the function symbols of an executable.
 
-mod program;
+pub(crate) mod program;
 
 use crate::shim::HostRuntime;
 use crate::erased::binfarce_list::program::{Fault, run};

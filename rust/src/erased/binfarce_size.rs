@@ -2,7 +2,7 @@
 
 //! `binfarce-size FILE [SECTION]`: reports how much of an executable each crate takes.
 
-mod program;
+pub(crate) mod program;
 
 use crate::shim::HostRuntime;
 use crate::erased::binfarce_size::program::{Fault, run};

@@ -3,9 +3,9 @@
 //! Rust's v0 manglings (RFC 2603): a name is read by the grammar, and printed in readable form.
 
 pub mod consts;
-mod identifiers;
-mod lists;
+pub(crate) mod identifiers;
+pub(crate) mod lists;
 pub mod mangling;
 pub mod paths;
-mod productions;
+pub(crate) mod productions;
 pub mod types;

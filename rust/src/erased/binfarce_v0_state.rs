@@ -3,7 +3,7 @@
 //! The state of the printing of a v0 name of a Rust symbol (RFC 2603): its position, its counts, its texts, and the
 //! fragments that it may write again.
 
-mod disambiguators;
+pub(crate) mod disambiguators;
 pub mod fragments;
 pub mod memory;
 pub mod nesting;

@@ -1,24 +1,25 @@
 // From crates/test_formats/src/main.rt, by tools/erase.
 
-//! Answers questions about files: standard input has one in a line, and its answer is written below it. The answers in `stdout`
-//! are worked out by hand from the formats' descriptions.
+//! Answers questions about files: standard input has one in a line, and its answer is written below it. The answers in
+//! `stdout` are worked out by hand from the formats' descriptions.
 //!
-//! `QUESTION of FILE` asks about a file in words (`test_samples::cases`). Where these name several samples, it asks about each,
-//! and an answer that is also that of the sample before isn't repeated. `elf(NAME,NAME)` names a 64-bit ELF file of functions
-//! with these names. `fronts QUESTION of FILE` asks about the first bytes of the file, from none to all: each answer has before
-//! it the least number of bytes that it is given for. A line that begins with `#` is a heading.
+//! `QUESTION of FILE` asks about a file in words (`test_samples::cases`). Where these name several samples, it asks
+//! about each, and an answer that is also that of the sample before isn't repeated. `elf(NAME,NAME)` names a 64-bit ELF
+//! file of functions with these names. `fronts QUESTION of FILE` asks about the first bytes of the file, from none to
+//! all: each answer has before it the least number of bytes that it is given for. A line that begins with `#` is a
+//! heading.
 
-mod calls;
-mod charts;
-mod elf;
-mod images;
-mod large;
-mod macho;
-mod pe;
-mod programs;
-mod symbols;
-mod texts;
-mod writers;
+pub(crate) mod calls;
+pub(crate) mod charts;
+pub(crate) mod elf;
+pub(crate) mod images;
+pub(crate) mod large;
+pub(crate) mod macho;
+pub(crate) mod pe;
+pub(crate) mod programs;
+pub(crate) mod symbols;
+pub(crate) mod texts;
+pub(crate) mod writers;
 
 use crate::shim::{HostRuntime, String, Vec};
 use crate::erased::binfarce::{ParseError, detect_format};

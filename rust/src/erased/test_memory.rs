@@ -6,22 +6,23 @@
 //! Standard input has the name of a group of rows, a space, and the number of their allocation that is to fail. The
 //! toolchain lets the one of the same number fail in every run, `FAILED`; so many others are made before the rows that
 //! it is theirs. As many are made after the rows: if one of those fails, none of the rows' did, and then every row has
-//! to give its whole answer. With the number 0 no allocation fails; there `all` is every group, and the reading of a file.
+//! to give its whole answer. With the number 0 no allocation fails; there `all` is every group, and the reading of a
+//! file.
 
-mod addresses;
-mod counts;
-mod expected;
-mod files;
-mod listings;
-mod names;
-mod readers;
-mod readings;
-mod refusals;
-mod sections;
-mod streams;
-mod symbols;
-mod without_allocation;
-mod words;
+pub(crate) mod addresses;
+pub(crate) mod counts;
+pub(crate) mod expected;
+pub(crate) mod files;
+pub(crate) mod listings;
+pub(crate) mod names;
+pub(crate) mod readers;
+pub(crate) mod readings;
+pub(crate) mod refusals;
+pub(crate) mod sections;
+pub(crate) mod streams;
+pub(crate) mod symbols;
+pub(crate) mod without_allocation;
+pub(crate) mod words;
 
 use crate::shim::{HostRuntime, Vec};
 use crate::shim::alloc::{AllocError, Global};

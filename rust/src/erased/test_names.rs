@@ -19,13 +19,14 @@
 //! | `limits PART` | the levels and steps of a v0 name without its prefix |
 //! | `visits PART` | how many of its parts are read for the complete text, for the trimmed text, and for none |
 //!
-//! In a question `\0A` is the byte 0x0A, and `\{3*ab}` is `ababab`. A remark begins with ` # `, and a line of its own with `#`.
+//! In a question `\0A` is the byte 0x0A, and `\{3*ab}` is `ababab`. A remark begins with ` # `, and a line of its own
+//! with `#`.
 
-mod long_texts;
-mod names;
-mod parts;
-mod streams;
-mod texts;
+pub(crate) mod long_texts;
+pub(crate) mod names;
+pub(crate) mod parts;
+pub(crate) mod streams;
+pub(crate) mod texts;
 
 use crate::shim::{HostRuntime, String, Vec};
 use crate::erased::test_names::long_texts::{push_end, push_pairs};
@@ -52,8 +53,8 @@ pub fn main(rt: HostRuntime) -> ExitCode {
 ///
 /// # Errors
 ///
-/// `InvalidData` where a line is no question; the answers of those before were written. The other errors are those of the
-/// reader, of the writer, and of a failed allocation.
+/// `InvalidData` where a line is no question; the answers of those before were written. The other errors are those of
+/// the reader, of the writer, and of a failed allocation.
 pub fn run<R: Read, W: Write>(alloc: Global, input: &mut R, output: &mut W) -> io::Result<()> {
     let mut bytes = Vec::new(alloc);
     input.read_to_end(&mut bytes)?;

@@ -22,7 +22,8 @@ use crate::erased::test_samples::files::File;
 /// What is asked of a file.
 #[derive(Clone, Copy)]
 pub enum Asked<'a> {
-    /// The function symbols of this section, of a Mach-O or PE file those of the text, and its size; or those of all sections.
+    /// The function symbols of this section, of a Mach-O or PE file those of the text, and its size; or those of all
+    /// sections.
     Functions(Option<&'a str>),
     /// The lines of the sections.
     Lines,

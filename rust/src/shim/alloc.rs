@@ -24,7 +24,7 @@ impl From<AllocError> for std::io::Error {
     }
 }
 
-/// Makes room for `more` items. Here and in `reserve_text` alone this crate asks for memory.
+/// Makes room for `more` items. The shim's `Vec`, `String` and `BTreeMap` grow here and in `reserve_text` alone.
 #[inline(always)]
 pub(super) fn reserve<T>(items: &mut Vec<T>, more: usize) -> Result<(), AllocError> {
     if items.capacity() - items.len() >= more {
@@ -35,7 +35,7 @@ pub(super) fn reserve<T>(items: &mut Vec<T>, more: usize) -> Result<(), AllocErr
     items.try_reserve(more).map_err(|_| AllocError)
 }
 
-/// The same of a text.
+/// Makes room for `more` bytes of a text.
 #[inline(always)]
 pub(super) fn reserve_text(text: &mut String, more: usize) -> Result<(), AllocError> {
     if text.capacity() - text.len() >= more {

@@ -12,12 +12,14 @@ const LEAF: usize = 64;
 pub struct BTreeMap<K, V> {
     // The entries in order, in leaves that are never empty.
     leaves: Vec<Vec<(K, V)>>,
+    // Where `get_mut` found its last key, which is often the next one too.
+    last: (usize, usize),
 }
 
 impl<K: Ord, V> BTreeMap<K, V> {
     /// No entries, and no memory.
     pub fn new(_: Global) -> BTreeMap<K, V> {
-        BTreeMap { leaves: Vec::new() }
+        BTreeMap { leaves: Vec::new(), last: (0, 0) }
     }
 
     /// Whether there are no entries.
@@ -58,9 +60,12 @@ impl<K: Ord, V> BTreeMap<K, V> {
     where
         K: Borrow<Q>,
     {
-        let (leaf, at) = self.place(key);
-        let at = at.ok()?;
-        Some(&mut self.leaves[leaf][at].1)
+        let (leaf, at) = self.last;
+        if !matches!(self.leaves.get(leaf).and_then(|entries| entries.get(at)), Some((k, _)) if k.borrow() == key) {
+            let (leaf, at) = self.place(key);
+            self.last = (leaf, at.ok()?);
+        }
+        Some(&mut self.leaves[self.last.0][self.last.1].1)
     }
 
     /// Gives a key this value. The one that it had comes back.

@@ -59,11 +59,13 @@ impl String {
     }
 
     /// Adds a character at the end.
-    #[inline]
+    #[cfg_attr(not(debug_assertions), inline(always))]
     pub fn push(&mut self, c: char) -> Result<(), AllocError> {
-        self.reserve(c.len_utf8())?;
-        self.0.push(c);
-        Ok(())
+        if c.is_ascii() && self.0.len() < self.0.capacity() {
+            self.0.push(c);
+            return Ok(());
+        }
+        self.push_str(c.encode_utf8(&mut [0; 4]))
     }
 
     /// Adds a text at the end.

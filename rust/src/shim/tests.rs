@@ -336,7 +336,11 @@ fn stored_runs() {
     for &(name, main) in crate::erased::TEST_PROGRAMS {
         let folder = format!("{}/../crates/{name}", env!("CARGO_MANIFEST_DIR"));
         let stored = |file| std::fs::read_to_string(format!("{folder}/{file}"));
-        let Ok(want) = stored("stdout") else { continue };
+        let Ok(mut want) = stored("stdout") else { continue };
+        if cfg!(target_pointer_width = "32") {
+            // The one range that ends past 32 bits.
+            want = want.replace("Ok(4294967295..4294967296)", "Err(MalformedInput)");
+        }
         let data = [format!("{folder}/data"), folder.clone()].into_iter().find(|path| Path::new(path).is_dir());
         std::env::set_current_dir(data.unwrap()).unwrap();
         let (code, output) = printed(&stored("stdin").unwrap_or_default(), main);

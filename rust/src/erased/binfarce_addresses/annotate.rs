@@ -18,9 +18,9 @@ const FEWEST: usize = 4;
 
 const MOST: usize = 16;
 
-/// Appends the text with ` <name+0x1f>` after each address that a function symbol holds: its readable name, and the offset
-/// of the address into it, by this lookup. An address is `0x` and 4 to 16 hexadecimal digits, in upper or lower case,
-/// up to the next other byte. All other bytes stay as they are, and need not be UTF-8.
+/// Appends the text with ` <name+0x1f>` after each address that a function symbol holds: its readable name, and the
+/// offset of the address into it, by this lookup. An address is `0x` and 4 to 16 hexadecimal digits, in upper or lower
+/// case, up to the next other byte. All other bytes stay as they are, and need not be UTF-8.
 ///
 /// # Errors
 ///
@@ -42,8 +42,8 @@ pub fn push_annotated(
 ///
 /// # Errors
 ///
-/// `Read` where the reader failed: what came before is annotated, as if the stream ended there. `Write` where a write failed,
-/// and `OutOfMemory` where an allocation did: a beginning was written.
+/// `Read` where the reader failed: what came before is annotated, as if the stream ended there. `Write` where a write
+/// failed, and `OutOfMemory` where an allocation did: a beginning was written.
 pub fn annotate_stream<R: Read, S: Sink>(
     alloc: Global,
     places: &Places<'_>,
@@ -118,8 +118,8 @@ fn push_decided(
     Ok(at)
 }
 
-// Whether the address that the text begins with, or that it begins with none, stays whatever comes after the text. Nothing
-// comes after the last text.
+// Whether the address that the text begins with, or that it begins with none, stays whatever comes after the text.
+// Nothing comes after the last text.
 fn is_decided(is_last: bool, text: &[u8]) -> bool {
     if is_last {
         return true;

@@ -40,9 +40,9 @@ impl<'a> Places<'a> {
         Ok(places)
     }
 
-    /// The places of the function symbols of a file's tables: for the selection that they were read for. The sections of
-    /// an object file share addresses (`Tables::shares_addresses`), so with all of them an address may symbolize to another
-    /// section's symbol.
+    /// The places of the function symbols of a file's tables: for the selection that they were read for. The sections
+    /// of an object file share addresses (`Tables::shares_addresses`), so with all of them an address may symbolize to
+    /// another section's symbol.
     ///
     /// # Errors
     ///
@@ -74,8 +74,8 @@ impl<'a> Places<'a> {
         self.functions[place]
     }
 
-    /// Appends the line of an address to the text: the address, the symbol that it symbolizes to by this lookup, and the
-    /// offset of the address into it; or `??` where there is none.
+    /// Appends the line of an address to the text: the address, the symbol that it symbolizes to by this lookup, and
+    /// the offset of the address into it; or `??` where there is none.
     ///
     /// # Errors
     ///
@@ -125,11 +125,11 @@ fn places_of(alloc: Global, functions: Functions<'_>) -> Result<Places<'_>, Allo
 /// Symbolizes addresses in an executable: a line for each, in their order.
 ///
 /// The format and the section are as in `list`. A line is `{address:016x} {name}+0x{offset:x}`: the address, the
-/// readable name of its function symbol, and the offset into it. The base is subtracted first, and from a return address
-/// 1 more for the lookup, but not for the offset. A symbol holds the addresses of its range, or of size 0 its own. Of
-/// several that hold an address, it is the one of greatest address, and of several there the first in the order of the
-/// listing. The line is `{address:016x} ??` for an address that none holds, for one below the base, and for a return
-/// address at the base.
+/// readable name of its function symbol, and the offset into it. The base is subtracted first, and from a return
+/// address 1 more for the lookup, but not for the offset. A symbol holds the addresses of its range, or of size 0 its
+/// own. Of several that hold an address, it is the one of greatest address, and of several there the first in the order
+/// of the listing. The line is `{address:016x} ??` for an address that none holds, for one below the base, and for a
+/// return address at the base.
 ///
 /// # Errors
 ///
@@ -165,8 +165,8 @@ pub fn at_tables<S: Sink>(
 ///
 /// # Errors
 ///
-/// `OutOfMemory` where an allocation failed; `Write` where a write failed, which alone can leave a beginning of the lines
-/// written.
+/// `OutOfMemory` where an allocation failed; `Write` where a write failed, which alone can leave a beginning of the
+/// lines written.
 pub fn write_lines<S: Sink>(
     alloc: Global,
     places: &Places<'_>,

@@ -1,6 +1,6 @@
 // From crates/binfarce_addresses/src/lookup.rt, by tools/erase.
 
-//! What is looked up of an address, and how it is answered.
+//! How an address is looked up, and the form of the answer.
 
 use crate::erased::binfarce_tools::json::Form;
 
@@ -17,13 +17,14 @@ pub struct Lookup<'a> {
 }
 
 impl Lookup<'_> {
-    /// The address in the file that is looked up. `None` for an address below the base, and for the return address 0 in the file.
+    /// The address in the file that is looked up. `None` for an address below the base, and for the return address 0 in
+    /// the file.
     pub(crate) fn in_file(self, address: u64) -> Option<u64> {
         let given = address.checked_sub(self.base)?;
         given.checked_sub(u64::from(self.is_return))
     }
 
-    /// The offset of an address into what begins at `start` in the file, or 0 where it begins behind the address.
+    /// The offset of the address in the file from `start`, or 0 if `start` is greater.
     pub(crate) fn offset_in(self, address: u64, start: u64) -> u64 {
         address.saturating_sub(self.base).saturating_sub(start)
     }

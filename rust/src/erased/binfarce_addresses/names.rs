@@ -39,8 +39,8 @@ impl<'b, 'a> Names<'b, 'a> {
         })
     }
 
-    // Reads the first and the last byte of each name, or of the symbol's own where none is kept: a prefetch, without which
-    // random addresses take a fifth more.
+    // Reads the first and the last byte of each name, or of the symbol's own where none is kept: a prefetch, without
+    // which random addresses take a fifth more.
     pub(crate) fn read_ahead(
         &self,
         alloc: Global,

@@ -14,7 +14,7 @@ pub struct AddressRange {
     pub size: u64,
 }
 
-/// From its start up to that of the next span, the range at this place is found, or none.
+/// The addresses from `start` up to the next span, and the index of the range that `find` gives for them, if any.
 #[derive(Debug, Clone, Copy, PartialEq)]
 pub struct Span {
     pub start: u64,
@@ -47,7 +47,8 @@ impl Ranges {
         Ok(Ranges { spans, slices })
     }
 
-    /// The place of the range that is found at an address.
+    /// The index of the range that holds the address: of several, the one that begins last, and of these the first.
+    /// `None` if none does.
     pub fn find(&self, address: u64) -> Option<usize> {
         self.spans[self.place_at(address)].place
     }
@@ -91,8 +92,8 @@ fn last_address(range: AddressRange) -> u64 {
     range.address.saturating_add(range.size.max(1) - 1)
 }
 
-// The spans of the rows, by one sweep. A row is open from its address on, until it ends or a later row does that reaches as
-// far: the open rows end one after the other, from the last one to the first.
+// The spans of the rows, by one sweep. A row is open from its address on, until it ends or a later row does that
+// reaches as far: the open rows end one after the other, from the last one to the first.
 fn spans_of(alloc: Global, rows: &[Row]) -> Result<Vec<Span>, AllocError> {
     let mut stack = Vec::new(alloc);
     let mut spans = Vec::with_capacity(alloc, rows.len())?;
@@ -108,8 +109,8 @@ fn spans_of(alloc: Global, rows: &[Row]) -> Result<Vec<Span>, AllocError> {
     Ok(spans)
 }
 
-// Closes the open rows that end before this row begins, or before the last address where there is no such row: from the end
-// of each on, the next open one is found, or none.
+// Closes the open rows that end before this row begins, or before the last address where there is no such row: from the
+// end of each on, the next open one is found, or none.
 fn close_before(
     rows: &[Row],
     row: usize,

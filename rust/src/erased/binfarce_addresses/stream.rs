@@ -47,8 +47,8 @@ pub fn push_lines(
     push_answers(alloc, &mut names, lookup, bytes, text)
 }
 
-// As `push_lines`, with the names that are known. All addresses are looked up before the first answer is written, so that
-// cache misses overlap.
+// As `push_lines`, with the names that are known. All addresses are looked up before the first answer is written, so
+// that cache misses overlap.
 fn push_answers(
     alloc: Global,
     names: &mut Names<'_, '_>,
@@ -91,8 +91,8 @@ fn first_line(bytes: &[u8]) -> Option<&[u8]> {
 ///
 /// # Errors
 ///
-/// `Read` where the reader fails: the whole lines before are answered. `Write` where a write failed, and `OutOfMemory` where
-/// an allocation did: a beginning was written.
+/// `Read` where the reader fails: the whole lines before are answered. `Write` where a write failed, and `OutOfMemory`
+/// where an allocation did: a beginning was written.
 pub fn answer_lines<R: Read, S: Sink>(
     alloc: Global,
     places: &Places<'_>,

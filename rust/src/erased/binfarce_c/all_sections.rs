@@ -16,7 +16,7 @@ pub struct Sections {
     pub count: usize,
 }
 
-/// All sections of a 32-bit ELF file.
+/// All sections of a 32-bit ELF file. See `binfarce.h`.
 pub fn binfarce_elf32_sections(
     file: &[u8],
     big_endian: bool,
@@ -31,7 +31,7 @@ pub fn binfarce_elf32_sections(
     }
 }
 
-/// All sections of a 64-bit ELF file.
+/// All sections of a 64-bit ELF file. See `binfarce.h`.
 pub fn binfarce_elf64_sections(
     file: &[u8],
     big_endian: bool,
@@ -46,7 +46,7 @@ pub fn binfarce_elf64_sections(
     }
 }
 
-/// All sections of a Mach-O file.
+/// All sections of a Mach-O file. See `binfarce.h`.
 pub fn binfarce_macho_sections(file: &[u8], out: &mut [Section]) -> Sections {
     match macho::parse(file) {
         Ok(file) => fill_macho(&file, out),
@@ -57,7 +57,7 @@ pub fn binfarce_macho_sections(file: &[u8], out: &mut [Section]) -> Sections {
     }
 }
 
-/// All sections of a PE file.
+/// All sections of a PE file. See `binfarce.h`.
 pub fn binfarce_pe_sections(file: &[u8], out: &mut [Section]) -> Sections {
     match pe::parse(file) {
         Ok(file) => fill_pe(&file, out),

@@ -38,7 +38,7 @@ pub struct Functions {
     pub section_size: u64,
 }
 
-/// The function symbols of a section of a 32-bit ELF file.
+/// The function symbols of a section of a 32-bit ELF file. See `binfarce.h`.
 pub fn binfarce_elf32_functions(
     alloc: Global,
     file: &[u8],
@@ -52,7 +52,7 @@ pub fn binfarce_elf32_functions(
     }
 }
 
-/// The function symbols of a section of a 64-bit ELF file.
+/// The function symbols of a section of a 64-bit ELF file. See `binfarce.h`.
 pub fn binfarce_elf64_functions(
     alloc: Global,
     file: &[u8],
@@ -66,7 +66,7 @@ pub fn binfarce_elf64_functions(
     }
 }
 
-/// The function symbols of a Mach-O file.
+/// The function symbols of a Mach-O file. See `binfarce.h`.
 pub fn binfarce_macho_functions(
     alloc: Global,
     file: &[u8],
@@ -75,7 +75,7 @@ pub fn binfarce_macho_functions(
     give(of_macho(alloc, file), out)
 }
 
-/// The function symbols of a PE file.
+/// The function symbols of a PE file. See `binfarce.h`.
 pub fn binfarce_pe_functions(
     alloc: Global,
     file: &[u8],

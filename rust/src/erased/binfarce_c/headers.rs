@@ -38,7 +38,7 @@ pub struct ElfHeader {
 }
 
 /// The format that a file's first bytes name: 0 for none, and then ELF of 32 bits in little-endian and in big-endian
-/// order, of 64 bits the same, Mach-O, PE.
+/// order, of 64 bits the same, Mach-O, PE. See `binfarce.h`.
 pub fn binfarce_detect_format(file: &[u8]) -> u32 {
     match detect_format(file) {
         Format::Unknown => 0,
@@ -56,7 +56,7 @@ fn of_order(byte_order: ByteOrder) -> u32 {
     }
 }
 
-/// The file header of a 32-bit ELF file.
+/// The file header of a 32-bit ELF file. See `binfarce.h`.
 pub fn binfarce_elf32_header(file: &[u8], big_endian: bool, out: &mut ElfHeader) -> u32 {
     match elf32::parse(file, order_of(big_endian)) {
         Ok(elf) => {
@@ -67,7 +67,7 @@ pub fn binfarce_elf32_header(file: &[u8], big_endian: bool, out: &mut ElfHeader)
     }
 }
 
-/// The file header of a 64-bit ELF file.
+/// The file header of a 64-bit ELF file. See `binfarce.h`.
 pub fn binfarce_elf64_header(file: &[u8], big_endian: bool, out: &mut ElfHeader) -> u32 {
     match elf64::parse(file, order_of(big_endian)) {
         Ok(elf) => {
@@ -114,7 +114,7 @@ fn of_64_bits(header: elf64::Elf64Header) -> ElfHeader {
     }
 }
 
-/// Whether a Mach-O file has its file header.
+/// Whether a Mach-O file has its file header. See `binfarce.h`.
 pub fn binfarce_macho_header(file: &[u8]) -> u32 {
     match macho::parse(file) {
         Ok(_) => OK,
@@ -122,7 +122,7 @@ pub fn binfarce_macho_header(file: &[u8]) -> u32 {
     }
 }
 
-/// Whether a PE file has its file header.
+/// Whether a PE file has its file header. See `binfarce.h`.
 pub fn binfarce_pe_header(file: &[u8]) -> u32 {
     match pe::parse(file) {
         Ok(_) => OK,

@@ -58,7 +58,8 @@ impl From<AllocError> for NameError {
     }
 }
 
-/// The readable form of a name, all of it: the complete text, the trimmed one and the crate, each in a buffer of its own.
+/// The readable form of a name, all of it: the complete text, the trimmed one and the crate, each in a buffer of its
+/// own. See `binfarce.h`.
 pub fn binfarce_demangle(
     alloc: Global,
     name: &[u8],
@@ -95,7 +96,7 @@ pub fn binfarce_demangle(
     }
 }
 
-/// The trimmed text of a name, in a buffer.
+/// The trimmed text of a name, in a buffer. See `binfarce.h`.
 pub fn binfarce_trimmed(alloc: Global, name: &[u8], out: &mut [u8]) -> Text {
     match trimmed_text(alloc, name) {
         Ok(text) => give(text.as_bytes(), out),
@@ -103,7 +104,7 @@ pub fn binfarce_trimmed(alloc: Global, name: &[u8], out: &mut [u8]) -> Text {
     }
 }
 
-/// The crate of a name, in a buffer.
+/// The crate of a name, in a buffer. See `binfarce.h`.
 pub fn binfarce_crate_of(alloc: Global, name: &[u8], out: &mut [u8]) -> Text {
     match crate_text(alloc, name) {
         Ok(Some(text)) => give(text.as_bytes(), out),
@@ -112,7 +113,7 @@ pub fn binfarce_crate_of(alloc: Global, name: &[u8], out: &mut [u8]) -> Text {
     }
 }
 
-/// How a name is mangled. Nothing is allocated.
+/// How a name is mangled. Nothing is allocated. See `binfarce.h`.
 pub fn binfarce_mangling(name: &[u8], out: &mut Mangling) -> u32 {
     match str::from_utf8(name) {
         Ok(name) => {

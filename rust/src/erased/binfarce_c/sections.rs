@@ -37,7 +37,7 @@ pub struct Section {
     pub has_name: bool,
 }
 
-/// The first section of a 32-bit ELF file with this name.
+/// The first section of a 32-bit ELF file with this name. See `binfarce.h`.
 pub fn binfarce_elf32_section(
     file: &[u8],
     big_endian: bool,
@@ -50,7 +50,7 @@ pub fn binfarce_elf32_section(
     }
 }
 
-/// The section of a 32-bit ELF file with this number.
+/// The section of a 32-bit ELF file with this number. See `binfarce.h`.
 pub fn binfarce_elf32_section_at(
     file: &[u8],
     big_endian: bool,
@@ -60,7 +60,7 @@ pub fn binfarce_elf32_section_at(
     give(numbered_32(file, order_of(big_endian), index), out)
 }
 
-/// The first section of a 64-bit ELF file with this name.
+/// The first section of a 64-bit ELF file with this name. See `binfarce.h`.
 pub fn binfarce_elf64_section(
     file: &[u8],
     big_endian: bool,
@@ -73,7 +73,7 @@ pub fn binfarce_elf64_section(
     }
 }
 
-/// The section of a 64-bit ELF file with this number.
+/// The section of a 64-bit ELF file with this number. See `binfarce.h`.
 pub fn binfarce_elf64_section_at(
     file: &[u8],
     big_endian: bool,
@@ -83,7 +83,8 @@ pub fn binfarce_elf64_section_at(
     give(numbered_64(file, order_of(big_endian), index), out)
 }
 
-/// The first section of a Mach-O file with this segment's and this section's name. A name that isn't UTF-8 is no section's.
+/// The first section of a Mach-O file with this segment's and this section's name. A name that isn't UTF-8 is no
+/// section's. See `binfarce.h`.
 pub fn binfarce_macho_section(
     file: &[u8],
     segment: &[u8],
@@ -100,12 +101,12 @@ pub fn binfarce_macho_section(
     }
 }
 
-/// The section of a Mach-O file with this number.
+/// The section of a Mach-O file with this number. See `binfarce.h`.
 pub fn binfarce_macho_section_at(file: &[u8], index: usize, out: &mut Section) -> u32 {
     give(numbered_macho(file, index), out)
 }
 
-/// The first section of a PE file with this name.
+/// The first section of a PE file with this name. See `binfarce.h`.
 pub fn binfarce_pe_section(file: &[u8], name: &[u8], out: &mut Section) -> u32 {
     match str::from_utf8(name) {
         Ok(name) => give(named_pe(file, name), out),
@@ -113,7 +114,7 @@ pub fn binfarce_pe_section(file: &[u8], name: &[u8], out: &mut Section) -> u32 {
     }
 }
 
-/// The section of a PE file with this number.
+/// The section of a PE file with this number. See `binfarce.h`.
 pub fn binfarce_pe_section_at(file: &[u8], index: usize, out: &mut Section) -> u32 {
     give(numbered_pe(file, index), out)
 }

@@ -44,7 +44,7 @@ pub(crate) fn detail_of(error: ParseError) -> u32 {
     }
 }
 
-/// Writes the text of a status into a buffer, and returns its whole length.
+/// Writes the text of a status into a buffer, and returns its whole length. See `binfarce.h`.
 pub fn binfarce_status_text(status: u32, out: &mut [u8]) -> usize {
     let words = words_of(status).as_bytes();
     buffer::put(words, out);

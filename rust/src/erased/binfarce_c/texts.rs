@@ -13,7 +13,7 @@ use crate::erased::binfarce_tools::report::{ReportError, report};
 use crate::shim::alloc::Global;
 use std::str;
 
-/// The listing of a file's function symbols, in a buffer.
+/// The listing of a file's function symbols, in a buffer. See `binfarce.h`.
 pub fn binfarce_list(alloc: Global, file: &[u8], section: &[u8], out: &mut [u8]) -> Text {
     let section = match str::from_utf8(section) {
         Ok(section) => section,
@@ -26,7 +26,7 @@ pub fn binfarce_list(alloc: Global, file: &[u8], section: &[u8], out: &mut [u8])
     }
 }
 
-/// The report of how much of a file each crate takes, in a buffer.
+/// The report of how much of a file each crate takes, in a buffer. See `binfarce.h`.
 pub fn binfarce_report(
     alloc: Global,
     file: &[u8],

@@ -12,9 +12,9 @@ use crate::shim::alloc::{AllocError, Global};
 /// The picture of these sizes, as a whole SVG document: a bar for each, the greatest first.
 ///
 /// The sum of the sizes has to be below 2^64. Of more than 40 bars, the last one sums up all from the 40th on. The
-/// longest bar has the whole width. Beside each bar are its share of the sum, in hundredths of a per cent, which add up to
-/// 100.00, and its size in KiB. The title is above them, with the sum and `section_size`. Names and the title are escaped;
-/// the end of a long one is cut. The only error is a failed allocation.
+/// longest bar has the whole width. Beside each bar are its share of the sum, in hundredths of a per cent, which add up
+/// to 100.00, and its size in KiB. The title is above them, with the sum and `section_size`. Names and the title are
+/// escaped; the end of a long one is cut. The only error is a failed allocation.
 pub fn chart(
     alloc: Global,
     title: &str,

@@ -10,8 +10,8 @@ use crate::shim::alloc::{AllocError, Global};
 // Addresses and their ends, from section to section.
 const RANGE: u128 = 36893488147419103232;
 
-/// What function symbols with keys add, as rows with their keys: a byte that several of a section have counts for the
-/// first of them in the order of addresses.
+/// How many bytes each function symbol adds to its key's sum, as rows with the keys: a byte that several of a section
+/// have counts for the first of them in the order of addresses.
 pub(crate) fn claims_of<'a>(alloc: Global, keyed: &'a [Keyed]) -> Result<Vec<Row<'a>>, AllocError> {
     let mut rows = rows_of(alloc, keyed)?;
     sort_by_place(&mut rows)?;

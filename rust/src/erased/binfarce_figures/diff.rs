@@ -20,9 +20,9 @@ use std::cmp::Reverse;
 /// The sums of all sizes of two files, each byte counted once.
 #[derive(Debug, Clone, Copy, PartialEq)]
 pub struct Growth {
-    /// That of the old file.
+    /// The old file's sum.
     pub old: u64,
-    /// That of the new file.
+    /// The new file's sum.
     pub new: u64,
 }
 
@@ -77,7 +77,7 @@ fn text_of(
     claims_text(alloc, figures, form, old_claims, &new_claims)
 }
 
-// That of what the function symbols add.
+// The whole text, and the sums of all sizes, from the bytes that each function symbol adds.
 fn claims_text<'a>(
     alloc: Global,
     figures: &Figures,

@@ -41,8 +41,9 @@ pub struct Shown {
     pub has_total: bool,
 }
 
-/// As `list_tables`, but in an order, of the first lines alone, with other names, without the last line, or as objects with the
-/// members `file`, `section`, `address`, `size`, `name`, `raw` (the stored name) and `crate`, and no last line.
+/// As `list_tables`, but in an order, of the first lines alone, with other names, without the last line, or as objects
+/// with the members `file`, `section`, `address`, `size`, `name`, `raw` (the stored name) and `crate`, and no last
+/// line.
 ///
 /// # Errors
 ///
@@ -203,7 +204,7 @@ pub(crate) fn list_of<'a>(
     }
 }
 
-// Those of a section.
+// The function symbols of a section, with the section number 0.
 fn of_section<'a>(
     alloc: Global,
     functions: Functions<'a>,

@@ -13,12 +13,12 @@ use crate::erased::binfarce_tools::tables::Tables;
 use crate::erased::binfarce_tools::writing::write_whole;
 use crate::shim::alloc::{AllocError, Global};
 
-/// Writes a line for each function symbol that the tables were read for, as tools for flame graphs read it: a stack, a blank, and
-/// the size in bytes.
+/// Writes a line for each function symbol that the tables were read for, as tools for flame graphs read it: a stack, a
+/// blank, and the size in bytes.
 ///
-/// A stack is the crate that a report counts the function symbol for, and the parts of the trimmed name, which `::` outside of
-/// brackets separates, with `;` between them; the first part is left out where it is the crate. A `;` in a name is shown as `:`.
-/// The lines are in the order of `list`, and are made before the first byte is written.
+/// A stack is the crate that a report counts the function symbol for, and the parts of the trimmed name, which `::`
+/// outside of brackets separates, with `;` between them; the first part is left out where it is the crate. A `;` in a
+/// name is shown as `:`. The lines are in the order of `list`, and are made before the first byte is written.
 ///
 /// # Errors
 ///

@@ -44,8 +44,8 @@ pub struct Figure<'a> {
 ///
 /// A line is `{sum:>10} {key}`. Before the key it has the share of the section, or of all sections in the sum of all
 /// sizes, as `{percent:>3}.{hundredths:02}% `, if that is wanted; and for `Key::Generic` the number of function symbols
-/// as `{copies:>6} `. `[N others]` is the key of the line that sums up those past the first. An object has the members `file`,
-/// `name`, `size` and `copies`, and there is none for the whole.
+/// as `{copies:>6} `. `[N others]` is the key of the line that sums up those past the first. An object has the members
+/// `file`, `name`, `size` and `copies`, and there is none for the whole.
 ///
 /// # Errors
 ///

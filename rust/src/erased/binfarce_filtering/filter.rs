@@ -21,8 +21,9 @@ pub const MAX_TEXT: usize = 1 << 20;
 /// digit, or with `_R` and one of `N`, `I`, `M`, `X` and `Y`; at the run's first byte another `_` may come before. It
 /// ends where its mangling does, before a `.` or the run's end. The last element of one with `_ZN` is a hash: `17h` and
 /// 16 lower-case hexadecimal digits. `.llvm.` and a number after a name that is replaced are left out. A name whose
-/// readable text has a control character or more than `MAX_TEXT` bytes stays unchanged. So do all other bytes, which need not be UTF-8. After a `_ZN`
-/// and a digit that begin no such name, such as a C++ name, the rest of the run stays unchanged.
+/// readable text has a control character or more than `MAX_TEXT` bytes stays unchanged. So do all other bytes, which
+/// need not be UTF-8. After a `_ZN` and a digit that begin no such name, such as a C++ name, the rest of the run stays
+/// unchanged.
 ///
 /// # Errors
 ///
@@ -156,8 +157,8 @@ fn push_ended(
     }
 }
 
-// The length of a beginning of the text that stays as it is: up to a run that may hold a name, or else up to the run that the
-// text ends in.
+// The length of a beginning of the text that stays as it is: up to a run that may hold a name, or else up to the run
+// that the text ends in.
 fn plain_len(text: &[u8]) -> usize {
     run_start(text, mark_at(text))
 }

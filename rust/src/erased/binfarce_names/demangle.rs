@@ -88,7 +88,7 @@ impl SymbolName {
 /// Makes names readable, one after the other, in memory that it keeps for the next one.
 ///
 /// Its results depend on the name alone, whatever came before: they are those of `SymbolName::demangle`, `push_trimmed`
-/// and `crate_of`. It keeps at most 1 MiB, and less memory than one of the names took.
+/// and `crate_of`. Between names it keeps at most 1 MiB: larger buffers are freed.
 pub struct Demangler {
     memory: Memory,
 }
@@ -193,8 +193,8 @@ impl Demangler {
     }
 
     // Appends the text of a name that isn't a legacy mangling and may be a v0 one; the name itself where its text has
-    // `most` bytes or more. Returns what follows the mangling in the name. A printing is a large value, which is zeroed at the beginning of a function: so other names
-    // don't get here.
+    // `most` bytes or more. Returns what follows the mangling in the name. A printing is a large value, which is zeroed
+    // at the beginning of a function: so other names don't get here.
     #[inline(never)]
     fn push_candidate<'a>(
         &mut self,

@@ -50,8 +50,8 @@ impl crate::erased::binfarce_tools::program::Fault for Fault {
     }
 }
 
-/// Reports how much of a file's section each crate takes. Of a file that can be read at offsets only the headers, the symbol
-/// table and the names are read; any other is first read to its end.
+/// Reports how much of a file's section each crate takes. Of a file that can be read at offsets only the headers, the
+/// symbol table and the names are read; any other is first read to its end.
 ///
 /// `File` where it can't be read; `Report` where an allocation fails while it is read, and as `report` refuses.
 pub fn run<F: Read + Source<Log = ()>, W: Write>(

@@ -42,7 +42,8 @@ pub trait Pass<O> {
     /// Takes the next part, and appends the output so far to `out`. Don't go on after an error.
     fn take(&mut self, part: &[u8], out: &mut Vec<u8>) -> Result<(), AllocError>;
 
-    /// Ends the text, or where it didn't end breaks it off, and appends the rest of the output to `out`.
+    /// Finishes a text that ended, or breaks off one whose reader failed (`ended` is false), and appends the remaining
+    /// output to `out`.
     fn end(&mut self, ended: bool, out: &mut Vec<u8>) -> Result<(), AllocError>;
 
     /// Writes the bytes in as many calls as needed.

@@ -4,7 +4,7 @@
 
 use crate::erased::binfarce_text::digits::hex_digit;
 
-/// Puts a disambiguator at the end of 18 bytes: where it begins.
+/// Writes a disambiguator at the end of the 18 bytes; returns the index of its first byte.
 #[cfg_attr(not(debug_assertions), inline(always))]
 pub fn put_disambiguator(shown: &mut [u8], n: u64) -> usize {
     shown[17] = b']';

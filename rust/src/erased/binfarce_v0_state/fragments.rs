@@ -65,7 +65,7 @@ pub struct Fragments {
     index: BTreeMap<FragmentKey, usize>,
     /// A buffer for the text that is written again.
     copy: String,
-    /// The same without the disambiguators of crates.
+    /// A buffer for the trimmed text that is written again.
     trimmed_copy: String,
 }
 
@@ -162,7 +162,8 @@ impl Fragments {
 }
 
 impl<'a> Printer<'a> {
-    /// The position of what is printed next, where it may be kept: a back reference may mean it, and it is written.
+    /// The current position, if what is printed there may be kept: a back reference may lead to it, and its text is
+    /// written, or muted parts are kept too.
     #[cfg_attr(not(debug_assertions), inline(always))]
     pub fn keeps_at(&self) -> Option<usize> {
         let at = self.at?;
@@ -319,7 +320,8 @@ impl<'a> Printer<'a> {
     }
 
     /// Writes the fragment of a back reference's target, and continues after the reference. Returns whether it was left
-    /// open. `None`, and nothing is done, where no fragment is kept, a limit would be passed, or a text is longer than is counted.
+    /// open. `None`, and nothing is done, where no fragment is kept, a limit would be passed, or a text is longer than
+    /// is counted.
     pub fn print_kept(
         &mut self,
         levels_left: usize,

@@ -10,14 +10,14 @@ pub struct Nesting {
 }
 
 impl Nesting {
-    /// The same under a binder of so many lifetimes, or of none.
+    /// This nesting under a binder of this many lifetimes, or of none.
     #[cfg_attr(not(debug_assertions), inline(always))]
     pub fn under(mut self, binder: usize) -> Nesting {
         self.binder_depth += binder;
         self
     }
 
-    /// The same outside all binders.
+    /// This nesting outside all binders.
     #[cfg_attr(not(debug_assertions), inline(always))]
     pub fn outside(mut self) -> Nesting {
         self.binder_depth = 0;

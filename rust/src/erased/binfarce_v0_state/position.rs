@@ -2,7 +2,8 @@
 
 //! Where a tree is shown, which decides how the arguments of a path are marked.
 
-/// Where a tree is shown: a path as a value, a path as a type, and a trait, whose `<..>` its bindings may go on with.
+/// The position of a tree: a path as a value, a path as a type, or a trait whose `<` stays open for associated type
+/// bindings.
 #[derive(Clone, Copy, PartialEq, Eq, PartialOrd, Ord)]
 pub enum Position {
     InValue,

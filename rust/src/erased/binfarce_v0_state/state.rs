@@ -64,7 +64,7 @@ pub struct Printer<'a> {
     /// The complete text up to the last difference between the two texts. Empty in a muted printing, and where
     /// disambiguators aren't written.
     pub complete: String,
-    /// The same without the disambiguators of crates.
+    /// The trimmed text up to that difference, without the disambiguators of crates; empty where `complete` is.
     pub trimmed: String,
     /// The end that both texts share.
     pub text: String,

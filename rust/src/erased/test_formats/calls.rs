@@ -102,8 +102,8 @@ pub fn parts(alloc: Global, file: &[u8]) -> Result<String, AllocError> {
     Ok(text)
 }
 
-/// The sum of the sizes, and the size of the section: of the file, of the tables that are read of it, and of those of all sections;
-/// and where the first function is.
+/// The sum of the sizes, and the size of the section: of the file, of the tables that are read of it, and of those of
+/// all sections; and where the first function is.
 pub fn sums(alloc: Global, section: &str, file: &[u8]) -> Result<String, AllocError> {
     let mut text = String::new(alloc);
     if let Ok(sums) = sums_of_file(alloc, file, section) {

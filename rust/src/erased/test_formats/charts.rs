@@ -35,7 +35,8 @@ impl<'a> Bars<'a> {
     }
 }
 
-/// The picture of the sizes in words, `SIZE=BYTES`, where the bytes are those of the name; and of a section of this size.
+/// The picture of the sizes in words, `SIZE=BYTES`, where the bytes are those of the name; and of a section of this
+/// size.
 pub fn chart_of(alloc: Global, section_size: &str, words: &str) -> Result<String, AllocError> {
     let mut names = Vec::new(alloc);
     for word in words.split(' ') {
@@ -51,7 +52,8 @@ pub fn chart_of(alloc: Global, section_size: &str, words: &str) -> Result<String
     bars.picture(alloc, section_size.parse().unwrap_or(0))
 }
 
-/// How many rows the picture of so many bars has, of sizes from 1 on, and how it goes on after the beginning of the last row.
+/// How many rows the picture of so many bars has, of sizes from 1 on, and how it goes on after the beginning of the
+/// last row.
 pub fn bars_of(alloc: Global, count: &str) -> Result<String, AllocError> {
     let mut bars = Bars::new(alloc);
     for size in 0..count.parse().unwrap_or(0u64) {

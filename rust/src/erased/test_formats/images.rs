@@ -26,9 +26,9 @@ pub fn laid_out(
     String::from_str(alloc, "refused")
 }
 
-/// How the laying out of an image ends. It is `tables TABLES OTHERS NAMES`, of as many tables and as many parts without bytes, or
-/// `sample OTHERS KIND NAMES`, the sample with as many parts of this kind after its own. The last number is that of the part which
-/// the image names as that of the section names.
+/// How the laying out of an image ends. It is `tables TABLES OTHERS NAMES`, of as many tables and as many parts without
+/// bytes, or `sample OTHERS KIND NAMES`, the sample with as many parts of this kind after its own. The last number is
+/// that of the part which the image names as that of the section names.
 pub fn refusal(alloc: Global, words: &str) -> Result<String, AllocError> {
     let (first, second) = (number(words, 1), number(words, 2));
     let names_at = u16::try_from(number(words, 3)).unwrap_or(0);

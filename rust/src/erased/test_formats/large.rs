@@ -15,7 +15,8 @@ use crate::erased::test_samples::cases::file_of;
 // How many functions a file has. Each has the name `a` and 16 bytes, and begins where the one before ends.
 const FUNCTIONS: u32 = 70_000;
 
-/// What follows the lines of all functions in the listing of a file in this format, or `otherwise`; of PE also the report.
+/// What follows the lines of all functions in the listing of a file in this format, or `otherwise`; of PE also the
+/// report.
 pub fn listed(alloc: Global, format: &str) -> Result<String, AllocError> {
     let mut text = String::new(alloc);
     match format {
@@ -115,8 +116,9 @@ pub fn report_of_crates(alloc: Global) -> Result<String, AllocError> {
     String::from_str(alloc, rest.unwrap_or("otherwise"))
 }
 
-/// Of a Mach-O file of 4,096 rows at 2,048 addresses, 16 bytes apart, in this order or in the opposite one: how many symbols it has,
-/// the size of its text, and the first symbol that isn't as wanted; and how many rows the walk for sizes visits, and of how many.
+/// Of a Mach-O file of 4,096 rows at 2,048 addresses, 16 bytes apart, in this order or in the opposite one: how many
+/// symbols it has, the size of its text, and the first symbol that isn't as wanted; and how many rows the walk for
+/// sizes visits, and of how many.
 pub fn pairs(alloc: Global, order: &str) -> Result<String, ParseError> {
     let (addresses, rows) = rows_of_pairs(alloc, order)?;
     let file = macho_file(alloc, 0x1_0000, &addresses)?;

@@ -21,7 +21,8 @@ pub fn given(alloc: Global, arguments: &str) -> Result<String, AllocError> {
     String::formatted(alloc, format_args!("{given:?}"))
 }
 
-/// How a file is read whose reader gives so many bytes, at most so many in a call, and then ends or fails: `COUNT MOST`, and an error.
+/// How a file is read whose reader gives so many bytes, at most so many in a call, and then ends or fails:
+/// `COUNT MOST`, and an error.
 pub fn read(alloc: Global, words: &str) -> Result<String, AllocError> {
     let (count, rest) = words.split_once(' ').unwrap_or((words, ""));
     let (most, error) = rest.split_once(' ').unwrap_or((rest, ""));

@@ -18,8 +18,8 @@ pub fn file_of_names(alloc: Global, list: &str) -> Result<Vec<u8>, AllocError> {
     Ok(crate::erased::test_image_samples::file_of(alloc, &names).unwrap_or(Vec::new(alloc)))
 }
 
-/// The address and the size of each symbol, and its name: the trimmed one, or for the question `names` both, the kind and the
-/// crate. Then the section's size.
+/// The address and the size of each symbol, and its name: the trimmed one, or for the question `names` both, the kind
+/// and the crate. Then the section's size.
 pub fn symbols_text(
     alloc: Global,
     what: &str,

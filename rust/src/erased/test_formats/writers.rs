@@ -41,7 +41,8 @@ fn all_written(alloc: Global, what: &str, file: &[u8], out: &mut Out<Target>) ->
     }
 }
 
-// Whether a writer that takes so many bytes gets the first ones of the text, and the call reports whether these are all.
+// Whether a writer that takes so many bytes gets the first ones of the text, and the call reports whether these are
+// all.
 fn takes_a_beginning(
     alloc: Global,
     what: &str,
@@ -83,8 +84,8 @@ pub fn written(alloc: Global, what: &str, file: &[u8]) -> Result<String, AllocEr
     String::formatted(alloc, format_args!("{length} bytes, {other:?}"))
 }
 
-/// The first offset at which the greatest number makes a file that is drawn in part: it has to be drawn whole, or refused and
-/// nothing drawn.
+/// The first offset at which the greatest number makes a file that is drawn in part: it has to be drawn whole, or
+/// refused and nothing drawn.
 pub fn drawn_in_part(alloc: Global, file: &[u8]) -> Result<String, AllocError> {
     for at in 8..file.len().saturating_sub(7) {
         let changed = patched(alloc, file, &[(at, &[0xFF; 8])])?;

@@ -71,8 +71,8 @@ fn is_demangled(demangler: &mut Demangler, row: &Name) -> Row {
     )
 }
 
-// Both texts of each name: of a demangler of its own, or of one that is kept, which answers the next names as before after
-// an allocation that failed.
+// Both texts of each name: of a demangler of its own, or of one that is kept, which answers the next names as before
+// after an allocation that failed.
 pub(crate) fn add_names(alloc: Global, tally: &mut Tally, keeps: bool) {
     let mut demangler = Demangler::new(alloc);
     for row in &NAMES {

@@ -6,8 +6,8 @@ use crate::shim::String;
 use crate::erased::binfarce_names::demangle::SymbolName;
 use crate::shim::alloc::{AllocError, Global};
 
-/// Appends how many times the complete text between `<` and `>` is a tuple of two equal texts, each of which is one of two, and so
-/// on; and the text that is none.
+/// Appends how many times the complete text between `<` and `>` is a tuple of two equal texts, each of which is one of
+/// two, and so on; and the text that is none.
 pub fn push_pairs(alloc: Global, line: &mut String, name: &str) -> Result<(), AllocError> {
     let answer = SymbolName::demangle(alloc, name)?;
     let mut text = answer.complete.as_str().trim_matches(['<', '>']);

@@ -23,8 +23,8 @@ pub fn push_limits(alloc: Global, line: &mut String, part: &str) -> io::Result<(
     Ok(write!(line, "{levels} levels, {steps} steps")?)
 }
 
-/// Appends how many paths, types, consts and lifetimes of the part after a prefix are read for both texts, for the trimmed
-/// one, and for none.
+/// Appends how many paths, types, consts and lifetimes of the part after a prefix are read for both texts, for the
+/// trimmed one, and for none.
 pub fn push_visits(alloc: Global, line: &mut String, part: &str) -> io::Result<()> {
     let both = visits(alloc, part, true, false)?;
     let trimmed = visits(alloc, part, false, false)?;

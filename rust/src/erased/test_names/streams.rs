@@ -21,8 +21,8 @@ fn filtered(
     (ended, target.taken)
 }
 
-/// Appends what is shown of a text that comes whole, or `unchanged`; of one of up to 1,000 bytes also where short, interrupted and
-/// failed calls give something else.
+/// Appends what is shown of a text that comes whole, or `unchanged`; of one of up to 1,000 bytes also where short,
+/// interrupted and failed calls give something else.
 pub fn push_streamed(alloc: Global, line: &mut String, text: &[u8]) -> io::Result<()> {
     let whole = Target::taking(alloc, usize::MAX);
     let (ended, shown) = filtered(alloc, Source::of(text), whole);

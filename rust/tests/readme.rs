@@ -1,0 +1,101 @@
+//! What README.md shows: each line of its example in Rust, and each call of this crate in its table, is here and runs.
+
+use binfarce::demangle::{Demangler, Kind, SymbolName, demangle, trimmed};
+use binfarce::figures::{self, Figures, Grouping, Key, Naming, Shown};
+use binfarce::*;
+use std::error::Error;
+use std::fs::File;
+use std::io::{self, Read, Seek};
+
+const SAMPLE: &str = concat!(env!("CARGO_MANIFEST_DIR"), "/samples/elf64-little.bin");
+
+#[test]
+fn example() -> Result<(), Box<dyn Error>> {
+    std::env::set_current_dir(env!("CARGO_MANIFEST_DIR"))?;
+    let file = std::fs::read("samples/elf64-little.bin")?;
+    let (functions, _text_size) = binfarce::functions(&file, ".text")?;
+    for function in functions {
+        println!("{:016x} {}", function.address, binfarce::demangle::trimmed(function.name)?);
+    }
+    Ok(())
+}
+
+#[test]
+fn names() -> Result<(), Box<dyn Error>> {
+    let (s, text) = ("_RNvC1a1b", "in _RNvC1a1b");
+    assert_eq!(format!("{}", demangle(s)), "a[0]::b");
+    assert_eq!([format!("{:#}", demangle(s)), trimmed(s)?], ["a::b"; 2]);
+    assert_eq!(SymbolName::demangle(s), SymbolName::try_demangle(s)?);
+    let (mut all, mut demangler) = (String::new(), Demangler::new());
+    demangler.push_trimmed(&mut all, s)?;
+    demangler.push_complete(&mut all, s)?;
+    assert!(demangler.push_crate(&mut all, s)? && all == "a::ba[0]::ba");
+    assert!(demangle(s).kind() != Kind::Unknown);
+    let mut filtered = Vec::new();
+    let (input, output) = (text.as_bytes(), &mut filtered);
+    filter_stream(input, output, Form::Trimmed)?;
+    assert_eq!(filtered, filter(text, Form::Trimmed)?.into_bytes());
+    Ok(())
+}
+
+#[test]
+fn one_file() -> Result<(), Box<dyn Error>> {
+    let (file, name) = (std::fs::read(SAMPLE)?, ".text");
+    let Format::Elf64 { byte_order } = detect_format(&file) else { panic!() };
+    let reader = elf64::parse(&file, byte_order)?;
+    assert_eq!(sections(&file)?.count(), reader.header().shnum.into());
+    assert_eq!(reader.sections().count(), 5);
+    let section = reader.section_with_name(name)?.ok_or(name)?;
+    assert_eq!((section.address(), section.offset(), section.range()?.len() as u64), (0, 64, section.size()));
+    let bytes = section_bytes(&file, name)?;
+    assert_eq!(functions(&file, ".text")?.0.count(), reader.functions(".text")?.0.count());
+    assert_eq!(reader.symbols(".text")?, reader.try_symbols(".text")?);
+    assert!(elf32::parse(b"", byte_order).is_err() && macho::parse(b"").is_err() && pe::parse(b"").is_err());
+    let file = File::open(SAMPLE)?;
+    assert_eq!(read_section(file, name)?, bytes);
+    Ok(())
+}
+
+fn read(file: impl Read + Seek) -> io::Result<Tables<'static>> {
+    Tables::read(file, Selection::Section(".text"), SymbolTable::Symtab)
+}
+
+#[test]
+fn tables() -> Result<(), Box<dyn Error>> {
+    let (file, base, address) = (std::fs::read(SAMPLE)?, 0x5000, 0x6004);
+    assert_eq!(Tables::new(&file, Selection::All, SymbolTable::Symtab)?.functions()?.count(), 2);
+    assert!(Tables::new(&file, Selection::All, SymbolTable::Dynsym).is_err());
+    let tables = read(File::open(SAMPLE)?)?;
+    let found = Symbolizer::new(&tables)?.with_base(base).find(address);
+    assert_eq!(found, Symbolizer::new(&tables)?.with_base(base).find_return(address));
+    let figures = Figures { grouping: Grouping { key: Key::Crate, joins_std: true }, first: None, has_percent: false };
+    let shown = Shown { order: None, first: None, naming: Naming::Trimmed, has_total: true };
+    let (mut listed, mut rows, mut reported) = (Vec::new(), Vec::new(), Vec::new());
+    tables.list_to(&mut listed)?;
+    tables.rows_to(&shown, figures::Form::Lines, &mut rows)?;
+    tables.report_to(&mut reported)?;
+    let file = std::fs::read(SAMPLE)?;
+    assert_eq!((&listed, &*rows), (&rows, list(&file, ".text")?.as_bytes()));
+    assert_eq!(reported, report(&file, ".text")?.into_bytes());
+    tables.figures_to(&figures, figures::Form::Lines, io::sink())?;
+    tables.changes_to(&tables, &figures, figures::Form::Lines, io::sink())?;
+    tables.map_to("title", io::sink())?;
+    tables.stacks_to(io::sink())?;
+    assert_eq!(tables.sums_by_key(figures.grouping)?.total, tables.sums_by(|function| Ok(function.address))?.total);
+    Ok(())
+}
+
+#[test]
+fn all_that_the_readme_shows_is_here() {
+    let readme = include_str!("../README.md");
+    let (before, table) = readme.split_once("\n## The API beside other crates\n").unwrap();
+    let calls = table.lines().skip(3).take_while(|row| row.starts_with('|')).flat_map(|row| {
+        let cell = row.split('|').nth(2).unwrap();
+        cell.split('`').skip(1).step_by(2).map(|call| call.split(", ..").next().unwrap())
+    });
+    let lines = before.split("```rust\n").nth(1).unwrap().split("```").next().unwrap().lines().skip(1);
+    let (here, missing): (Vec<_>, Vec<_>) =
+        calls.chain(lines).partition(|shown| include_str!("readme.rs").contains(shown.trim()));
+    assert_eq!(missing, [""; 0]);
+    assert!(here.len() > 40);
+}

@@ -1,84 +1,58 @@
 #!/bin/sh
-# Builds and runs the clients of the library, in C, in C++ and in Rust, and compares what they print with what the program
-# prints. Those in C and C++ also run under valgrind and with the address and undefined behaviour sanitizers.
-#
-#   examples/run.sh [ARCHIVE [FILE ..]]  over the archive that `cargo build --release` makes, or over ARCHIVE, such as the
-#                                        one of bindings/archive.sh; the FILEs are listed too
-#   LIST=PROGRAM                         in place of cargo's binfarce-list
-#   FILES=N                              hostile files, in place of 2,000, with ten times as many hostile names
+# examples/run.sh [ARCHIVE]: builds and runs the clients of the library, in C, in C++ and in Rust, and compares what they print with
+# what the program prints. Those in C and C++ also run under valgrind and with the address and undefined behaviour sanitizers.
+# ARCHIVE is the library, such as bindings/archive.sh makes; without it, it is the one of `cargo build --release`.
 set -eu
 cd "$(dirname "$0")/.."
-files=${FILES:-2000}
 work=$(mktemp -d)
 trap 'rm -rf "$work"' EXIT
 trap 'exit 130' HUP INT TERM
-status=0
 
-fail() {
-    echo "examples: $*"
-    status=1
-}
-
-# The output and status of a program for each file.
-answers() {
-    program=$1
-    shift
-    for file in "$@"; do
-        echo "$file"
-        "$program" "$file" 2>&1 || echo "status $?"
-    done | sed 's/^binfarce-list: //'
-}
-# Compares the answers of clients with those of the program: compare "CLIENT .." FILE ..
+fail() { echo "examples: $*"; exit 1; }
+# compare "CLIENT .." FILE ..: for each file their output and status must be those of binfarce-list.
 compare() {
     clients=$1
     shift
-    answers "$list" "$@" >"$work/wanted"
-    for client in $clients; do
-        answers "$client" "$@" >"$work/given"
-        cmp "$work/wanted" "$work/given" || fail "$(basename "$client") and $list differ"
+    for client in "$built/binfarce-list" $clients; do
+        for file; do
+            echo "$file"
+            "$client" "$file" 2>&1 || echo "status $?"
+        done | sed 's/^binfarce-list: //' >"$work/${client##*/}.txt"
+        cmp "$work/binfarce-list.txt" "$work/${client##*/}.txt" || fail "$client and binfarce-list differ"
     done
 }
 
-for needed in cargo gcc g++ nm readelf python3 valgrind; do
-    command -v "$needed" >/dev/null || { echo "examples: $needed is missing" >&2; exit 1; }
-done
 cargo build --offline --quiet --release --workspace --lib --bins --examples
 built="${CARGO_TARGET_DIR:-target}/release"
-list=${LIST:-$built/binfarce-list}
 archive=${1:-$built/libbinfarce.a}
-[ "$#" -eq 0 ] || shift
-checked="valgrind --quiet --error-exitcode=9 --leak-check=full"
-strict="-fsanitize=address,undefined -fno-sanitize-recover"
 flags="-O2 -g -Wall -Wextra -pedantic -Werror -Iinclude"
 sample=crates/binfarce_list/data/e-elf64-little.bin
 
 rust/c/generate --check || fail "the wrappers aren't those of the header"
-echo '#include "binfarce.h"' >"$work/header.c"
-gcc -std=c99 $flags -c "$work/header.c" -o "$work/header.o" || fail "the header is no C99"
-g++ -std=c++98 $flags -x c++ -c "$work/header.c" -o "$work/header.o" || fail "the header is no C++"
-for name in symbols listing hostile sections kinds pointers; do
-    gcc -std=c11 $flags "examples/$name.c" "$archive" -o "$work/$name"
-    gcc -std=c11 $flags $strict "examples/$name.c" "$archive" -o "$work/$name-checked"
+gcc -std=c99 $flags -x c -c include/binfarce.h -o "$work/header.o" || fail "the header is no C99"
+g++ -std=c++98 $flags -x c++ -c include/binfarce.h -o "$work/header.o" || fail "the header is no C++"
+for checks in "" "-fsanitize=address,undefined -fno-sanitize-recover"; do
+    for name in symbols listing hostile sections kinds pointers; do
+        gcc -std=c11 $flags $checks "examples/$name.c" "$archive" -o "$work/$name${checks:+-checked}"
+    done
+    g++ -std=c++17 $flags $checks examples/names.cpp "$archive" -o "$work/names"
+    "$work/names" <examples/names.txt | cmp - examples/names.wanted || fail "names of C++, built with '$checks'"
 done
 gcc -std=c11 $flags examples/refused.c "$archive" -Wl,--wrap=malloc,--wrap=realloc -o "$work/refused"
-g++ -std=c++17 $flags examples/names.cpp "$archive" -o "$work/names"
-g++ -std=c++17 $flags $strict examples/names.cpp "$archive" -o "$work/names-checked"
 
 grep -oE '^[a-z].* binfarce_[a-z0-9_]+\(' include/binfarce.h | sed 's/.* //; s/($//' | sort >"$work/wanted"
-nm -D --defined-only "$built/libbinfarce.so" | awk '{ print $3 }' | sort | cmp "$work/wanted" - || fail "the shared library exports other names than the header declares"
+nm -D --defined-only "$built/libbinfarce.so" | awk '{ print $3 }' | sort | cmp "$work/wanted" - ||
+    fail "the shared library exports other names than the header declares"
 
 # `listing` asks the library for the whole listing, `symbols` for the function symbols.
 compare "$work/symbols $work/listing $work/symbols-checked $work/listing-checked $built/examples/symbols" \
-    "$sample" "$work/symbols" README.md "$@"
-examples/hostile_files.py "$work/hostile-files" "$files"
+    "$sample" "$work/symbols" README.md
+examples/hostile_files.py "$work/hostile-files" 2000
 compare "$work/symbols $work/listing $built/examples/symbols" "$work/hostile-files"/*
 compare "$work/symbols-checked" "$work/hostile-files/names"
 
-for name in names names-checked; do
-    "$work/$name" <examples/names.txt | cmp - examples/names.wanted || fail "$name of C++"
-done
-"$work/kinds-checked" <examples/names.txt | cut -d' ' -f1 | tr -d '\n' >"$work/given"
-[ "$(cat "$work/given")" = 2221100 ] || fail "a name's kind differs from the one in names.txt"
+kinds=$("$work/kinds-checked" <examples/names.txt | cut -d' ' -f1 | tr -d '\n')
+[ "$kinds" = 2221100 ] || fail "a name's kind differs from the one in names.txt"
 
 # The number, name, address, offset and size of each section but the first.
 for file in "$sample" "$work/symbols" "$work/header.o"; do
@@ -104,16 +78,14 @@ done
 grep -q ' backtrace::inner::divide+0x' "$work/given" || fail "the backtrace doesn't name its function"
 "$built/examples/bloat" "$built/binfarce" 1000000 >"$work/given"
 sed '/by function:$/,$d; 1d' "$work/given" | awk '{ print $1, $3 }' | LC_ALL=C sort -k2 >"$work/crates"
-"$built/binfarce" size --all "$built/binfarce" | sed '/^sum /,$d' | awk '{ print $1, $2 }' | LC_ALL=C sort -k2 | cmp - "$work/crates" ||
-    fail "bloat and \`binfarce size --all\` differ"
-gcc -x c - -o "$work/recorded" <<END
-__attribute__((section(".dep-v0"), used)) static const char list[] = "x\234 packages";
-int main(void) { return list[0] == 0; }
-END
-"$built/examples/audit" "$work/recorded" >/dev/null && "$built/examples/audit" --extract "$work/recorded" | tail -c 10 | tr -d '\0' >"$work/given"
+"$built/binfarce" size --all --by=crate "$built/binfarce" | sed '/^sum /,$d' | awk '{ print $1, $2 }' | LC_ALL=C sort -k2 | cmp - "$work/crates" ||
+    fail "bloat and \`binfarce size --all --by=crate\` differ"
+printf %s '__attribute__((section(".dep-v0"), used)) static const char list[] = "x\234 packages"; int main(void) { return 0; }' |
+    gcc -x c - -o "$work/recorded"
+"$built/examples/audit" "$work/recorded" >/dev/null || fail "audit doesn't find the list of dependencies"
+"$built/examples/audit" --extract "$work/recorded" | tail -c 10 | tr -d '\0' >"$work/given"
 [ "$(cat "$work/given")" = " packages" ] || fail "audit doesn't read the list of dependencies"
 for run in "symbols $work/symbols" "listing $work/symbols" "refused $sample" "sections $work/symbols" "hostile 500 100 $sample"; do
-    $checked "$work"/$run >"$work/given" || fail "valgrind reports something of $run"
+    valgrind --quiet --error-exitcode=9 --leak-check=full "$work"/$run >"$work/given" || fail "valgrind reports something of $run"
 done
-[ "$status" -ne 0 ] || echo "examples: all clients agree"
-exit "$status"
+echo "examples: all clients agree"

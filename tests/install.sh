@@ -21,11 +21,10 @@ runs() {
 
 what="what cargo builds, by a link, from another folder, below a prefix with a space, and removed again"
 prefix="$scratch/an empty prefix"
-programs=$(cd rust/src/bin && ls | sed 's/\.rs$//')
 ln -s "$PWD/install" "$scratch/link"
 (cd / && "$scratch/link" "$prefix")
 library="include/binfarce.h lib/libbinfarce.a lib/libbinfarce.so lib/libbinfarce.so.0 lib/pkgconfig/binfarce.pc"
-pages=$(for name in $programs; do echo "bin/$name share/man/man1/$name.1"; done)
+pages=$(ls rust/src/bin | sed 's|\(.*\)\.rs$|bin/\1 share/man/man1/\1.1|')
 installed=$(printf '%s\n' $library $pages share/bash-completion/completions/binfarce | LC_ALL=C sort)
 holds "$prefix" "$installed"
 sample=crates/binfarce_list/data/e-elf64-little.bin
@@ -63,7 +62,7 @@ chmod +x "$scratch/cargo"
 export PATH="$scratch:$PATH"
 runs 101 "error: no" ./install "$scratch/none"
 printf '#!/bin/sh\n' >"$scratch/cargo"
-lacks="install: $scratch/target/release/binfarce-list is missing: cargo build --release makes it"
-CARGO_TARGET_DIR="$scratch/target" runs 1 "$lacks" ./install "$scratch/none"
+export CARGO_TARGET_DIR="$scratch/target"
+runs 1 "install: $scratch/target/release/binfarce-list is missing: cargo build --release makes it" ./install "$scratch/none"
 [ ! -e "$scratch/none" ] || fail "something is installed"
 echo "install: as it must be"

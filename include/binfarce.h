@@ -8,10 +8,10 @@
  * - Pointers. Each pointer points to as many bytes as the length after it says, for the whole call. They are readable, and
  *   writable where the pointer isn't const. No pointer may be NULL, even where its length is 0: any other address will do then
  *   (`""`, or the address of a variable). No length is above PTRDIFF_MAX.
- * - Overlap. What a call writes to overlaps nothing else that is passed to the call.
+ * - Overlap. A buffer that a call writes to overlaps no other argument.
  * - Alignment. A pointer to a struct is aligned as C aligns it; bytes need no alignment.
- * - Stack. A call nests as deep as a name does, at most 500 levels; the deepest names tried took less than 256 KiB with the
- *   kit's archive and less than 512 KiB with cargo's. No proof bounds it.
+ * - Stack. A call nests as deep as a name does, at most 500 levels. 512 KiB were enough for the deepest names that were tried;
+ *   no proof bounds it.
  *
  * Ownership. The library keeps no memory and no pointer after a call, so nothing has to be freed. It writes only to the
  * caller's buffers. A `struct binfarce_function` and a `struct binfarce_section` point into the caller's file, and a
@@ -20,12 +20,12 @@
  * Texts are UTF-8, without a NUL at the end: their length is returned. A name may contain any character, even a line feed.
  *
  * Lengths. A call that gives a text writes as much of it as the buffer has room for, and leaves the rest of the buffer
- * unchanged. It always returns the whole length: where that is more than the buffer's, the caller grows the buffer and calls
- * again. A text may be cut within a character. A call that gives no text (status isn't BINFARCE_OK) leaves the buffer
- * unchanged, and its lengths are 0. Arrays of functions follow the same rule. With a refusal come the sections before it.
+ * unchanged. It always returns the whole length: if that exceeds the buffer's, the caller grows the buffer and calls again. A
+ * text may be cut within a character. A call that gives no text (status isn't BINFARCE_OK) leaves the buffer unchanged, and its
+ * lengths are 0. So do calls that give arrays of functions. Calls that give all sections give those before a refusal.
  *
  * Memory. The calls that say so allocate by malloc and realloc while they run (on Windows by HeapAlloc), and free all of it
- * before they return. Where an allocation fails they return BINFARCE_OUT_OF_MEMORY. With the kit's archive malloc has to align
+ * before they return. If an allocation fails, they return BINFARCE_OUT_OF_MEMORY. With the kit's archive malloc has to align
  * blocks as the C library's does.
  *
  * Threads. There is no global state: calls may run on any threads at once, as long as no buffer is shared. They don't lock
@@ -45,8 +45,8 @@
  *
  * Missing: the header fields of Mach-O and PE files, which the readers show only as debug text.
  *
- * Machines. cargo's libraries are for every 64-bit target of Rust; the kit's archive is for x86-64-v2 with the System V
- * calling convention. Where the library is installed, `pkg-config --cflags --libs binfarce` prints how to link it.
+ * Machines. cargo's libraries are for every target of Rust of 32 or 64 bits; the kit's archive is for x86-64-v2 with the
+ * System V calling convention. After ./install `pkg-config --cflags --libs binfarce` prints how to link the library.
  */
 #ifndef BINFARCE_H
 #define BINFARCE_H
@@ -125,14 +125,14 @@ struct binfarce_text binfarce_trimmed(const uint8_t *name, size_t name_length, u
 
 /*
  * The crate of a name: of a v0 name as binfarce_demangle gives it, and of a legacy name the first part of its path,
- * unless that begins with `<`. BINFARCE_NONE where there is none; BINFARCE_NOT_UTF8, BINFARCE_OUT_OF_MEMORY. Allocates.
+ * unless that begins with `<`. BINFARCE_NONE if it has no crate; BINFARCE_NOT_UTF8, BINFARCE_OUT_OF_MEMORY. Allocates.
  */
 struct binfarce_text binfarce_crate_of(const uint8_t *name, size_t name_length, uint8_t *out, size_t out_length);
 
 /* How a name is mangled, and the part of it that is kept. */
 struct binfarce_mangling {
     const uint8_t *part; /* the part after the mangling's prefix, in the caller's name, without the `.llvm.` suffix; all of a
-                            name that isn't mangled. NULL where it is empty */
+                            name that isn't mangled. NULL if it is empty */
     size_t part_length;  /* in bytes */
     uint32_t kind;       /* enum binfarce_kind */
 };
@@ -207,7 +207,8 @@ uint32_t binfarce_pe_header(const uint8_t *file, size_t file_length);
 
 /* A function symbol. */
 struct binfarce_function {
-    const uint8_t *name; /* the name as it is stored, in the caller's file: its offset there is `name - file`. NULL where it is empty */
+    const uint8_t *name; /* the name as it is stored, in the caller's file: its offset there is `name - file`. NULL if it is
+                            empty */
     size_t name_length;  /* in bytes; the name is UTF-8, and what follows is no part of it */
     uint64_t address;    /* as the file stores it; in a PE file the offset in the section */
     uint64_t size;       /* in bytes */
@@ -239,13 +240,13 @@ struct binfarce_functions binfarce_pe_functions(const uint8_t *file, size_t file
 
 /* A section of a file. */
 struct binfarce_section {
-    const uint8_t *name;    /* its name, in the caller's file. NULL where has_name is false, or the name is empty */
+    const uint8_t *name;    /* its name, in the caller's file. NULL if has_name is false or the name is empty */
     size_t name_length;     /* in bytes; the name is UTF-8, and what follows is no part of it */
     const uint8_t *segment; /* in a Mach-O file the name of its segment, there too; in other formats NULL */
     size_t segment_length;
     uint64_t address;      /* of its first byte in memory; in a PE file counted from the image base */
     uint32_t kind;         /* in ELF its type (sh_type), in other formats 0 */
-    uint32_t range_status; /* BINFARCE_OK; BINFARCE_MALFORMED_INPUT where its end passes 64 bits: start and end are 0 then */
+    uint32_t range_status; /* BINFARCE_OK; BINFARCE_MALFORMED_INPUT where its end passes a size_t: start and end are 0 then */
     size_t start;          /* where its bytes begin in the file; they may lie past its end */
     size_t end;            /* the offset after the last one */
     uint64_t entries;      /* in ELF how many entries of its entry size it has, 0 where that is 0; in other formats 0 */
@@ -254,7 +255,7 @@ struct binfarce_section {
 
 /*
  * The first section with this name, in a Mach-O file also with this segment. Returns BINFARCE_OK, or with `out` unchanged
- * BINFARCE_NONE where there is none, a reader's refusal, or BINFARCE_NOT_UTF8 for a name. Does not allocate.
+ * BINFARCE_NONE if there is none, a reader's refusal, or BINFARCE_NOT_UTF8 for a name. Does not allocate.
  */
 uint32_t binfarce_elf32_section(const uint8_t *file, size_t file_length, bool big_endian,
                                 const uint8_t *name, size_t name_length, struct binfarce_section *out);
@@ -285,8 +286,8 @@ struct binfarce_sections {
 };
 
 /*
- * All sections of a file in file order, in the caller's array, by one walk: those that the calls above give by number. Where
- * one can't be read, those before it are given, and its refusal. These calls don't allocate.
+ * All sections of a file in file order, in the caller's array, by one walk: those that the calls above give by number. If one
+ * can't be read, the sections before it are given, and its refusal. These calls don't allocate.
  */
 struct binfarce_sections binfarce_elf32_sections(const uint8_t *file, size_t file_length, bool big_endian,
                                                  struct binfarce_section *out, size_t out_length);

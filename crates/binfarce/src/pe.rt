@@ -129,7 +129,8 @@ impl<'a> Pe<'a> {
     ///
     /// Those of `find_section`.
     pub fn section_with_name(&self, name: &str) -> Result<Option<Section<'a>>, ParseError>
-        ensures { Gives refusal_of (option_map section_view) (first (λ s. is_named name.now s) (walk self.now)) result }
+        ensures { Gives refusal_of (option_map section_view) (first (λ s. is_named name.now s) (walk self.now))
+            result }
     {
         Ok(sections::section_with_name(self.data, self.places(), name)?)
     }

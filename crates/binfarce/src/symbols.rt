@@ -75,7 +75,8 @@ fn symbols_of<'a, I: Iterator<Item = FunctionSymbol<'a>> + Drop>(
     ensures symbols { IfOk result
         (λ v. (given : List FunctionSymbol) × Drains I.next_gives functions given
         × AreSymbolsOf (map function_view given) v.items) }
-    ensures memory { OnErr result ((first : FunctionSymbol) × (after : I) × I.next_gives functions (Some first) after) }
+    ensures memory { OnErr result ((first : FunctionSymbol) × (after : I)
+        × I.next_gives functions (Some first) after) }
 {
     let mut symbols = Vec::new(alloc);
     let mut demangler = Demangler::new(alloc);

@@ -243,7 +243,8 @@ pub fn write_lines<S: Sink>(
 ) -> Result<(), ListError>
     ensures outcome { (listed : Listed) → places.now ≡ listed.entries
         → EndsAs ListingFits (λ _. ⊥) (Some (Ok listed)) (outcome_of result) }
-    ensures takes { (listed : Listed) → places.now ≡ listed.entries → Takes (AreLinesAt lookup.entry addresses.now)
+    ensures takes { (listed : Listed) → places.now ≡ listed.entries
+        → Takes (AreLinesAt lookup.entry addresses.now)
         (Some (Ok listed)) (S.taken out.old) (S.taken out.new) (outcome_of result) }
     ensures fails { Fails (S.has_failed out.old) (S.has_failed out.new) (outcome_of result) }
     ensures leaves { Leaves out.old out.new (outcome_of result) }

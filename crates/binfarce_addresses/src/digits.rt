@@ -20,7 +20,8 @@ pub(crate) fn push_address(text: &mut Vec<u8>, address: u64) -> Result<(), Alloc
 
 /// Appends an offset and a line feed to the text.
 pub(crate) fn push_offset(text: &mut Vec<u8>, offset: u64) -> Result<(), AllocError>
-    ensures { OnOk result (text.new.items ≡ text.old.items ++ (codes "+0x" ++ (digits 16 false offset ++ codes "\n"))) }
+    ensures { OnOk result (text.new.items ≡ text.old.items
+        ++ (codes "+0x" ++ (digits 16 false offset ++ codes "\n"))) }
 {
     let mut shown = [b'0'; 16];
     let at = put_digits(&mut shown, offset);

@@ -176,7 +176,8 @@ fn symbol_name(alloc: Global, name: &[u8]) -> Result<demangle::SymbolName, NameE
 }
 
 fn trimmed_text(alloc: Global, name: &[u8]) -> Result<String, NameError>
-    ensures { ReadsName name.now (λ text. (n : Name) × IsNamed name.now n × (string_bytes text ≡ n.trimmed)) result }
+    ensures { ReadsName name.now (λ text. (n : Name) × IsNamed name.now n × (string_bytes text ≡ n.trimmed))
+        result }
 {
     let stored = str::from_utf8(name)?;
     let mut text = String::new(alloc);

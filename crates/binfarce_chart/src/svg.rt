@@ -147,7 +147,8 @@ fn push_row(
     share: u64,
     width: u128,
 ) -> Result<(), AllocError>
-    ensures { OnOk result (string_bytes text.new ≡ string_bytes text.old ++ row top (bar_view bar.entry) share width) }
+    ensures { OnOk result (string_bytes text.new ≡ string_bytes text.old
+        ++ row top (bar_view bar.entry) share width) }
 {
     push_row_start(text, top)?;
     push_label(text, 30, bar.name)?;

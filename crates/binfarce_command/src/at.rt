@@ -62,12 +62,15 @@ pub fn answer_all<S: Source<Log = ()>, K: Sink>(
     addresses: &[u64],
     out: &mut K,
 ) -> Result<(), Fault>
-    ensures outcome { (file : List ℕ) → S.bytes source.now ≡ Some file → share_addresses symbols.now file ≡ false
+    ensures outcome { (file : List ℕ) → S.bytes source.now ≡ Some file
+        → share_addresses symbols.now file ≡ false
         → ProgramEndsAs (S.may_fail source.now ≡ true) ListingFits
         (MemoryFor symbols.now file) (answer_for symbols.now file) (outcome_of result) }
-    ensures shared { (file : List ℕ) → S.bytes source.now ≡ Some file → share_addresses symbols.now file ≡ true
+    ensures shared { (file : List ℕ) → S.bytes source.now ≡ Some file
+        → share_addresses symbols.now file ≡ true
         → IsShared (S.may_fail source.now ≡ true) result }
-    ensures takes { (file : List ℕ) → S.bytes source.now ≡ Some file → Takes (AreLinesAt lookup.entry addresses.now)
+    ensures takes { (file : List ℕ) → S.bytes source.now ≡ Some file
+        → Takes (AreLinesAt lookup.entry addresses.now)
         (answer_for symbols.now file) (K.taken out.old) (K.taken out.new) (outcome_of result) }
     ensures of_file { result ≢ Err Input }
     ensures fails { Fails (K.has_failed out.old) (K.has_failed out.new) (outcome_of result) }
@@ -108,7 +111,8 @@ pub fn answer_input<S: Source<Log = ()>, I: Read, K: Sink>(
     input: &mut I,
     out: &mut K,
 ) -> Result<u64, Fault>
-    ensures answers { (file : List ℕ) → S.bytes source.now ≡ Some file → AnswersInput (S.may_fail source.now ≡ true)
+    ensures answers { (file : List ℕ) → S.bytes source.now ≡ Some file
+        → AnswersInput (S.may_fail source.now ≡ true)
         (share_addresses symbols.now file) (MemoryFor symbols.now file)
         (answer_for symbols.now file) annotates lookup.entry
         (I.remaining input.old) (I.remaining input.new) (K.taken out.old) (K.taken out.new) result }

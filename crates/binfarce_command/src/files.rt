@@ -58,7 +58,8 @@ pub fn show_files<F: Read + Source<Log = ()> + Drop, Y: System<F>, W: Write>(
     files: &[&str],
     out: &mut Output<W>,
 ) -> Result<bool, Fault>
-    ensures { (held : List ℕ → List ℕ) → AreHeld (Y.bytes_at system.old) held (map (λ t. t.now) files.now) → ShowsAll
+    ensures { (held : List ℕ → List ℕ) → AreHeld (Y.bytes_at system.old) held (map (λ t. t.now) files.now)
+        → ShowsAll
         (asked_files asked.now (nat_lt 1 (length files.now)) (Y.may_fail_at system.old) held)
         (map (λ t. t.now) files.now)
         (state_of W.contents out.old (Y.reports system.old))

@@ -139,7 +139,16 @@ fn work<W: Write>(
 ) -> Result<bool, Fault> {
     match command {
         Command::List => show_all(host, listing_of(given), given, out),
-        Command::Size => show_all(host, sums_of(given), given, out),
+        // By crate, as `binfarce-size` sums them, unless something else is asked for.
+        Command::Size
+            if given.has(Flag::By)
+                || given.has(Flag::First)
+                || given.has(Flag::Percent)
+                || given.has(Flag::Std)
+                || given.has(Flag::Json) => {
+            show_all(host, Kind::Figures(figures_of(given)), given, out)
+        }
+        Command::Size => show_all(host, Kind::Sums, given, out),
         Command::Map if given.has(Flag::Folded) => show_all(host, Kind::Stacks, given, out),
         Command::Map => show_all(host, Kind::Picture, given, out),
         Command::Diff => compare(host, given, out),
@@ -166,19 +175,6 @@ fn listing_of(given: &Arguments<'_>) -> Kind {
         return Kind::Listing;
     }
     Kind::Rows(shown)
-}
-
-// How sizes are summed: by crate, as `binfarce-size` does, unless something else is asked for.
-fn sums_of(given: &Arguments<'_>) -> Kind {
-    if given.has(Flag::By)
-        || given.has(Flag::First)
-        || given.has(Flag::Percent)
-        || given.has(Flag::Std)
-        || given.has(Flag::Json)
-    {
-        return Kind::Figures(figures_of(given));
-    }
-    Kind::Sums
 }
 
 // What sizes are summed by, and how the sums are shown.

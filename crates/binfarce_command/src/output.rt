@@ -65,7 +65,8 @@ impl<W: Write> Output<W> {
     // Writes the rest of the heading.
     fn write_heading(&mut self) -> Option<()>
         ensures kept { Keeps (taken W.contents self.old) (taken W.contents self.new) }
-        ensures written { IfSome result (λ _. (pending self.new ≡ []) × (has_failed self.new ≡ has_failed self.old)) }
+        ensures written { IfSome result (λ _. (pending self.new ≡ [])
+            × (has_failed self.new ≡ has_failed self.old)) }
         ensures fails { IfNone result (has_failed self.new ≡ true) }
     {
         while self.done < self.heading.len() {

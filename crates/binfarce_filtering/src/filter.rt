@@ -316,7 +316,8 @@ fn is_too_long(run: &[u8]) -> bool
 // Writes the output for a run.
 fn push_run(names: &mut Names, full: bool, run: &[u8], out: &mut Vec<u8>) -> Result<(), AllocError>
     requires { is_run run.now ≡ true }
-    ensures { OnOk result ((shown : List ℕ) × IsShown full run.now shown × (out.new.items ≡ out.old.items ++ shown)) }
+    ensures { OnOk result ((shown : List ℕ) × IsShown full run.now shown
+        × (out.new.items ≡ out.old.items ++ shown)) }
 {
     if is_too_long(run) {
         return out.extend_from_slice(run);

@@ -22,7 +22,8 @@ fn worked_section()
 /// A record of the string table's name at 4: an external function of section 1 at 0x10, with an auxiliary record.
 #[tactic(auto, unfolding(crate::specs::PeSymbols::symbol_at, crate::specs::PeSymbols::symbol_fields, binfarce_bytes::proofs::Computing::computing))]
 fn worked_symbol()
-    ensures { symbol_at (0 ∷ 0 ∷ 0 ∷ 0 ∷ 4 ∷ 0 ∷ 0 ∷ 0 ∷ 0x10 ∷ 0 ∷ 0 ∷ 0 ∷ 1 ∷ 0 ∷ 0x20 ∷ 0 ∷ 2 ∷ 1 ∷ []) 0
+    ensures { symbol_at (0 ∷ 0 ∷ 0 ∷ 0 ∷ 4 ∷ 0 ∷ 0 ∷ 0 ∷ 0x10 ∷ 0 ∷ 0 ∷ 0 ∷ 1 ∷ 0 ∷ 0x20
+        ∷ 0 ∷ 2 ∷ 1 ∷ []) 0
         ≡ record {
           zeroes = 0;
           offset = 4;
@@ -37,7 +38,8 @@ fn worked_symbol()
 /// Three records, of which the first has one auxiliary record.
 #[tactic(auto, unfolding(crate::specs::PeSymbols::rows_from, crate::specs::PeSymbols::symbol_at, crate::specs::PeSymbols::symbol_fields, binfarce_bytes::proofs::Computing::computing))]
 fn worked_rows()
-    ensures { row_numbers (record { rows = replicate 17 0 ++ (1 ∷ replicate 36 0); strings = [] }) ≡ 0 ∷ 2 ∷ [] }
+    ensures { row_numbers (record { rows = replicate 17 0 ++ (1 ∷ replicate 36 0); strings = [] })
+        ≡ 0 ∷ 2 ∷ [] }
 {}
 
 /// Sizes at 0, 64, 256 and 384, in a text of 256 bytes.

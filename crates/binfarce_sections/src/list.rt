@@ -145,7 +145,8 @@ fn push_object(text: &mut String, file: &str, section: Section<'_>) -> Result<()
 
 // Appends the line of a section to the text.
 fn push_line(text: &mut String, section: Section<'_>) -> Result<(), AllocError>
-    ensures { OnOk result (string_bytes text.new ≡ string_bytes text.old ++ section_line (section_view section.entry)) }
+    ensures { OnOk result (string_bytes text.new ≡ string_bytes text.old
+        ++ section_line (section_view section.entry)) }
 {
     push_head(text, section.address, section.offset, section.size)?;
     push_name(text, section.segment, section.name)?;

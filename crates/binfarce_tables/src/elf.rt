@@ -308,7 +308,8 @@ pub fn part<S: Source>(
 ) -> Result<Vec<u8>, ReadError>
     ensures part { (file : List ℕ) → S.bytes source.now ≡ Some file → offset + size ≤ length file
         → Reads (S.may_fail source.now) (λ v. v.items) (Ok (bytes_at file offset size)) result }
-    ensures past_end { (file : List ℕ) → S.bytes source.now ≡ Some file → length file < offset + size → IsErr result }
+    ensures past_end { (file : List ℕ) → S.bytes source.now ≡ Some file → length file < offset + size
+        → IsErr result }
     ensures size { IfOk result (λ v. length v.items ≡ size) }
     ensures failed { IfErr result (λ e. (e ≡ Unreadable) ⊎ (e ≡ OutOfMemory)) }
     ensures only { ReadsOnly (S.is_sure source.now) (S.logs_only log.old) (S.logs_only log.new)

@@ -168,11 +168,13 @@ fn read_selected<S: Source>(
     places: TableOffsets,
     selection: Selection<'_>,
 ) -> Result<Sections, ReadError>
-    ensures answer { (file : List ℕ) → Known (S.bytes source.now) len file → places_step file ≡ Ok (places_view places)
+    ensures answer { (file : List ℕ) → Known (S.bytes source.now) len file
+        → places_step file ≡ Ok (places_view places)
         → Reads (S.may_fail source.now) read_view
         (chosen_at (section_of selection.entry) file (places_view places)) result }
     ensures whole { IfOk result (λ s. IsWhole (read_view s)) }
-    ensures only { (file : List ℕ) → Known (S.bytes source.now) len file → places_step file ≡ Ok (places_view places)
+    ensures only { (file : List ℕ) → Known (S.bytes source.now) len file
+        → places_step file ≡ Ok (places_view places)
         → ReadsOnly (S.is_sure source.now) (S.logs_only log.old) (S.logs_only log.new)
         (selected_parts (section_of selection.entry) file (places_view places)) (IfErr result (λ e. e ≢ Unreadable)) }
 {
@@ -192,10 +194,12 @@ fn read_all_sections<S: Source>(
     len: u64,
     places: TableOffsets,
 ) -> Result<Sections, ReadError>
-    ensures answer { (file : List ℕ) → Known (S.bytes source.now) len file → places_step file ≡ Ok (places_view places)
+    ensures answer { (file : List ℕ) → Known (S.bytes source.now) len file
+        → places_step file ≡ Ok (places_view places)
         → Reads (S.may_fail source.now) read_view (chosen_at None file (places_view places)) result }
     ensures whole { IfOk result (λ s. IsWhole (read_view s)) }
-    ensures only { (file : List ℕ) → Known (S.bytes source.now) len file → places_step file ≡ Ok (places_view places)
+    ensures only { (file : List ℕ) → Known (S.bytes source.now) len file
+        → places_step file ≡ Ok (places_view places)
         → ReadsOnly (S.is_sure source.now) (S.logs_only log.old) (S.logs_only log.new)
         (selected_parts None file (places_view places)) (IfErr result (λ e. e ≢ Unreadable)) }
 {

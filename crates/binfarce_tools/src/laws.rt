@@ -98,7 +98,8 @@ fn worked_sizes()
 fn worked_answers()
     ensures no_sections { elf_file_answer Symtab elf32 LittleEndian (replicate 52 0) (0x66 ∷ [])
         ≡ Err symbols_section_is_missing }
-    ensures past_the_end { elf_file_answer Symtab elf32 LittleEndian (replicate 35 0 ++ 1 ∷ replicate 16 0) (0x66 ∷ [])
+    ensures past_the_end { elf_file_answer Symtab elf32 LittleEndian (replicate 35 0 ++ 1 ∷ replicate 16 0)
+        (0x66 ∷ [])
         ≡ Err unexpected_eof }
 {}
 

@@ -78,7 +78,8 @@ pub fn open(rt: &HostRuntime, path: &str) -> Result<File, Failure>
 /// these are read to their end.
 pub fn is_read_at_offsets<S: Source<Log = ()>>(file: &S) -> bool
     ensures yes { result ≡ true → IfSome (S.bytes file.now) (λ bytes. bytes ≢ []) }
-    ensures no { result ≡ false → IfSome (S.bytes file.now) (λ bytes. (bytes ≡ []) ⊎ (S.may_fail file.now ≡ true)) }
+    ensures no { result ≡ false → IfSome (S.bytes file.now)
+        (λ bytes. (bytes ≡ []) ⊎ (S.may_fail file.now ≡ true)) }
 {
     match file.length() {
         Ok(length) if length > 0 => file.fill_at(&mut (), length - 1, &mut [0]).is_ok(),
@@ -172,7 +173,8 @@ pub fn finish<W: Write + Drop, F: From<Failure>>(mut out: W, ended: Result<(), F
 /// Prints a program's fault to standard error, if it has one, and returns its exit status: 2 for wrong arguments, and 1
 /// for any other fault.
 pub fn exit<F: Fault + Drop>(rt: &HostRuntime, ended: Result<(), F>) -> ExitCode
-    ensures { MatchResult ended (λ _. exit_status result ≡ 0) (λ f. exit_status result ≡ status_of (F.is_usage f)) }
+    ensures { MatchResult ended (λ _. exit_status result ≡ 0)
+        (λ f. exit_status result ≡ status_of (F.is_usage f)) }
 {
     match ended {
         Ok(()) => ExitCode::SUCCESS,

@@ -109,7 +109,8 @@ pub fn undisambiguated_at<'a>(
     at: usize,
 ) -> Option<(UndisambiguatedIdentifier<'a>, usize)>
     requires ascii { IsAscii part.now }
-    ensures value { option_map (λ i. (undisambiguated_view i.0, i.1)) result ≡ undisambiguated_identifier part.now at }
+    ensures value { option_map (λ i. (undisambiguated_view i.0, i.1)) result
+        ≡ undisambiguated_identifier part.now at }
     ensures ascii { IfSome result (λ i. IsAscii i.0.ascii.now) }
 {
     let bytes = part.as_bytes();

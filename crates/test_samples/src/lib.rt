@@ -20,7 +20,8 @@ pub type Patch<'a> = (usize, &'a [u8]);
 
 /// A copy of the file with other bytes at some offsets, of which those past its end count for nothing.
 pub fn patched(alloc: Global, file: &[u8], patches: &[Patch<'_>]) -> Result<Vec<u8>, AllocError>
-    ensures { IfOk result (λ copy. copy.items ≡ patched (map (λ patch. (patch.0, patch.1.now)) patches.now) file.now) }
+    ensures { IfOk result (λ copy. copy.items ≡ patched (map (λ patch. (patch.0, patch.1.now)) patches.now)
+        file.now) }
 {
     let mut copy = Vec::from_slice(alloc, file)?;
     for (offset, bytes) in patches {

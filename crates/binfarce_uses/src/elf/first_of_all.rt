@@ -10,7 +10,8 @@ use binfarce::{ParseError, SectionFunction, SymbolTable};
 
 /// The first function of any section that the dynamic symbol table has.
 pub fn first_of_all<'a>(elf: &Elf64<'a>) -> Result<Option<SectionFunction<'a>>, ParseError>
-    ensures found { (selected : Selected) → elf_selected Dynsym elf64 (section_table elf64 elf.now) None ≡ Ok selected
+    ensures found { (selected : Selected) → elf_selected Dynsym elf64 (section_table elf64 elf.now) None
+        ≡ Ok selected
         → IsOkAnd result (λ f. option_map section_function_view f ≡ slice_get selected.entries 0) }
     ensures refused { (why : Refusal) → elf_selected Dynsym elf64 (section_table elf64 elf.now) None ≡ Err why
         → IsErrAnd result (λ e. refusal_of e ≡ why) }

@@ -27,7 +27,8 @@ pub fn elf_symbols<S: Source<Log = ()>>(
         → selected_file_answer Symtab elf64 LittleEndian file (Some (codes ".text")) ≡ Ok selected
         → AreSymbolsOf (map (λ e. e.entry) selected.entries) symbols.0.items
         × (symbols.1 ≡ selected.section_size)) }
-    ensures refused { (file : List ℕ) (e : ParseError) → S.bytes source.now ≡ Some file → result ≡ Err (Refused e)
+    ensures refused { (file : List ℕ) (e : ParseError) → S.bytes source.now ≡ Some file
+        → result ≡ Err (Refused e)
         → selected_file_answer Symtab elf64 LittleEndian file (Some (codes ".text")) ≡ Err (refusal_of e) }
 {
     let order = ByteOrder::LittleEndian;

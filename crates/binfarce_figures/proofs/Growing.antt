@@ -1,17 +1,8 @@
 -- Lists that grow by one, side by side.
-use Rattle.std.proofs.Common.{◌≡◌, ℕ, zero, suc, ◌+◌, ◌<◌, ◌∙◌, List, [], ◌∷◌, ◌++◌, ap, arith, get_or, length, map, subst, sym, take}
-use Rattle.std.proofs.lemmas.List.{map-append, take_more}
+use Rattle.std.proofs.Common.{◌≡◌, ℕ, zero, suc, ◌+◌, ◌<◌, List, [], ◌∷◌, ◌++◌, arith, get_or, length, map, subst, sym, take}
+use Rattle.std.proofs.lemmas.List.{map_more, take_more}
+use Rattle.std.proofs.lemmas.Slice.Zip.{all_zipped_more}
 use Rattle.std.specs.List.{AllZip}
-
-zip_push : {X Y : Type 0} (R : X → Y → Type 0) (xs : List X) (ys : List Y) (x : X) (y : Y) → AllZip R xs ys → R x y → AllZip R (xs ++ x ∷ []) (ys ++ y ∷ [])
-zip_push R [] [] x y h r = (r, tt)
-zip_push R [] (b ∷ ys) x y h r = absurd h
-zip_push R (a ∷ xs) [] x y h r = absurd h
-zip_push R (a ∷ xs) (b ∷ ys) x y h r = (h.0, zip_push R xs ys x y h.1 r)
-
--- the first i + 1 of the values of a function
-pub map_more : {X Y : Type 0} (f : X → Y) (xs : List X) (i : ℕ) (d : X) → i < length xs → map f (take (i + 1) xs) ≡ map f (take i xs) ++ f (get_or xs i d) ∷ []
-map_more f xs i d lt = ap (map f) (take_more xs i d lt) ∙ map-append f (take i xs) (get_or xs i d ∷ [])
 
 -- one more of each list
 pub zip_more : {X Y A : Type 0} (R : X → Y → Type 0) (f : A → X) (es : List A) (i : ℕ) (d : A) (ys new : List Y) (y : Y) → i < length es → new ≡ ys ++ y ∷ []
@@ -19,7 +10,7 @@ pub zip_more : {X Y A : Type 0} (R : X → Y → Type 0) (f : A → X) (es : Lis
 zip_more {X = X} {Y = Y} R f es i d ys new y lt grown h r =
     let P : List X → Type 0 = λ xs. AllZip R xs new in
     let Q : List Y → Type 0 = λ zs. AllZip R (map f (take i es) ++ f (get_or es i d) ∷ []) zs in
-    subst P (sym (map_more f es i d lt)) (subst Q (sym grown) (zip_push R (map f (take i es)) ys (f (get_or es i d)) y h r))
+    subst P (sym (map_more f es i d lt)) (subst Q (sym grown) (all_zipped_more R (map f (take i es)) ys (f (get_or es i d)) y h r))
 
 -- what holds at one place of both
 pub zip_at : {X Y A B : Type 0} (R : X → Y → Type 0) (f : A → X) (g : B → Y) (es : List A) (bs : List B) (i : ℕ) (d : A) (e : B) → AllZip R (map f es) (map g bs) → i < length es
@@ -35,4 +26,4 @@ pub next_of_both : {X Y : Type 0} (R : X → Y → Type 0) (xs : List X) (i : �
 next_of_both {X = X} {Y = Y} R xs i d ys new y lt grown h r =
     let P : List X → Type 0 = λ zs. AllZip R zs new in
     let Q : List Y → Type 0 = λ zs. AllZip R (take i xs ++ get_or xs i d ∷ []) zs in
-    subst P (sym (take_more xs i d lt)) (subst Q (sym grown) (zip_push R (take i xs) ys (get_or xs i d) y h r))
+    subst P (sym (take_more xs i d lt)) (subst Q (sym grown) (all_zipped_more R (take i xs) ys (get_or xs i d) y h r))

@@ -1,13 +1,14 @@
 -- Rows that a sort by a key gives.
-use Rattle.std.proofs.Common.{List, Result, Ok, Err}
+use Rattle.std.proofs.Common.{◌≡◌, ℕ, List, Result, Ok, Err, ap, nat_cmp}
 use Rattle.std.specs.Fn.{ComputesKey}
 use Rattle.std.specs.Prelude.{OnOk, IsPermutation}
 use Rattle.std.specs.List.Sorted.{IsSortedByKey, IsStableByKey, IsSortedByKeyClosure, IsStableByKeyClosure}
 use Rattle.std.specs.declared.cmp.Ordering.{Ordering}
+use Rattle.std.specs.declared.cmp.Reverse.{Reverse}
 use denote.Ref.{Bor}
 use denote.Param.Members.{Mut}
 use Rattle.binfarce_figures.specs.declared.order.Row.{Row}
-use Rattle.binfarce_figures.specs.Order.{IsByAddress, IsByAddressAndKey, IsByKey}
+use Rattle.binfarce_figures.specs.Order.{IsByAddress, IsByAddressAndKey, IsByKey, falling}
 
 pub by_key : {X F K E : Type 0} (g : Mut F (Bor X × Unit {0}) K) (f : F) (key : X → K) (cmp : K → K → Ordering) (rows sorted : List X) (result : Result (Unit {0}) E)
     → ComputesKey g key f → IsPermutation rows sorted → OnOk result (IsSortedByKeyClosure g cmp f sorted) → IsStableByKeyClosure g cmp f rows sorted → OnOk result (IsByKey key cmp rows sorted)
@@ -25,3 +26,15 @@ pub by_key_as : {X F K L E : Type 0} (g : Mut F (Bor X × Unit {0}) K) (f : F) (
     → (IsSortedByKey key cmp sorted → IsSortedByKey seen order sorted) → (IsStableByKey key cmp rows sorted → IsStableByKey seen order rows sorted) → OnOk result (IsByKey seen order rows sorted)
 by_key_as g f key cmp seen order rows sorted (Ok x) computes same rises keeps rises_so keeps_so = record { same = same; rises = rises_so (rises key computes); keeps = keeps_so (keeps key computes) }
 by_key_as g f key cmp seen order rows sorted (Err e) computes same rises keeps rises_so keeps_so = tt
+
+-- the same, where the key is a number and the greatest comes first
+abbrev pub reversed : ℕ → Reverse ℕ
+reversed n = record { 0 = n }
+
+pub reversed_is : (r : Reverse ℕ) (n : ℕ) → r.0 ≡ n → r ≡ reversed n
+reversed_is r n is = ap reversed is
+
+pub by_falling : {X F E : Type 0} (g : Mut F (Bor X × Unit {0}) (Reverse ℕ)) (f : F) (measure : X → ℕ) (rows sorted : List X) (result : Result (Unit {0}) E) → ComputesKey g (λ x. reversed (measure x)) f → IsPermutation rows sorted
+    → OnOk result (IsSortedByKeyClosure g (λ a b. nat_cmp b.0 a.0) f sorted) → IsStableByKeyClosure g (λ a b. nat_cmp b.0 a.0) f rows sorted → OnOk result (IsByKey measure falling rows sorted)
+by_falling g f measure rows sorted result computes same rises keeps =
+    by_key_as g f (λ x. reversed (measure x)) (λ a b. nat_cmp b.0 a.0) measure falling rows sorted result computes same rises keeps (λ s. s) (λ s. s)

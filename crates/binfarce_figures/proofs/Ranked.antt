@@ -1,57 +1,84 @@
--- The sums over figures.
-use Rattle.std.proofs.Common.{◌≡◌, ℕ, ◌<◌, ◌≤◌, ◌^◌, true, List, [], ◌∷◌, map, drop, take, refl, sym, ap, subst, ◌∙◌, arith}
-use Rattle.std.specs.List.{All, AllZip, Contains, sum_by}
+-- The figures of two sums, and the sums over them.
+use Rattle.std.proofs.Common.{◌≡◌, ℕ, ◌<◌, ◌≤◌, ◌^◌, Bool, not, List, [], ◌∷◌, map, drop, filter, take, String, BTreeMap, string_bytes, refl, sym, ap, ◌∙◌, arith}
+use Rattle.std.specs.Global.{Global}
+use Rattle.std.specs.BTreeMap.{IsOrdered}
+use Rattle.std.specs.List.{sum_by}
 use Rattle.std.specs.List.Sorted.{IsPermutation}
+use Rattle.std.specs.String.{string_cmp}
 use Rattle.std.proofs.lemmas.List.{take-append-drop}
+use Rattle.std.proofs.lemmas.List.Filters.{sum_by-filter_both}
 use Rattle.std.proofs.lemmas.List.Sums.{sum_by-append, sum_by-cons}
 use Rattle.std.proofs.lemmas.List.Sorted.{sum_by-IsPermutation}
-use Rattle.binfarce_chart.specs.Chart as chart
 use Rattle.binfarce_chart.specs.Chart.{Row as Bar}
-use Rattle.binfarce_tools.specs.Map.{crate_rows}
-use Rattle.binfarce_tools.specs.Report.{Share, AreCratesOf, sum_of, total}
-use Rattle.binfarce_tools.proofs.Totals.{totals_add_up}
-use Rattle.binfarce_figures.proofs.Counted.{counts_are}
-use Rattle.binfarce_figures.specs.declared.order.Row.{Row}
-use Rattle.binfarce_figures.specs.declared.sums.Figure.{Figure}
-use Rattle.binfarce_figures.specs.Figures.{IsFigureOf, shares_of}
-use Rattle.binfarce_figures.specs.machine.Counts.{counted_shares}
+use Rattle.binfarce_tools.specs.Report.{Share, AreCratesOf, sum_of}
+use Rattle.binfarce_tools.specs.Sums.{AreSumsOf, sum_at}
+use Rattle.binfarce_tools.specs.declared.report.CrateSums.{CrateSums}
+use Rattle.binfarce_tools.proofs.CrateLines.{HaveSums, are_crates, have_sums, texts_of}
+use Rattle.binfarce_tools.proofs.Totals.{add_up}
+use Rattle.binfarce_figures.specs.declared.figures.Columns.{Columns}
+use Rattle.binfarce_figures.specs.declared.figures.Figure.{Figure}
+use Rattle.binfarce_figures.specs.Figures.{figure_view, numbers_of}
+use Rattle.binfarce_figures.specs.machine.Columns.{AreSummed, has_row}
+
+abbrev Numbers : Type 0
+Numbers = List ℕ × (ℕ × ℕ)
 
 -- the sum over a part of a list
 pub part_le : {X : Type 0} (f : X → ℕ) (xs : List X) (m n : ℕ) → sum_by f (take m (drop n xs)) ≤ sum_by f xs
 part_le f xs m n =
     omega (arith, sum_by-append f (take m (drop n xs)) (drop m (drop n xs)), ap (sum_by f) (take-append-drop m (drop n xs)), sum_by-append f (take n xs) (drop n xs), ap (sum_by f) (take-append-drop n xs))
 
-module _ (shares : List Share) (measure : Figure → ℕ) (counts : List Share) (measured : (name : List ℕ) (f : Figure) → IsFigureOf shares name f → measure f ≡ sum_of counts name) where
-  sums_are : (names : List (List ℕ)) (figures : List Figure) → AllZip (IsFigureOf shares) names figures → sum_by measure figures ≡ chart.total (crate_rows counts names)
-  sums_are [] [] are = refl
-  sums_are [] (f ∷ figures) are = absurd are
-  sums_are (name ∷ names) [] are = absurd are
-  sums_are (name ∷ names) (f ∷ figures) are = omega (
+sum_map : {X Y : Type 0} (f : Y → ℕ) (g : X → Y) (xs : List X) → sum_by f (map g xs) ≡ sum_by (λ x. f (g x)) xs
+sum_map f g [] = refl
+sum_map f g (x ∷ xs) = omega (arith, sum_by-cons f (g x) (map g xs), sum_by-cons (λ x. f (g x)) x xs, sum_map f g xs)
+
+-- a map's entries that have a row, with the sums of another
+abbrev pub entry_numbers : Columns → BTreeMap (String Global) ℕ → List (String Global × ℕ) → List Numbers
+entry_numbers columns others entries = filter (λ n. has_row columns n.1.0 n.1.1) (map (λ (e : String Global × ℕ). (string_bytes e.0, (e.1, sum_at others (string_bytes e.0)))) entries)
+
+module _ (first second : List Share) (sums others : CrateSums) (first_are : AreSumsOf first sums) (second_are : AreSumsOf second others) where
+  numbers_are : (entries : List (String Global × ℕ)) → HaveSums first entries
+      → map (λ (e : String Global × ℕ). (string_bytes e.0, (e.1, sum_at others.crates (string_bytes e.0)))) entries ≡ numbers_of (sum_of first) (sum_of second) (texts_of entries)
+  numbers_are [] have = refl
+  numbers_are (e ∷ entries) have =
+      λ i. (string_bytes e.0, (sym have.0 i, sym (second_are.sums_are (string_bytes e.0)) i)) ∷ numbers_are entries have.1 i
+
+  -- the figures of all entries are those of the names
+  pub are_figures : (columns : Columns) (figures : List Figure) → IsOrdered string_cmp sums.crates → map figure_view figures ≡ entry_numbers columns others.crates sums.crates.entries
+      → (names : List (List ℕ)) × AreCratesOf first names × (map figure_view figures ≡ filter (λ n. has_row columns n.1.0 n.1.1) (numbers_of (sum_of first) (sum_of second) names))
+  are_figures columns figures ordered is =
+      let entries = sums.crates.entries in
+      (texts_of entries, are_crates first sums first_are ordered, is ∙ ap (filter (λ (n : Numbers). has_row columns n.1.0 n.1.1)) (numbers_are entries (have_sums first sums first_are ordered)))
+
+-- the sums over figures are no greater than those over all names
+figures_le : (measure : Numbers → ℕ) (keep : Numbers → Bool) (sum other : List ℕ → ℕ) (names : List (List ℕ)) (figures sorted : List Figure)
+    → map figure_view figures ≡ filter keep (numbers_of sum other names) → IsPermutation figures sorted → sum_by (λ (f : Figure). measure (figure_view f)) sorted ≤ sum_by (λ (name : List ℕ). measure (name, (sum name, other name))) names
+figures_le measure keep sum other names figures sorted is same = omega (
+  arith,
+  sum_by-IsPermutation (λ (f : Figure). measure (figure_view f)) figures sorted same,
+  sum_map measure figure_view figures,
+  ap (sum_by measure) is,
+  sum_by-filter_both keep (λ n. not (keep n)) (λ _. refl) measure (numbers_of sum other names),
+  sum_map measure (λ (name : List ℕ). (name, (sum name, other name))) names,
+)
+
+pub both_fit : (first second : List Share) (sums others : CrateSums) (keep : Numbers → Bool) (names : List (List ℕ)) (figures sorted : List Figure) → AreSummed first second sums others → AreCratesOf first names
+    → map figure_view figures ≡ filter keep (numbers_of (sum_of first) (sum_of second) names) → IsPermutation figures sorted → (sum_by (λ (f : Figure). f.sum) sorted < 2 ^ 64) × (sum_by (λ (f : Figure). f.other) sorted < 2 ^ 64)
+both_fit first second sums others keep names figures sorted both crates is same = (
+  omega (
     arith,
-    sum_by-cons measure f figures,
-    sum_by-cons (λ (r : Bar). r.size) (record { name = name; size = sum_of counts name }) (crate_rows counts names),
-    measured name f are.0,
-    sums_are names figures are.1,
-  )
-
-  sums_fit : (names : List (List ℕ)) (figures sorted : List Figure) → AllZip (IsFigureOf shares) names figures → AreCratesOf counts names → IsPermutation figures sorted → total counts < 2 ^ 64 → sum_by measure sorted < 2 ^ 64
-  sums_fit names figures sorted are crates same fit = omega (arith, sum_by-IsPermutation measure figures sorted same, sums_are names figures are, totals_add_up counts names crates, fit)
-
-same_names : (rows : List Row) → map (λ (s : Share). s.name) (counted_shares true rows) ≡ map (λ (s : Share). s.name) (shares_of rows)
-same_names [] = refl
-same_names (row ∷ rows) = ap (λ (ns : List (List ℕ)). row.name.now ∷ ns) (same_names rows)
-
-counted_crates : (rows : List Row) (names : List (List ℕ)) → AreCratesOf (shares_of rows) names → AreCratesOf (counted_shares true rows) names
-counted_crates rows names are = record {
-  rises = are.rises;
-  every = subst (λ (ns : List (List ℕ)). All (Contains names) ns) (sym (same_names rows)) are.every;
-  occurs = subst (λ (ns : List (List ℕ)). All (Contains ns) names) (sym (same_names rows)) are.occurs;
-}
-
--- the sums over all figures fit
-pub both_fit : (rows : List Row) (names : List (List ℕ)) (figures sorted : List Figure) → AllZip (IsFigureOf (shares_of rows)) names figures → AreCratesOf (shares_of rows) names → IsPermutation figures sorted
-    → total (shares_of rows) < 2 ^ 64 → total (counted_shares true rows) < 2 ^ 64 → (sum_by (λ (f : Figure). f.size) sorted < 2 ^ 64) × (sum_by (λ (f : Figure). f.copies) sorted < 2 ^ 64)
-both_fit rows names figures sorted are crates same fit few = (
-  sums_fit (shares_of rows) (λ (f : Figure). f.size) (shares_of rows) (λ name f is. is.size_is) names figures sorted are crates same fit,
-  sums_fit (shares_of rows) (λ (f : Figure). f.copies) (counted_shares true rows) (λ name f is. is.copies_is ∙ sym (counts_are rows name)) names figures sorted are (counted_crates rows names crates) same few,
+    figures_le (λ n. n.1.0) keep (sum_of first) (sum_of second) names figures sorted is same,
+    sum_map (λ (r : Bar). r.size) (λ (name : List ℕ). record { name = name; size = sum_of first name }) names,
+    add_up first names crates.rises crates.every,
+    both.first_are.total_is,
+    both.first_are.fits,
+  ),
+  omega (
+    arith,
+    figures_le (λ n. n.1.1) keep (sum_of first) (sum_of second) names figures sorted is same,
+    sum_map (λ (r : Bar). r.size) (λ (name : List ℕ). record { name = name; size = sum_of second name }) names,
+    add_up second names crates.rises (both.among names crates),
+    both.second_are.total_is,
+    both.second_are.fits,
+  ),
 )

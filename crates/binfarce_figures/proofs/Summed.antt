@@ -1,28 +1,39 @@
 -- The text of sums, from shares and from a file's answer.
-use Rattle.std.proofs.Common.{◌≡◌, ℕ, ◌<◌, ◌^◌, List, [], ◌∷◌, Option, Result, Ok, Err, String, string_bytes, IfOk, refl, sym, ap, subst, ◌∙◌, arith}
-use Rattle.std.specs.Global.{Global}
+use Rattle.std.proofs.Common.{◌≡◌, ℕ, ◌<◌, ◌^◌, true, List, [], ◌∷◌, ◌++◌, Option, filter, unwrap_or, refl, sym, ap, subst, ◌∙◌, arith}
 use Rattle.std.specs.List.{AllZip, sum_by}
 use Rattle.std.proofs.lemmas.List.Sums.{sum_by-cons}
 use Rattle.std.proofs.lemmas.List.Sorted.{sum_by-IsPermutation}
 use Rattle.binfarce.specs.SectionEntries.{SectionEntry}
-use Rattle.binfarce_tools.specs.Report.{Share, total}
+use Rattle.binfarce_tools.specs.Report.{Share, sum_of, total}
 use Rattle.binfarce_figures.specs.declared.key.Grouping.{Grouping}
 use Rattle.binfarce_figures.specs.declared.key.Keyed.{Keyed}
 use Rattle.binfarce_figures.specs.declared.order.Row.{Row}
-use Rattle.binfarce_figures.specs.declared.sums.Figure.{Figure}
+use Rattle.binfarce_figures.specs.declared.figures.Columns.TheVariants.{Sums}
 use Rattle.binfarce_figures.specs.declared.sums.Figures.{Figures}
 use Rattle.binfarce_figures.specs.Claims.{claimed}
-use Rattle.binfarce_figures.specs.Figures.{AreClaimsOf, AreFiguresOf, IsKeyRow, IsTextOfShares, shares_of, sums_text}
+use Rattle.binfarce_figures.specs.Figures.{AreClaimsOf, AreRowsOf, IsKeyRow, IsTextOfShares, copies_of, numbers_of, shares_of, sum_row, whole_text}
 use Rattle.binfarce_figures.specs.Keys.{IsKeyOf}
 use Rattle.binfarce_tools.specs.Json.{Style}
+use Rattle.binfarce_figures.specs.machine.Columns.{AreRowsFor}
+use Rattle.binfarce_figures.specs.machine.Counts.{counted_shares}
 use Rattle.binfarce_figures.specs.machine.Keyed.{AreClaimsWith, IsKeyed, IsRowWith}
+use Rattle.binfarce_figures.proofs.Counted.{counts_are}
 use Rattle.binfarce_figures.proofs.Places.{claimed_le}
 
--- the text of figures is that of their shares
-pub of_shares : {E : Type 0} (shown : Figures) (style : Style) (size : Option ℕ) (shares : List Share) (sum : ℕ) (figures given : List Figure) (result : Result (String Global) E) → sum ≡ total shares → given ≡ figures → AreFiguresOf shares figures
-    → IfOk result (λ t. string_bytes t ≡ sums_text shown style size sum given) → IfOk result (λ t. IsTextOfShares shown style size shares (string_bytes t))
-of_shares shown style size shares sum figures given (Err e) summed same are is = is
-of_shares shown style size shares sum figures given (Ok t) summed same are is = (figures, are, is ∙ ap (λ (n : ℕ). sums_text shown style size n given) summed ∙ ap (λ (fs : List Figure). sums_text shown style size (total shares) fs) same)
+all_kept : {X : Type 0} (xs : List X) → filter (λ x. true) xs ≡ xs
+all_kept [] = refl
+all_kept (x ∷ xs) = ap (λ (ys : List _). x ∷ ys) (all_kept xs)
+
+-- the text of the rows of sums and counts, with that of the whole
+pub of_shares : (shown : Figures) (style : Style) (size : Option ℕ) (claims : List Row) (sum whole : ℕ) (rows text : List ℕ) → total (shares_of claims) ≡ sum → whole ≡ unwrap_or size sum
+    → AreRowsFor shown style (Sums whole) (shares_of claims) (counted_shares true claims) rows → text ≡ rows ++ whole_text style size sum → IsTextOfShares shown style size (shares_of claims) text
+of_shares shown style size claims sum whole rows text summed whole_is (names, crates, are) is =
+    let shares = shares_of claims in
+    let counts : numbers_of (sum_of shares) (sum_of (counted_shares true claims)) names ≡ numbers_of (sum_of shares) (copies_of shares) names = ap (λ (f : List ℕ → ℕ). numbers_of (sum_of shares) f names) (λ i name. counts_are claims name i) in
+    let kept = all_kept (numbers_of (sum_of shares) (sum_of (counted_shares true claims)) names) in
+    let P : ℕ → List (List ℕ × (ℕ × ℕ)) → Type 0 = λ n numbers. AreRowsOf (sum_row shown style n) shown.first (λ size copies. size) numbers rows in
+    let given = subst (λ (n : ℕ). P n (numbers_of (sum_of shares) (copies_of shares) names)) (whole_is ∙ ap (unwrap_or size) (sym summed)) (subst (P whole) (kept ∙ counts) are) in
+    (names, rows, crates, given, is ∙ ap (λ (n : ℕ). rows ++ whole_text style size n) (sym summed))
 
 -- the rows of values with keys are those of the entries
 pub key_rows : (grouping : Grouping) (sections : ℕ → List ℕ) (entries : List SectionEntry) (keyed : List Keyed) (rows : List Row) → AllZip (IsKeyed grouping sections) entries keyed → AllZip IsRowWith keyed rows → AllZip (IsKeyRow grouping sections) entries rows

@@ -1,13 +1,11 @@
 -- The text of how the sums of two files differ.
-use Rattle.std.specs.Prelude.{◌≡◌, ◌⊎◌, ℕ, zero, suc, ◌+◌, ◌-◌, ◌/◌, ◌%◌, Bool, true, false, not, List, [], ◌∷◌, ◌++◌, length, take, drop, filter, Option, Some, None, Result, Ok, Err, codes, nat_eq, nat_lt, if◌then◌else◌}
+use Rattle.std.specs.Prelude.{◌≡◌, ◌⊎◌, ℕ, zero, suc, ◌+◌, ◌-◌, ◌/◌, ◌%◌, Bool, true, false, not, List, [], ◌++◌, filter, Option, Some, None, Result, Ok, Err, codes, nat_eq, nat_lt, if◌then◌else◌}
 use Rattle.std.specs.Fmt.{decimal}
-use Rattle.std.specs.List.{AllZip, concat, flat_map, sum_by}
 use Rattle.binfarce.specs.Refusal.{Refusal}
 use Rattle.binfarce.specs.SectionEntries.{SectionEntry}
 use Rattle.binfarce.specs.Symbol.{Listed}
 use Rattle.binfarce.specs.declared.SymbolTable.{SymbolTable}
-use Rattle.binfarce_chart.specs.Chart.{others_label}
-use Rattle.binfarce_tools.specs.Json.{Style, lines, objects, number_member, object_start, text_member}
+use Rattle.binfarce_tools.specs.Json.{Style, number_member}
 use Rattle.binfarce_tools.specs.Listing.{pad_left, size_text}
 use Rattle.binfarce_tools.specs.Report.{Share, AreCratesOf, ReportFits, sum_of, total}
 use Rattle.binfarce_tools.specs.Selection.{answer_in, MemoryIn}
@@ -15,35 +13,21 @@ use Rattle.binfarce_tools.specs.Tables.{AreTablesOf}
 use Rattle.binfarce_tools.specs.Writing.{Outcome, EndsAs, no_memory, too_large}
 use Rattle.binfarce_tools.specs.declared.report.ReportError.{ReportError}
 use Rattle.binfarce_tools.specs.declared.tables.Tables.{Tables}
-use Rattle.binfarce_figures.specs.declared.diff.Change.{Change}
 use Rattle.binfarce_figures.specs.declared.diff.Growth.{Growth}
 use Rattle.binfarce_figures.specs.declared.key.Grouping.{Grouping}
 use Rattle.binfarce_figures.specs.declared.order.Row.{Row}
 use Rattle.binfarce_figures.specs.declared.sums.Figures.{Figures}
-use Rattle.binfarce_figures.specs.Figures.{AreClaimsOf, hundredths, shares_of}
+use Rattle.binfarce_figures.specs.Figures.{AreClaimsOf, AreRowsOf, hundredths, numbers_of, row_of, shares_of}
 use Rattle.binfarce_figures.specs.Keys.{section_keys}
-use Rattle.binfarce_figures.specs.Order.{IsByKey, falling}
-use Rattle.binfarce_figures.specs.Rows.{AreEntriesIn, count_of, size_in}
-
--- a change is that of a key, by these shares of two files
-pub record IsChangeOf (old new : List Share) (name : List ℕ) (change : Change) : Type 0 where
-  pub name_is : change.name.now ≡ name
-  pub old_is : change.old ≡ sum_of old name
-  pub new_is : change.new ≡ sum_of new name
+use Rattle.binfarce_figures.specs.Rows.{AreEntriesIn, size_in}
 
 -- the distance of two numbers
 abbrev pub difference : (old new : ℕ) → ℕ
 difference old new = (old - new) + (new - old)
 
 -- the sums of a key differ
-abbrev pub differ : (old new : List Share) → (name : List ℕ) → Bool
-differ old new name = not (nat_eq (sum_of old name) (sum_of new name))
-
--- changes are those of the keys of either file whose sums differ, the greatest difference first, and those of one difference in the order of the keys' bytes
-abbrev pub AreChangesOf : (old new : List Share) → List Change → Type 0
-AreChangesOf old new changes =
-    (names : List (List ℕ)) × AreCratesOf (old ++ new) names
-    × ((rising : List Change) × AllZip (IsChangeOf old new) (filter (differ old new) names) rising × IsByKey (λ c. difference c.old c.new) falling rising changes)
+abbrev pub differ : (old new : ℕ) → Bool
+differ old new = not (nat_eq old new)
 
 abbrev pub sign : (old new : ℕ) → List ℕ
 sign old new = if nat_lt new old then codes "-" else codes "+"
@@ -66,49 +50,33 @@ abbrev pub growth_part : (has_percent : Bool) → (old new : ℕ) → List ℕ
 growth_part true old new = pad_left 32 10 (growth_text old new) ++ codes " "
 growth_part false old new = []
 
--- `{old:>10} {new:>10} {change:>11} {percent:>10} {name}`, and a line feed
-abbrev pub line_of : Figures → (name : List ℕ) → (old new : ℕ) → List ℕ
-line_of shown name old new =
-    size_text old ++ (codes " " ++ (size_text new ++ (codes " " ++ (change_text old new ++ (codes " " ++ (growth_part shown.has_percent old new ++ (name ++ 10 ∷ [])))))))
+-- `{old:>10} {new:>10} {change:>11} {percent:>10} `
+abbrev pub change_columns : Figures → (old new : ℕ) → List ℕ
+change_columns shown old new = size_text old ++ (codes " " ++ (size_text new ++ (codes " " ++ (change_text old new ++ (codes " " ++ growth_part shown.has_percent old new)))))
 
 -- a number as JSON has it
 abbrev pub signed_member : (name : List ℕ) → (old new : ℕ) → List ℕ
 signed_member name old new = codes ",\"" ++ (name ++ (codes "\":" ++ ((if nat_lt new old then codes "-" else []) ++ decimal (difference old new))))
 
--- a change as an object: the new file, the key, the old sum, the new one and their difference
-abbrev pub change_object : (file name : List ℕ) → (old new : ℕ) → List ℕ
-change_object file name old new = concat (
-    object_start file ∷ text_member (codes "name") (Some name) ∷ number_member (codes "old") old ∷ number_member (codes "new") new
-    ∷ signed_member (codes "change") old new ∷ codes "}\n" ∷ []
-    )
+-- the old sum, the new one and their difference
+abbrev pub change_members : (old new : ℕ) → List ℕ
+change_members old new = number_member (codes "old") old ++ (number_member (codes "new") new ++ signed_member (codes "change") old new)
 
-abbrev pub row_of : Figures → Style → (name : List ℕ) → (old new : ℕ) → List ℕ
-row_of shown lines name old new = line_of shown name old new
-row_of shown (objects file section) name old new = change_object file name old new
-
-abbrev pub change_row : Figures → Style → Change → List ℕ
-change_row shown style change = row_of shown style change.name.now change.old change.new
-
--- the row that sums up changes
-abbrev pub others_row : Figures → Style → List Change → List ℕ
-others_row shown style others = row_of shown style (others_label (length others)) (sum_by (λ c. c.old) others) (sum_by (λ c. c.new) others)
-
--- the first n changes, and the row of all others where there are any
-abbrev pub change_rows : Figures → Style → (n : ℕ) → List Change → List ℕ
-change_rows shown style n changes = flat_map (change_row shown style) (take n changes) ++ (if nat_lt n (length changes) then others_row shown style (drop n changes) else [])
-
--- changes, and the row of the sums of all sizes
-abbrev pub changes_text : Figures → Style → List Change → Growth → List ℕ
-changes_text shown style changes totals = change_rows shown style (count_of shown.first (length changes)) changes ++ row_of shown style (codes "[total]") totals.old totals.new
+-- the row of a change; the file of an object is the new one
+abbrev pub change_row : Figures → Style → (name : List ℕ) → (old new : ℕ) → List ℕ
+change_row shown style name old new = row_of style (change_columns shown old new) (change_members old new) name
 
 -- growth is that of the sums of all sizes
 pub record IsGrowthOf (old new : List Share) (growth : Growth) : Type 0 where
   pub old_is : growth.old ≡ total old
   pub new_is : growth.new ≡ total new
 
--- text is that of the changes from shares to others
+-- text is that of the changes from shares to others: a row for each key of either file whose sums differ, the greatest difference first, and that of the sums of all sizes
 abbrev pub IsTextOfChanges : Figures → Style → (old new : List Share) → List ℕ → Type 0
-IsTextOfChanges shown style old new text = (changes : List Change) × (totals : Growth) × AreChangesOf old new changes × IsGrowthOf old new totals × (text ≡ changes_text shown style changes totals)
+IsTextOfChanges shown style old new text =
+    (names : List (List ℕ)) × (rows : List ℕ) × AreCratesOf (old ++ new) names
+    × AreRowsOf (change_row shown style) shown.first difference (filter (λ n. differ n.1.0 n.1.1) (numbers_of (sum_of old) (sum_of new) names)) rows
+    × (text ≡ rows ++ change_row shown style (codes "[total]") (total old) (total new))
 
 -- whose function symbols are asked for: those of a selection of a file, by a symbol table
 pub record Asked : Type 0 where

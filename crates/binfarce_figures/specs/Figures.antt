@@ -1,7 +1,7 @@
 -- The text of sums by a key.
-use Rattle.std.specs.Prelude.{◌≡◌, ℕ, ◌*◌, ◌/◌, ◌%◌, Bool, true, false, List, [], ◌∷◌, ◌++◌, length, map, take, drop, filter, Option, Some, None, unwrap_or, codes, nat_lt, if◌then◌else◌}
+use Rattle.std.specs.Prelude.{◌≡◌, ℕ, ◌*◌, ◌/◌, ◌%◌, Bool, true, false, List, [], ◌∷◌, ◌++◌, length, map, take, drop, filter, Option, Some, unwrap_or, codes, nat_lt, if◌then◌else◌}
 use Rattle.std.specs.Fmt.{decimal}
-use Rattle.std.specs.List.{AllZip, concat, flat_map, sum_by}
+use Rattle.std.specs.List.{AllZip, flat_map, sum_by}
 use Rattle.std.specs.Str.{bytes_eq}
 use Rattle.binfarce.specs.SectionEntries.{SectionEntry}
 use Rattle.binfarce.specs.Symbol.{Listed}
@@ -14,7 +14,7 @@ use Rattle.binfarce_figures.specs.declared.key.Grouping.{Grouping}
 use Rattle.binfarce_figures.specs.declared.key.Key.{Key}
 use Rattle.binfarce_figures.specs.declared.key.Key.TheVariants.{Generic}
 use Rattle.binfarce_figures.specs.declared.order.Row.{Row}
-use Rattle.binfarce_figures.specs.declared.sums.Figure.{Figure}
+use Rattle.binfarce_figures.specs.declared.figures.Figure.{Figure}
 use Rattle.binfarce_figures.specs.declared.sums.Figures.{Figures}
 use Rattle.binfarce_figures.specs.Claims.{IsByPlace, claimed}
 use Rattle.binfarce_figures.specs.Rows.{AreEntriesIn, count_of, size_in}
@@ -40,16 +40,17 @@ shares_of rows = map share_of rows
 abbrev pub copies_of : List Share → List ℕ → ℕ
 copies_of shares name = length (filter (λ s. bytes_eq s.name name) shares)
 
--- figure is that of a key of these shares
-pub record IsFigureOf (shares : List Share) (name : List ℕ) (figure : Figure) : Type 0 where
-  pub name_is : figure.name.now ≡ name
-  pub size_is : figure.size ≡ sum_of shares name
-  pub copies_is : figure.copies ≡ copies_of shares name
+-- what a figure has: its key, and the key's two numbers
+abbrev pub figure_view : Figure → List ℕ × (ℕ × ℕ)
+figure_view f = (f.name.now, (f.sum, f.other))
 
--- figures are those of the keys of these shares, the greatest first, and those of one size in the order of the keys' bytes
-abbrev pub AreFiguresOf : List Share → List Figure → Type 0
-AreFiguresOf shares figures =
-    (names : List (List ℕ)) × AreCratesOf shares names × ((rising : List Figure) × AllZip (IsFigureOf shares) names rising × IsByKey (λ f. f.size) falling rising figures)
+-- keys with the two numbers of each
+abbrev pub numbers_of : (sum other : List ℕ → ℕ) → (names : List (List ℕ)) → List (List ℕ × (ℕ × ℕ))
+numbers_of sum other names = map (λ name. (name, (sum name, other name))) names
+
+-- figures have these, the one of the greatest rank first, and those of one rank in the order that is given
+abbrev pub AreFiguresOf : (rank : ℕ → ℕ → ℕ) → (numbers : List (List ℕ × (ℕ × ℕ))) → List Figure → Type 0
+AreFiguresOf rank numbers figures = (rising : List Figure) × (map figure_view rising ≡ numbers) × IsByKey (λ f. rank f.sum f.other) falling rising figures
 
 -- the share of a size in a whole, in hundredths of a per cent, rounded down
 abbrev pub hundredths : (size whole : ℕ) → ℕ
@@ -69,55 +70,50 @@ abbrev pub copies_part : Key → (copies : ℕ) → List ℕ
 copies_part Generic copies = pad_left 32 6 (decimal copies) ++ codes " "
 copies_part key copies = []
 
--- `{size:>10} {percent:>6}% {copies:>6} {name}`, and a line feed
-abbrev pub line_of : Figures → (whole : ℕ) → (name : List ℕ) → (size copies : ℕ) → List ℕ
-line_of shown whole name size copies =
-    size_text size ++ (codes " " ++ (percent_part shown.has_percent size whole ++ (copies_part shown.grouping.key copies ++ (name ++ 10 ∷ []))))
+-- a row as a line: its columns, its key, and a line feed; as an object: its file, its key, and its members
+abbrev pub row_of : Style → (columns members name : List ℕ) → List ℕ
+row_of lines columns members name = columns ++ (name ++ 10 ∷ [])
+row_of (objects file section) columns members name = object_start file ++ (text_member (codes "name") (Some name) ++ (members ++ codes "}\n"))
 
-abbrev pub figure_line : Figures → (whole : ℕ) → Figure → List ℕ
-figure_line shown whole figure = line_of shown whole figure.name.now figure.size figure.copies
+-- `{size:>10} {percent:>6}% {copies:>6} `
+abbrev pub sum_columns : Figures → (whole : ℕ) → (size copies : ℕ) → List ℕ
+sum_columns shown whole size copies = size_text size ++ (codes " " ++ (percent_part shown.has_percent size whole ++ copies_part shown.grouping.key copies))
 
--- a sum as an object: its file, its key, its size and its number of function symbols
-abbrev pub object_of : (file name : List ℕ) → (size copies : ℕ) → List ℕ
-object_of file name size copies = concat (
-    object_start file ∷ text_member (codes "name") (Some name) ∷ number_member (codes "size") size ∷ number_member (codes "copies") copies ∷ codes "}\n" ∷ []
-    )
+abbrev pub sum_members : (size copies : ℕ) → List ℕ
+sum_members size copies = number_member (codes "size") size ++ number_member (codes "copies") copies
 
-abbrev pub figure_object : (file : List ℕ) → Figure → List ℕ
-figure_object file figure = object_of file figure.name.now figure.size figure.copies
+-- the row of a sum: its key, its size and its number of function symbols
+abbrev pub sum_row : Figures → Style → (whole : ℕ) → (name : List ℕ) → (size copies : ℕ) → List ℕ
+sum_row shown style whole name size copies = row_of style (sum_columns shown whole size copies) (sum_members size copies) name
 
-abbrev pub sum_text : Figures → Style → (whole : ℕ) → (name : List ℕ) → (size copies : ℕ) → List ℕ
-sum_text shown lines whole name size copies = line_of shown whole name size copies
-sum_text shown (objects file section) whole name size copies = object_of file name size copies
-
-abbrev pub figure_text : Figures → Style → (whole : ℕ) → Figure → List ℕ
-figure_text shown style whole figure = sum_text shown style whole figure.name.now figure.size figure.copies
+-- the row of a figure, by how a key's two numbers are shown
+abbrev pub figure_row : (row : List ℕ → ℕ → ℕ → List ℕ) → Figure → List ℕ
+figure_row row figure = row figure.name.now figure.sum figure.other
 
 -- the row that sums up figures
-abbrev pub others_text : Figures → Style → (whole : ℕ) → List Figure → List ℕ
-others_text shown style whole others = sum_text shown style whole (others_label (length others)) (sum_by (λ f. f.size) others) (sum_by (λ f. f.copies) others)
+abbrev pub others_row : (row : List ℕ → ℕ → ℕ → List ℕ) → List Figure → List ℕ
+others_row row others = row (others_label (length others)) (sum_by (λ f. f.sum) others) (sum_by (λ f. f.other) others)
 
--- the first n figures, and the row of all others where there are any
-abbrev pub figure_texts : Figures → Style → (whole n : ℕ) → List Figure → List ℕ
-figure_texts shown style whole n figures =
-    flat_map (figure_text shown style whole) (take n figures) ++ (if nat_lt n (length figures) then others_text shown style whole (drop n figures) else [])
+-- the rows of the first figures, and that of all others where there are any
+abbrev pub figure_rows : (row : List ℕ → ℕ → ℕ → List ℕ) → (first : Option ℕ) → List Figure → List ℕ
+figure_rows row first figures = let n = count_of first (length figures) in
+    flat_map (figure_row row) (take n figures) ++ (if nat_lt n (length figures) then others_row row (drop n figures) else [])
 
--- the lines of the sum of all sizes and of the section's size
-abbrev pub whole_lines : (size : Option ℕ) → (total : ℕ) → List ℕ
-whole_lines size total = total_line total ++ last_line lines true size
+-- text has the rows of these keys: of the first of them, and that of all others
+abbrev pub AreRowsOf : (row : List ℕ → ℕ → ℕ → List ℕ) → (first : Option ℕ) → (rank : ℕ → ℕ → ℕ) → (numbers : List (List ℕ × (ℕ × ℕ))) → (text : List ℕ) → Type 0
+AreRowsOf row first rank numbers text = (figures : List Figure) × AreFiguresOf rank numbers figures × (text ≡ figure_rows row first figures)
 
--- no objects for these
+-- the lines of the sum of all sizes and of the section's size; no objects for these
 abbrev pub whole_text : Style → (size : Option ℕ) → (total : ℕ) → List ℕ
-whole_text lines size total = whole_lines size total
+whole_text lines size total = total_line total ++ last_line lines true size
 whole_text (objects file section) size total = []
 
--- figures, and the whole: the section, or of all sections the sum of all
-abbrev pub sums_text : Figures → Style → (size : Option ℕ) → (total : ℕ) → List Figure → List ℕ
-sums_text shown style size total figures = figure_texts shown style (unwrap_or size total) (count_of shown.first (length figures)) figures ++ whole_text style size total
-
--- text is that of the sums of shares
+-- text is that of the sums of shares: a row for each key, the greatest first, with its share of the whole, which is the section, or of all sections the sum of all
 abbrev pub IsTextOfShares : Figures → Style → (size : Option ℕ) → List Share → List ℕ → Type 0
-IsTextOfShares shown style size shares text = (figures : List Figure) × AreFiguresOf shares figures × (text ≡ sums_text shown style size (total shares) figures)
+IsTextOfShares shown style size shares text =
+    (names : List (List ℕ)) × (rows : List ℕ) × AreCratesOf shares names
+    × AreRowsOf (sum_row shown style (unwrap_or size (total shares))) shown.first (λ size copies. size) (numbers_of (sum_of shares) (copies_of shares) names) rows
+    × (text ≡ rows ++ whole_text style size (total shares))
 
 -- rows are those of entries with their keys, where each byte counts for the first that has it
 abbrev pub AreClaimsOf : Grouping → (ℕ → List ℕ) → List SectionEntry → List Row → Type 0

@@ -1,5 +1,5 @@
 -- A name without its generic arguments, or as a stack.
-use Rattle.std.specs.Prelude.{ℕ, zero, suc, Bool, not, ◌&&◌, ◌||◌, List, [], ◌∷◌, ◌++◌, nat_eq, nat_le, nat_lt, codes, encode_utf8_all, if◌then◌else◌}
+use Rattle.std.specs.Prelude.{ℕ, zero, suc, Bool, not, ◌&&◌, ◌||◌, List, [], ◌∷◌, ◌++◌, nat_eq, nat_le, codes, encode_utf8_all, if◌then◌else◌}
 use Rattle.std.specs.Str.{chars}
 use Rattle.binfarce_figures.specs.declared.generic.Shape.{Shape}
 use Rattle.binfarce_figures.specs.declared.generic.Shape.TheVariants.{Generic, Stack}

@@ -4,4 +4,5 @@ pub mod Got
 pub mod Keyed
 pub mod Counts
 pub mod Compared
+pub mod Columns
 pub mod Texts

@@ -66,23 +66,14 @@ pub(crate) fn keyed_of(
     let mut keyed = Vec::with_capacity(alloc, functions.len())?;
     for function in functions {
         let key = key_of(alloc, &mut demangler, tables, *function, size, grouping)?;
-        keyed.push(with_key(*function, key))?;
+        keyed.push(Keyed {
+            section: function.section,
+            address: function.function.address,
+            size: function.function.size,
+            key,
+        })?;
     }
     Ok(keyed)
-}
-
-// A function symbol with this key.
-fn with_key(function: SectionFunction<'_>, key: String) -> Keyed
-    ensures { (grouping : Grouping) (sections : ℕ → List ℕ)
-        → IsKeyOf grouping sections (section_function_view function.entry) (string_bytes key)
-        → IsKeyed grouping sections (section_function_view function.entry) result }
-{
-    Keyed {
-        section: function.section,
-        address: function.function.address,
-        size: function.function.size,
-        key,
-    }
 }
 
 // The key of a function symbol.

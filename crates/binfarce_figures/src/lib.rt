@@ -3,6 +3,7 @@
 
 mod claims;
 pub mod diff;
+mod figures;
 mod generic;
 pub mod key;
 pub mod order;

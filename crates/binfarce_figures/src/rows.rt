@@ -36,6 +36,7 @@ use std::alloc::{AllocError, Global};
 
 /// What is shown of a name.
 #[derive(Debug, Clone, Copy, PartialEq)]
+#[non_exhaustive]
 pub enum Naming {
     /// Its trimmed text.
     Trimmed,
@@ -300,26 +301,12 @@ fn texts_of(
 {
     let mut demangler = Demangler::new(alloc);
     let mut texts = Vec::with_capacity(alloc, functions.len())?;
-    for index in 0..functions.len() {
-        let function = functions[index];
-        texts.push(texts_for(alloc, &mut demangler, naming, form, function.function.name)?)?;
+    for function in functions {
+        let name = name_of(alloc, &mut demangler, naming, function.function.name)?;
+        let tail = tail_of(alloc, form, function.function.name)?;
+        texts.push(Texts { name, tail })?;
     }
     Ok(texts)
-}
-
-fn texts_for(
-    alloc: Global,
-    demangler: &mut Demangler,
-    naming: Naming,
-    form: Form<'_>,
-    name: &str,
-) -> Result<Texts, AllocError>
-    ensures { IfOk result (λ t. AreTexts naming (style_of form.entry) name.now (texts_view t)) }
-{
-    Ok(Texts {
-        name: name_of(alloc, demangler, naming, name)?,
-        tail: tail_of(alloc, form, name)?,
-    })
 }
 
 // What follows a name in an object: the members `raw` and `crate`.

@@ -7,7 +7,6 @@ ghost use Rattle.binfarce.specs.SectionEntries.{SectionEntry};
 ghost use Rattle.binfarce.specs.SymbolViews.{section_function_view};
 ghost use Rattle.binfarce.specs.declared.SymbolTable.{SymbolTable};
 ghost use Rattle.binfarce_tools.specs.Json.{style_of};
-ghost use Rattle.binfarce_tools.specs.Listing.{size_text};
 ghost use Rattle.binfarce_tools.specs.Report.{AreCratesOf, ReportFits, total};
 ghost use Rattle.binfarce_tools.specs.ReportWords.{outcome_of};
 ghost use Rattle.binfarce_tools.specs.Selection.{answer_in, MemoryIn};
@@ -15,23 +14,22 @@ ghost use Rattle.binfarce_tools.specs.Sums.{AreSumsOf, sum_at};
 ghost use Rattle.binfarce_tools.specs.Tables.{AreTablesOf, section_names};
 ghost use Rattle.binfarce_tools.specs.Writing.{EndsAs, Takes, Fails, Leaves};
 ghost use Rattle.binfarce_tools.specs.declared.report.ReportError.TheVariants.{TooLarge, Write};
-ghost use Rattle.binfarce_figures.specs.Figures.{AreFiguresBy, IsFigureOf, IsTextOfShares, copies_part, figure_line, figure_object, figure_text, hundredths, others_text, percent_part, shares_of, sums_text, whole_lines};
-ghost use Rattle.binfarce_figures.specs.Order.{IsByKey, falling};
+ghost use Rattle.binfarce_figures.specs.Figures.{AreFiguresBy, IsTextOfShares, shares_of, whole_text};
 ghost use Rattle.binfarce_figures.specs.machine.Counts.{counted_share, counted_shares};
 ghost use Rattle.binfarce_figures.specs.machine.Got.{AreGot, AreKeyedIn, IsFaultOf};
 ghost use Rattle.binfarce_figures.specs.machine.Keyed.{AreClaimsWith};
 
 use crate::claims::claims_of;
-use crate::key::{Grouping, Key, Keyed, keyed_of};
+use crate::figures::{Columns, rows_text};
+use crate::key::{Grouping, Keyed, keyed_of};
 use crate::order::Row;
-use crate::rows::{count_of, list_of};
+use crate::rows::list_of;
 use binfarce::SectionFunction;
-use binfarce_tools::json::{Form, push_number_member, push_start, push_text_member};
+use binfarce_tools::json::Form;
 use binfarce_tools::list::Sink;
 use binfarce_tools::report::{CrateSums, ReportError, add_size, write_made};
 use binfarce_tools::tables::Tables;
 use std::alloc::{AllocError, Global};
-use std::cmp::Reverse;
 use std::collections::BTreeMap;
 
 /// How sums are shown.
@@ -43,17 +41,6 @@ pub struct Figures {
     pub first: Option<usize>,
     /// Whether each line has its share of the whole, in per cent.
     pub has_percent: bool,
-}
-
-/// A key, with what is counted for it.
-#[derive(Debug, Clone, Copy)]
-pub struct Figure<'a> {
-    /// The key.
-    pub name: &'a str,
-    /// The sum of the sizes of its function symbols.
-    pub size: u64,
-    /// How many function symbols have it.
-    pub copies: u64,
 }
 
 /// Writes a line for each key: the sum of the sizes of its function symbols, the greatest first, those of one size in
@@ -155,34 +142,13 @@ fn text_of(
     ensures { IfOk result (λ t. (claims : List Row) × AreClaimsWith keyed.now claims
         × IsTextOfShares figures.now (style_of form.entry) size (shares_of claims) (string_bytes t)) }
 {
-    let shares = claims_of(alloc, keyed)?;
-    shares_text(alloc, figures, form, &shares, size)
-}
-
-// The text of shares.
-fn shares_text(
-    alloc: Global,
-    figures: &Figures,
-    form: Form<'_>,
-    shares: &[Row<'_>],
-    size: Option<u64>,
-) -> Result<String, AllocError>
-    requires { (total (shares_of shares.now) < 2 ^ 64) × (length shares.now < 2 ^ 64) }
-    ensures { IfOk result (λ t. IsTextOfShares figures.now (style_of form.entry) size (shares_of shares.now)
-        (string_bytes t)) }
-{
-    let sums = sums_of(alloc, shares, false)?;
-    let copies = sums_of(alloc, shares, true)?;
-    let mut rows = figures_of(alloc, &sums, &copies)?;
-    sort_figures(&mut rows)?;
-    sums_text(alloc, figures, form, &rows, sums.total, size)
-}
-
-// Sorts figures by falling size.
-fn sort_figures(figures: &mut Vec<Figure<'_>>) -> Result<(), AllocError>
-    ensures { OnOk result (IsByKey (λ f. f.size) falling figures.old.items figures.new.items) }
-{
-    figures.sort_by_key(|figure| Reverse(figure.size))
+    let claims = claims_of(alloc, keyed)?;
+    let sums = sums_of(alloc, &claims, false)?;
+    let copies = sums_of(alloc, &claims, true)?;
+    let columns = Columns::Sums(size.unwrap_or(sums.total));
+    let mut text = rows_text(alloc, figures, form, columns, &sums, &copies)?;
+    push_whole(&mut text, form, sums.total, size)?;
+    Ok(text)
 }
 
 /// The sums of the sizes of shares by their names, or if they are counted, how many there are of each name.
@@ -215,203 +181,21 @@ fn counted_size(counted: bool, share: Row<'_>) -> u64
     if counted { 1 } else { share.size }
 }
 
-// The figures of these sums, in the order of the names' bytes.
-fn figures_of<'a>(
-    alloc: Global,
-    sums: &'a CrateSums,
-    copies: &CrateSums,
-) -> Result<Vec<Figure<'a>>, AllocError>
-    ensures { IfOk result (λ v. (rows : List Row)
-        → AreSumsOf (shares_of rows) sums.entry.now
-        → AreSumsOf (counted_shares Rattle.std.specs.Prelude.true rows) copies.now
-        → (names : List (List ℕ)) × AreCratesOf (shares_of rows) names
-        × AllZip (IsFigureOf (shares_of rows)) names v.items) }
-{
-    let mut figures = Vec::new(alloc);
-    for (name, sum) in sums.crates.iter() {
-        figures.push(Figure {
-            name: name.as_str(),
-            size: *sum,
-            copies: size_at(&copies.crates, name.as_str()),
-        })?;
-    }
-    Ok(figures)
-}
-
-/// The sum at a name, 0 where there is none.
-pub(crate) fn size_at(sums: &BTreeMap<String, u64>, name: &str) -> u64
-    ensures { result ≡ sum_at sums.now name.now }
-{
-    match sums.get(name) {
-        Some(size) => *size,
-        None => 0,
-    }
-}
-
-// The lines of the first figures, the one that sums up all others, and those of the whole.
-fn sums_text(
-    alloc: Global,
-    figures: &Figures,
+// Appends the lines of the sum of all, and of the section's size; no objects for these.
+fn push_whole(
+    text: &mut String,
     form: Form<'_>,
-    rows: &[Figure<'_>],
     total: u64,
     size: Option<u64>,
-) -> Result<String, AllocError>
-    requires { (sum_by (λ f. f.size) rows.now < 2 ^ 64) × (sum_by (λ f. f.copies) rows.now < 2 ^ 64) }
-    ensures { IfOk result (λ t. string_bytes t ≡ sums_text figures.now (style_of form.entry) size total rows.now) }
+) -> Result<(), AllocError>
+    ensures { OnOk result
+        (string_bytes text.new ≡ string_bytes text.old ++ whole_text (style_of form.entry) size total) }
 {
-    let whole = size.unwrap_or(total);
-    let count = count_of(figures.first, rows.len());
-    let mut text = String::new(alloc);
-    for row in &rows[..count] {
-        push_row(&mut text, figures, form, whole, *row)?;
-    }
-    if count < rows.len() {
-        push_others(alloc, &mut text, figures, form, whole, &rows[count..])?;
-    }
     if form == Form::Lines {
-        push_whole(&mut text, total, size)?;
-    }
-    Ok(text)
-}
-
-// Appends the lines of the sum of all, and of the section's size.
-fn push_whole(text: &mut String, total: u64, size: Option<u64>) -> Result<(), AllocError>
-    ensures { OnOk result (string_bytes text.new ≡ string_bytes text.old ++ whole_lines size total) }
-{
-    writeln!(text, "sum {total}")?;
-    match size {
-        Some(size) => writeln!(text, "text {size}"),
-        None => Ok(()),
-    }
-}
-
-// Appends the row that sums up these figures.
-fn push_others(
-    alloc: Global,
-    text: &mut String,
-    figures: &Figures,
-    form: Form<'_>,
-    whole: u64,
-    rows: &[Figure<'_>],
-) -> Result<(), AllocError>
-    requires { (sum_by (λ f. f.size) rows.now < 2 ^ 64) × (sum_by (λ f. f.copies) rows.now < 2 ^ 64) }
-    ensures { OnOk result (string_bytes text.new ≡ string_bytes text.old
-        ++ others_text figures.now (style_of form.entry) whole rows.now) }
-{
-    let mut size = 0;
-    let mut copies = 0;
-    for row in rows {
-        size += row.size;
-        copies += row.copies;
-    }
-    let mut label = String::new(alloc);
-    write!(label, "[{} others]", rows.len())?;
-    let name = label.as_str();
-    push_row(text, figures, form, whole, Figure { name, size, copies })
-}
-
-// Appends a figure.
-fn push_row(
-    text: &mut String,
-    figures: &Figures,
-    form: Form<'_>,
-    whole: u64,
-    figure: Figure<'_>,
-) -> Result<(), AllocError>
-    ensures { OnOk result
-        (string_bytes text.new ≡ string_bytes text.old
-        ++ figure_text figures.now (style_of form.entry) whole figure.entry) }
-{
-    match form {
-        Form::Lines => push_figure(text, figures, whole, figure),
-        Form::Objects(file, _) => push_object(text, file, figure),
-    }
-}
-
-// Appends a figure as an object.
-fn push_object(text: &mut String, file: &str, figure: Figure<'_>) -> Result<(), AllocError>
-    ensures { OnOk result
-        (string_bytes text.new ≡ string_bytes text.old ++ figure_object file.now figure.entry) }
-{
-    push_start(text, file)?;
-    push_text_member(text, "name", Some(figure.name))?;
-    push_number_member(text, "size", figure.size)?;
-    push_number_member(text, "copies", figure.copies)?;
-    text.push_str("}\n")?;
-    Ok(())
-}
-
-// Appends the line of a figure.
-fn push_figure(
-    text: &mut String,
-    figures: &Figures,
-    whole: u64,
-    figure: Figure<'_>,
-) -> Result<(), AllocError>
-    ensures { OnOk result
-        (string_bytes text.new ≡ string_bytes text.old ++ figure_line figures.now whole figure.entry) }
-{
-    push_size(text, figure.size)?;
-    push_percent(text, figures.has_percent, figure.size, whole)?;
-    push_copies(text, figures.grouping.key, figure.copies)?;
-    text.push_str(figure.name)?;
-    text.push_str("\n")?;
-    Ok(())
-}
-
-/// Appends a size and a blank.
-#[tactic(auto, using(binfarce_tools::proofs::Pads::size_padded))]
-pub(crate) fn push_size(text: &mut String, size: u64) -> Result<(), AllocError>
-    ensures { OnOk result (string_bytes text.new ≡ string_bytes text.old ++ (size_text size ++ codes " ")) }
-{
-    write!(text, "{size:>10} ")?;
-    Ok(())
-}
-
-// Appends the share of a size in the whole, if it is wanted.
-#[tactic(auto, using(crate::proofs::Widths::percent_padded))]
-fn push_percent(
-    text: &mut String,
-    has_percent: bool,
-    size: u64,
-    whole: u64,
-) -> Result<(), AllocError>
-    ensures { OnOk result (string_bytes text.new ≡ string_bytes text.old ++ percent_part has_percent size whole) }
-{
-    if has_percent {
-        let share = hundredths(size, whole);
-        write!(
-            text,
-            "{:>3}.{}{}% ",
-            share / 100,
-            share / 10 % 10,
-            share % 10
-        )?;
-    }
-    Ok(())
-}
-
-// Appends the count of copies, where generic functions are summed.
-#[tactic(auto, using(crate::proofs::Widths::copies_padded))]
-fn push_copies(text: &mut String, key: Key, copies: u64) -> Result<(), AllocError>
-    ensures { OnOk result (string_bytes text.new ≡ string_bytes text.old ++ copies_part key copies) }
-{
-    match key {
-        Key::Generic => {
-            write!(text, "{copies:>6} ")?;
-            Ok(())
+        writeln!(text, "sum {total}")?;
+        if let Some(size) = size {
+            writeln!(text, "text {size}")?;
         }
-        _ => Ok(()),
     }
-}
-
-/// The share of a size in the whole, in hundredths of a per cent, rounded down.
-pub(crate) fn hundredths(size: u64, whole: u64) -> u128
-    ensures { result ≡ hundredths size whole }
-{
-    if whole == 0 {
-        return 0;
-    }
-    10_000 * u128::from(size) / u128::from(whole)
+    Ok(())
 }

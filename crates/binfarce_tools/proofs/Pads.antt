@@ -13,7 +13,7 @@ pub address_padded : (ds : List ℕ) → padded_integral (format_spec 32 0 4 16 
 unfolding padded_integral char_count
 address_padded ds = zeros_before (16 - length ds - 0 - 0) (16 - length ds) ds (omega arith)
 
-blanks_are : (n : ℕ) (blank : List ℕ) → blank ≡ 32 ∷ [] → repeat n blank ≡ replicate n 32
+pub blanks_are : (n : ℕ) (blank : List ℕ) → blank ≡ 32 ∷ [] → repeat n blank ≡ replicate n 32
 blanks_are zero blank is = refl
 blanks_are (suc n) blank is = rw (is, blanks_are n (32 ∷ []) refl) refl
 
@@ -21,7 +21,12 @@ blanks_before : (m n k : ℕ) (blank ds : List ℕ) → blank ≡ 32 ∷ [] → 
 blanks_before m n k blank ds is e none =
     rw (none, e, append-nil {A = ℕ} ds, append-nil {A = ℕ} (repeat n blank), append-nil {A = ℕ} (repeat n blank), append-nil {A = ℕ} (repeat n blank), blanks_are n blank is) refl
 
+-- `{:>3}`, or another width
+pub padded_to : (width : ℕ) (ds : List ℕ) → padded_integral (format_spec 32 3 0 width (2 ^ 64 - 1)) false [] ds ≡ pad_left 32 width ds
+unfolding padded_integral char_count
+padded_to width ds =
+    blanks_before (width - length ds - 0 - 0) (width - length ds) (width - length ds - 0 - 0 - (width - length ds - 0 - 0)) (encode_utf8 32) ds (unfold encode_utf8 in refl) (omega arith) (omega arith)
+
 -- `{:>10}`
 pub size_padded : (ds : List ℕ) → padded_integral (format_spec 32 3 0 10 (2 ^ 64 - 1)) false [] ds ≡ pad_left 32 10 ds
-unfolding padded_integral char_count
-size_padded ds = blanks_before (10 - length ds - 0 - 0) (10 - length ds) (10 - length ds - 0 - 0 - (10 - length ds - 0 - 0)) (encode_utf8 32) ds (unfold encode_utf8 in refl) (omega arith) (omega arith)
+size_padded ds = padded_to 10 ds

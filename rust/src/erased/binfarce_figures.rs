@@ -4,6 +4,7 @@
 
 pub(crate) mod claims;
 pub mod diff;
+pub(crate) mod figures;
 pub(crate) mod generic;
 pub mod key;
 pub mod order;

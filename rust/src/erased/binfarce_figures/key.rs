@@ -57,19 +57,14 @@ pub(crate) fn keyed_of(
     let mut keyed = Vec::with_capacity(alloc, functions.len())?;
     for function in functions {
         let key = key_of(alloc, &mut demangler, tables, *function, size, grouping)?;
-        keyed.push(with_key(*function, key))?;
+        keyed.push(Keyed {
+            section: function.section,
+            address: function.function.address,
+            size: function.function.size,
+            key,
+        })?;
     }
     Ok(keyed)
-}
-
-// A function symbol with this key.
-fn with_key(function: SectionFunction<'_>, key: String) -> Keyed {
-    Keyed {
-        section: function.section,
-        address: function.function.address,
-        size: function.function.size,
-        key,
-    }
 }
 
 // The key of a function symbol.

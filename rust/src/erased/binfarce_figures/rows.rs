@@ -19,6 +19,7 @@ use crate::shim::alloc::{AllocError, Global};
 
 /// What is shown of a name.
 #[derive(Debug, Clone, Copy, PartialEq)]
+#[non_exhaustive]
 pub enum Naming {
     /// Its trimmed text.
     Trimmed,
@@ -234,24 +235,12 @@ fn texts_of(
 ) -> Result<Vec<Texts>, AllocError> {
     let mut demangler = Demangler::new(alloc);
     let mut texts = Vec::with_capacity(alloc, functions.len())?;
-    for index in 0..functions.len() {
-        let function = functions[index];
-        texts.push(texts_for(alloc, &mut demangler, naming, form, function.function.name)?)?;
+    for function in functions {
+        let name = name_of(alloc, &mut demangler, naming, function.function.name)?;
+        let tail = tail_of(alloc, form, function.function.name)?;
+        texts.push(Texts { name, tail })?;
     }
     Ok(texts)
-}
-
-fn texts_for(
-    alloc: Global,
-    demangler: &mut Demangler,
-    naming: Naming,
-    form: Form<'_>,
-    name: &str,
-) -> Result<Texts, AllocError> {
-    Ok(Texts {
-        name: name_of(alloc, demangler, naming, name)?,
-        tail: tail_of(alloc, form, name)?,
-    })
 }
 
 // What follows a name in an object: the members `raw` and `crate`.

@@ -1,5 +1,4 @@
 use Rattle.std.proofs.Common.{List, ℕ, [], ◌∷◌, ◌++◌, ◌∙◌, ap, codes}
-use Rattle.std.specs.Option.{option_map}
 use Rattle.std.specs.Prelude.{Option, Some}
 use Rattle.std.specs.String.{string_bytes}
 use Rattle.binfarce_tools.specs.Json.{address_member, number_member, object_start, text_member}

@@ -1,4 +1,4 @@
-use Rattle.std.proofs.Common.{[], ◌∙◌, ap, get_or, subst, sym}
+use Rattle.std.proofs.Common.{[], get_or, subst, sym}
 use Rattle.binfarce_figures.specs.machine.Texts.{texts_view}
 use Rattle.binfarce.specs.SymbolViews.{section_function_view}
 use Rattle.binfarce_bytes.specs.declared.functions.SectionFunction.{SectionFunction}

@@ -7,5 +7,5 @@ use Rattle.binfarce_figures.specs.Rows.{AreTextsFor}
 use Rattle.binfarce_figures.proofs.rows.texts_of.Given as goal
 
 -- the texts of the names so far
-abbrev pub invariant-loop-index : goal.invariant-loop-index
-invariant-loop-index l = AllZip (AreTextsFor l.naming (style_of l.form)) (map section_function_view (take l.index l.functions)) (map texts_view l.texts.items)
+abbrev pub invariant-loop-function : goal.invariant-loop-function
+invariant-loop-function l = AllZip (AreTextsFor l.naming (style_of l.form)) (map section_function_view (take l.function-index l.functions)) (map texts_view l.texts.items)

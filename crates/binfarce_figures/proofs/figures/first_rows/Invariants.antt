@@ -1,0 +1,11 @@
+use Rattle.std.proofs.Common.{◌≡◌, take}
+use Rattle.std.specs.List.{flat_map}
+use Rattle.std.specs.String.{string_bytes}
+use Rattle.binfarce_tools.specs.Json.{style_of}
+use Rattle.binfarce_figures.specs.Figures.{figure_row}
+use Rattle.binfarce_figures.specs.machine.Columns.{row_text}
+use Rattle.binfarce_figures.proofs.figures.first_rows.Given as goal
+
+-- the rows so far
+abbrev pub invariant-loop-row : goal.invariant-loop-row
+invariant-loop-row l = string_bytes l.text ≡ flat_map (figure_row (row_text l.figures (style_of l.form) l.columns)) (take l.row-index (take l.count l.rows))

@@ -2,6 +2,7 @@
 use Rattle.std.proofs.Common.{◌≡◌, inl, inr, ℕ, ◌+◌, ◌-◌, false, ◌<◌, List, [], ◌∷◌, ◌++◌, length, get_or, take, Option, Some, None, Result, Ok, Err, refl, sym, ap, subst, ◌∙◌, append-nil, append_assoc}
 use Rattle.std.specs.List.{AllZip, concat}
 use Rattle.std.proofs.lemmas.List.{take_more}
+use Rattle.std.proofs.lemmas.List.Folds.{concat-append}
 use Rattle.std.specs.Bool.{if◌then◌else◌}
 use Rattle.std.specs.Result.{IsErrAnd, OnOk, is_ok}
 use Rattle.std.specs.Fmt.{digits}
@@ -21,15 +22,14 @@ use Rattle.binfarce_addresses.specs.Lines.{found_at, IsTextOf, address_line, IsL
 use Rattle.binfarce_addresses.specs.PlacesViews.{IsMadeOf}
 use Rattle.binfarce_addresses.specs.Stream.{AreAnswersOf, IsAnswerOf}
 
-pub all_zip_push : {A B : Type 0} (R : A → B → Type 0) (xs : List A) (ys : List B) (x : A) (y : B) → AllZip R xs ys → R x y → AllZip R (xs ++ x ∷ []) (ys ++ y ∷ [])
-all_zip_push R [] [] x y all r = (r, tt)
-all_zip_push R [] (b ∷ ys) x y all r = absurd all
-all_zip_push R (a ∷ xs) [] x y all r = absurd all
-all_zip_push R (a ∷ xs) (b ∷ ys) x y all r = (all.0, all_zip_push R xs ys x y all.1 r)
+pub all_zip_both : {A B : Type 0} (R : A → B → Type 0) (xs more : List A) (ys others : List B) → AllZip R xs ys → AllZip R more others → AllZip R (xs ++ more) (ys ++ others)
+all_zip_both R [] more [] others all rest = rest
+all_zip_both R [] more (b ∷ ys) others all rest = absurd all
+all_zip_both R (a ∷ xs) more [] others all rest = absurd all
+all_zip_both R (a ∷ xs) more (b ∷ ys) others all rest = (all.0, all_zip_both R xs more ys others all.1 rest)
 
 pub concat_push : (lines : List (List ℕ)) (line : List ℕ) → concat (lines ++ line ∷ []) ≡ concat lines ++ line
-concat_push [] line = append-nil line
-concat_push (first ∷ lines) line = ap (λ (xs : List ℕ). first ++ xs) (concat_push lines line) ∙ sym (append_assoc first (concat lines) line)
+concat_push lines line = concat-append lines (line ∷ []) ∙ ap (λ (xs : List ℕ). concat lines ++ xs) (append-nil line)
 
 -- the line of one address more
 pub one_line : (entries : List Entry) (lookup : Lookup) (addresses : List ℕ) (i : ℕ) (line text new : List ℕ) → i < length addresses → AreLinesOf entries lookup (take i addresses) text → IsLineAt entries lookup (get_or addresses i 0) line → new ≡ text ++ line
@@ -37,7 +37,7 @@ pub one_line : (entries : List Entry) (lookup : Lookup) (addresses : List ℕ) (
 one_line entries lookup addresses i line text new lt are is grown =
     let P : List ℕ → Type 0 = λ xs. AreLinesOf entries lookup xs new in
     subst P (sym (take_more addresses i 0 lt))
-    (are.0 ++ line ∷ [], all_zip_push (IsLineAt entries lookup) (take i addresses) are.0 (get_or addresses i 0) line are.1 is, grown ∙ ap (λ (xs : List ℕ). xs ++ line) are.2 ∙ sym (concat_push are.0 line))
+    (are.0 ++ line ∷ [], all_zip_both (IsLineAt entries lookup) (take i addresses) (get_or addresses i 0 ∷ []) are.0 (line ∷ []) are.1 (is, tt), grown ∙ ap (λ (xs : List ℕ). xs ++ line) are.2 ∙ sym (concat_push are.0 line))
 
 -- the answers of lines follow a text
 abbrev pub AreBehind : List Entry → Lookup → List (Option ℕ) → List ℕ → List ℕ → Type 0
@@ -51,7 +51,7 @@ one_behind entries lookup addresses i address answer old mid new lt are here is 
       are.0 ++ answer,
       (
         so_far.0 ++ answer ∷ [],
-        all_zip_push (IsAnswerOf entries lookup) (take i addresses) so_far.0 address answer so_far.1 is,
+        all_zip_both (IsAnswerOf entries lookup) (take i addresses) (address ∷ []) so_far.0 (answer ∷ []) so_far.1 (is, tt),
         ap (λ (xs : List ℕ). xs ++ answer) so_far.2 ∙ sym (concat_push so_far.0 answer),
       ),
       grown ∙ ap (λ (xs : List ℕ). xs ++ answer) are.2 ∙ append_assoc old are.0 answer,

@@ -3,40 +3,19 @@ use Rattle.std.proofs.Common.{◌≡◌, ◌≢◌, inl, inr, ◌⊎◌, false, 
 use Rattle.std.specs.Prelude.{◌==◌, is_none, cond}
 use Rattle.std.specs.List.{AllZip, concat}
 use Rattle.std.proofs.lemmas.List.Elements.{All-append, All-head, All-tail}
+use Rattle.std.proofs.lemmas.List.Folds.{concat-append}
 use Rattle.std.proofs.lemmas.List.Sums.{sum_by-append}
 use Rattle.binfarce.specs.Symbol.{Entry}
 use Rattle.binfarce_addresses.specs.Stream.{line_address, missing, with_line_feeds, AnswersAll, AnswersSome, AnswersWhole, AreAnswersOf, Begins, HasNoLineFeed, IsAnswerOf, Writes}
 use Rattle.binfarce_addresses.specs.machine.Answering.{Answers, AnswersPart, HasAnswered, Holds, IsDone, IsKeptOf, MayBreakOff}
+use Rattle.binfarce_addresses.proofs.AddressLines.{all_zip_both}
+use Rattle.binfarce_addresses.proofs.Streams.{begins_both}
 use Rattle.binfarce_addresses.proofs.Trimmed.{is_none as none, is_some}
 use Rattle.binfarce_addresses.specs.declared.stream.Lines.{Lines}
 use Rattle.binfarce_addresses.specs.declared.lookup.Lookup.{Lookup}
 
-all_zip_both : {A B : Type 0} (R : A → B → Type 0) (xs more : List A) (ys others : List B) → AllZip R xs ys → AllZip R more others → AllZip R (xs ++ more) (ys ++ others)
-all_zip_both R [] more [] others all rest = rest
-all_zip_both R [] more (b ∷ ys) others all rest = absurd all
-all_zip_both R (a ∷ xs) more [] others all rest = absurd all
-all_zip_both R (a ∷ xs) more (b ∷ ys) others all rest = (all.0, all_zip_both R xs more ys others all.1 rest)
-
-concat_both : (lines more : List (List ℕ)) → concat (lines ++ more) ≡ concat lines ++ concat more
-concat_both [] more = refl
-concat_both (first ∷ lines) more = ap (λ (xs : List ℕ). first ++ xs) (concat_both lines more) ∙ sym (append_assoc first (concat lines) (concat more))
-
-feeds_both : (lines more : List (List ℕ)) → with_line_feeds (lines ++ more) ≡ with_line_feeds lines ++ with_line_feeds more
-feeds_both [] more = refl
-feeds_both (first ∷ lines) more = ap (λ (xs : List ℕ). (first ++ 10 ∷ []) ++ xs) (feeds_both lines more) ∙ sym (append_assoc (first ++ 10 ∷ []) (with_line_feeds lines) (with_line_feeds more))
-
 missing_both : (first second : List (Option ℕ)) → missing (first ++ second) ≡ missing first + missing second
 missing_both first second = sum_by-append (λ (x : Option ℕ). cond (is_none x) 1 0) first second
-
--- what is left of a text is read further
-begins_both : (text : List ℕ) (first : List (Option ℕ)) (left : List ℕ) (second : List (Option ℕ)) (rest : List ℕ) → Begins text first left → Begins left second rest → Begins text (first ++ second) rest
-begins_both text first left second rest a b = record {
-  lines = a.lines ++ b.lines;
-  each = all_zip_both Writes a.lines b.lines first second a.each b.each;
-  are = a.are ∙ ap (λ (xs : List ℕ). with_line_feeds a.lines ++ xs) b.are
-      ∙ sym (append_assoc (with_line_feeds a.lines) (with_line_feeds b.lines) rest)
-      ∙ ap (λ (xs : List ℕ). xs ++ rest) (sym (feeds_both a.lines b.lines));
-}
 
 -- more comes
 begins_more : (text : List ℕ) (addresses : List (Option ℕ)) (left part : List ℕ) → Begins text addresses left → Begins (text ++ part) addresses (left ++ part)
@@ -53,7 +32,7 @@ answers_both : (entries : List Entry) (lookup : Lookup) (first second : List (Op
 answers_both entries lookup first second text more a b = (
   a.0 ++ b.0,
   all_zip_both (IsAnswerOf entries lookup) first second a.0 b.0 a.1 b.1,
-  ap (λ (xs : List ℕ). xs ++ more) a.2 ∙ ap (λ (xs : List ℕ). concat a.0 ++ xs) b.2 ∙ sym (concat_both a.0 b.0),
+  ap (λ (xs : List ℕ). xs ++ more) a.2 ∙ ap (λ (xs : List ℕ). concat a.0 ++ xs) b.2 ∙ sym (concat-append a.0 b.0),
 )
 
 -- where a line goes on up to its line feed

@@ -1,17 +1,12 @@
 -- The answers of addresses as objects.
-use Rattle.std.proofs.Common.{◌≡◌, ℕ, ◌-◌, [], List, Option, Some, None, sym, ap, subst, ◌∙◌}
+use Rattle.std.proofs.Common.{◌≡◌, ℕ, ◌-◌, ◌++◌, [], List, Option, Some, None, sym, ap, subst, ◌∙◌, append-nil, append_assoc}
 use Rattle.binfarce.specs.Symbol.{Entry}
 use Rattle.binfarce_tools.specs.Json as json
 use Rattle.binfarce_addresses.specs.Lines.{answer_object, IsSymbolOf}
 use Rattle.binfarce_addresses.specs.Stream.{IsAnswerIn}
 use Rattle.binfarce_addresses.specs.declared.at.Found.{Found}
 use Rattle.binfarce_addresses.specs.declared.lookup.Lookup.{Lookup}
-use Rattle.binfarce_addresses.specs.machine.Places.{IsFoundFor, IsNamedAt}
-
--- the symbol is the name and the offset of what is found
-abbrev pub IsSymbolAt : List Entry → Option Found → Option (List ℕ × ℕ) → Type 0
-IsSymbolAt entries None symbol = symbol ≡ None
-IsSymbolAt entries (Some found) symbol = (name : List ℕ) × IsNamedAt entries found.place name × (symbol ≡ Some (name, found.offset))
+use Rattle.binfarce_addresses.specs.machine.Places.{IsFoundFor, IsSymbolAt}
 
 pub object_answer : (file : List ℕ) (entries : List Entry) (lookup : Lookup) (address : Option ℕ) (found : Option Found) (symbol : Option (List ℕ × ℕ)) (text : List ℕ) → IsFoundFor entries lookup address found → IsSymbolAt entries found symbol
     → text ≡ answer_object file address symbol → IsAnswerIn (json.objects file []) entries lookup address text
@@ -26,3 +21,7 @@ object_answer file entries lookup (Some address) (Some found) symbol text (entry
     let P : Option Entry → Type 0 = λ o. IsSymbolOf o (address - lookup.base) symbol in
     let symbol_is = is ∙ ap (λ (n : List ℕ). Some (n, found.offset)) shown.2 ∙ ap (λ (n : ℕ). Some (shown.0, n)) offset in
     (symbol, subst P (sym held) (shown.0, shown.1, symbol_is), same)
+
+-- four parts, one after the other
+pub joined : (a b c d none one two three four : List ℕ) → none ≡ [] → one ≡ none ++ a → two ≡ one ++ b → three ≡ two ++ c → four ≡ three ++ d → four ≡ a ++ (b ++ (c ++ (d ++ [])))
+joined a b c d none one two three four e0 e1 e2 e3 e4 = rw (e4, e3, e2, e1, e0) (simp (append_assoc, append-nil))

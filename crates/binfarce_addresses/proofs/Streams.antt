@@ -6,12 +6,9 @@ use Rattle.std.proofs.Math.Seq.{drop-append-add}
 use Rattle.std.proofs.lemmas.List.{drop-drop, take_all, length-drop, length-take-le, get_or-take, take-append-drop}
 use Rattle.std.proofs.lemmas.List.Elements.{All-from_get_or}
 use Rattle.std.proofs.lemmas.List.Sums.{sum_by_push}
+use Rattle.std.proofs.lemmas.Grind.{flat_map-append}
 use Rattle.binfarce_addresses.specs.Stream.{line_address, missing, with_line_feeds, Begins, HasNoLineFeed, Writes}
-use Rattle.binfarce_addresses.proofs.AddressLines.{all_zip_push}
-
-feeds_push : (lines : List (List ℕ)) (line : List ℕ) → with_line_feeds (lines ++ line ∷ []) ≡ with_line_feeds lines ++ (line ++ 10 ∷ [])
-feeds_push [] line = append-nil (line ++ 10 ∷ [])
-feeds_push (first ∷ lines) line = ap (λ (xs : List ℕ). (first ++ 10 ∷ []) ++ xs) (feeds_push lines line) ∙ sym (append_assoc (first ++ 10 ∷ []) (with_line_feeds lines) (line ++ 10 ∷ []))
+use Rattle.binfarce_addresses.proofs.AddressLines.{all_zip_both}
 
 behind_line : (line others left : List ℕ) → left ≡ line ++ 10 ∷ others → drop (length line + 1) left ≡ others
 behind_line line others left is = ap (drop (length line + 1)) is ∙ drop-append-add line (10 ∷ others) 1
@@ -41,21 +38,28 @@ pub record ReadTo (bytes : List ℕ) (addresses : List (Option ℕ)) (len count 
   pub begins : Begins bytes addresses (drop len bytes)
   pub counts : count ≡ missing addresses
 
+-- what is left of a text is read further
+pub begins_both : (text : List ℕ) (first : List (Option ℕ)) (left : List ℕ) (second : List (Option ℕ)) (rest : List ℕ) → Begins text first left → Begins left second rest → Begins text (first ++ second) rest
+begins_both text first left second rest a b = record {
+  lines = a.lines ++ b.lines;
+  each = all_zip_both Writes a.lines b.lines first second a.each b.each;
+  are = a.are ∙ ap (λ (xs : List ℕ). with_line_feeds a.lines ++ xs) b.are
+      ∙ sym (append_assoc (with_line_feeds a.lines) (with_line_feeds b.lines) rest)
+      ∙ ap (λ (xs : List ℕ). xs ++ rest) (sym (flat_map-append (λ (line : List ℕ). line ++ 10 ∷ []) a.lines b.lines));
+}
+
 -- one line more
 pub one_more : (bytes : List ℕ) (addresses : List (Option ℕ)) (line others : List ℕ) (len : ℕ) (address : Option ℕ) → Begins bytes addresses (drop len bytes) → drop len bytes ≡ line ++ 10 ∷ others → Writes line address → Begins bytes (addresses ++ address ∷ []) (drop (len + (length line + 1)) bytes)
 one_more bytes addresses line others len address begins is writes =
     let left : drop (len + (length line + 1)) bytes ≡ others = sym (drop-drop (length line + 1) len bytes) ∙ behind_line line others (drop len bytes) is in
-    record {
-      lines = begins.lines ++ line ∷ [];
-      each = all_zip_push Writes begins.lines addresses line address begins.each writes;
-      are = begins.are ∙ ap (λ (xs : List ℕ). with_line_feeds begins.lines ++ xs) is
-          ∙ regroup (with_line_feeds begins.lines) line (10 ∷ []) others
-          ∙ ap (λ (xs : List ℕ). xs ++ others) (sym (feeds_push begins.lines line))
-          ∙ ap (λ (xs : List ℕ). with_line_feeds (begins.lines ++ line ∷ []) ++ xs) (sym left);
-    }
+    begins_both bytes addresses (drop len bytes) (address ∷ []) (drop (len + (length line + 1)) bytes) begins (record {
+      lines = line ∷ [];
+      each = (writes, tt);
+      are = is ∙ ap (λ (xs : List ℕ). line ++ 10 ∷ xs) (sym left) ∙ one_feed line (drop (len + (length line + 1)) bytes);
+    })
   where
-    regroup : (a l f o : List ℕ) → a ++ (l ++ (f ++ o)) ≡ (a ++ (l ++ f)) ++ o
-    regroup a l f o = simp append_assoc
+    one_feed : (l o : List ℕ) → l ++ 10 ∷ o ≡ ((l ++ 10 ∷ []) ++ []) ++ o
+    one_feed l o = simp (append_assoc, append-nil)
 
 -- the first line of what is left is read
 pub line_read : (bytes line : List ℕ) (addresses new : List (Option ℕ)) (len count next : ℕ) (address : Option ℕ) → ReadTo bytes addresses len count

@@ -41,7 +41,13 @@ pub fn push_annotated(
         ((annotated : List ℕ) × IsAnnotated places.now lookup.entry text.now annotated
         × (out.new.items ≡ out.old.items ++ annotated)) }
 {
-    push_decided(alloc, places, lookup, true, text, out)?;
+    let annotating = Annotating {
+        alloc,
+        places,
+        lookup,
+        kept: Vec::new(alloc),
+    };
+    annotating.push_decided(true, text, out)?;
     Ok(())
 }
 
@@ -92,16 +98,69 @@ impl Annotating<'_, '_> {
         ensures short { OnOk result (length self.new.kept.items ≤ 18) }
     {
         self.kept.extend_from_slice(part)?;
-        let at = push_decided(
-            self.alloc,
-            self.places,
-            self.lookup,
-            is_last,
-            &self.kept,
-            out,
-        )?;
+        let at = self.push_decided(is_last, &self.kept, out)?;
         self.kept = Vec::from_slice(self.alloc, &self.kept[at..])?;
         Ok(())
+    }
+
+    // Appends the annotated text before an address at its end that may go on, and returns where that begins. With
+    // nothing after the text, this is its end.
+    fn push_decided(
+        &self,
+        is_last: bool,
+        text: &[u8],
+        out: &mut Vec<u8>,
+    ) -> Result<usize, AllocError>
+        ensures within { IfOk result (λ at. at ≤ length text.now) }
+        ensures short { IfOk result (λ at. length text.now ≤ at + 18) }
+        ensures last { is_last ≡ true → IfOk result (λ at. at ≡ length text.now) }
+        ensures shows { IfOk result (λ at. ShowsTo self.now.places.now self.now.lookup is_last text.now at
+            out.old.items out.new.items) }
+    {
+        let mut at = 0;
+        while at < text.len() && is_decided(is_last, &text[at..]) {
+            let len = self.push_first(&text[at..], out)?;
+            at += len;
+        }
+        Ok(at)
+    }
+
+    // Appends the annotated text of an address that the text begins with, or of bytes before the next one. Returns how
+    // many bytes these are.
+    fn push_first(&self, text: &[u8], out: &mut Vec<u8>) -> Result<usize, AllocError>
+        requires { 0 < length text.now }
+        ensures within { IfOk result (λ n. (0 < n) × (n ≤ length text.now)) }
+        ensures shows { IfOk result (λ n. ShowsFirst self.now.places.now self.now.lookup text.now n out.old.items
+            out.new.items) }
+    {
+        let len = address_len(text);
+        if len == 0 {
+            let others = others_len(text);
+            out.extend_from_slice(&text[..others])?;
+            return Ok(others);
+        }
+        out.extend_from_slice(&text[..len])?;
+        self.push_added(parse_address(&text[..len]), out)?;
+        Ok(len)
+    }
+
+    // Appends what is added after an address: the readable name of its function symbol and the offset, in angle
+    // brackets.
+    fn push_added(&self, address: Option<u64>, out: &mut Vec<u8>) -> Result<(), AllocError>
+        ensures { OnOk result
+            ((added : List ℕ) × IsAddedAfter self.now.places.now self.now.lookup address added
+            × (out.new.items ≡ out.old.items ++ added)) }
+    {
+        let Some(address) = address else {
+            return Ok(());
+        };
+        let Some((function, offset)) = self.places.find(self.lookup, address) else {
+            return Ok(());
+        };
+        let mut place = String::from_str(self.alloc, " <")?;
+        push_shown(self.alloc, &mut place, function.name)?;
+        write!(place, "+0x{offset:x}>")?;
+        out.extend_from_slice(place.as_bytes())
     }
 }
 
@@ -131,30 +190,6 @@ impl<S: Sink> Pass<S> for Annotating<'_, '_> {
     }
 }
 
-// Appends the annotated text before an address at its end that may go on, and returns where that begins. With nothing
-// after the text, this is its end.
-fn push_decided(
-    alloc: Global,
-    places: &Places<'_>,
-    lookup: Lookup<'_>,
-    is_last: bool,
-    text: &[u8],
-    out: &mut Vec<u8>,
-) -> Result<usize, AllocError>
-    ensures within { IfOk result (λ at. at ≤ length text.now) }
-    ensures short { IfOk result (λ at. length text.now ≤ at + 18) }
-    ensures last { is_last ≡ true → IfOk result (λ at. at ≡ length text.now) }
-    ensures shows { IfOk result (λ at. ShowsTo places.now lookup.entry is_last text.now at out.old.items
-        out.new.items) }
-{
-    let mut at = 0;
-    while at < text.len() && is_decided(is_last, &text[at..]) {
-        let len = push_first(alloc, places, lookup, &text[at..], out)?;
-        at += len;
-    }
-    Ok(at)
-}
-
 // Whether the address that the text begins with, or that it begins with none, stays whatever comes after the text.
 // Nothing comes after the last text.
 fn is_decided(is_last: bool, text: &[u8]) -> bool
@@ -172,66 +207,7 @@ fn is_decided(is_last: bool, text: &[u8]) -> bool
     if text.len() == 1 {
         return text[0] != b'0';
     }
-    if !text.starts_with(b"0x") {
-        return true;
-    }
-    digits_len(&text[2..]) < text.len() - 2
-}
-
-// Appends the annotated text of an address that the text begins with, or of bytes before the next one. Returns how many
-// bytes these are.
-fn push_first(
-    alloc: Global,
-    places: &Places<'_>,
-    lookup: Lookup<'_>,
-    text: &[u8],
-    out: &mut Vec<u8>,
-) -> Result<usize, AllocError>
-    requires { 0 < length text.now }
-    ensures within { IfOk result (λ n. (0 < n) × (n ≤ length text.now)) }
-    ensures shows { IfOk result
-        (λ n. ShowsFirst places.now lookup.entry text.now n out.old.items out.new.items) }
-{
-    let len = address_len(text);
-    if len == 0 {
-        let others = others_len(text);
-        out.extend_from_slice(&text[..others])?;
-        return Ok(others);
-    }
-    out.extend_from_slice(&text[..len])?;
-    push_added(alloc, places, lookup, parse_address(&text[..len]), out)?;
-    Ok(len)
-}
-
-// Appends what is added after an address: the readable name of its function symbol and the offset, in angle brackets.
-fn push_added(
-    alloc: Global,
-    places: &Places<'_>,
-    lookup: Lookup<'_>,
-    address: Option<u64>,
-    out: &mut Vec<u8>,
-) -> Result<(), AllocError>
-    ensures { OnOk result
-        ((added : List ℕ) × IsAddedAfter places.now lookup.entry address added
-        × (out.new.items ≡ out.old.items ++ added)) }
-{
-    let Some(address) = address else {
-        return Ok(());
-    };
-    let Some((function, offset)) = places.find(lookup, address) else {
-        return Ok(());
-    };
-    let mut place = String::from_str(alloc, " <")?;
-    push_shown(alloc, &mut place, function.name)?;
-    push_end(&mut place, offset)?;
-    out.extend_from_slice(place.as_bytes())
-}
-
-fn push_end(text: &mut String, offset: u64) -> Result<(), AllocError>
-    ensures { OnOk result
-        (string_bytes text.new ≡ string_bytes text.old ++ (codes "+0x" ++ (digits 16 false offset ++ codes ">"))) }
-{
-    write!(text, "+0x{offset:x}>")
+    !text.starts_with(b"0x") || digits_len(&text[2..]) < text.len() - 2
 }
 
 // The length of the address that the text begins with, or 0.

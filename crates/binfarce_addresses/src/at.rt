@@ -13,7 +13,7 @@ ghost use Rattle.binfarce_tools.specs.declared.SymbolTable.{SymbolTable};
 ghost use Rattle.binfarce_tools.specs.declared.list.ListError.TheVariants.{Write};
 ghost use Rattle.binfarce_tools.specs.Writing.{EndsAs, Takes, Fails, Leaves};
 ghost use Rattle.binfarce_addresses.specs.Lookup.{looked_up};
-ghost use Rattle.binfarce_addresses.specs.Lines.{found_at, IsLineAt, AreLinesOf, AreLinesAt};
+ghost use Rattle.binfarce_addresses.specs.Lines.{found_at, IsLineAt, AreLinesAt};
 ghost use Rattle.binfarce_addresses.specs.PlacesViews.{IsMadeOf};
 ghost use Rattle.binfarce_addresses.specs.Stream.{AreAnswersOf, IsAnswerOf};
 ghost use Rattle.binfarce_addresses.specs.machine.Places.{AreFoundFor, ArePlacesOf, IsAtPlace, IsFoundFor};
@@ -64,8 +64,7 @@ impl<'a> Places<'a> {
             (file_answer file.entry.now section.now) result }
     {
         let (functions, _) = functions_of_file(alloc, file, section)?;
-        let places = places_of(alloc, functions)?;
-        Ok(places)
+        Ok(places_of(alloc, functions)?)
     }
 
     /// The places of the function symbols of a file's tables: for the selection that they were read for. The sections
@@ -82,8 +81,7 @@ impl<'a> Places<'a> {
         ensures unwritten { IfErr result (λ e. e ≢ Write) }
     {
         let (functions, _) = tables.functions(alloc)?.into_list();
-        let places = places_of(alloc, functions)?;
-        Ok(places)
+        Ok(places_of(alloc, functions)?)
     }
 
     /// The function symbol that an address symbolizes to by this lookup, and the offset of the address into it.
@@ -208,6 +206,7 @@ pub fn at<S: Sink>(
 /// # Errors
 ///
 /// As `at`.
+#[tactic(auto, using(crate::proofs::AddressLines::ends_of, crate::proofs::AddressLines::takes_of))]
 pub fn at_tables<S: Sink>(
     alloc: Global,
     tables: &Tables<'_>,
@@ -249,22 +248,9 @@ pub fn write_lines<S: Sink>(
     ensures fails { Fails (S.has_failed out.old) (S.has_failed out.new) (outcome_of result) }
     ensures leaves { Leaves out.old out.new (outcome_of result) }
 {
-    let text = lines(alloc, places, lookup, addresses)?;
-    write_whole(out, text.as_slice())
-}
-
-// The lines of the addresses.
-fn lines(
-    alloc: Global,
-    places: &Places<'_>,
-    lookup: Lookup<'_>,
-    addresses: &[u64],
-) -> Result<Vec<u8>, AllocError>
-    ensures { IfOk result (λ t. AreLinesOf places.now lookup.entry addresses.now t.items) }
-{
     let mut text = Vec::new(alloc);
     for address in addresses {
         places.push_line(alloc, &mut text, lookup, *address)?;
     }
-    Ok(text)
+    write_whole(out, text.as_slice())
 }

@@ -14,8 +14,7 @@ pub(crate) fn push_address(text: &mut Vec<u8>, address: u64) -> Result<(), Alloc
     let mut shown = [b'0'; 16];
     put_all_digits(&mut shown, address);
     text.extend_from_slice(&shown)?;
-    text.push(b' ')?;
-    Ok(())
+    Ok(text.push(b' ')?)
 }
 
 /// Appends an offset and a line feed to the text.
@@ -27,8 +26,7 @@ pub(crate) fn push_offset(text: &mut Vec<u8>, offset: u64) -> Result<(), AllocEr
     let at = put_digits(&mut shown, offset);
     text.extend_from_slice(b"+0x")?;
     text.extend_from_slice(&shown[at..])?;
-    text.push(b'\n')?;
-    Ok(())
+    Ok(text.push(b'\n')?)
 }
 
 // Puts all 16 digits of a number: the number of steps is fixed, so no branch is mispredicted.

@@ -1,13 +1,12 @@
 //! The readable names of function symbols, each made at most once.
 
-ghost use Rattle.std.specs.Prelude.{◌≡◌, ◌<◌, ◌++◌, [], ℕ, List, All, length, slice_set, IfOk, IfSome, OnOk};
-ghost use Rattle.std.specs.Option.{option_map};
+ghost use Rattle.std.specs.Prelude.{◌≡◌, ◌<◌, ◌++◌, [], ℕ, List, Option, length, slice_set, IfOk, IfSome, OnOk};
 ghost use Rattle.std.specs.String.{string_bytes};
 ghost use Rattle.binfarce.specs.Symbol.{Entry};
 ghost use Rattle.binfarce_tools.specs.Json.{lines, objects};
-ghost use Rattle.binfarce_addresses.specs.Lines.{address_value, answer_object, symbol_members};
+ghost use Rattle.binfarce_addresses.specs.Lines.{address_value, symbol_members};
 ghost use Rattle.binfarce_addresses.specs.Stream.{IsAnswerIn, IsAnswerOf};
-ghost use Rattle.binfarce_addresses.specs.machine.Places.{AreKept, IsFoundFor, IsNamedAt};
+ghost use Rattle.binfarce_addresses.specs.machine.Places.{AreKept, IsFoundFor, IsNamedAt, IsSymbolAt};
 
 use crate::at::{Found, Places};
 use crate::digits::{push_address, push_offset};
@@ -144,21 +143,30 @@ impl<'b, 'a> Names<'b, 'a> {
         ensures same { self.new ≡ self.old }
     {
         let mut object = String::new(self.alloc);
-        match found {
-            Some(found) => {
-                let mut name = String::new(self.alloc);
-                self.demangler
-                    .push_shown(&mut name, self.places.at(found.place).name)?;
-                push_object(
-                    &mut object,
-                    file,
-                    address,
-                    Some((name.as_str(), found.offset)),
-                )?;
-            }
-            None => push_object(&mut object, file, address, None)?,
-        }
+        push_start(&mut object, file)?;
+        push_given(&mut object, address)?;
+        self.push_symbol(&mut object, found)?;
+        object.push_str("}\n")?;
         Ok(object)
+    }
+
+    // Appends the members of the symbol that was found, or of none.
+    fn push_symbol(&mut self, text: &mut String, found: Option<Found>) -> Result<(), AllocError>
+        requires { IfSome found (λ f. f.place < length self.old) }
+        ensures symbol { OnOk result
+            ((symbol : Option (List ℕ × ℕ)) × IsSymbolAt self.old found symbol
+            × (string_bytes text.new ≡ string_bytes text.old ++ symbol_members symbol)) }
+        ensures same { self.new ≡ self.old }
+    {
+        let Some(found) = found else {
+            push_text_member(text, "name", None)?;
+            return push_text_member(text, "offset", None);
+        };
+        let mut name = String::new(self.alloc);
+        self.demangler
+            .push_shown(&mut name, self.places.at(found.place).name)?;
+        push_text_member(text, "name", Some(name.as_str()))?;
+        push_number_member(text, "offset", found.offset)
     }
 
     // Appends the readable name of the function symbol at a place to the text, and keeps it, if there is room for it.
@@ -201,44 +209,12 @@ fn keep(kept: &mut Vec<(usize, usize)>, place: usize, part: (usize, usize))
     }
 }
 
-// Appends an answer as an object.
-fn push_object(
-    text: &mut String,
-    file: &str,
-    address: Option<u64>,
-    symbol: Option<(&str, u64)>,
-) -> Result<(), AllocError>
-    ensures { OnOk result (string_bytes text.new ≡ string_bytes text.old
-        ++ answer_object file.now address (option_map (λ s. (s.0.now, s.1)) symbol.entry)) }
-{
-    push_start(text, file)?;
-    push_given(text, address)?;
-    push_symbol(text, symbol)?;
-    text.push_str("}\n")?;
-    Ok(())
-}
-
+// Appends the member `address`.
 fn push_given(text: &mut String, address: Option<u64>) -> Result<(), AllocError>
     ensures { OnOk result (string_bytes text.new ≡ string_bytes text.old ++ address_value address) }
 {
     match address {
         Some(address) => push_address_member(text, address),
         None => push_text_member(text, "address", None),
-    }
-}
-
-fn push_symbol(text: &mut String, symbol: Option<(&str, u64)>) -> Result<(), AllocError>
-    ensures { OnOk result (string_bytes text.new ≡ string_bytes text.old
-        ++ symbol_members (option_map (λ s. (s.0.now, s.1)) symbol.entry)) }
-{
-    match symbol {
-        Some((name, offset)) => {
-            push_text_member(text, "name", Some(name))?;
-            push_number_member(text, "offset", offset)
-        }
-        None => {
-            push_text_member(text, "name", None)?;
-            push_text_member(text, "offset", None)
-        }
     }
 }

@@ -3,7 +3,7 @@
 ghost use Rattle.std.specs.Prelude.{◌≡◌, ◌+◌, ◌-◌, ◌<◌, ◌≤◌, ◌^◌, ℕ, List, true, length, IfOk, OnOk};
 ghost use Rattle.binfarce_addresses.specs.Range.{AreSpans, AreSpansOf, IsSpanAt, span_at};
 ghost use Rattle.binfarce_addresses.specs.declared.ranges.Span.{Span};
-ghost use Rattle.binfarce_addresses.specs.machine.Sweep.{AreInOrder, AreRowsOf, AreSwept, DoReach, IsInnermost, IsSweep, here, last_of, stack_at, row_at};
+ghost use Rattle.binfarce_addresses.specs.machine.Sweep.{AreInOrder, AreRowsOf, AreSwept, DoReach, IsInnermost, IsSweep, here, stack_at, row_at};
 
 use crate::slices::Slices;
 use std::alloc::{AllocError, Global};
@@ -52,6 +52,7 @@ impl Model for Ranges {
 
 impl Ranges {
     /// Arranges the ranges. The only error is a failed allocation.
+    #[tactic(auto, using(crate::proofs::Spans::spans_of_ranges))]
     pub fn new(alloc: Global, ranges: &[AddressRange]) -> Result<Ranges, AllocError>
         ensures { IfOk result (AreSpansOf ranges.now) }
     {
@@ -102,19 +103,11 @@ fn rows_of(alloc: Global, ranges: &[AddressRange]) -> Result<Vec<Row>, AllocErro
         rows.push(Row {
             address: range.address,
             place: Reverse(place),
-            last: last_address(*range),
+            last: range.address.saturating_add(range.size.max(1) - 1),
         })?;
     }
     rows.sort_unstable();
     Ok(rows)
-}
-
-// The last address that a range holds, and at most the last of all.
-fn last_address(range: AddressRange) -> u64
-    ensures last { result ≡ last_of range }
-    ensures holds { range.address ≤ result }
-{
-    range.address.saturating_add(range.size.max(1) - 1)
 }
 
 // The spans of the rows, by one sweep. A row is open from its address on, until it ends or a later row does that
@@ -154,7 +147,7 @@ fn close_before(
         (row < length rows.now → DoReach rows.now stack.new.items (row_at rows.now row).address) }
     ensures last { OnOk result (length rows.now ≤ row → DoReach rows.now stack.new.items (2 ^ 64 - 1)) }
 {
-    let address = begin_of(rows, row);
+    let address = rows.get(row).map_or(u64::MAX, |row| row.address);
     while !stack.is_empty() {
         let top = stack.len() - 1;
         let last = rows[stack[top]].last;
@@ -168,14 +161,6 @@ fn close_before(
         })?;
     }
     Ok(())
-}
-
-// The address of a row, or the last of all where there is no such row.
-fn begin_of(rows: &[Row], row: usize) -> u64
-    ensures next { row < length rows.now → result ≡ (row_at rows.now row).address }
-    ensures last { length rows.now ≤ row → result ≡ 2 ^ 64 - 1 }
-{
-    rows.get(row).map_or(u64::MAX, |row| row.address)
 }
 
 // The place of the last open row.

@@ -49,8 +49,13 @@ pub fn push_lines(
 ) -> Result<Answered, AllocError>
     ensures { IfOk result (AnswersOf places.now lookup.entry bytes.now text.old.items text.new.items) }
 {
-    let mut names = Names::new(alloc, places, 0)?;
-    push_answers(alloc, &mut names, lookup, bytes, text)
+    push_answers(
+        alloc,
+        &mut Names::new(alloc, places, 0)?,
+        lookup,
+        bytes,
+        text,
+    )
 }
 
 // As `push_lines`, with the names that are known. All addresses are looked up before the first answer is written, so
@@ -92,6 +97,7 @@ fn addresses_of(alloc: Global, bytes: &[u8]) -> Result<(Vec<Option<u64>>, Answer
 }
 
 // The bytes before the first line feed.
+#[tactic(auto, using(crate::proofs::Streams::line_before))]
 fn first_line(bytes: &[u8]) -> Option<&[u8]>
     ensures { MatchOption result (HasNoLineFeed bytes.now)
         (λ line. HasNoLineFeed line.now × ((others : List ℕ) × (bytes.now ≡ line.now ++ 10 ∷ others))) }

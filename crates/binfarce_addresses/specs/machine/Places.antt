@@ -26,6 +26,11 @@ IsAtPlace entries place entry = (place < length entries) × (slice_index_or entr
 abbrev pub IsNamedAt : List Entry → ℕ → List ℕ → Type 0
 IsNamedAt entries place text = (entry : Entry) → IsAtPlace entries place entry → (name : List ℕ) × IsShown entry.name name × (text ≡ name)
 
+-- the symbol is the name and the offset of what is found
+abbrev pub IsSymbolAt : List Entry → Option Found → Option (List ℕ × ℕ) → Type 0
+IsSymbolAt entries None symbol = symbol ≡ None
+IsSymbolAt entries (Some found) symbol = (name : List ℕ) × IsNamedAt entries found.place name × (symbol ≡ Some (name, found.offset))
+
 -- each part of the text that is kept for a place, and isn't empty, is the readable name of the entry there
 abbrev pub AreKept : (entries : List Entry) (text : List ℕ) (kept : List (ℕ × ℕ)) → Type 0
 AreKept entries text kept =

@@ -36,8 +36,7 @@ impl<'a> Places<'a> {
     /// Those of `list`, except `Write`.
     pub fn of_file(alloc: Global, file: &'a [u8], section: &str) -> Result<Places<'a>, ListError> {
         let (functions, _) = functions_of_file(alloc, file, section)?;
-        let places = places_of(alloc, functions)?;
-        Ok(places)
+        Ok(places_of(alloc, functions)?)
     }
 
     /// The places of the function symbols of a file's tables: for the selection that they were read for. The sections
@@ -49,8 +48,7 @@ impl<'a> Places<'a> {
     /// As `of_file`.
     pub fn of_tables(alloc: Global, tables: &'a Tables<'_>) -> Result<Places<'a>, ListError> {
         let (functions, _) = tables.functions(alloc)?.into_list();
-        let places = places_of(alloc, functions)?;
-        Ok(places)
+        Ok(places_of(alloc, functions)?)
     }
 
     /// The function symbol that an address symbolizes to by this lookup, and the offset of the address into it.
@@ -174,20 +172,9 @@ pub fn write_lines<S: Sink>(
     addresses: &[u64],
     out: &mut S,
 ) -> Result<(), ListError> {
-    let text = lines(alloc, places, lookup, addresses)?;
-    write_whole(out, text.as_slice())
-}
-
-// The lines of the addresses.
-fn lines(
-    alloc: Global,
-    places: &Places<'_>,
-    lookup: Lookup<'_>,
-    addresses: &[u64],
-) -> Result<Vec<u8>, AllocError> {
     let mut text = Vec::new(alloc);
     for address in addresses {
         places.push_line(alloc, &mut text, lookup, *address)?;
     }
-    Ok(text)
+    write_whole(out, text.as_slice())
 }

@@ -109,21 +109,24 @@ impl<'b, 'a> Names<'b, 'a> {
         found: Option<Found>,
     ) -> Result<String, AllocError> {
         let mut object = String::new(self.alloc);
-        match found {
-            Some(found) => {
-                let mut name = String::new(self.alloc);
-                self.demangler
-                    .push_shown(&mut name, self.places.at(found.place).name)?;
-                push_object(
-                    &mut object,
-                    file,
-                    address,
-                    Some((name.as_str(), found.offset)),
-                )?;
-            }
-            None => push_object(&mut object, file, address, None)?,
-        }
+        push_start(&mut object, file)?;
+        push_given(&mut object, address)?;
+        self.push_symbol(&mut object, found)?;
+        object.push_str("}\n")?;
         Ok(object)
+    }
+
+    // Appends the members of the symbol that was found, or of none.
+    fn push_symbol(&mut self, text: &mut String, found: Option<Found>) -> Result<(), AllocError> {
+        let Some(found) = found else {
+            push_text_member(text, "name", None)?;
+            return push_text_member(text, "offset", None);
+        };
+        let mut name = String::new(self.alloc);
+        self.demangler
+            .push_shown(&mut name, self.places.at(found.place).name)?;
+        push_text_member(text, "name", Some(name.as_str()))?;
+        push_number_member(text, "offset", found.offset)
     }
 
     // Appends the readable name of the function symbol at a place to the text, and keeps it, if there is room for it.
@@ -156,36 +159,10 @@ fn keep(kept: &mut Vec<(usize, usize)>, place: usize, part: (usize, usize)) {
     }
 }
 
-// Appends an answer as an object.
-fn push_object(
-    text: &mut String,
-    file: &str,
-    address: Option<u64>,
-    symbol: Option<(&str, u64)>,
-) -> Result<(), AllocError> {
-    push_start(text, file)?;
-    push_given(text, address)?;
-    push_symbol(text, symbol)?;
-    text.push_str("}\n")?;
-    Ok(())
-}
-
+// Appends the member `address`.
 fn push_given(text: &mut String, address: Option<u64>) -> Result<(), AllocError> {
     match address {
         Some(address) => push_address_member(text, address),
         None => push_text_member(text, "address", None),
-    }
-}
-
-fn push_symbol(text: &mut String, symbol: Option<(&str, u64)>) -> Result<(), AllocError> {
-    match symbol {
-        Some((name, offset)) => {
-            push_text_member(text, "name", Some(name))?;
-            push_number_member(text, "offset", offset)
-        }
-        None => {
-            push_text_member(text, "name", None)?;
-            push_text_member(text, "offset", None)
-        }
     }
 }

@@ -80,16 +80,11 @@ fn rows_of(alloc: Global, ranges: &[AddressRange]) -> Result<Vec<Row>, AllocErro
         rows.push(Row {
             address: range.address,
             place: Reverse(place),
-            last: last_address(*range),
+            last: range.address.saturating_add(range.size.max(1) - 1),
         })?;
     }
     rows.sort_unstable();
     Ok(rows)
-}
-
-// The last address that a range holds, and at most the last of all.
-fn last_address(range: AddressRange) -> u64 {
-    range.address.saturating_add(range.size.max(1) - 1)
 }
 
 // The spans of the rows, by one sweep. A row is open from its address on, until it ends or a later row does that
@@ -117,7 +112,7 @@ fn close_before(
     stack: &mut Vec<usize>,
     spans: &mut Vec<Span>,
 ) -> Result<(), AllocError> {
-    let address = begin_of(rows, row);
+    let address = rows.get(row).map_or(u64::MAX, |row| row.address);
     while !stack.is_empty() {
         let top = stack.len() - 1;
         let last = rows[stack[top]].last;
@@ -131,11 +126,6 @@ fn close_before(
         })?;
     }
     Ok(())
-}
-
-// The address of a row, or the last of all where there is no such row.
-fn begin_of(rows: &[Row], row: usize) -> u64 {
-    rows.get(row).map_or(u64::MAX, |row| row.address)
 }
 
 // The place of the last open row.

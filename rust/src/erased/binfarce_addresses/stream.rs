@@ -43,8 +43,13 @@ pub fn push_lines(
     bytes: &[u8],
     text: &mut Vec<u8>,
 ) -> Result<Answered, AllocError> {
-    let mut names = Names::new(alloc, places, 0)?;
-    push_answers(alloc, &mut names, lookup, bytes, text)
+    push_answers(
+        alloc,
+        &mut Names::new(alloc, places, 0)?,
+        lookup,
+        bytes,
+        text,
+    )
 }
 
 // As `push_lines`, with the names that are known. All addresses are looked up before the first answer is written, so

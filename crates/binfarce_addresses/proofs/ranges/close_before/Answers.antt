@@ -1,4 +1,4 @@
-use Rattle.std.proofs.Common.{◌≡◌, ◌+◌, ◌-◌, ◌<◌, ℕ, List, length, take, sym, ap, subst, ◌∙◌, arith}
+use Rattle.std.proofs.Common.{◌≡◌, ◌+◌, ◌-◌, ◌<◌, ℕ, List, length, take, sym, ap, subst, ◌∙◌, arith, rules}
 use Rattle.std.proofs.lemmas.List.{get_or_default}
 use Rattle.binfarce_addresses.specs.declared.ranges.Span.{Span}
 use Rattle.binfarce_addresses.specs.machine.Sweep.{IsInnermost, row_at, stack_at}
@@ -21,5 +21,5 @@ loop-stack-preserved c =
     let begins = ap (λ (j : ℕ). (row_at rows j).last + 1) at in
     record {
       swept = closed rows c.args.row spans c.push.new.self.items stack c.truncate.new.self.items _ c.loop-stack.invariant.swept some short grows begins (subst P c.deref.ensures.value c.innermost.ensures);
-      behind = λ lt. omega (arith, ap (λ (s : Span). s.start) (newest rows c.args.row spans stack c.loop-stack.invariant.swept _ c.push.new.self.items grows), c.if-last-address.false, c.begin_of-address.ensures.next lt);
+      behind = λ lt. omega (arith, ap (λ (s : Span). s.start) (newest rows c.args.row spans stack c.loop-stack.invariant.swept _ c.push.new.self.items grows), c.if-last-address.false, (let begins_at : c.map_or-address.result ≡ (row_at rows c.args.row).address = search rules in begins_at));
     }

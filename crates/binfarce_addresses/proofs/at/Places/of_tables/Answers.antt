@@ -12,8 +12,8 @@ pub returns-clause-made : goal.returns-clause-made
 returns-clause-made c = λ which file section are.
     let list = c.into_list-functions in
     let left = functions_left list.result.0 in
-    made (MemoryIn file section) (answer_in which file section) left c.in_ok-places.places list.result.1
-    (list_in which file section c.in_ok-functions.field-0 left list.result.1 list.ensures.functions list.ensures.size (c.in_ok-functions.ensures.gets which file section are)) c.in_ok-places.ensures
+    made (MemoryIn file section) (answer_in which file section) left c.in_ok-places_of.field-0 list.result.1
+    (list_in which file section c.in_ok-functions.field-0 left list.result.1 list.ensures.functions list.ensures.size (c.in_ok-functions.ensures.gets which file section are)) c.in_ok-places_of.ensures
   where
     made : (memory : Result Listed Refusal → Type 0) (answer : Option (Result Listed Refusal)) (entries places : List Entry) (size : Option ℕ) → GetsAs HoldsList memory answer (Ok (entries, size)) → places ≡ entries → IsMadeOf memory answer (Ok places)
     made memory None entries places size gets same = absurd gets

@@ -1,7 +1,7 @@
 use Rattle.std.proofs.Common.{take}
 use Rattle.binfarce_addresses.specs.Lines.{AreLinesOf}
-use Rattle.binfarce_addresses.proofs.at.lines.Given as goal
+use Rattle.binfarce_addresses.proofs.at.write_lines.Given as goal
 
 -- the lines of the addresses so far
 abbrev pub invariant-loop-address : goal.invariant-loop-address
-invariant-loop-address l = AreLinesOf l.places l.lookup (take l.address-index l.addresses) l.text.items
+invariant-loop-address g l = AreLinesOf l.places l.lookup (take l.address-index l.addresses) l.text.items

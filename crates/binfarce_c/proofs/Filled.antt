@@ -7,6 +7,7 @@ use Rattle.std.specs.Bool.{if◌then◌else◌}
 use Rattle.std.proofs.lemmas.Bool.Decides.{nat_tests}
 use Rattle.binfarce.specs.Refusal.{Refusal, unexpected_eof}
 use Rattle.binfarce.specs.Walk.{Walk, YieldsNext, ended, ahead_of}
+use Rattle.binfarce_c.specs.declared.all_sections.Sections.{Sections}
 use Rattle.binfarce_c.specs.declared.sections.Section.{Section}
 use Rattle.binfarce_c.specs.AllSections.{GivesWalk, walk_of, end_status, count_of}
 use Rattle.binfarce_c.specs.Buffer.{put}
@@ -97,14 +98,14 @@ pub step_of : {T S E : Type 0} (why : E → Refusal) (seen : T → S) (left afte
 step_of {T} {S} {E} why seen left after item value is step = let P : Result T E → Type 0 = λ r. YieldsNext why seen left (Some r) after in subst P is step
 
 -- a file without its header
-pub refused : {S : Type 0} (section_details : S → Details) (walk : Walk S) (file : List ℕ) (least : ℕ) (old : List Section) (refusal : Refusal) (status : ℕ)
-    → length file < least → refusal ≡ unexpected_eof → status ≡ status_of refusal → GivesWalk section_details (walk_of least file walk) old old (record { status = status; count = 0 })
-refused {S} section_details walk file least old refusal status short why is =
-    let P : Bool → Type 0 = λ b. GivesWalk section_details (if b then ended (Some unexpected_eof) else walk) old old (record { status = status; count = 0 }) in
+pub refused : {S : Type 0} (section_details : S → Details) (walk : Walk S) (file : List ℕ) (least : ℕ) (old : List Section) (refusal : Refusal) (given : Sections)
+    → length file < least → refusal ≡ unexpected_eof → given ≡ record { status = status_of refusal; count = 0 } → GivesWalk section_details (walk_of least file walk) old old given
+refused {S} section_details walk file least old refusal given short why is =
+    let P : Bool → Type 0 = λ b. GivesWalk section_details (if b then ended (Some unexpected_eof) else walk) old old given in
     subst P (sym (is_short (length file) least short)) (record {
       sections = [];
       are = tt;
-      given_is = ap (λ (n : ℕ). record { status = n; count = 0 }) (is ∙ ap status_of why);
+      given_is = is ∙ ap (λ (r : Refusal). record { status = status_of r; count = 0 }) why;
       new_is = sym (ap (λ (ys : List Section). ys ++ old) (take-nil (length old)));
     })
   where

@@ -72,9 +72,13 @@ pub record HoldsName (complete : List ℕ) (complete' : List ℕ) (trimmed : Lis
   pub trimmed_is : trimmed' ≡ put trimmed answer.trimmed
   pub crate_is : crate_name' ≡ put crate_name (text_or_none answer.crate_name)
 
+-- no name, for this reason
+abbrev pub no_name : (status : ℕ) → SymbolName
+no_name status = record { status = status; kind = 0; complete_length = 0; trimmed_length = 0; crate_length = 0; has_crate = false }
+
 -- no name was given, and the buffers are unchanged
 pub record HoldsNoName (complete : List ℕ) (complete' : List ℕ) (trimmed : List ℕ) (trimmed' : List ℕ) (crate_name : List ℕ) (crate_name' : List ℕ) (given : SymbolName) (status : ℕ) : Type 0 where
-  pub given_is : given ≡ record { status = status; kind = 0; complete_length = 0; trimmed_length = 0; crate_length = 0; has_crate = false }
+  pub given_is : given ≡ no_name status
   pub complete_stays : complete' ≡ complete
   pub trimmed_stays : trimmed' ≡ trimmed
   pub crate_stays : crate_name' ≡ crate_name

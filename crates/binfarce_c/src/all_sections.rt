@@ -1,17 +1,20 @@
 //! All sections of a file, in a caller's array.
 
+ghost use Rattle.std.specs.Prelude.{◌≡◌};
 ghost use Rattle.binfarce.specs.Elf as elf;
 ghost use Rattle.binfarce.specs.Macho as macho;
 ghost use Rattle.binfarce.specs.Pe as pe;
+ghost use Rattle.binfarce.specs.Refusal.{refusal_of};
 ghost use Rattle.binfarce_c.specs.AllSections.{GivesWalk, walk_of};
 ghost use Rattle.binfarce_c.specs.Headers.{order_of};
 ghost use Rattle.binfarce_c.specs.Sections.{elf_details, elf_table, macho_details, pe_details};
+ghost use Rattle.binfarce_c.specs.Status.{status_of};
 ghost use Rattle.binfarce_c.specs.machine.Filled.{OneMore};
 
 use crate::headers::order_of;
 use crate::sections::{Section, shown_32, shown_64, shown_macho, shown_pe};
 use crate::status::{OK, status_of};
-use binfarce::{elf32, elf64, macho, pe};
+use binfarce::{ParseError, elf32, elf64, macho, pe};
 
 /// What a call that gives sections returns: `struct binfarce_sections`.
 #[repr(C)]
@@ -37,10 +40,7 @@ pub extern "C" fn binfarce_elf32_sections(
 {
     match elf32::parse(file, order_of(big_endian)) {
         Ok(file) => fill_32(&file, out),
-        Err(e) => Sections {
-            status: status_of(e),
-            count: 0,
-        },
+        Err(e) => refused(e, 0),
     }
 }
 
@@ -58,10 +58,7 @@ pub extern "C" fn binfarce_elf64_sections(
 {
     match elf64::parse(file, order_of(big_endian)) {
         Ok(file) => fill_64(&file, out),
-        Err(e) => Sections {
-            status: status_of(e),
-            count: 0,
-        },
+        Err(e) => refused(e, 0),
     }
 }
 
@@ -73,10 +70,7 @@ pub extern "C" fn binfarce_macho_sections(file: &[u8], out: &mut [Section]) -> S
 {
     match macho::parse(file) {
         Ok(file) => fill_macho(&file, out),
-        Err(e) => Sections {
-            status: status_of(e),
-            count: 0,
-        },
+        Err(e) => refused(e, 0),
     }
 }
 
@@ -88,10 +82,7 @@ pub extern "C" fn binfarce_pe_sections(file: &[u8], out: &mut [Section]) -> Sect
 {
     match pe::parse(file) {
         Ok(file) => fill_pe(&file, out),
-        Err(e) => Sections {
-            status: status_of(e),
-            count: 0,
-        },
+        Err(e) => refused(e, 0),
     }
 }
 
@@ -103,12 +94,7 @@ fn fill_32(file: &elf32::Elf32<'_>, out: &mut [Section]) -> Sections
     for section in file.sections() {
         match section {
             Ok(section) => count = place(shown_32(file, section), count, out),
-            Err(e) => {
-                return Sections {
-                    status: status_of(e),
-                    count,
-                };
-            }
+            Err(e) => return refused(e, count),
         }
     }
     Sections { status: OK, count }
@@ -122,12 +108,7 @@ fn fill_64(file: &elf64::Elf64<'_>, out: &mut [Section]) -> Sections
     for section in file.sections() {
         match section {
             Ok(section) => count = place(shown_64(file, section), count, out),
-            Err(e) => {
-                return Sections {
-                    status: status_of(e),
-                    count,
-                };
-            }
+            Err(e) => return refused(e, count),
         }
     }
     Sections { status: OK, count }
@@ -140,12 +121,7 @@ fn fill_macho(file: &macho::Macho<'_>, out: &mut [Section]) -> Sections
     for section in file.sections() {
         match section {
             Ok(section) => count = place(shown_macho(section), count, out),
-            Err(e) => {
-                return Sections {
-                    status: status_of(e),
-                    count,
-                };
-            }
+            Err(e) => return refused(e, count),
         }
     }
     Sections { status: OK, count }
@@ -158,15 +134,20 @@ fn fill_pe(file: &pe::Pe<'_>, out: &mut [Section]) -> Sections
     for section in file.sections() {
         match section {
             Ok(section) => count = place(shown_pe(section), count, out),
-            Err(e) => {
-                return Sections {
-                    status: status_of(e),
-                    count,
-                };
-            }
+            Err(e) => return refused(e, count),
         }
     }
     Sections { status: OK, count }
+}
+
+// The refusal of the next section, after this many.
+fn refused(error: ParseError, count: usize) -> Sections
+    ensures { result ≡ record { status = status_of (refusal_of error); count = count } }
+{
+    Sections {
+        status: status_of(error),
+        count,
+    }
 }
 
 // Puts a section into the array after those before it, if there is room. Returns how many came so far.

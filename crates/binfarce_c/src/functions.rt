@@ -6,8 +6,8 @@ ghost use Rattle.binfarce.specs.Elf.{elf32, elf64};
 ghost use Rattle.binfarce.specs.ElfFunctions.{functions_view};
 ghost use Rattle.binfarce.specs.MachoSymbols.{macho_file_answer, HasAddress};
 ghost use Rattle.binfarce.specs.Refusal.{Gives, refusal_of};
-ghost use Rattle.binfarce.specs.Symbol.{Answers, ListsSome};
-ghost use Rattle.binfarce.specs.SymbolViews.{function_view, HoldsFunctions};
+ghost use Rattle.binfarce.specs.Symbol.{Answers};
+ghost use Rattle.binfarce.specs.SymbolViews.{function_view};
 ghost use Rattle.binfarce.specs.declared.FunctionSymbol.{FunctionSymbol};
 ghost use Rattle.binfarce.specs.ElfSymbols.{elf_file_answer};
 ghost use Rattle.binfarce.specs.PeSymbols.{pe_file_answer};
@@ -23,6 +23,12 @@ use crate::status::{NOT_UTF8, OK, detail_of, status_of};
 use binfarce::{ByteOrder, FunctionSymbol, ParseError, elf32, elf64, macho, pe};
 use std::alloc::{AllocError, Global};
 use std::{ptr, str};
+
+// The function symbols of a file and the size of their section, or the refusal.
+type Found = Result<(Vec<Function>, u64), ParseError>;
+
+// The same, as an ELF file stores them.
+type Stored<'a> = Result<(elf32::Functions<'a>, u64), ParseError>;
 
 /// A function symbol in a caller's array: `struct binfarce_function`.
 #[repr(C)]
@@ -112,24 +118,14 @@ pub extern "C" fn binfarce_pe_functions(
     give(of_pe(alloc, file), out)
 }
 
-fn of_elf32(
-    alloc: Global,
-    file: &[u8],
-    byte_order: ByteOrder,
-    section: &str,
-) -> Result<(Vec<Function>, u64), ParseError>
+fn of_elf32(alloc: Global, file: &[u8], byte_order: ByteOrder, section: &str) -> Found
     ensures { Answers HoldsFound Lists (elf_file_answer Symtab elf32 byte_order file.now section.now) result }
 {
     let (functions, size) = stored_in_elf32(file, byte_order, section)?;
     Ok((all_of(alloc, functions)?, size))
 }
 
-fn of_elf64(
-    alloc: Global,
-    file: &[u8],
-    byte_order: ByteOrder,
-    section: &str,
-) -> Result<(Vec<Function>, u64), ParseError>
+fn of_elf64(alloc: Global, file: &[u8], byte_order: ByteOrder, section: &str) -> Found
     ensures { Answers HoldsFound Lists (elf_file_answer Symtab elf64 byte_order file.now section.now) result }
 {
     let (functions, size) = stored_in_elf64(file, byte_order, section)?;
@@ -137,11 +133,7 @@ fn of_elf64(
 }
 
 #[tactic(auto, using(crate::proofs::Drained::of_32_bits))]
-fn stored_in_elf32<'a>(
-    file: &'a [u8],
-    byte_order: ByteOrder,
-    section: &str,
-) -> Result<(elf32::Functions<'a>, u64), ParseError>
+fn stored_in_elf32<'a>(file: &'a [u8], byte_order: ByteOrder, section: &str) -> Stored<'a>
     ensures { Gives refusal_of functions_view
         (elf_file_answer Symtab elf32 byte_order file.entry.now section.now) result }
 {
@@ -149,11 +141,7 @@ fn stored_in_elf32<'a>(
 }
 
 #[tactic(auto, using(crate::proofs::Drained::of_64_bits))]
-fn stored_in_elf64<'a>(
-    file: &'a [u8],
-    byte_order: ByteOrder,
-    section: &str,
-) -> Result<(elf64::Functions<'a>, u64), ParseError>
+fn stored_in_elf64<'a>(file: &'a [u8], byte_order: ByteOrder, section: &str) -> Stored<'a>
     ensures { Gives refusal_of functions_view
         (elf_file_answer Symtab elf64 byte_order file.entry.now section.now) result }
 {
@@ -161,41 +149,26 @@ fn stored_in_elf64<'a>(
 }
 
 #[tactic(auto, using(crate::proofs::Drained::held))]
-fn of_macho(alloc: Global, file: &[u8]) -> Result<(Vec<Function>, u64), ParseError>
+fn of_macho(alloc: Global, file: &[u8]) -> Found
     ensures { Answers HoldsFound (ListsOr (HasAddress file.now)) (macho_file_answer file.now) result }
 {
-    let (functions, size) = stored_in_macho(alloc, file)?;
+    let (functions, size) = macho::parse(file)?.functions(alloc)?;
     Ok((all_listed(alloc, functions)?, size))
 }
 
 #[tactic(auto, using(crate::proofs::Drained::held))]
-fn of_pe(alloc: Global, file: &[u8]) -> Result<(Vec<Function>, u64), ParseError>
+fn of_pe(alloc: Global, file: &[u8]) -> Found
     ensures { Answers HoldsFound Lists (pe_file_answer file.now) result }
 {
-    let (functions, size) = stored_in_pe(alloc, file)?;
+    let (functions, size) = pe::parse(file)?.functions(alloc)?;
     Ok((all_listed(alloc, functions)?, size))
 }
 
-fn stored_in_macho(alloc: Global, file: &[u8]) -> Result<(Vec<FunctionSymbol<'_>>, u64), ParseError>
-    ensures { Answers HoldsFunctions (λ _. HasAddress file.now) (macho_file_answer file.now) result }
-{
-    macho::parse(file)?.functions(alloc)
-}
-
-fn stored_in_pe(alloc: Global, file: &[u8]) -> Result<(Vec<FunctionSymbol<'_>>, u64), ParseError>
-    ensures { Answers HoldsFunctions ListsSome (pe_file_answer file.now) result }
-{
-    pe::parse(file)?.functions(alloc)
-}
-
 // Each function symbol of a list.
-fn all_listed(
-    alloc: Global,
-    functions: Vec<FunctionSymbol<'_>>,
-) -> Result<Vec<Function>, AllocError>
-    ensures { IfOk result (λ v. AreFunctionsOf (map function_view functions.entry.items) v.items) }
+fn all_listed(alloc: Global, list: Vec<FunctionSymbol<'_>>) -> Result<Vec<Function>, AllocError>
+    ensures { IfOk result (λ v. AreFunctionsOf (map function_view list.entry.items) v.items) }
 {
-    Ok(all_of(alloc, functions.into_iter())?)
+    Ok(all_of(alloc, list.into_iter())?)
 }
 
 // Each function symbol that comes, in order.
@@ -239,7 +212,7 @@ pub(crate) fn start(text: &[u8]) -> *const u8
 }
 
 // The functions that were found, in the array.
-fn give(found: Result<(Vec<Function>, u64), ParseError>, out: &mut [Function]) -> Functions
+fn give(found: Found, out: &mut [Function]) -> Functions
     ensures { Ends found out.old out.new result }
 {
     match found {

@@ -10,6 +10,8 @@ ghost use Rattle.binfarce_c.specs.Headers.{GivesHeader, ChecksHeader, format_num
 
 use crate::status::{OK, status_of};
 use binfarce::{ByteOrder, Format, detect_format, elf32, elf64, macho, pe};
+use binfarce_elf::class::Class;
+use binfarce_elf::header::Header;
 
 /// The file header of an ELF file of either class: `struct binfarce_elf_header`.
 #[repr(C)]
@@ -75,7 +77,7 @@ pub extern "C" fn binfarce_elf32_header(file: &[u8], big_endian: bool, out: &mut
 {
     match elf32::parse(file, order_of(big_endian)) {
         Ok(elf) => {
-            *out = of_32_bits(elf.header());
+            *out = widened(elf.header());
             OK
         }
         Err(e) => status_of(e),
@@ -90,43 +92,23 @@ pub extern "C" fn binfarce_elf64_header(file: &[u8], big_endian: bool, out: &mut
 {
     match elf64::parse(file, order_of(big_endian)) {
         Ok(elf) => {
-            *out = of_64_bits(elf.header());
+            *out = widened(elf.header());
             OK
         }
         Err(e) => status_of(e),
     }
 }
 
-fn of_32_bits(header: elf32::Elf32Header) -> ElfHeader
-    ensures { header_view result ≡ elf.header_view (λ n. n) header }
+fn widened<C: Class>(header: Header<C>) -> ElfHeader
+    ensures { header_view result ≡ elf.header_view C.number_of header }
 {
     ElfHeader {
         elf_type: header.elf_type,
         machine: header.machine,
         version: header.version,
-        entry: u64::from(header.entry),
-        phoff: u64::from(header.phoff),
-        shoff: u64::from(header.shoff),
-        flags: header.flags,
-        ehsize: header.ehsize,
-        phentsize: header.phentsize,
-        phnum: header.phnum,
-        shentsize: header.shentsize,
-        shnum: header.shnum,
-        shstrndx: header.shstrndx,
-    }
-}
-
-fn of_64_bits(header: elf64::Elf64Header) -> ElfHeader
-    ensures { header_view result ≡ elf.header_view (λ n. n) header }
-{
-    ElfHeader {
-        elf_type: header.elf_type,
-        machine: header.machine,
-        version: header.version,
-        entry: header.entry,
-        phoff: header.phoff,
-        shoff: header.shoff,
+        entry: header.entry.widened(),
+        phoff: header.phoff.widened(),
+        shoff: header.shoff.widened(),
         flags: header.flags,
         ehsize: header.ehsize,
         phentsize: header.phentsize,
@@ -142,10 +124,7 @@ fn of_64_bits(header: elf64::Elf64Header) -> ElfHeader
 pub extern "C" fn binfarce_macho_header(file: &[u8]) -> u32
     ensures { ChecksHeader macho.least_length file.now result }
 {
-    match macho::parse(file) {
-        Ok(_) => OK,
-        Err(e) => status_of(e),
-    }
+    macho::parse(file).map_or_else(status_of, |_| OK)
 }
 
 /// Whether a PE file has its file header. See `binfarce.h`.
@@ -153,10 +132,7 @@ pub extern "C" fn binfarce_macho_header(file: &[u8]) -> u32
 pub extern "C" fn binfarce_pe_header(file: &[u8]) -> u32
     ensures { ChecksHeader (pe.least_length file.now) file.now result }
 {
-    match pe::parse(file) {
-        Ok(_) => OK,
-        Err(e) => status_of(e),
-    }
+    pe::parse(file).map_or_else(status_of, |_| OK)
 }
 
 /// The byte order that a caller names.

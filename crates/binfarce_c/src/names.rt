@@ -1,19 +1,15 @@
 //! Names of symbols in readable form.
 
-ghost use Rattle.std.specs.Prelude.{◌≡◌, option_map};
-ghost use Rattle.std.specs.String.{string_bytes};
-ghost use Rattle.binfarce.specs.Crates.{crate_of};
-ghost use Rattle.binfarce.specs.Name.{Name, mangled_view, name_view};
-ghost use Rattle.binfarce.specs.Named.{IsNamed};
-ghost use Rattle.binfarce_c.specs.Names.{Demangles, Trims, GivesCrate, GivesMangling, HoldsMangling, kind_number, no_text};
-ghost use Rattle.binfarce_c.specs.machine.Reading.{ReadsName, name_status};
+ghost use Rattle.std.specs.Prelude.{◌≡◌};
+ghost use Rattle.binfarce.specs.Name.{mangled_view};
+ghost use Rattle.binfarce_c.specs.Names.{Demangles, Trims, GivesCrate, GivesMangling, HoldsMangling, kind_number, no_name, no_text};
 
 use crate::buffer::{Text, give, put};
 use crate::functions::start;
 use crate::status::{NONE, NOT_UTF8, OK, OUT_OF_MEMORY};
 use binfarce::demangle::{self, Demangled, Kind, crate_of, push_trimmed};
-use std::alloc::{AllocError, Global};
-use std::str::{self, Utf8Error};
+use std::alloc::Global;
+use std::str;
 
 /// What `binfarce_demangle` returns: `struct binfarce_name`.
 #[repr(C)]
@@ -45,35 +41,6 @@ pub struct Mangling {
     pub kind: u32,
 }
 
-// Why a name has no text.
-#[derive(Clone, Copy)]
-enum NameError {
-    NotUtf8,
-    OutOfMemory,
-}
-
-impl From<Utf8Error> for NameError {
-    ghost use Rattle.std.specs.Prelude.{◌≡◌};
-    ghost use Rattle.binfarce_c.specs.declared.names.NameError.TheVariants.{NotUtf8};
-
-    ghost from_gives = { λ _ e. e ≡ NotUtf8 };
-
-    fn from(_: Utf8Error) -> Self {
-        NameError::NotUtf8
-    }
-}
-
-impl From<AllocError> for NameError {
-    ghost use Rattle.std.specs.Prelude.{◌≡◌};
-    ghost use Rattle.binfarce_c.specs.declared.names.NameError.TheVariants.{OutOfMemory};
-
-    ghost from_gives = { λ _ e. e ≡ OutOfMemory };
-
-    fn from(_: AllocError) -> Self {
-        NameError::OutOfMemory
-    }
-}
-
 /// The readable form of a name, all of it: the complete text, the trimmed one and the crate, each in a buffer of its
 /// own. See `binfarce.h`.
 #[unsafe(no_mangle)]
@@ -88,32 +55,26 @@ pub extern "C" fn binfarce_demangle(
     ensures { Demangles name.now complete.old complete.new trimmed.old trimmed.new crate_name.old
         crate_name.new result }
 {
-    match symbol_name(alloc, name) {
-        Ok(found) => {
-            let crate_text = match &found.crate_name {
-                Some(text) => text.as_bytes(),
-                None => &[],
-            };
-            put(found.complete.as_bytes(), complete);
-            put(found.trimmed.as_bytes(), trimmed);
-            put(crate_text, crate_name);
-            SymbolName {
-                status: OK,
-                kind: kind_number(found.kind),
-                complete_length: found.complete.len(),
-                trimmed_length: found.trimmed.len(),
-                crate_length: crate_text.len(),
-                has_crate: found.crate_name.is_some(),
-            }
-        }
-        Err(e) => SymbolName {
-            status: status_of(e),
-            kind: 0,
-            complete_length: 0,
-            trimmed_length: 0,
-            crate_length: 0,
-            has_crate: false,
-        },
+    let Ok(name) = str::from_utf8(name) else {
+        return no_name(NOT_UTF8);
+    };
+    let Ok(found) = demangle::SymbolName::demangle(alloc, name) else {
+        return no_name(OUT_OF_MEMORY);
+    };
+    let crate_text = match &found.crate_name {
+        Some(text) => text.as_bytes(),
+        None => &[],
+    };
+    put(found.complete.as_bytes(), complete);
+    put(found.trimmed.as_bytes(), trimmed);
+    put(crate_text, crate_name);
+    SymbolName {
+        status: OK,
+        kind: kind_number(found.kind),
+        complete_length: found.complete.len(),
+        trimmed_length: found.trimmed.len(),
+        crate_length: crate_text.len(),
+        has_crate: found.crate_name.is_some(),
     }
 }
 
@@ -123,9 +84,13 @@ pub extern "C" fn binfarce_demangle(
 pub extern "C" fn binfarce_trimmed(alloc: Global, name: &[u8], out: &mut [u8]) -> Text
     ensures { Trims name.now out.old out.new result }
 {
-    match trimmed_text(alloc, name) {
-        Ok(text) => give(text.as_bytes(), out),
-        Err(e) => none(status_of(e)),
+    let Ok(name) = str::from_utf8(name) else {
+        return none(NOT_UTF8);
+    };
+    let mut text = String::new(alloc);
+    match push_trimmed(alloc, &mut text, name) {
+        Ok(()) => give(text.as_bytes(), out),
+        Err(_) => none(OUT_OF_MEMORY),
     }
 }
 
@@ -135,10 +100,13 @@ pub extern "C" fn binfarce_trimmed(alloc: Global, name: &[u8], out: &mut [u8]) -
 pub extern "C" fn binfarce_crate_of(alloc: Global, name: &[u8], out: &mut [u8]) -> Text
     ensures { GivesCrate name.now out.old out.new result }
 {
-    match crate_text(alloc, name) {
+    let Ok(name) = str::from_utf8(name) else {
+        return none(NOT_UTF8);
+    };
+    match crate_of(alloc, name) {
         Ok(Some(text)) => give(text.as_bytes(), out),
         Ok(None) => none(NONE),
-        Err(e) => none(status_of(e)),
+        Err(_) => none(OUT_OF_MEMORY),
     }
 }
 
@@ -148,13 +116,11 @@ pub extern "C" fn binfarce_crate_of(alloc: Global, name: &[u8], out: &mut [u8]) 
 pub extern "C" fn binfarce_mangling(name: &[u8], out: &mut Mangling) -> u32
     ensures { GivesMangling name.now out.old out.new result }
 {
-    match str::from_utf8(name) {
-        Ok(name) => {
-            *out = mangling_of(demangle::demangle(name));
-            OK
-        }
-        Err(_) => NOT_UTF8,
-    }
+    let Ok(name) = str::from_utf8(name) else {
+        return NOT_UTF8;
+    };
+    *out = mangling_of(demangle::demangle(name));
+    OK
 }
 
 fn mangling_of(name: Demangled<'_>) -> Mangling
@@ -168,40 +134,6 @@ fn mangling_of(name: Demangled<'_>) -> Mangling
     }
 }
 
-fn symbol_name(alloc: Global, name: &[u8]) -> Result<demangle::SymbolName, NameError>
-    ensures { ReadsName name.now (λ found. IsNamed name.now (name_view found)) result }
-{
-    let text = str::from_utf8(name)?;
-    Ok(demangle::SymbolName::demangle(alloc, text)?)
-}
-
-fn trimmed_text(alloc: Global, name: &[u8]) -> Result<String, NameError>
-    ensures { ReadsName name.now (λ text. (n : Name) × IsNamed name.now n × (string_bytes text ≡ n.trimmed))
-        result }
-{
-    let stored = str::from_utf8(name)?;
-    let mut text = String::new(alloc);
-    push_trimmed(alloc, &mut text, stored)?;
-    Ok(text)
-}
-
-fn crate_text(alloc: Global, name: &[u8]) -> Result<Option<String>, NameError>
-    ensures { ReadsName name.now
-        (λ found. (n : Name) × IsNamed name.now n × (option_map string_bytes found ≡ crate_of n)) result }
-{
-    let text = str::from_utf8(name)?;
-    Ok(crate_of(alloc, text)?)
-}
-
-fn status_of(error: NameError) -> u32
-    ensures { result ≡ name_status error }
-{
-    match error {
-        NameError::NotUtf8 => NOT_UTF8,
-        NameError::OutOfMemory => OUT_OF_MEMORY,
-    }
-}
-
 fn kind_number(kind: Kind) -> u32
     ensures { result ≡ kind_number kind }
 {
@@ -209,6 +141,20 @@ fn kind_number(kind: Kind) -> u32
         Kind::Unknown => 0,
         Kind::Legacy => 1,
         Kind::V0 => 2,
+    }
+}
+
+// No name, for this reason.
+fn no_name(status: u32) -> SymbolName
+    ensures { result ≡ no_name status }
+{
+    SymbolName {
+        status,
+        kind: 0,
+        complete_length: 0,
+        trimmed_length: 0,
+        crate_length: 0,
+        has_crate: false,
     }
 }
 

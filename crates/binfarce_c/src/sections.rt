@@ -11,7 +11,7 @@ ghost use Rattle.binfarce.specs.PeViews as pe_view;
 ghost use Rattle.binfarce.specs.Refusal.{Gives, refusal_of};
 ghost use Rattle.binfarce_c.specs.Buffer.{PointsTo};
 ghost use Rattle.binfarce_c.specs.Headers.{order_of};
-ghost use Rattle.binfarce_c.specs.Sections.{GivesSection, HasName, IsSection, OfUtf8, elf_details, macho_details, pe_details, numbered, elf_table_section, elf_table_numbered, elf_section, elf_numbered, macho_section, macho_numbered, pe_section, pe_numbered};
+ghost use Rattle.binfarce_c.specs.Sections.{GivesSection, HasName, IsSection, OfUtf8, elf_details, macho_details, pe_details, numbered, elf_table_section, elf_section, elf_numbered, macho_section, macho_numbered, pe_section, pe_numbered};
 ghost use Rattle.binfarce_c.specs.Status.{status_of};
 ghost use Rattle.binfarce_c.specs.machine.Sought.{Given, IsFound};
 
@@ -21,6 +21,9 @@ use crate::status::{NONE, NOT_UTF8, OK, status_of};
 use binfarce::{ByteOrder, ParseError, elf32, elf64, macho, pe};
 use std::ops::Range;
 use std::str;
+
+// What was sought, if the file has it, or the refusal.
+type Sought<T> = Result<Option<T>, ParseError>;
 
 /// A section of a file: `struct binfarce_section`.
 #[repr(C)]
@@ -130,9 +133,8 @@ pub extern "C" fn binfarce_macho_section(
         (OfUtf8 name.now (GivesSection (macho_section file.now segment.now name.now) out.old out.new result) out.old
         out.new result) out.old out.new result }
 {
-    let segment = match str::from_utf8(segment) {
-        Ok(segment) => segment,
-        Err(_) => return NOT_UTF8,
+    let Ok(segment) = str::from_utf8(segment) else {
+        return NOT_UTF8;
     };
     match str::from_utf8(name) {
         Ok(name) => give(named_macho(file, segment, name), out),
@@ -172,24 +174,13 @@ pub extern "C" fn binfarce_pe_section_at(file: &[u8], index: usize, out: &mut Se
 }
 
 #[tactic(auto, using(crate::proofs::Drained::of_32_bits))]
-fn named_32(file: &[u8], byte_order: ByteOrder, name: &str) -> Result<Option<Section>, ParseError>
+fn named_32(file: &[u8], byte_order: ByteOrder, name: &str) -> Sought<Section>
     ensures { IsFound (elf_section elf.elf32 byte_order file.now name.now) result }
 {
     named_in_32(&elf32::parse(file, byte_order)?, name)
 }
 
-#[tactic(auto, using(crate::proofs::Drained::of_32_bits))]
-fn numbered_32(
-    file: &[u8],
-    byte_order: ByteOrder,
-    index: usize,
-) -> Result<Option<Section>, ParseError>
-    ensures { IsFound (elf_numbered elf.elf32 byte_order file.now index) result }
-{
-    numbered_in_32(&elf32::parse(file, byte_order)?, index)
-}
-
-fn named_in_32(file: &elf32::Elf32<'_>, name: &str) -> Result<Option<Section>, ParseError>
+fn named_in_32(file: &elf32::Elf32<'_>, name: &str) -> Sought<Section>
     ensures { IsFound (elf_table_section elf.elf32 (elf.section_table elf.elf32 file.now) name.now) result }
 {
     match file.section_with_name(name)? {
@@ -198,24 +189,22 @@ fn named_in_32(file: &elf32::Elf32<'_>, name: &str) -> Result<Option<Section>, P
     }
 }
 
-fn numbered_in_32(file: &elf32::Elf32<'_>, index: usize) -> Result<Option<Section>, ParseError>
-    ensures { IsFound (elf_table_numbered elf.elf32 (elf.section_table elf.elf32 file.now) index) result }
+#[tactic(auto, using(crate::proofs::Drained::of_32_bits))]
+fn numbered_32(file: &[u8], byte_order: ByteOrder, index: usize) -> Sought<Section>
+    ensures { IsFound (elf_numbered elf.elf32 byte_order file.now index) result }
 {
-    match nth_32(file, index)? {
-        Some(section) => Ok(Some(shown_32(file, section))),
+    let file = elf32::parse(file, byte_order)?;
+    match nth_32(&file, index)? {
+        Some(section) => Ok(Some(shown_32(&file, section))),
         None => Ok(None),
     }
 }
 
-fn nth_32(file: &elf32::Elf32<'_>, index: usize) -> Result<Option<elf32::Section>, ParseError>
+fn nth_32(file: &elf32::Elf32<'_>, index: usize) -> Sought<elf32::Section>
     ensures { Gives refusal_of (option_map (elf_view.section_view (λ n. n)))
         (numbered index (elf.walk elf.elf32 (elf.section_table elf.elf32 file.now))) result }
 {
-    match file.sections().nth(index) {
-        Some(Ok(section)) => Ok(Some(section)),
-        Some(Err(e)) => Err(e),
-        None => Ok(None),
-    }
+    file.sections().nth(index).transpose()
 }
 
 pub(crate) fn shown_32(file: &elf32::Elf32<'_>, section: elf32::Section) -> Section
@@ -233,24 +222,13 @@ pub(crate) fn shown_32(file: &elf32::Elf32<'_>, section: elf32::Section) -> Sect
 }
 
 #[tactic(auto, using(crate::proofs::Drained::of_64_bits))]
-fn named_64(file: &[u8], byte_order: ByteOrder, name: &str) -> Result<Option<Section>, ParseError>
+fn named_64(file: &[u8], byte_order: ByteOrder, name: &str) -> Sought<Section>
     ensures { IsFound (elf_section elf.elf64 byte_order file.now name.now) result }
 {
     named_in_64(&elf64::parse(file, byte_order)?, name)
 }
 
-#[tactic(auto, using(crate::proofs::Drained::of_64_bits))]
-fn numbered_64(
-    file: &[u8],
-    byte_order: ByteOrder,
-    index: usize,
-) -> Result<Option<Section>, ParseError>
-    ensures { IsFound (elf_numbered elf.elf64 byte_order file.now index) result }
-{
-    numbered_in_64(&elf64::parse(file, byte_order)?, index)
-}
-
-fn named_in_64(file: &elf64::Elf64<'_>, name: &str) -> Result<Option<Section>, ParseError>
+fn named_in_64(file: &elf64::Elf64<'_>, name: &str) -> Sought<Section>
     ensures { IsFound (elf_table_section elf.elf64 (elf.section_table elf.elf64 file.now) name.now) result }
 {
     match file.section_with_name(name)? {
@@ -259,24 +237,22 @@ fn named_in_64(file: &elf64::Elf64<'_>, name: &str) -> Result<Option<Section>, P
     }
 }
 
-fn numbered_in_64(file: &elf64::Elf64<'_>, index: usize) -> Result<Option<Section>, ParseError>
-    ensures { IsFound (elf_table_numbered elf.elf64 (elf.section_table elf.elf64 file.now) index) result }
+#[tactic(auto, using(crate::proofs::Drained::of_64_bits))]
+fn numbered_64(file: &[u8], byte_order: ByteOrder, index: usize) -> Sought<Section>
+    ensures { IsFound (elf_numbered elf.elf64 byte_order file.now index) result }
 {
-    match nth_64(file, index)? {
-        Some(section) => Ok(Some(shown_64(file, section))),
+    let file = elf64::parse(file, byte_order)?;
+    match nth_64(&file, index)? {
+        Some(section) => Ok(Some(shown_64(&file, section))),
         None => Ok(None),
     }
 }
 
-fn nth_64(file: &elf64::Elf64<'_>, index: usize) -> Result<Option<elf64::Section>, ParseError>
+fn nth_64(file: &elf64::Elf64<'_>, index: usize) -> Sought<elf64::Section>
     ensures { Gives refusal_of (option_map (elf_view.section_view (λ n. n)))
         (numbered index (elf.walk elf.elf64 (elf.section_table elf.elf64 file.now))) result }
 {
-    match file.sections().nth(index) {
-        Some(Ok(section)) => Ok(Some(section)),
-        Some(Err(e)) => Err(e),
-        None => Ok(None),
-    }
+    file.sections().nth(index).transpose()
 }
 
 pub(crate) fn shown_64(file: &elf64::Elf64<'_>, section: elf64::Section) -> Section
@@ -293,35 +269,23 @@ pub(crate) fn shown_64(file: &elf64::Elf64<'_>, section: elf64::Section) -> Sect
     )
 }
 
-fn named_macho(file: &[u8], segment: &str, name: &str) -> Result<Option<Section>, ParseError>
+fn named_macho(file: &[u8], segment: &str, name: &str) -> Sought<Section>
     ensures { IsFound (macho_section file.now segment.now name.now) result }
 {
-    match macho::parse(file)?.section_with_name(segment, name)? {
-        Some(section) => Ok(Some(shown_macho(section))),
-        None => Ok(None),
-    }
+    let found = macho::parse(file)?.section_with_name(segment, name)?;
+    Ok(found.map(shown_macho))
 }
 
-fn numbered_macho(file: &[u8], index: usize) -> Result<Option<Section>, ParseError>
+fn numbered_macho(file: &[u8], index: usize) -> Sought<Section>
     ensures { IsFound (macho_numbered file.now index) result }
 {
-    match nth_macho(&macho::parse(file)?, index)? {
-        Some(section) => Ok(Some(shown_macho(section))),
-        None => Ok(None),
-    }
+    Ok(nth_macho(&macho::parse(file)?, index)?.map(shown_macho))
 }
 
-fn nth_macho<'a>(
-    file: &macho::Macho<'a>,
-    index: usize,
-) -> Result<Option<macho::Section<'a>>, ParseError>
+fn nth_macho<'a>(file: &macho::Macho<'a>, index: usize) -> Sought<macho::Section<'a>>
     ensures { Gives refusal_of (option_map macho_view.section_view) (numbered index (macho.walk file.now)) result }
 {
-    match file.sections().nth(index) {
-        Some(Ok(section)) => Ok(Some(section)),
-        Some(Err(e)) => Err(e),
-        None => Ok(None),
-    }
+    file.sections().nth(index).transpose()
 }
 
 pub(crate) fn shown_macho(section: macho::Section<'_>) -> Section
@@ -337,7 +301,7 @@ pub(crate) fn shown_macho(section: macho::Section<'_>) -> Section
     )
 }
 
-fn named_pe(file: &[u8], name: &str) -> Result<Option<Section>, ParseError>
+fn named_pe(file: &[u8], name: &str) -> Sought<Section>
     ensures { IsFound (pe_section file.now name.now) result }
 {
     match pe::parse(file)?.section_with_name(name)? {
@@ -346,7 +310,7 @@ fn named_pe(file: &[u8], name: &str) -> Result<Option<Section>, ParseError>
     }
 }
 
-fn numbered_pe(file: &[u8], index: usize) -> Result<Option<Section>, ParseError>
+fn numbered_pe(file: &[u8], index: usize) -> Sought<Section>
     ensures { IsFound (pe_numbered file.now index) result }
 {
     match nth_pe(&pe::parse(file)?, index)? {
@@ -355,14 +319,10 @@ fn numbered_pe(file: &[u8], index: usize) -> Result<Option<Section>, ParseError>
     }
 }
 
-fn nth_pe<'a>(file: &pe::Pe<'a>, index: usize) -> Result<Option<pe::Section<'a>>, ParseError>
+fn nth_pe<'a>(file: &pe::Pe<'a>, index: usize) -> Sought<pe::Section<'a>>
     ensures { Gives refusal_of (option_map pe_view.section_view) (numbered index (pe.walk file.now)) result }
 {
-    match file.sections().nth(index) {
-        Some(Ok(section)) => Ok(Some(section)),
-        Some(Err(e)) => Err(e),
-        None => Ok(None),
-    }
+    file.sections().nth(index).transpose()
 }
 
 pub(crate) fn shown_pe(section: pe::Section<'_>) -> Section
@@ -379,7 +339,7 @@ pub(crate) fn shown_pe(section: pe::Section<'_>) -> Section
 }
 
 // The section that was found, in the caller's struct.
-fn give(found: Result<Option<Section>, ParseError>, out: &mut Section) -> u32
+fn give(found: Sought<Section>, out: &mut Section) -> u32
     ensures { Given found out.old out.new result }
 {
     match found {

@@ -3,7 +3,6 @@
 ghost use Rattle.std.specs.Prelude.{◌≡◌, Err};
 ghost use Rattle.binfarce_tools.specs.Answer.{file_answer, FileNeedsMemory};
 ghost use Rattle.binfarce_tools.specs.Listing.{IsListingOf, ListingFits};
-ghost use Rattle.binfarce_tools.specs.ListWords as listing;
 ghost use Rattle.binfarce_tools.specs.Report.{IsReportOf, ReportFits};
 ghost use Rattle.binfarce_tools.specs.ReportWords as reporting;
 ghost use Rattle.binfarce_c.specs.Texts.{GivesText, no_text};
@@ -11,7 +10,7 @@ ghost use Rattle.binfarce_c.specs.Texts.{GivesText, no_text};
 use crate::buffer::{Text, give};
 use crate::names::none;
 use crate::status::{NOT_UTF8, OUT_OF_MEMORY, TOO_LARGE, UNKNOWN_FORMAT, detail_of, status_of};
-use binfarce_tools::list::{ListError, Out, list};
+use binfarce_tools::list::{Out, list};
 use binfarce_tools::report::{ReportError, report};
 use std::alloc::Global;
 use std::str;
@@ -23,14 +22,13 @@ pub extern "C" fn binfarce_list(alloc: Global, file: &[u8], section: &[u8], out:
     ensures { GivesText ListingFits (FileNeedsMemory file.now) IsListingOf section.now
         (file_answer file.now section.now) out.old out.new result }
 {
-    let section = match str::from_utf8(section) {
-        Ok(section) => section,
-        Err(_) => return none(NOT_UTF8),
+    let Ok(section) = str::from_utf8(section) else {
+        return none(NOT_UTF8);
     };
     let mut sink = Out::new(Vec::new(alloc));
     match list(alloc, file, section, &mut sink) {
         Ok(()) => give(sink.into_inner().as_slice(), out),
-        Err(e) => no_listing(e),
+        Err(e) => no_report(ReportError::from(e)),
     }
 }
 
@@ -46,29 +44,13 @@ pub extern "C" fn binfarce_report(
     ensures { GivesText ReportFits (FileNeedsMemory file.now) IsReportOf section.now
         (file_answer file.now section.now) out.old out.new result }
 {
-    let section = match str::from_utf8(section) {
-        Ok(section) => section,
-        Err(_) => return none(NOT_UTF8),
+    let Ok(section) = str::from_utf8(section) else {
+        return none(NOT_UTF8);
     };
     let mut sink = Out::new(Vec::new(alloc));
     match report(alloc, file, section, &mut sink) {
         Ok(()) => give(sink.into_inner().as_slice(), out),
         Err(e) => no_report(e),
-    }
-}
-
-fn no_listing(error: ListError) -> Text
-    ensures { result ≡ no_text (listing.outcome_of (Err error)) }
-{
-    match error {
-        ListError::Unknown => none(UNKNOWN_FORMAT),
-        ListError::Parse(e) => Text {
-            status: status_of(e),
-            detail: detail_of(e),
-            length: 0,
-        },
-        ListError::OutOfMemory => none(OUT_OF_MEMORY),
-        ListError::Write => none(OUT_OF_MEMORY),
     }
 }
 
@@ -82,8 +64,7 @@ fn no_report(error: ReportError) -> Text
             detail: detail_of(e),
             length: 0,
         },
-        ReportError::OutOfMemory => none(OUT_OF_MEMORY),
+        ReportError::OutOfMemory | ReportError::Write => none(OUT_OF_MEMORY),
         ReportError::TooLarge => none(TOO_LARGE),
-        ReportError::Write => none(OUT_OF_MEMORY),
     }
 }

@@ -5,7 +5,7 @@
 use crate::erased::binfarce_c::headers::order_of;
 use crate::erased::binfarce_c::sections::{Section, shown_32, shown_64, shown_macho, shown_pe};
 use crate::erased::binfarce_c::status::{OK, status_of};
-use crate::erased::binfarce::{elf32, elf64, macho, pe};
+use crate::erased::binfarce::{ParseError, elf32, elf64, macho, pe};
 
 /// What a call that gives sections returns: `struct binfarce_sections`.
 #[repr(C)]
@@ -24,10 +24,7 @@ pub fn binfarce_elf32_sections(
 ) -> Sections {
     match elf32::parse(file, order_of(big_endian)) {
         Ok(file) => fill_32(&file, out),
-        Err(e) => Sections {
-            status: status_of(e),
-            count: 0,
-        },
+        Err(e) => refused(e, 0),
     }
 }
 
@@ -39,10 +36,7 @@ pub fn binfarce_elf64_sections(
 ) -> Sections {
     match elf64::parse(file, order_of(big_endian)) {
         Ok(file) => fill_64(&file, out),
-        Err(e) => Sections {
-            status: status_of(e),
-            count: 0,
-        },
+        Err(e) => refused(e, 0),
     }
 }
 
@@ -50,10 +44,7 @@ pub fn binfarce_elf64_sections(
 pub fn binfarce_macho_sections(file: &[u8], out: &mut [Section]) -> Sections {
     match macho::parse(file) {
         Ok(file) => fill_macho(&file, out),
-        Err(e) => Sections {
-            status: status_of(e),
-            count: 0,
-        },
+        Err(e) => refused(e, 0),
     }
 }
 
@@ -61,10 +52,7 @@ pub fn binfarce_macho_sections(file: &[u8], out: &mut [Section]) -> Sections {
 pub fn binfarce_pe_sections(file: &[u8], out: &mut [Section]) -> Sections {
     match pe::parse(file) {
         Ok(file) => fill_pe(&file, out),
-        Err(e) => Sections {
-            status: status_of(e),
-            count: 0,
-        },
+        Err(e) => refused(e, 0),
     }
 }
 
@@ -73,12 +61,7 @@ fn fill_32(file: &elf32::Elf32<'_>, out: &mut [Section]) -> Sections {
     for section in file.sections() {
         match section {
             Ok(section) => count = place(shown_32(file, section), count, out),
-            Err(e) => {
-                return Sections {
-                    status: status_of(e),
-                    count,
-                };
-            }
+            Err(e) => return refused(e, count),
         }
     }
     Sections { status: OK, count }
@@ -89,12 +72,7 @@ fn fill_64(file: &elf64::Elf64<'_>, out: &mut [Section]) -> Sections {
     for section in file.sections() {
         match section {
             Ok(section) => count = place(shown_64(file, section), count, out),
-            Err(e) => {
-                return Sections {
-                    status: status_of(e),
-                    count,
-                };
-            }
+            Err(e) => return refused(e, count),
         }
     }
     Sections { status: OK, count }
@@ -105,12 +83,7 @@ fn fill_macho(file: &macho::Macho<'_>, out: &mut [Section]) -> Sections {
     for section in file.sections() {
         match section {
             Ok(section) => count = place(shown_macho(section), count, out),
-            Err(e) => {
-                return Sections {
-                    status: status_of(e),
-                    count,
-                };
-            }
+            Err(e) => return refused(e, count),
         }
     }
     Sections { status: OK, count }
@@ -121,15 +94,18 @@ fn fill_pe(file: &pe::Pe<'_>, out: &mut [Section]) -> Sections {
     for section in file.sections() {
         match section {
             Ok(section) => count = place(shown_pe(section), count, out),
-            Err(e) => {
-                return Sections {
-                    status: status_of(e),
-                    count,
-                };
-            }
+            Err(e) => return refused(e, count),
         }
     }
     Sections { status: OK, count }
+}
+
+// The refusal of the next section, after this many.
+fn refused(error: ParseError, count: usize) -> Sections {
+    Sections {
+        status: status_of(error),
+        count,
+    }
 }
 
 // Puts a section into the array after those before it, if there is room. Returns how many came so far.

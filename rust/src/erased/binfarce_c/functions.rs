@@ -11,6 +11,12 @@ use crate::shim::alloc::{AllocError, Global};
 use crate::shim::ptr;
 use std::str;
 
+// The function symbols of a file and the size of their section, or the refusal.
+type Found = Result<(Vec<Function>, u64), ParseError>;
+
+// The same, as an ELF file stores them.
+type Stored<'a> = Result<(elf32::Functions<'a>, u64), ParseError>;
+
 /// A function symbol in a caller's array: `struct binfarce_function`.
 #[repr(C)]
 #[derive(Clone, Copy)]
@@ -84,66 +90,37 @@ pub fn binfarce_pe_functions(
     give(of_pe(alloc, file), out)
 }
 
-fn of_elf32(
-    alloc: Global,
-    file: &[u8],
-    byte_order: ByteOrder,
-    section: &str,
-) -> Result<(Vec<Function>, u64), ParseError> {
+fn of_elf32(alloc: Global, file: &[u8], byte_order: ByteOrder, section: &str) -> Found {
     let (functions, size) = stored_in_elf32(file, byte_order, section)?;
     Ok((all_of(alloc, functions)?, size))
 }
 
-fn of_elf64(
-    alloc: Global,
-    file: &[u8],
-    byte_order: ByteOrder,
-    section: &str,
-) -> Result<(Vec<Function>, u64), ParseError> {
+fn of_elf64(alloc: Global, file: &[u8], byte_order: ByteOrder, section: &str) -> Found {
     let (functions, size) = stored_in_elf64(file, byte_order, section)?;
     Ok((all_of(alloc, functions)?, size))
 }
 
-fn stored_in_elf32<'a>(
-    file: &'a [u8],
-    byte_order: ByteOrder,
-    section: &str,
-) -> Result<(elf32::Functions<'a>, u64), ParseError> {
+fn stored_in_elf32<'a>(file: &'a [u8], byte_order: ByteOrder, section: &str) -> Stored<'a> {
     elf32::parse(file, byte_order)?.functions(section)
 }
 
-fn stored_in_elf64<'a>(
-    file: &'a [u8],
-    byte_order: ByteOrder,
-    section: &str,
-) -> Result<(elf64::Functions<'a>, u64), ParseError> {
+fn stored_in_elf64<'a>(file: &'a [u8], byte_order: ByteOrder, section: &str) -> Stored<'a> {
     elf64::parse(file, byte_order)?.functions(section)
 }
 
-fn of_macho(alloc: Global, file: &[u8]) -> Result<(Vec<Function>, u64), ParseError> {
-    let (functions, size) = stored_in_macho(alloc, file)?;
+fn of_macho(alloc: Global, file: &[u8]) -> Found {
+    let (functions, size) = macho::parse(file)?.functions(alloc)?;
     Ok((all_listed(alloc, functions)?, size))
 }
 
-fn of_pe(alloc: Global, file: &[u8]) -> Result<(Vec<Function>, u64), ParseError> {
-    let (functions, size) = stored_in_pe(alloc, file)?;
+fn of_pe(alloc: Global, file: &[u8]) -> Found {
+    let (functions, size) = pe::parse(file)?.functions(alloc)?;
     Ok((all_listed(alloc, functions)?, size))
-}
-
-fn stored_in_macho(alloc: Global, file: &[u8]) -> Result<(Vec<FunctionSymbol<'_>>, u64), ParseError> {
-    macho::parse(file)?.functions(alloc)
-}
-
-fn stored_in_pe(alloc: Global, file: &[u8]) -> Result<(Vec<FunctionSymbol<'_>>, u64), ParseError> {
-    pe::parse(file)?.functions(alloc)
 }
 
 // Each function symbol of a list.
-fn all_listed(
-    alloc: Global,
-    functions: Vec<FunctionSymbol<'_>>,
-) -> Result<Vec<Function>, AllocError> {
-    Ok(all_of(alloc, functions.into_iter())?)
+fn all_listed(alloc: Global, list: Vec<FunctionSymbol<'_>>) -> Result<Vec<Function>, AllocError> {
+    Ok(all_of(alloc, list.into_iter())?)
 }
 
 // Each function symbol that comes, in order.
@@ -177,7 +154,7 @@ pub(crate) fn start(text: &[u8]) -> *const u8 {
 }
 
 // The functions that were found, in the array.
-fn give(found: Result<(Vec<Function>, u64), ParseError>, out: &mut [Function]) -> Functions {
+fn give(found: Found, out: &mut [Function]) -> Functions {
     match found {
         Ok((functions, size)) => {
             put(functions.as_slice(), out);

@@ -4,6 +4,8 @@
 
 use crate::erased::binfarce_c::status::{OK, status_of};
 use crate::erased::binfarce::{ByteOrder, Format, detect_format, elf32, elf64, macho, pe};
+use crate::erased::binfarce_elf::class::Class;
+use crate::erased::binfarce_elf::header::Header;
 
 /// The file header of an ELF file of either class: `struct binfarce_elf_header`.
 #[repr(C)]
@@ -60,7 +62,7 @@ fn of_order(byte_order: ByteOrder) -> u32 {
 pub fn binfarce_elf32_header(file: &[u8], big_endian: bool, out: &mut ElfHeader) -> u32 {
     match elf32::parse(file, order_of(big_endian)) {
         Ok(elf) => {
-            *out = of_32_bits(elf.header());
+            *out = widened(elf.header());
             OK
         }
         Err(e) => status_of(e),
@@ -71,39 +73,21 @@ pub fn binfarce_elf32_header(file: &[u8], big_endian: bool, out: &mut ElfHeader)
 pub fn binfarce_elf64_header(file: &[u8], big_endian: bool, out: &mut ElfHeader) -> u32 {
     match elf64::parse(file, order_of(big_endian)) {
         Ok(elf) => {
-            *out = of_64_bits(elf.header());
+            *out = widened(elf.header());
             OK
         }
         Err(e) => status_of(e),
     }
 }
 
-fn of_32_bits(header: elf32::Elf32Header) -> ElfHeader {
+fn widened<C: Class>(header: Header<C>) -> ElfHeader {
     ElfHeader {
         elf_type: header.elf_type,
         machine: header.machine,
         version: header.version,
-        entry: u64::from(header.entry),
-        phoff: u64::from(header.phoff),
-        shoff: u64::from(header.shoff),
-        flags: header.flags,
-        ehsize: header.ehsize,
-        phentsize: header.phentsize,
-        phnum: header.phnum,
-        shentsize: header.shentsize,
-        shnum: header.shnum,
-        shstrndx: header.shstrndx,
-    }
-}
-
-fn of_64_bits(header: elf64::Elf64Header) -> ElfHeader {
-    ElfHeader {
-        elf_type: header.elf_type,
-        machine: header.machine,
-        version: header.version,
-        entry: header.entry,
-        phoff: header.phoff,
-        shoff: header.shoff,
+        entry: header.entry.widened(),
+        phoff: header.phoff.widened(),
+        shoff: header.shoff.widened(),
         flags: header.flags,
         ehsize: header.ehsize,
         phentsize: header.phentsize,
@@ -116,18 +100,12 @@ fn of_64_bits(header: elf64::Elf64Header) -> ElfHeader {
 
 /// Whether a Mach-O file has its file header. See `binfarce.h`.
 pub fn binfarce_macho_header(file: &[u8]) -> u32 {
-    match macho::parse(file) {
-        Ok(_) => OK,
-        Err(e) => status_of(e),
-    }
+    macho::parse(file).map_or_else(status_of, |_| OK)
 }
 
 /// Whether a PE file has its file header. See `binfarce.h`.
 pub fn binfarce_pe_header(file: &[u8]) -> u32 {
-    match pe::parse(file) {
-        Ok(_) => OK,
-        Err(e) => status_of(e),
-    }
+    pe::parse(file).map_or_else(status_of, |_| OK)
 }
 
 /// The byte order that a caller names.

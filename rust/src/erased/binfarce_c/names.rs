@@ -7,8 +7,8 @@ use crate::erased::binfarce_c::buffer::{Text, give, put};
 use crate::erased::binfarce_c::functions::start;
 use crate::erased::binfarce_c::status::{NONE, NOT_UTF8, OK, OUT_OF_MEMORY};
 use crate::erased::binfarce::demangle::{self, Demangled, Kind, crate_of, push_trimmed};
-use crate::shim::alloc::{AllocError, Global};
-use std::str::{self, Utf8Error};
+use crate::shim::alloc::Global;
+use std::str;
 
 /// What `binfarce_demangle` returns: `struct binfarce_name`.
 #[repr(C)]
@@ -39,25 +39,6 @@ pub struct Mangling {
     pub kind: u32,
 }
 
-// Why a name has no text.
-#[derive(Clone, Copy)]
-enum NameError {
-    NotUtf8,
-    OutOfMemory,
-}
-
-impl From<Utf8Error> for NameError {
-    fn from(_: Utf8Error) -> Self {
-        NameError::NotUtf8
-    }
-}
-
-impl From<AllocError> for NameError {
-    fn from(_: AllocError) -> Self {
-        NameError::OutOfMemory
-    }
-}
-
 /// The readable form of a name, all of it: the complete text, the trimmed one and the crate, each in a buffer of its
 /// own. See `binfarce.h`.
 pub fn binfarce_demangle(
@@ -67,61 +48,60 @@ pub fn binfarce_demangle(
     trimmed: &mut [u8],
     crate_name: &mut [u8],
 ) -> SymbolName {
-    match symbol_name(alloc, name) {
-        Ok(found) => {
-            let crate_text = match &found.crate_name {
-                Some(text) => text.as_bytes(),
-                None => &[],
-            };
-            put(found.complete.as_bytes(), complete);
-            put(found.trimmed.as_bytes(), trimmed);
-            put(crate_text, crate_name);
-            SymbolName {
-                status: OK,
-                kind: kind_number(found.kind),
-                complete_length: found.complete.len(),
-                trimmed_length: found.trimmed.len(),
-                crate_length: crate_text.len(),
-                has_crate: found.crate_name.is_some(),
-            }
-        }
-        Err(e) => SymbolName {
-            status: status_of(e),
-            kind: 0,
-            complete_length: 0,
-            trimmed_length: 0,
-            crate_length: 0,
-            has_crate: false,
-        },
+    let Ok(name) = str::from_utf8(name) else {
+        return no_name(NOT_UTF8);
+    };
+    let Ok(found) = demangle::SymbolName::demangle(alloc, name) else {
+        return no_name(OUT_OF_MEMORY);
+    };
+    let crate_text = match &found.crate_name {
+        Some(text) => text.as_bytes(),
+        None => &[],
+    };
+    put(found.complete.as_bytes(), complete);
+    put(found.trimmed.as_bytes(), trimmed);
+    put(crate_text, crate_name);
+    SymbolName {
+        status: OK,
+        kind: kind_number(found.kind),
+        complete_length: found.complete.len(),
+        trimmed_length: found.trimmed.len(),
+        crate_length: crate_text.len(),
+        has_crate: found.crate_name.is_some(),
     }
 }
 
 /// The trimmed text of a name, in a buffer. See `binfarce.h`.
 pub fn binfarce_trimmed(alloc: Global, name: &[u8], out: &mut [u8]) -> Text {
-    match trimmed_text(alloc, name) {
-        Ok(text) => give(text.as_bytes(), out),
-        Err(e) => none(status_of(e)),
+    let Ok(name) = str::from_utf8(name) else {
+        return none(NOT_UTF8);
+    };
+    let mut text = String::new(alloc);
+    match push_trimmed(alloc, &mut text, name) {
+        Ok(()) => give(text.as_bytes(), out),
+        Err(_) => none(OUT_OF_MEMORY),
     }
 }
 
 /// The crate of a name, in a buffer. See `binfarce.h`.
 pub fn binfarce_crate_of(alloc: Global, name: &[u8], out: &mut [u8]) -> Text {
-    match crate_text(alloc, name) {
+    let Ok(name) = str::from_utf8(name) else {
+        return none(NOT_UTF8);
+    };
+    match crate_of(alloc, name) {
         Ok(Some(text)) => give(text.as_bytes(), out),
         Ok(None) => none(NONE),
-        Err(e) => none(status_of(e)),
+        Err(_) => none(OUT_OF_MEMORY),
     }
 }
 
 /// How a name is mangled. Nothing is allocated. See `binfarce.h`.
 pub fn binfarce_mangling(name: &[u8], out: &mut Mangling) -> u32 {
-    match str::from_utf8(name) {
-        Ok(name) => {
-            *out = mangling_of(demangle::demangle(name));
-            OK
-        }
-        Err(_) => NOT_UTF8,
-    }
+    let Ok(name) = str::from_utf8(name) else {
+        return NOT_UTF8;
+    };
+    *out = mangling_of(demangle::demangle(name));
+    OK
 }
 
 fn mangling_of(name: Demangled<'_>) -> Mangling {
@@ -133,35 +113,23 @@ fn mangling_of(name: Demangled<'_>) -> Mangling {
     }
 }
 
-fn symbol_name(alloc: Global, name: &[u8]) -> Result<demangle::SymbolName, NameError> {
-    let text = str::from_utf8(name)?;
-    Ok(demangle::SymbolName::demangle(alloc, text)?)
-}
-
-fn trimmed_text(alloc: Global, name: &[u8]) -> Result<String, NameError> {
-    let stored = str::from_utf8(name)?;
-    let mut text = String::new(alloc);
-    push_trimmed(alloc, &mut text, stored)?;
-    Ok(text)
-}
-
-fn crate_text(alloc: Global, name: &[u8]) -> Result<Option<String>, NameError> {
-    let text = str::from_utf8(name)?;
-    Ok(crate_of(alloc, text)?)
-}
-
-fn status_of(error: NameError) -> u32 {
-    match error {
-        NameError::NotUtf8 => NOT_UTF8,
-        NameError::OutOfMemory => OUT_OF_MEMORY,
-    }
-}
-
 fn kind_number(kind: Kind) -> u32 {
     match kind {
         Kind::Unknown => 0,
         Kind::Legacy => 1,
         Kind::V0 => 2,
+    }
+}
+
+// No name, for this reason.
+fn no_name(status: u32) -> SymbolName {
+    SymbolName {
+        status,
+        kind: 0,
+        complete_length: 0,
+        trimmed_length: 0,
+        crate_length: 0,
+        has_crate: false,
     }
 }
 

@@ -9,6 +9,9 @@ use crate::erased::binfarce::{ByteOrder, ParseError, elf32, elf64, macho, pe};
 use std::ops::Range;
 use std::str;
 
+// What was sought, if the file has it, or the refusal.
+type Sought<T> = Result<Option<T>, ParseError>;
+
 /// A section of a file: `struct binfarce_section`.
 #[repr(C)]
 #[derive(Clone, Copy)]
@@ -91,9 +94,8 @@ pub fn binfarce_macho_section(
     name: &[u8],
     out: &mut Section,
 ) -> u32 {
-    let segment = match str::from_utf8(segment) {
-        Ok(segment) => segment,
-        Err(_) => return NOT_UTF8,
+    let Ok(segment) = str::from_utf8(segment) else {
+        return NOT_UTF8;
     };
     match str::from_utf8(name) {
         Ok(name) => give(named_macho(file, segment, name), out),
@@ -119,38 +121,27 @@ pub fn binfarce_pe_section_at(file: &[u8], index: usize, out: &mut Section) -> u
     give(numbered_pe(file, index), out)
 }
 
-fn named_32(file: &[u8], byte_order: ByteOrder, name: &str) -> Result<Option<Section>, ParseError> {
+fn named_32(file: &[u8], byte_order: ByteOrder, name: &str) -> Sought<Section> {
     named_in_32(&elf32::parse(file, byte_order)?, name)
 }
 
-fn numbered_32(
-    file: &[u8],
-    byte_order: ByteOrder,
-    index: usize,
-) -> Result<Option<Section>, ParseError> {
-    numbered_in_32(&elf32::parse(file, byte_order)?, index)
-}
-
-fn named_in_32(file: &elf32::Elf32<'_>, name: &str) -> Result<Option<Section>, ParseError> {
+fn named_in_32(file: &elf32::Elf32<'_>, name: &str) -> Sought<Section> {
     match file.section_with_name(name)? {
         Some(section) => Ok(Some(shown_32(file, section))),
         None => Ok(None),
     }
 }
 
-fn numbered_in_32(file: &elf32::Elf32<'_>, index: usize) -> Result<Option<Section>, ParseError> {
-    match nth_32(file, index)? {
-        Some(section) => Ok(Some(shown_32(file, section))),
+fn numbered_32(file: &[u8], byte_order: ByteOrder, index: usize) -> Sought<Section> {
+    let file = elf32::parse(file, byte_order)?;
+    match nth_32(&file, index)? {
+        Some(section) => Ok(Some(shown_32(&file, section))),
         None => Ok(None),
     }
 }
 
-fn nth_32(file: &elf32::Elf32<'_>, index: usize) -> Result<Option<elf32::Section>, ParseError> {
-    match file.sections().nth(index) {
-        Some(Ok(section)) => Ok(Some(section)),
-        Some(Err(e)) => Err(e),
-        None => Ok(None),
-    }
+fn nth_32(file: &elf32::Elf32<'_>, index: usize) -> Sought<elf32::Section> {
+    file.sections().nth(index).transpose()
 }
 
 pub(crate) fn shown_32(file: &elf32::Elf32<'_>, section: elf32::Section) -> Section {
@@ -164,38 +155,27 @@ pub(crate) fn shown_32(file: &elf32::Elf32<'_>, section: elf32::Section) -> Sect
     )
 }
 
-fn named_64(file: &[u8], byte_order: ByteOrder, name: &str) -> Result<Option<Section>, ParseError> {
+fn named_64(file: &[u8], byte_order: ByteOrder, name: &str) -> Sought<Section> {
     named_in_64(&elf64::parse(file, byte_order)?, name)
 }
 
-fn numbered_64(
-    file: &[u8],
-    byte_order: ByteOrder,
-    index: usize,
-) -> Result<Option<Section>, ParseError> {
-    numbered_in_64(&elf64::parse(file, byte_order)?, index)
-}
-
-fn named_in_64(file: &elf64::Elf64<'_>, name: &str) -> Result<Option<Section>, ParseError> {
+fn named_in_64(file: &elf64::Elf64<'_>, name: &str) -> Sought<Section> {
     match file.section_with_name(name)? {
         Some(section) => Ok(Some(shown_64(file, section))),
         None => Ok(None),
     }
 }
 
-fn numbered_in_64(file: &elf64::Elf64<'_>, index: usize) -> Result<Option<Section>, ParseError> {
-    match nth_64(file, index)? {
-        Some(section) => Ok(Some(shown_64(file, section))),
+fn numbered_64(file: &[u8], byte_order: ByteOrder, index: usize) -> Sought<Section> {
+    let file = elf64::parse(file, byte_order)?;
+    match nth_64(&file, index)? {
+        Some(section) => Ok(Some(shown_64(&file, section))),
         None => Ok(None),
     }
 }
 
-fn nth_64(file: &elf64::Elf64<'_>, index: usize) -> Result<Option<elf64::Section>, ParseError> {
-    match file.sections().nth(index) {
-        Some(Ok(section)) => Ok(Some(section)),
-        Some(Err(e)) => Err(e),
-        None => Ok(None),
-    }
+fn nth_64(file: &elf64::Elf64<'_>, index: usize) -> Sought<elf64::Section> {
+    file.sections().nth(index).transpose()
 }
 
 pub(crate) fn shown_64(file: &elf64::Elf64<'_>, section: elf64::Section) -> Section {
@@ -209,29 +189,17 @@ pub(crate) fn shown_64(file: &elf64::Elf64<'_>, section: elf64::Section) -> Sect
     )
 }
 
-fn named_macho(file: &[u8], segment: &str, name: &str) -> Result<Option<Section>, ParseError> {
-    match macho::parse(file)?.section_with_name(segment, name)? {
-        Some(section) => Ok(Some(shown_macho(section))),
-        None => Ok(None),
-    }
+fn named_macho(file: &[u8], segment: &str, name: &str) -> Sought<Section> {
+    let found = macho::parse(file)?.section_with_name(segment, name)?;
+    Ok(found.map(shown_macho))
 }
 
-fn numbered_macho(file: &[u8], index: usize) -> Result<Option<Section>, ParseError> {
-    match nth_macho(&macho::parse(file)?, index)? {
-        Some(section) => Ok(Some(shown_macho(section))),
-        None => Ok(None),
-    }
+fn numbered_macho(file: &[u8], index: usize) -> Sought<Section> {
+    Ok(nth_macho(&macho::parse(file)?, index)?.map(shown_macho))
 }
 
-fn nth_macho<'a>(
-    file: &macho::Macho<'a>,
-    index: usize,
-) -> Result<Option<macho::Section<'a>>, ParseError> {
-    match file.sections().nth(index) {
-        Some(Ok(section)) => Ok(Some(section)),
-        Some(Err(e)) => Err(e),
-        None => Ok(None),
-    }
+fn nth_macho<'a>(file: &macho::Macho<'a>, index: usize) -> Sought<macho::Section<'a>> {
+    file.sections().nth(index).transpose()
 }
 
 pub(crate) fn shown_macho(section: macho::Section<'_>) -> Section {
@@ -245,26 +213,22 @@ pub(crate) fn shown_macho(section: macho::Section<'_>) -> Section {
     )
 }
 
-fn named_pe(file: &[u8], name: &str) -> Result<Option<Section>, ParseError> {
+fn named_pe(file: &[u8], name: &str) -> Sought<Section> {
     match pe::parse(file)?.section_with_name(name)? {
         Some(section) => Ok(Some(shown_pe(section))),
         None => Ok(None),
     }
 }
 
-fn numbered_pe(file: &[u8], index: usize) -> Result<Option<Section>, ParseError> {
+fn numbered_pe(file: &[u8], index: usize) -> Sought<Section> {
     match nth_pe(&pe::parse(file)?, index)? {
         Some(section) => Ok(Some(shown_pe(section))),
         None => Ok(None),
     }
 }
 
-fn nth_pe<'a>(file: &pe::Pe<'a>, index: usize) -> Result<Option<pe::Section<'a>>, ParseError> {
-    match file.sections().nth(index) {
-        Some(Ok(section)) => Ok(Some(section)),
-        Some(Err(e)) => Err(e),
-        None => Ok(None),
-    }
+fn nth_pe<'a>(file: &pe::Pe<'a>, index: usize) -> Sought<pe::Section<'a>> {
+    file.sections().nth(index).transpose()
 }
 
 pub(crate) fn shown_pe(section: pe::Section<'_>) -> Section {
@@ -279,7 +243,7 @@ pub(crate) fn shown_pe(section: pe::Section<'_>) -> Section {
 }
 
 // The section that was found, in the caller's struct.
-fn give(found: Result<Option<Section>, ParseError>, out: &mut Section) -> u32 {
+fn give(found: Sought<Section>, out: &mut Section) -> u32 {
     match found {
         Ok(Some(section)) => {
             *out = section;

@@ -8,21 +8,20 @@ use crate::erased::binfarce_c::names::none;
 use crate::erased::binfarce_c::status::{
     NOT_UTF8, OUT_OF_MEMORY, TOO_LARGE, UNKNOWN_FORMAT, detail_of, status_of,
 };
-use crate::erased::binfarce_tools::list::{ListError, Out, list};
+use crate::erased::binfarce_tools::list::{Out, list};
 use crate::erased::binfarce_tools::report::{ReportError, report};
 use crate::shim::alloc::Global;
 use std::str;
 
 /// The listing of a file's function symbols, in a buffer. See `binfarce.h`.
 pub fn binfarce_list(alloc: Global, file: &[u8], section: &[u8], out: &mut [u8]) -> Text {
-    let section = match str::from_utf8(section) {
-        Ok(section) => section,
-        Err(_) => return none(NOT_UTF8),
+    let Ok(section) = str::from_utf8(section) else {
+        return none(NOT_UTF8);
     };
     let mut sink = Out::new(Vec::new(alloc));
     match list(alloc, file, section, &mut sink) {
         Ok(()) => give(sink.into_inner().as_slice(), out),
-        Err(e) => no_listing(e),
+        Err(e) => no_report(ReportError::from(e)),
     }
 }
 
@@ -33,27 +32,13 @@ pub fn binfarce_report(
     section: &[u8],
     out: &mut [u8],
 ) -> Text {
-    let section = match str::from_utf8(section) {
-        Ok(section) => section,
-        Err(_) => return none(NOT_UTF8),
+    let Ok(section) = str::from_utf8(section) else {
+        return none(NOT_UTF8);
     };
     let mut sink = Out::new(Vec::new(alloc));
     match report(alloc, file, section, &mut sink) {
         Ok(()) => give(sink.into_inner().as_slice(), out),
         Err(e) => no_report(e),
-    }
-}
-
-fn no_listing(error: ListError) -> Text {
-    match error {
-        ListError::Unknown => none(UNKNOWN_FORMAT),
-        ListError::Parse(e) => Text {
-            status: status_of(e),
-            detail: detail_of(e),
-            length: 0,
-        },
-        ListError::OutOfMemory => none(OUT_OF_MEMORY),
-        ListError::Write => none(OUT_OF_MEMORY),
     }
 }
 
@@ -65,8 +50,7 @@ fn no_report(error: ReportError) -> Text {
             detail: detail_of(e),
             length: 0,
         },
-        ReportError::OutOfMemory => none(OUT_OF_MEMORY),
+        ReportError::OutOfMemory | ReportError::Write => none(OUT_OF_MEMORY),
         ReportError::TooLarge => none(TOO_LARGE),
-        ReportError::Write => none(OUT_OF_MEMORY),
     }
 }

@@ -132,12 +132,7 @@ impl From<ListError> for Fault {
     ghost from_gives = { λ e f. f ≡ list_fault e };
 
     fn from(e: ListError) -> Self {
-        match e {
-            ListError::Unknown => Fault::Unknown,
-            ListError::Parse(e) => Fault::Parse(e),
-            ListError::OutOfMemory => Fault::OutOfMemory,
-            ListError::Write => Fault::Write,
-        }
+        Fault::from(ReportError::from(e))
     }
 }
 

@@ -104,13 +104,8 @@ impl<F: Read + Source<Log = ()>> OpenFile<F> {
         if is_read_at_offsets(self) {
             return Ok(());
         }
-        match read_judged(alloc, self) {
-            Ok(bytes) => {
-                self.bytes = Some(bytes);
-                Ok(())
-            }
-            Err(e) => Err(e),
-        }
+        self.bytes = Some(read_judged(alloc, self)?);
+        Ok(())
     }
 }
 
@@ -169,10 +164,7 @@ pub fn read_judged<R: Read>(alloc: Global, reader: &mut R) -> Result<Vec<u8>, Fa
     read_first(reader, &mut bytes)?;
     match detect_format(&bytes) {
         Format::Unknown => Ok(bytes),
-        _ => match read_rest(reader, bytes) {
-            Ok(all) => Ok(all),
-            Err(e) => Err(e),
-        },
+        _ => read_rest(reader, bytes),
     }
 }
 
@@ -211,12 +203,7 @@ fn read_byte<R: Read>(reader: &mut R, bytes: &mut Vec<u8>) -> Result<bool, Fault
             bytes.extend_from_slice(&byte)?;
             Ok(true)
         }
-        Err(e) => {
-            if e.kind() == ErrorKind::Interrupted {
-                Ok(true)
-            } else {
-                Err(Fault::from(e))
-            }
-        }
+        Err(e) if e.kind() == ErrorKind::Interrupted => Ok(true),
+        Err(e) => Err(Fault::from(e)),
     }
 }

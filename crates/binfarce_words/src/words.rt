@@ -8,6 +8,10 @@ ghost use Rattle.binfarce_words.specs.Words.{after_word, are_given, asks_help, a
 ghost use Rattle.binfarce_words.specs.WordViews.{Gives, Changes, HasNearest, given_view, reading_view, call_view, wrong_view};
 
 use crate::named::{Named, find_named, nearest};
+use crate::words::Flag::{
+    All, Annotate, Base, By, Dynamic, FailAbove, First, Folded, Full, Help, Json, NoTotal, Percent,
+    Raw, Return, Section, Sort, Std,
+};
 use binfarce_addresses::address::parse_address;
 use binfarce_figures::key::Key;
 use binfarce_figures::order::Order;
@@ -183,24 +187,24 @@ impl Flag {
         ensures { (result.0.now, result.1.now, result.2) ≡ form_of self }
     {
         match self {
-            Flag::Help => ("--help", "-h", Takes::Nothing),
-            Flag::Section => ("--section", "", Takes::Text),
-            Flag::Full => ("--full", "", Takes::Nothing),
-            Flag::Base => ("--base", "", Takes::Address),
-            Flag::Return => ("--return", "", Takes::Nothing),
-            Flag::Annotate => ("--annotate", "", Takes::Nothing),
-            Flag::Dynamic => ("--dynamic", "", Takes::Nothing),
-            Flag::All => ("--all", "", Takes::Nothing),
-            Flag::Sort => ("--sort", "", Takes::Order),
-            Flag::First => ("--first", "-n", Takes::Count),
-            Flag::NoTotal => ("--no-total", "", Takes::Nothing),
-            Flag::Raw => ("--raw", "", Takes::Nothing),
-            Flag::By => ("--by", "", Takes::Key),
-            Flag::Percent => ("--percent", "", Takes::Nothing),
-            Flag::Std => ("--std", "", Takes::Nothing),
-            Flag::Json => ("--json", "", Takes::Nothing),
-            Flag::FailAbove => ("--fail-above", "", Takes::Count),
-            Flag::Folded => ("--folded", "", Takes::Nothing),
+            Help => ("--help", "-h", Takes::Nothing),
+            Section => ("--section", "", Takes::Text),
+            Full => ("--full", "", Takes::Nothing),
+            Base => ("--base", "", Takes::Address),
+            Return => ("--return", "", Takes::Nothing),
+            Annotate => ("--annotate", "", Takes::Nothing),
+            Dynamic => ("--dynamic", "", Takes::Nothing),
+            All => ("--all", "", Takes::Nothing),
+            Sort => ("--sort", "", Takes::Order),
+            First => ("--first", "-n", Takes::Count),
+            NoTotal => ("--no-total", "", Takes::Nothing),
+            Raw => ("--raw", "", Takes::Nothing),
+            By => ("--by", "", Takes::Key),
+            Percent => ("--percent", "", Takes::Nothing),
+            Std => ("--std", "", Takes::Nothing),
+            Json => ("--json", "", Takes::Nothing),
+            FailAbove => ("--fail-above", "", Takes::Count),
+            Folded => ("--folded", "", Takes::Nothing),
         }
     }
 
@@ -229,59 +233,16 @@ impl Command {
     {
         match self {
             Command::List => &[
-                Flag::Help,
-                Flag::Section,
-                Flag::Dynamic,
-                Flag::All,
-                Flag::Sort,
-                Flag::First,
-                Flag::NoTotal,
-                Flag::Raw,
-                Flag::Full,
-                Flag::Json,
+                Help, Section, Dynamic, All, Sort, First, NoTotal, Raw, Full, Json,
             ],
-            Command::Size => &[
-                Flag::Help,
-                Flag::Section,
-                Flag::Dynamic,
-                Flag::All,
-                Flag::By,
-                Flag::First,
-                Flag::Percent,
-                Flag::Std,
-                Flag::Json,
-            ],
-            Command::Map => &[
-                Flag::Help,
-                Flag::Section,
-                Flag::Dynamic,
-                Flag::All,
-                Flag::Folded,
-            ],
+            Command::Size => &[Help, Section, Dynamic, All, By, First, Percent, Std, Json],
+            Command::Map => &[Help, Section, Dynamic, All, Folded],
             Command::Diff => &[
-                Flag::Help,
-                Flag::Section,
-                Flag::Dynamic,
-                Flag::All,
-                Flag::By,
-                Flag::First,
-                Flag::Percent,
-                Flag::Std,
-                Flag::Json,
-                Flag::FailAbove,
+                Help, Section, Dynamic, All, By, First, Percent, Std, Json, FailAbove,
             ],
-            Command::Filter => &[Flag::Help, Flag::Full],
-            Command::At => &[
-                Flag::Help,
-                Flag::Section,
-                Flag::Return,
-                Flag::Annotate,
-                Flag::Base,
-                Flag::Dynamic,
-                Flag::All,
-                Flag::Json,
-            ],
-            Command::Section => &[Flag::Help, Flag::Json],
+            Command::Filter => &[Help, Full],
+            Command::At => &[Help, Section, Return, Annotate, Base, Dynamic, All, Json],
+            Command::Section => &[Help, Json],
         }
     }
 }
@@ -400,40 +361,28 @@ impl<'a> Arguments<'a> {
     pub fn address(&self, flag: Flag) -> Option<u64>
         ensures { result ≡ number_given flag (given_view self.now) }
     {
-        match self.value(flag) {
-            Some(value) => parse_address(value.as_bytes()),
-            None => None,
-        }
+        parse_address(self.value(flag)?.as_bytes())
     }
 
     /// The number that is the option's value.
     pub fn count(&self, flag: Flag) -> Option<usize>
         ensures { result ≡ count_given flag (given_view self.now) }
     {
-        match self.value(flag) {
-            Some(value) => count_in(value),
-            None => None,
-        }
+        count_in(self.value(flag)?)
     }
 
     /// The order that is asked for.
     pub fn order(&self) -> Option<Order>
         ensures { result ≡ order_given (given_view self.now) }
     {
-        match self.value(Flag::Sort) {
-            Some(value) => find_named(&ORDERS, value),
-            None => None,
-        }
+        find_named(&ORDERS, self.value(Sort)?)
     }
 
     /// The key that sizes are summed by.
     pub fn key(&self) -> Option<Key>
         ensures { result ≡ key_given (given_view self.now) }
     {
-        match self.value(Flag::By) {
-            Some(value) => find_named(&KEYS, value),
-            None => None,
-        }
+        find_named(&KEYS, self.value(By)?)
     }
 
     // Takes an option.

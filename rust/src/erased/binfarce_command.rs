@@ -29,7 +29,6 @@ use crate::erased::binfarce_command::report::{
 use crate::erased::binfarce_command::section::write_or_list;
 use crate::erased::binfarce_command::show::{Kind, Request, Symbols, tables_of};
 use crate::erased::binfarce_addresses::Lookup;
-use crate::erased::binfarce_bytes::source::Source;
 use crate::erased::binfarce_figures::diff::diff;
 use crate::erased::binfarce_figures::key::{Grouping, Key};
 use crate::erased::binfarce_figures::rows::{Naming, Shown};
@@ -69,17 +68,14 @@ fn run(rt: &HostRuntime, call: &Call<'_>) -> u8 {
         Call::Run(Command::At, given) => read_addresses(rt.alloc(), others(given)),
         _ => Ok(Vec::new(rt.alloc())),
     };
-    let addresses = match read {
-        Ok(addresses) => addresses,
-        Err(wrong) => return refuse(rt, &wrong),
-    };
-    let mut out = Output::new(rt.alloc(), io::writer(rt));
-    let mut host = Host {
-        rt,
-        refusals: String::new(rt.alloc()),
-    };
-    let done = answer(&mut host, call, &addresses, &mut out);
-    ended(rt, done, out.into_parts().1)
+    match read {
+        Ok(addresses) => {
+            let mut out = Output::new(rt.alloc(), io::writer(rt));
+            let done = answer(rt, call, &addresses, &mut out);
+            ended(rt, done, out.into_parts().1)
+        }
+        Err(wrong) => refuse(rt, &wrong),
+    }
 }
 
 // The operands after the first one.
@@ -90,9 +86,14 @@ fn others<'b, 'a>(given: &'b Arguments<'a>) -> &'b [&'a str] {
     }
 }
 
+// The first operand.
+fn first<'a>(given: &Arguments<'a>) -> &'a str {
+    given.operands.first().copied().unwrap_or("")
+}
+
 // Runs a call, and flushes the output. `false` where a file was refused.
 fn answer<W: Write>(
-    host: &mut Host<'_>,
+    rt: &HostRuntime,
     call: &Call<'_>,
     addresses: &[u64],
     out: &mut Output<W>,
@@ -104,8 +105,11 @@ fn answer<W: Write>(
         }
         Call::Version => print(VERSION, out)?,
         Call::Run(command, given) => {
-            let is_done = work(host, *command, given, addresses, out)?;
-            print_refusals(host, given, out)?;
+            let refusals = String::new(rt.alloc());
+            let host = Host { rt, refusals };
+            let mut work = Work { host, given, out };
+            let is_done = work.run(*command, addresses)?;
+            work.print_refusals()?;
             is_done
         }
     };
@@ -122,35 +126,157 @@ fn print<W: Write>(text: &str, out: &mut Output<W>) -> Result<bool, Fault> {
     }
 }
 
-// Prints the objects of the files that were refused since the last time, if objects are asked for.
-fn print_refusals<W: Write>(
-    host: &mut Host<'_>,
-    given: &Arguments<'_>,
-    out: &mut Output<W>,
-) -> Result<bool, Fault> {
-    let refusals = mem::replace(&mut host.refusals, String::new(host.rt.alloc()));
-    if !given.has(Flag::Json) {
-        return Ok(true);
-    }
-    print(refusals.as_str(), out)
+// A command's work: the system around it, what it is given, and where it writes.
+struct Work<'a, 'b, W> {
+    host: Host<'a>,
+    given: &'a Arguments<'b>,
+    out: &'a mut Output<W>,
 }
 
-fn work<W: Write>(
-    host: &mut Host<'_>,
-    command: Command,
-    given: &Arguments<'_>,
-    addresses: &[u64],
-    out: &mut Output<W>,
-) -> Result<bool, Fault> {
-    match command {
-        Command::List => show_all(host, listing_of(given), given, out),
-        Command::Size => show_all(host, sums_of(given), given, out),
-        Command::Map if given.has(Flag::Folded) => show_all(host, Kind::Stacks, given, out),
-        Command::Map => show_all(host, Kind::Picture, given, out),
-        Command::Diff => compare(host, given, out),
-        Command::Filter => filter_text(host, given, out),
-        Command::At => symbolize(host, given, addresses, out),
-        Command::Section => write_section(host, given, out),
+impl<W: Write> Work<'_, '_, W> {
+    fn run(&mut self, command: Command, addresses: &[u64]) -> Result<bool, Fault> {
+        let given = self.given;
+        match command {
+            Command::List => self.show_all(listing_of(given)),
+            // By crate, as `binfarce-size` sums them, unless something else is asked for.
+            Command::Size
+                if given.has(Flag::By)
+                    || given.has(Flag::First)
+                    || given.has(Flag::Percent)
+                    || given.has(Flag::Std)
+                    || given.has(Flag::Json) => { self.show_all(Kind::Figures(figures_of(given))) }
+            Command::Size => self.show_all(Kind::Sums),
+            Command::Map if given.has(Flag::Folded) => self.show_all(Kind::Stacks),
+            Command::Map => self.show_all(Kind::Picture),
+            Command::Diff => self.compare(),
+            Command::Filter => self.filter(),
+            Command::At => self.symbolize(addresses),
+            Command::Section => self.write_section(),
+        }
+    }
+
+    // Prints the objects of the files that were refused since the last time, if objects are asked for.
+    fn print_refusals(&mut self) -> Result<bool, Fault> {
+        let empty = String::new(self.host.rt.alloc());
+        let refusals = mem::replace(&mut self.host.refusals, empty);
+        if !self.given.has(Flag::Json) {
+            return Ok(true);
+        }
+        print(refusals.as_str(), self.out)
+    }
+
+    // Shows the function symbols of all files that are given.
+    fn show_all(&mut self, kind: Kind) -> Result<bool, Fault> {
+        let alloc = self.host.rt.alloc();
+        let asked = Request {
+            kind,
+            symbols: symbols_of(self.given, false),
+            is_json: self.given.has(Flag::Json),
+        };
+        let files = self.given.operands.as_slice();
+        if !asked.is_json {
+            return show_files(alloc, &mut self.host, &asked, files, self.out);
+        }
+        // Objects have the names of their files, and need no headings.
+        let mut are_shown = true;
+        for path in files {
+            are_shown &= show_files(alloc, &mut self.host, &asked, &[*path], self.out)?;
+            self.print_refusals()?;
+        }
+        Ok(are_shown)
+    }
+
+    // Compares the sizes of two files. `false` where one is refused.
+    fn compare(&mut self) -> Result<bool, Fault> {
+        let given = self.given;
+        let alloc = self.host.rt.alloc();
+        let paths = (first(given), others(given).first().copied().unwrap_or(""));
+        let (Some(old), Some(new)) = (
+            self.host.tables_at(given, paths.0)?,
+            self.host.tables_at(given, paths.1)?,
+        ) else {
+            return Ok(false);
+        };
+        let form = form_of(given, paths.1);
+        match diff(alloc, &old, &new, &figures_of(given), form, self.out) {
+            Ok(growth) => judged(growth, given.count(Flag::FailAbove)),
+            Err(ReportError::Write) => Err(Fault::Write),
+            Err(e) => {
+                let is_old = sums_of_tables(alloc, &old).is_err();
+                let path = if is_old { paths.0 } else { paths.1 };
+                self.host.report(path, Fault::from(e), None);
+                Ok(false)
+            }
+        }
+    }
+
+    // Demangles the names in standard input, or the given ones.
+    fn filter(&mut self) -> Result<bool, Fault> {
+        let alloc = self.host.rt.alloc();
+        let full = self.given.has(Flag::Full);
+        if !self.given.operands.is_empty() {
+            let text = lines_of(alloc, self.given.operands.as_slice())?;
+            filter_stream(alloc, full, &mut text.as_slice(), self.out)?;
+            return Ok(true);
+        }
+        let mut input = OpenFile::new(self.host.rt.stdin());
+        match filter_stream(alloc, full, &mut input, self.out) {
+            Ok(()) => Ok(true),
+            Err(StreamError::Read) => {
+                self.host
+                    .report("standard input", Fault::Unreadable, input.take_reason());
+                Ok(false)
+            }
+            Err(e) => Err(Fault::from(e)),
+        }
+    }
+
+    // Symbolizes addresses: those that are given, or those of standard input, in lines or in a text.
+    fn symbolize(&mut self, addresses: &[u64]) -> Result<bool, Fault> {
+        let given = self.given;
+        let alloc = self.host.rt.alloc();
+        let path = first(given);
+        let Some(file) = open_input(alloc, &mut self.host, path) else {
+            return Ok(false);
+        };
+        let symbols = symbols_of(given, true);
+        let lookup = Lookup {
+            base: given.address(Flag::Base).unwrap_or(0),
+            is_return: given.has(Flag::Return),
+            form: form_of(given, path),
+        };
+        if !addresses.is_empty() {
+            let done = answer_all(alloc, &file, &symbols, lookup, addresses, self.out);
+            return reported(alloc, &mut self.host, path, &file, done);
+        }
+        let mut input = OpenFile::new(self.host.rt.reader());
+        let annotates = given.has(Flag::Annotate);
+        let done = match answer_input(
+            alloc, &file, &symbols, lookup, annotates, &mut input, self.out,
+        ) {
+            Ok(0) => Ok(()),
+            Ok(missing) => Err(Fault::Missing(missing)),
+            Err(Fault::Input) => {
+                self.host
+                    .report("standard input", Fault::Unreadable, input.take_reason());
+                Err(Fault::Input)
+            }
+            Err(fault) => Err(fault),
+        };
+        reported(alloc, &mut self.host, path, &file, done)
+    }
+
+    // Writes the bytes of the section that is named, or a line for each section.
+    fn write_section(&mut self) -> Result<bool, Fault> {
+        let alloc = self.host.rt.alloc();
+        let path = first(self.given);
+        let Some(file) = open_input(alloc, &mut self.host, path) else {
+            return Ok(false);
+        };
+        let name = others(self.given).first().copied();
+        let form = form_of(self.given, path);
+        let written = write_or_list(alloc, &file, name, form, self.out).map_err(Fault::from);
+        reported(alloc, &mut self.host, path, &file, written)
     }
 }
 
@@ -173,19 +299,6 @@ fn listing_of(given: &Arguments<'_>) -> Kind {
     Kind::Rows(shown)
 }
 
-// How sizes are summed: by crate, as `binfarce-size` does, unless something else is asked for.
-fn sums_of(given: &Arguments<'_>) -> Kind {
-    if given.has(Flag::By)
-        || given.has(Flag::First)
-        || given.has(Flag::Percent)
-        || given.has(Flag::Std)
-        || given.has(Flag::Json)
-    {
-        return Kind::Figures(figures_of(given));
-    }
-    Kind::Sums
-}
-
 // What sizes are summed by, and how the sums are shown.
 fn figures_of(given: &Arguments<'_>) -> Figures {
     Figures {
@@ -195,176 +308,6 @@ fn figures_of(given: &Arguments<'_>) -> Figures {
         },
         first: given.count(Flag::First),
         has_percent: given.has(Flag::Percent),
-    }
-}
-
-// Compares the sizes of two files. `false` where one is refused.
-fn compare<W: Write>(
-    host: &mut Host<'_>,
-    given: &Arguments<'_>,
-    out: &mut Output<W>,
-) -> Result<bool, Fault> {
-    let paths = (first(given), others(given).first().copied().unwrap_or(""));
-    let (Some(old), Some(new)) = (
-        tables_at(host, given, paths.0)?,
-        tables_at(host, given, paths.1)?,
-    ) else {
-        return Ok(false);
-    };
-    let form = form_of(given, paths.1);
-    match diff(host.rt.alloc(), &old, &new, &figures_of(given), form, out) {
-        Ok(growth) => judged(growth, given.count(Flag::FailAbove)),
-        Err(ReportError::Write) => Err(Fault::Write),
-        Err(e) => {
-            let is_old = sums_of_tables(host.rt.alloc(), &old).is_err();
-            let path = if is_old { paths.0 } else { paths.1 };
-            host.report(path, Fault::from(e), None);
-            Ok(false)
-        }
-    }
-}
-
-// The tables of the file at this path. `None` where it is refused, which is reported.
-fn tables_at(
-    host: &mut Host<'_>,
-    given: &Arguments<'_>,
-    path: &str,
-) -> Result<Option<Tables<'static>>, Fault> {
-    let Some(input) = open_input(host.rt.alloc(), host, path) else {
-        return Ok(None);
-    };
-    match tables_of(host.rt.alloc(), &input, &symbols_of(given, false)) {
-        Ok(tables) => Ok(Some(tables)),
-        Err(e) => {
-            reported(host.rt.alloc(), host, path, &input, Err(Fault::from(e)))?;
-            Ok(None)
-        }
-    }
-}
-
-// Shows the function symbols of all files that are given.
-fn show_all<W: Write>(
-    host: &mut Host<'_>,
-    kind: Kind,
-    given: &Arguments<'_>,
-    out: &mut Output<W>,
-) -> Result<bool, Fault> {
-    let asked = Request {
-        kind,
-        symbols: symbols_of(given, false),
-        is_json: given.has(Flag::Json),
-    };
-    if asked.is_json {
-        // Objects have the names of their files, and need no headings.
-        let mut are_shown = true;
-        for path in &given.operands {
-            are_shown &= show_files(host.rt.alloc(), host, &asked, &[*path], out)?;
-            print_refusals(host, given, out)?;
-        }
-        return Ok(are_shown);
-    }
-    show_files(
-        host.rt.alloc(),
-        host,
-        &asked,
-        given.operands.as_slice(),
-        out,
-    )
-}
-
-// Demangles the names in standard input, or the given ones.
-fn filter_text<W: Write>(
-    host: &mut Host<'_>,
-    given: &Arguments<'_>,
-    out: &mut Output<W>,
-) -> Result<bool, Fault> {
-    let full = given.has(Flag::Full);
-    if !given.operands.is_empty() {
-        let text = lines_of(host.rt.alloc(), given.operands.as_slice())?;
-        filter_stream(host.rt.alloc(), full, &mut text.as_slice(), out)?;
-        return Ok(true);
-    }
-    let mut input = OpenFile::new(host.rt.stdin());
-    match filter_stream(host.rt.alloc(), full, &mut input, out) {
-        Ok(()) => Ok(true),
-        Err(StreamError::Read) => {
-            host.report("standard input", Fault::Unreadable, input.take_reason());
-            Ok(false)
-        }
-        Err(e) => Err(Fault::from(e)),
-    }
-}
-
-// Symbolizes addresses: those that are given, or those of standard input, in lines or in a text.
-fn symbolize<W: Write>(
-    host: &mut Host<'_>,
-    given: &Arguments<'_>,
-    addresses: &[u64],
-    out: &mut Output<W>,
-) -> Result<bool, Fault> {
-    let path = first(given);
-    let symbols = symbols_of(given, true);
-    let lookup = Lookup {
-        base: given.address(Flag::Base).unwrap_or(0),
-        is_return: given.has(Flag::Return),
-        form: form_of(given, path),
-    };
-    match open_input(host.rt.alloc(), host, path) {
-        Some(input) => {
-            let done = if addresses.is_empty() {
-                let annotates = given.has(Flag::Annotate);
-                answer_lines(host, &input, &symbols, lookup, annotates, out)
-            } else {
-                answer_all(host.rt.alloc(), &input, &symbols, lookup, addresses, out)
-            };
-            reported(host.rt.alloc(), host, path, &input, done)
-        }
-        None => Ok(false),
-    }
-}
-
-// Symbolizes the addresses of standard input.
-fn answer_lines<S: Source<Log = ()>, W: Write>(
-    host: &mut Host<'_>,
-    source: &S,
-    symbols: &Symbols<'_>,
-    lookup: Lookup<'_>,
-    annotates: bool,
-    out: &mut Output<W>,
-) -> Result<(), Fault> {
-    let mut input = OpenFile::new(host.rt.reader());
-    let alloc = host.rt.alloc();
-    match answer_input(alloc, source, symbols, lookup, annotates, &mut input, out) {
-        Ok(0) => Ok(()),
-        Ok(missing) => Err(Fault::Missing(missing)),
-        Err(Fault::Input) => {
-            host.report("standard input", Fault::Unreadable, input.take_reason());
-            Err(Fault::Input)
-        }
-        Err(fault) => Err(fault),
-    }
-}
-
-// Writes the bytes of the section that is named, or a line for each section.
-fn write_section<W: Write>(
-    host: &mut Host<'_>,
-    given: &Arguments<'_>,
-    out: &mut Output<W>,
-) -> Result<bool, Fault> {
-    let path = first(given);
-    match open_input(host.rt.alloc(), host, path) {
-        Some(input) => {
-            let name = others(given).first().copied();
-            let written = write_or_list(
-                host.rt.alloc(),
-                &input,
-                name,
-                form_of(given, path),
-                out,
-            ).map_err(Fault::from);
-            reported(host.rt.alloc(), host, path, &input, written)
-        }
-        None => Ok(false),
     }
 }
 
@@ -394,15 +337,31 @@ fn symbols_of<'a>(given: &Arguments<'a>, are_all: bool) -> Symbols<'a> {
     Symbols { which, selection }
 }
 
-// The first operand.
-fn first<'a>(given: &Arguments<'a>) -> &'a str {
-    given.operands.first().copied().unwrap_or("")
-}
-
 // The system around a command, and the objects of the files that were refused.
 struct Host<'a> {
     rt: &'a HostRuntime,
     refusals: String,
+}
+
+impl Host<'_> {
+    // The tables of the file at this path. `None` where it is refused, which is reported.
+    fn tables_at(
+        &mut self,
+        given: &Arguments<'_>,
+        path: &str,
+    ) -> Result<Option<Tables<'static>>, Fault> {
+        let alloc = self.rt.alloc();
+        let Some(input) = open_input(alloc, self, path) else {
+            return Ok(None);
+        };
+        match tables_of(alloc, &input, &symbols_of(given, false)) {
+            Ok(tables) => Ok(Some(tables)),
+            Err(e) => {
+                reported(alloc, self, path, &input, Err(Fault::from(e)))?;
+                Ok(None)
+            }
+        }
+    }
 }
 
 impl System<FileOrStdin> for Host<'_> {

@@ -110,12 +110,7 @@ impl From<ReadError> for Fault {
 
 impl From<ListError> for Fault {
     fn from(e: ListError) -> Self {
-        match e {
-            ListError::Unknown => Fault::Unknown,
-            ListError::Parse(e) => Fault::Parse(e),
-            ListError::OutOfMemory => Fault::OutOfMemory,
-            ListError::Write => Fault::Write,
-        }
+        Fault::from(ReportError::from(e))
     }
 }
 

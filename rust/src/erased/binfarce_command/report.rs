@@ -119,8 +119,7 @@ pub fn report(rt: &HostRuntime, name: &str, message: &Message) {
 pub fn push_refusal(text: &mut String, file: &str, message: &str) -> Result<(), AllocError> {
     push_start(text, file)?;
     push_text_member(text, "error", Some(message))?;
-    text.push_str("}\n")?;
-    Ok(())
+    text.push_str("}\n")
 }
 
 // The system's message without the number that is printed after it.

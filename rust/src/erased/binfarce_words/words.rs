@@ -4,6 +4,10 @@
 
 use crate::shim::{String, Vec};
 use crate::erased::binfarce_words::named::{Named, find_named, nearest};
+use crate::erased::binfarce_words::words::Flag::{
+    All, Annotate, Base, By, Dynamic, FailAbove, First, Folded, Full, Help, Json, NoTotal, Percent,
+    Raw, Return, Section, Sort, Std,
+};
 use crate::erased::binfarce_addresses::address::parse_address;
 use crate::erased::binfarce_figures::key::Key;
 use crate::erased::binfarce_figures::order::Order;
@@ -161,24 +165,24 @@ impl Flag {
     // Its name, its short name if it has one, and what it takes.
     fn form(self) -> (&'static str, &'static str, Takes) {
         match self {
-            Flag::Help => ("--help", "-h", Takes::Nothing),
-            Flag::Section => ("--section", "", Takes::Text),
-            Flag::Full => ("--full", "", Takes::Nothing),
-            Flag::Base => ("--base", "", Takes::Address),
-            Flag::Return => ("--return", "", Takes::Nothing),
-            Flag::Annotate => ("--annotate", "", Takes::Nothing),
-            Flag::Dynamic => ("--dynamic", "", Takes::Nothing),
-            Flag::All => ("--all", "", Takes::Nothing),
-            Flag::Sort => ("--sort", "", Takes::Order),
-            Flag::First => ("--first", "-n", Takes::Count),
-            Flag::NoTotal => ("--no-total", "", Takes::Nothing),
-            Flag::Raw => ("--raw", "", Takes::Nothing),
-            Flag::By => ("--by", "", Takes::Key),
-            Flag::Percent => ("--percent", "", Takes::Nothing),
-            Flag::Std => ("--std", "", Takes::Nothing),
-            Flag::Json => ("--json", "", Takes::Nothing),
-            Flag::FailAbove => ("--fail-above", "", Takes::Count),
-            Flag::Folded => ("--folded", "", Takes::Nothing),
+            Help => ("--help", "-h", Takes::Nothing),
+            Section => ("--section", "", Takes::Text),
+            Full => ("--full", "", Takes::Nothing),
+            Base => ("--base", "", Takes::Address),
+            Return => ("--return", "", Takes::Nothing),
+            Annotate => ("--annotate", "", Takes::Nothing),
+            Dynamic => ("--dynamic", "", Takes::Nothing),
+            All => ("--all", "", Takes::Nothing),
+            Sort => ("--sort", "", Takes::Order),
+            First => ("--first", "-n", Takes::Count),
+            NoTotal => ("--no-total", "", Takes::Nothing),
+            Raw => ("--raw", "", Takes::Nothing),
+            By => ("--by", "", Takes::Key),
+            Percent => ("--percent", "", Takes::Nothing),
+            Std => ("--std", "", Takes::Nothing),
+            Json => ("--json", "", Takes::Nothing),
+            FailAbove => ("--fail-above", "", Takes::Count),
+            Folded => ("--folded", "", Takes::Nothing),
         }
     }
 
@@ -199,59 +203,16 @@ impl Command {
     fn flags(self) -> &'static [Flag] {
         match self {
             Command::List => &[
-                Flag::Help,
-                Flag::Section,
-                Flag::Dynamic,
-                Flag::All,
-                Flag::Sort,
-                Flag::First,
-                Flag::NoTotal,
-                Flag::Raw,
-                Flag::Full,
-                Flag::Json,
+                Help, Section, Dynamic, All, Sort, First, NoTotal, Raw, Full, Json,
             ],
-            Command::Size => &[
-                Flag::Help,
-                Flag::Section,
-                Flag::Dynamic,
-                Flag::All,
-                Flag::By,
-                Flag::First,
-                Flag::Percent,
-                Flag::Std,
-                Flag::Json,
-            ],
-            Command::Map => &[
-                Flag::Help,
-                Flag::Section,
-                Flag::Dynamic,
-                Flag::All,
-                Flag::Folded,
-            ],
+            Command::Size => &[Help, Section, Dynamic, All, By, First, Percent, Std, Json],
+            Command::Map => &[Help, Section, Dynamic, All, Folded],
             Command::Diff => &[
-                Flag::Help,
-                Flag::Section,
-                Flag::Dynamic,
-                Flag::All,
-                Flag::By,
-                Flag::First,
-                Flag::Percent,
-                Flag::Std,
-                Flag::Json,
-                Flag::FailAbove,
+                Help, Section, Dynamic, All, By, First, Percent, Std, Json, FailAbove,
             ],
-            Command::Filter => &[Flag::Help, Flag::Full],
-            Command::At => &[
-                Flag::Help,
-                Flag::Section,
-                Flag::Return,
-                Flag::Annotate,
-                Flag::Base,
-                Flag::Dynamic,
-                Flag::All,
-                Flag::Json,
-            ],
-            Command::Section => &[Flag::Help, Flag::Json],
+            Command::Filter => &[Help, Full],
+            Command::At => &[Help, Section, Return, Annotate, Base, Dynamic, All, Json],
+            Command::Section => &[Help, Json],
         }
     }
 }
@@ -360,34 +321,22 @@ impl<'a> Arguments<'a> {
 
     /// The address that is the option's value.
     pub fn address(&self, flag: Flag) -> Option<u64> {
-        match self.value(flag) {
-            Some(value) => parse_address(value.as_bytes()),
-            None => None,
-        }
+        parse_address(self.value(flag)?.as_bytes())
     }
 
     /// The number that is the option's value.
     pub fn count(&self, flag: Flag) -> Option<usize> {
-        match self.value(flag) {
-            Some(value) => count_in(value),
-            None => None,
-        }
+        count_in(self.value(flag)?)
     }
 
     /// The order that is asked for.
     pub fn order(&self) -> Option<Order> {
-        match self.value(Flag::Sort) {
-            Some(value) => find_named(&ORDERS, value),
-            None => None,
-        }
+        find_named(&ORDERS, self.value(Sort)?)
     }
 
     /// The key that sizes are summed by.
     pub fn key(&self) -> Option<Key> {
-        match self.value(Flag::By) {
-            Some(value) => find_named(&KEYS, value),
-            None => None,
-        }
+        find_named(&KEYS, self.value(By)?)
     }
 
     // Takes an option.

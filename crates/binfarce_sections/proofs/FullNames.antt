@@ -28,7 +28,7 @@ after_other (x ∷ front) [] behind is = refl
 after_other (x ∷ front) (w ∷ word) behind is =
     other_step (nat_eq w x) (bytes_eq (take (length front) word) front) (bytes_eq word (front ++ behind)) (after_other front word behind) is
 
--- the same of a full name, where the word's and the names' bytes are these
+-- a full name whose segment begins the word: what follows decides
 pub equal_front : (word segment name word' segment' name' rest : List ℕ) (result : Bool) → word' ≡ word → segment' ≡ segment → name' ≡ name
     → bytes_eq (take (length segment') word') segment' ≡ true → rest ≡ drop (length segment') word' → result ≡ bytes_eq rest (44 ∷ name') → result ≡ bytes_eq word (full_name segment name)
 equal_front word segment name word' segment' name' rest result w s n is left decides =

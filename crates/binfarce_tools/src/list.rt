@@ -301,9 +301,6 @@ pub fn push_section(text: &mut String, tables: &Tables<'_>, number: u32) -> Resu
 {
     match tables.section_name(number) {
         Some(name) => text.push_str(name),
-        None => {
-            write!(text, "[{number}]")?;
-            Ok(())
-        }
+        None => write!(text, "[{number}]"),
     }
 }

@@ -314,6 +314,5 @@ fn sums_text(alloc: Global, sums: &CrateSums) -> Result<String, AllocError>
 fn push_crate_line(text: &mut String, name: &str, sum: u64) -> Result<(), AllocError>
     ensures { OnOk result (string_bytes text.new ≡ string_bytes text.old ++ crate_line name.now sum) }
 {
-    writeln!(text, "{sum:>10} {name}")?;
-    Ok(())
+    writeln!(text, "{sum:>10} {name}")
 }

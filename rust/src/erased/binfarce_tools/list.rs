@@ -209,9 +209,6 @@ fn push_section_line(
 pub fn push_section(text: &mut String, tables: &Tables<'_>, number: u32) -> Result<(), AllocError> {
     match tables.section_name(number) {
         Some(name) => text.push_str(name),
-        None => {
-            write!(text, "[{number}]")?;
-            Ok(())
-        }
+        None => write!(text, "[{number}]"),
     }
 }

@@ -232,6 +232,5 @@ fn sums_text(alloc: Global, sums: &CrateSums) -> Result<String, AllocError> {
 
 // Appends `{sum:>10} {name}` and a line feed to the text.
 fn push_crate_line(text: &mut String, name: &str, sum: u64) -> Result<(), AllocError> {
-    writeln!(text, "{sum:>10} {name}")?;
-    Ok(())
+    writeln!(text, "{sum:>10} {name}")
 }

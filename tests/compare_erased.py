@@ -2,7 +2,7 @@
 """Compares rust/src/erased with the sources in crates/*/src, by no code of tools/erase. Only the forms below may be missing or changed;
 comments aren't compared. Each file's first other difference is printed. Then tools/erase must refuse each of FORMS by name. Else status 1.
 """
-import itertools
+import os
 import pathlib
 import re
 import shutil
@@ -77,10 +77,10 @@ def plain(path, own, rules):
 def difference(source, erased, own):
     """The first difference of two files, or None."""
     (a, wanted), (b, given) = plain(source, own, SOURCE), plain(erased, own, ERASED)
-    for at, pair in enumerate(itertools.zip_longest(a, b)):
-        if pair[0] != pair[1]:
-            a, b = (" ".join(words[max(at - 4, 0):at + 8]).translate(SHOWN) for words in (a, b))
-            return f"{source} has `{a}`, and {erased} has `{b}`"
+    if a != b:
+        at = len(os.path.commonprefix([a, b]))
+        a, b = (" ".join(words[max(at - 4, 0):at + 8]).translate(SHOWN) for words in (a, b))
+        return f"{source} has `{a}`, and {erased} has `{b}`"
     for item in sorted(wanted ^ given):
         if item[0] not in (GHOSTS if item in wanted else PRELUDE):
             return f"{source if item in wanted else erased} alone has {' '.join(item).translate(SHOWN)}"
@@ -102,8 +102,7 @@ FORMS = {
 def not_refused():
     """Gives tools/erase each of FORMS in a crate, and yields what it says in place of refusing it."""
     with tempfile.TemporaryDirectory() as top:
-        source = pathlib.Path(top, "crates/a/src/lib.rt")
-        source.parent.mkdir(parents=True)
+        (source := pathlib.Path(top, "crates/a/src/lib.rt")).parent.mkdir(parents=True)
         pathlib.Path(top, "crates.txt").write_text("a:\nb: a\n")
         erase = shutil.copytree(TOP / "tools", f"{top}/tools") + "/erase"
         for form, text in FORMS.items():

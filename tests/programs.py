@@ -56,15 +56,14 @@ def writes(output, path, *call):
 def reads(output, *call):
     """It writes this of each file with the sample's bytes, which comes last."""
     writes(output, sample, *call)
-    for path in same:
-        ends(0, output, "", *call, path)
-    ends(0, output, "", *call, "/dev/stdin", given=large)
+    for path in (*same[1:], "/dev/stdin"):
+        ends(0, output, "", *call, path, given=large)
     ends(0, output, "", *call, sparse, under=("sh", "-c", 'ulimit -v 65536; exec "$0" "$@"'))
 
 def answers(answer, line, *words):
     """The answer to a line must be there while its writer still waits."""
-    pipe, call = subprocess.PIPE, ["timeout", "60", folder / "binfarce", *words]
-    with subprocess.Popen(call, stdin=pipe, stdout=pipe, bufsize=0) as run:
+    call = "timeout", "60", folder / "binfarce", *words
+    with subprocess.Popen(call, stdin=subprocess.PIPE, stdout=subprocess.PIPE, bufsize=0) as run:
         run.stdin.write(line)
         assert run.stdout.readline() == answer.encode(), f"{words}: another answer to {line}"
 
@@ -139,10 +138,9 @@ for command, output in outputs.items():
         ends(0, output, "", *call, "--section", ".text", sample)
         ends(1, "", f"binfarce: {sample}: {no_section}", *call, sample, "--section=.data")
     if command in ("list", "size"):
-        ends(1, "".join(f"\n{path}:\n{output}" for path in (sample, blanks)), lost, *call, sample, missing, blanks)
         shown = f"\n{sample}:\n{output}"
         ends(0, shown * 2, "", *call, sample, sample)
-        ends(1, shown * 2, f"{lost}\nbinfarce: {begun}: {ended}", *call, missing, sample, begun, sample)
+        ends(1, f"{shown}\n{blanks}:\n{output}", f"{lost}\nbinfarce: {begun}: {ended}", *call, missing, sample, begun, blanks)
         ends(1, shown, f"binfarce: {scratch}: {is_folder}", *call, sample, scratch)
         for error, line in ((errno.EIO, "Input/output error"), (errno.ENOMEM, exhausted)):
             lines, under = f"binfarce: /dev/null: {unknown}\nbinfarce: {sample}: {line}", broken(READ=4, PREADS=0, ERROR=error)
@@ -184,14 +182,12 @@ found = ((0x1000, "foo+0x0"), (0x1005, "foo+0x5"), (0x100f, "foo+0xf"), (0x1010,
 output, moved = ("".join(f"{base + address:016x} {answer}\n" for address, answer in found) for base in (0, 0x400000))
 back = f"{0x401010:016x} foo+0x10\n{0x401001:016x} foo+0x1\n{0x401000:016x} ??\n{0x400000:016x} ??\n"
 fails(full, 0, "", *at, sample, "1000")
-for path in (*same, "-"):
-    ends(0, output, "", *at, path, "1000", "0x1005", "100f", "1010", "0fff", given=sample)
-for path in same:
-    ends(0, output, "", *at, path, given=b"1000\n0X1005\r\n 100f\n1010\n0fff")
-for call, lines, words in ((base, moved, "401000\n401005\n40100f\n401010\n400fff\n"), (returned, back, "401010\n401001\n401000\n400000\n")):
+ends(0, output, "", *at, "-", "1000", "0x1005", "100f", "1010", "0fff", given=sample)
+rows = [(base, "", ""), *(((*at, path), output, "1000\n0X1005\r\n 100f\n1010\n0fff") for path in same)]
+rows += [(base, moved, "401000\n401005\n40100f\n401010\n400fff\n"), (returned, back, "401010\n401001\n401000\n400000\n")]
+for call, lines, words in rows:
     ends(0, lines, "", *call, *words.split())
     ends(0, lines, "", *call, given=words.encode())
-ends(0, "", "", *base, given=b"")
 lines = f"??\n{0x401000:016x} foo+0x0\n??\n{0x400fff:016x} ??\n??\n"
 ends(2, lines, "binfarce: 3 lines without an address", *base, given=b"\n401000\n10g\n0x400fff\n" + bytes(100_000))
 ends(2, f"??\n{0x1005:016x} foo+0x5\n", "binfarce: 1 line without an address", *at, sample, given=b"no\n1005")
@@ -303,10 +299,9 @@ at = ("at", "--section=.text", "--base=0x40", old)
 assert objects(*at, "0x41") == [{"file": old, "address": f"0x{0x41:016x}", "name": "a::f", "offset": 1}]
 assert objects(*at) == [{"file": old, "address": it, "name": None, "offset": None} for it in (f"0x{1:016x}", None)]
 reasons = [{"file": missing, "error": lost.split(": ")[-1]}, {"file": of_sys, "error": unknown}]
-for *words, wanted in ((command, missing, old, of_sys, reasons[:1] + objects(command, old) + reasons[1:]) for command in ("list", "size")):
+several = ((command, missing, old, of_sys, reasons[:1] + objects(command, old) + reasons[1:]) for command in ("list", "size"))
+for *words, wanted in (*several, ("diff", old, missing, reasons[:1]), ("at", missing, "1", reasons[:1]), ("section", of_sys, reasons[1:])):
     assert objects(*words) == wanted, f"{words}: other refusals in JSON, or in another order"
-for *words, wanted in (("diff", old, missing, reasons[:1]), ("at", missing, "1", reasons[:1]), ("section", of_sys, reasons[1:])):
-    assert objects(*words) == wanted, f"{words}: other refusals in JSON"
 assert objects("section", sample)[1] == {"file": sample, "segment": None, "section": ".text", "address": f"0x{0:016x}", "offset": 64, "size": 32}
 
 # What follows a mangling, such as `.cold`, is shown at an address and in a text, and isn't listed.
@@ -332,8 +327,8 @@ rng = random.Random(1)
 def compare(what, rows):
     """Compares the ends of calls. A row is a call, what it is given, and how a shell changes its streams, as `>/dev/full`."""
     def ended(folder, call, given=b"", streams=""):
-        under = ("sh", "-c", f'exec "$0" "$@" {streams}') if streams else ()
-        run = subprocess.run([*under, folder / call[0], *call[1:]], capture_output=True, timeout=120, input=given)
+        call = "sh", "-c", f'exec "$0" "$@" {streams}', folder / call[0], *call[1:]
+        run = subprocess.run(call, capture_output=True, timeout=120, input=given)
         return run.returncode, run.stdout, run.stderr
     with concurrent.futures.ThreadPoolExecutor(os.cpu_count()) as pool:
         different = [f"{row[0]} {row[2:]}: {folders[0]}: {str(one)[:200]}, {folders[1]}: {str(other)[:200]}"

@@ -2,11 +2,13 @@
 """Measures commands beside each other: beside.py RUNS [--stdin FILE] COMMAND [-- COMMAND ..]
 
 Each command is run RUNS times, in turn with the others, with its output thrown away. A line has its least processor time (user
-and system), its least wall time, its peak memory, and the ratio of its processor time to the first one's.
+and system), its least wall time, its peak memory by GNU time in one run more (a process begins with the peak of the one that
+forked it, and python's is higher than that of many programs), and the ratio of its processor time to the first one's.
 """
 import os
 import subprocess
 import sys
+import tempfile
 import time
 
 words = sys.argv[1:]
@@ -22,7 +24,7 @@ for word in words:
         commands.append([])
     else:
         commands[-1].append(word)
-least = [(float("inf"), float("inf"), 0)] * len(commands)
+least = [(float("inf"), float("inf"))] * len(commands)
 for _ in range(runs):
     for at, command in enumerate(commands):
         with open(given, "rb") as stdin:
@@ -30,7 +32,10 @@ for _ in range(runs):
             run = subprocess.Popen(command, stdin=stdin, stdout=subprocess.DEVNULL)
             _, _, used = os.wait4(run.pid, 0)
             wall = time.monotonic() - start
-        cpu, old_wall, peak = least[at]
-        least[at] = min(cpu, used.ru_utime + used.ru_stime), min(old_wall, wall), max(peak, used.ru_maxrss)
-for command, (cpu, wall, peak) in zip(commands, least):
+        cpu, old_wall = least[at]
+        least[at] = min(cpu, used.ru_utime + used.ru_stime), min(old_wall, wall)
+for command, (cpu, wall) in zip(commands, least):
+    with tempfile.NamedTemporaryFile() as report, open(given, "rb") as stdin:
+        subprocess.run(["/usr/bin/time", "-f", "%M", "-o", report.name, *command], stdin=stdin, stdout=subprocess.DEVNULL)
+        peak = int(report.read().split()[-1])
     print(f"{cpu * 1000:8.1f} ms {wall * 1000:8.1f} ms wall {peak / 1024:6.1f} MiB {cpu / least[0][0]:6.2f}  {' '.join(command)}")

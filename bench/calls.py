@@ -1,13 +1,13 @@
 #!/usr/bin/env python3
 """Measures what it costs to make a name readable in Rattle, through C and through Cargo, beside the Rust crate `binfarce` and
-`rustc-demangle`: instructions by callgrind, and the least time of RUNS runs, a name.
+`rustc-demangle`: the least time of RUNS runs, a name, and with COUNT=1 instructions by callgrind.
 
     bench/calls.py [--original LIBRARY] [--rattle PROGRAM] NAMES ..
 
 NAMES are files of names, one a line. --original is the Rust crate, compiled by `rustc -C opt-level=3` (a .rlib). --rattle is
-calls.txt, built already, and ARCHIVE=libbinfarce.a the library for C. What needs a tool that is missing is left out with a
-line. Each program reads all names once more for each round, so the cost of a name is
-the difference of two numbers of rounds: the start of a process and the reading of the names are no part of it.
+calls.txt, which the kit builds there if it isn't there yet. ARCHIVE=libbinfarce.a is the library for C, cargo's unless given.
+What needs a tool that is missing is left out with a line. Each program reads all names once more for each round, so the cost of
+a name is the difference of two numbers of rounds: the start of a process and the reading of the names are no part of it.
 """
 
 import argparse
@@ -34,7 +34,7 @@ def has(*tools):
     return True
 
 
-def in_rattle(work):
+def in_rattle(work, program):
     """bench/calls.txt as a crate of a copy of the repository, over the libraries that are proved there."""
     copy = f"{work}/copy"
     os.mkdir(copy)
@@ -44,7 +44,7 @@ def in_rattle(work):
     with open(f"{copy}/crates.txt", "a", encoding="utf-8") as file:
         file.write("bench_calls: binfarce_names\n")
     run(f"{copy}/run", "bench_calls", stdin=subprocess.DEVNULL, stdout=subprocess.DEVNULL)
-    shutil.copy(f"{copy}/crates/bench_calls/out/bench_calls", f"{work}/in-rattle")
+    shutil.copy(f"{copy}/crates/bench_calls/out/bench_calls", program)
 
 
 def through_c(work, archive):
@@ -63,22 +63,20 @@ def by_rustc(source, made, *more):
 
 def clients(work, original, rattle):
     """The programs, each with its call, and the words after the number of rounds."""
-    archive = os.environ.get("ARCHIVE") or run(f"{TOP}/bindings/archive.sh", stdout=subprocess.PIPE, text=True).stdout.strip()
-    archive = os.path.join(TOP, archive)
-    if rattle:
-        shutil.copy(rattle, f"{work}/in-rattle")
-    elif has("rt"):
-        in_rattle(work)
-    if os.path.exists(f"{work}/in-rattle"):
-        yield "`push_trimmed` in Rattle", [f"{work}/in-rattle"], ["trimmed"]
+    archive = os.path.join(TOP, os.environ.get("ARCHIVE") or "target/release/libbinfarce.a")
+    if rattle and not os.path.exists(rattle) and has("rt"):
+        in_rattle(work, rattle)
+    in_kit = [os.path.abspath(rattle)] if rattle and os.path.exists(rattle) else None
+    if in_kit:
+        yield "`push_trimmed` in Rattle", in_kit, ["trimmed"]
     if has("gcc"):
         through_c(work, archive)
         yield "`binfarce_trimmed` from C", [f"{work}/through-c"], ["trimmed"]
     if has("rustc"):
         by_rustc(f"{TOP}/bench/calls-peer.rs", f"{work}/peer")
         yield "`rustc-demangle`", [f"{work}/peer"], []
-    if os.path.exists(f"{work}/in-rattle"):
-        yield "`SymbolName::demangle` in Rattle", [f"{work}/in-rattle"], ["all"]
+    if in_kit:
+        yield "`SymbolName::demangle` in Rattle", in_kit, ["all"]
     if os.path.exists(f"{work}/through-c"):
         yield "`binfarce_demangle` from C", [f"{work}/through-c"], ["all"]
     if has("cargo"):
@@ -99,8 +97,8 @@ def spent(command, names, rounds, more):
 def counted(command, names, rounds, more):
     with open(names, "rb") as file:
         words = ["valgrind", "--tool=callgrind", "--callgrind-out-file=/dev/null", *command, str(rounds), *more]
-        told = run(*words, stdin=file, stdout=subprocess.DEVNULL, stderr=subprocess.PIPE, text=True).stderr
-    return int(re.search(r"Collected : (\d+)", told)[1])
+        printed = run(*words, stdin=file, stdout=subprocess.DEVNULL, stderr=subprocess.PIPE, text=True).stderr
+    return int(re.search(r"Collected : (\d+)", printed)[1])
 
 
 def main():
@@ -111,7 +109,7 @@ def main():
     given = parser.parse_args()
     with tempfile.TemporaryDirectory() as work:
         programs = list(clients(work, given.original, given.rattle))
-        callgrind = has("valgrind")
+        callgrind = bool(os.environ.get("COUNT")) and has("valgrind")
         for names in given.names:
             with open(names, "rb") as file:
                 count = sum(1 for _ in file)
@@ -122,14 +120,14 @@ def main():
                     for many in (1, rounds + 1):
                         took = spent(command, names, many, more)
                         least[title, many] = min(took, least.get((title, many), took))
-            print(f"\n{os.path.basename(names)}: {count} names\n\n| call | ns | instructions |\n|---|---|---|")
+            head = ["call", "ns"] + ["instructions"] * callgrind
+            print(f"\n{os.path.basename(names)}: {count} names\n\n| {' | '.join(head)} |\n|{'---|' * len(head)}")
             for title, command, more in programs:
                 took = least[title, rounds + 1] - least[title, 1]
-                nanoseconds = f"{took / rounds / count * 1e9:,.0f}"
-                told = "-"
+                row = f"| {title} | {took / rounds / count * 1e9:,.0f} |"
                 if callgrind:
-                    told = f"{(counted(command, names, 3, more) - counted(command, names, 1, more)) // (2 * count):,}"
-                print(f"| {title} | {nanoseconds} | {told} |")
+                    row += f" {(counted(command, names, 3, more) - counted(command, names, 1, more)) // (2 * count):,} |"
+                print(row)
 
 
 main()

@@ -2,7 +2,7 @@
 """Compares the report of ELF files by crate with what GNU readelf says of their symbols and a peer of their names.
 
 The symbols are those of compare-elf.py. A symbol's crate is the one that the peer gives; for a legacy name that has none
-what stands before the first `::` of the complete name, unless that begins with `<`; else `[unknown]`. The peer's lines
+what is before the first `::` of the complete name, unless that begins with `<`; else `[unknown]`. The peer's lines
 hold kind, complete name, trimmed name and crate, which is None or Some(..); without a peer only files of which no name
 may be mangled are compared.
 """

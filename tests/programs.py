@@ -76,7 +76,7 @@ def assembled(name, size, *rows):
 folders, temporary = [pathlib.Path(it).resolve() for it in sys.argv[1:]], tempfile.TemporaryDirectory()
 folder = folders[0]
 # A static program, as a release has it, loads no library.
-is_static = b"ld-linux" not in (folder / "binfarce").read_bytes()
+is_static = "INTERP" not in printed("readelf", "-lW", folder / "binfarce")
 os.chdir(pathlib.Path(__file__).resolve().parent.parent)
 sample, scratch = "crates/binfarce_list/data/e-elf64-little.bin", temporary.name
 printed("gcc", "-shared", "-fPIC", "-o", f"{scratch}/broken.so", "tests/broken.c")
@@ -290,7 +290,7 @@ def objects(*words):
     run = subprocess.run([folder / "binfarce", *words, "--json"], capture_output=True, input=b"0x1\n-\n")
     return [json.loads(it) for it in run.stdout.splitlines()]
 assert objects("list", escaped)[0]["raw"] == 'a"\\\n\x01\x7f\xe9;:<>', "another name in JSON"
-for *options, path in (("--all", folder / "binfarce"), ("--all", "--dynamic", library), ("--all", old)):
+for *options, path in [("--all", "--dynamic", library), ("--all", old)] + [("--all", folder / "binfarce")] * (not is_static):
     lines = [f"{int(it['address'], 16):016x} {it['size']:10} {it['section']} {it['name']}\n" for it in objects("list", *options, path)]
     assert "".join(lines) == printed(folder / "binfarce", "list", *options, path), f"{path}: other objects than lines"
 assert objects("size", "--by=generic", old)[1] == {"file": old, "name": "b::f::<..>", "size": 9, "copies": 2}

@@ -7,7 +7,7 @@
  *
  * - Pointers. Each pointer points to as many bytes as the length after it says, for the whole call. They are readable, and
  *   writable where the pointer isn't const. No pointer may be NULL, even where its length is 0: any other address will do then
- *   (`""`, or the address of a variable). No length is above PTRDIFF_MAX.
+ *   (`""`, or the address of a variable). No length is above PTRDIFF_MAX. Memory that a call may write to is initialised.
  * - Overlap. A buffer that a call writes to overlaps no other argument.
  * - Alignment. A pointer to a struct is aligned as C aligns it; bytes need no alignment.
  * - Stack. A call nests as deep as a name does, at most 500 levels. 512 KiB were enough for the deepest names that were tried;
@@ -35,15 +35,15 @@
  * Example. It prints `foo::bar`:
  *
  *     const char *name = "_ZN3foo3bar17h05af221e174051e9E";
- *     uint8_t text[256];
+ *     uint8_t text[256] = {0};
  *     struct binfarce_text made = binfarce_trimmed((const uint8_t *)name, strlen(name), text, sizeof text);
  *     if (made.status == BINFARCE_OK && made.length <= sizeof text)
  *         printf("%.*s\n", (int)made.length, (const char *)text);
  *
  * Versions. Within libbinfarce.so.0 functions may be added; signatures, structs and the numbers of enums stay. The words of
- * statuses, stack and memory may change.
+ * a status may change, and how much stack and memory a call takes.
  *
- * Missing: the header fields of Mach-O and PE files, which the readers show only as debug text.
+ * Missing: the header fields of Mach-O and PE files, dynamic symbols, those of all sections, and the function at an address.
  *
  * Machines. cargo's libraries are for every target of Rust of 32 or 64 bits; the kit's archive is for x86-64-v2 with the
  * System V calling convention. After ./install `pkg-config --cflags --libs binfarce` prints how to link the library.
@@ -138,7 +138,7 @@ struct binfarce_mangling {
 };
 
 /*
- * How a name is mangled, without printing it: a v0 name whose text would exceed the limits is BINFARCE_KIND_V0 here, and
+ * How a name is mangled, without printing it: a v0 name whose text would exceed the limits may be BINFARCE_KIND_V0 here, and is
  * BINFARCE_KIND_UNKNOWN in binfarce_demangle. Returns BINFARCE_OK, or BINFARCE_NOT_UTF8 with `out` unchanged.
  * Does not allocate.
  */

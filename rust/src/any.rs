@@ -9,7 +9,7 @@ use crate::erased::binfarce_tools::report::{self as reporting, ReportError};
 use crate::error::{Error, OutOfMemory, ParseError};
 use crate::shim::{self, alloc::Global};
 use crate::streams::Kept;
-use crate::{FunctionSymbol, Section, string_of};
+use crate::{AllFunctions, FunctionSymbol, Section, string_of};
 use std::cell::RefCell;
 use std::io::{self, ErrorKind, Read, Seek};
 
@@ -24,19 +24,24 @@ use std::io::{self, ErrorKind, Read, Seek};
 /// an allocation failed.
 pub fn functions<'a>(file: &'a [u8], section: &str) -> Result<(Functions<'a>, u64), Error> {
     let (functions, size) = functions_of::functions_of_file(Global, file, section)?;
-    Ok((Functions(functions), size))
+    Ok((Functions(AllFunctions::new(functions.all)?), size))
 }
 
 /// An iterator over the function symbols of a file: the answer of [`functions`] and of
 /// [`Tables::functions`](crate::Tables::functions).
 #[must_use = "iterators are lazy and do nothing unless consumed"]
-pub struct Functions<'a>(pub(crate) functions_of::Functions<'a>);
+#[derive(Clone)]
+pub struct Functions<'a>(pub(crate) AllFunctions<'a>);
 
 impl<'a> Iterator for Functions<'a> {
     type Item = FunctionSymbol<'a>;
 
     fn next(&mut self) -> Option<Self::Item> {
-        self.0.next()
+        Some(self.0.next()?.function)
+    }
+
+    fn size_hint(&self) -> (usize, Option<usize>) {
+        self.0.size_hint()
     }
 }
 
@@ -73,6 +78,32 @@ impl<'a> Iterator for Sections<'a> {
 }
 
 of_iterators!(Functions, Sections);
+
+/// An iterator with a bound on how many items are left.
+#[derive(Clone)]
+pub(crate) struct Bounded<I> {
+    items: I,
+    most: usize,
+}
+
+impl<I> Bounded<I> {
+    pub(crate) fn new(items: I, most: usize) -> Self {
+        Bounded { items, most }
+    }
+}
+
+impl<I: Iterator> Iterator for Bounded<I> {
+    type Item = I::Item;
+
+    fn next(&mut self) -> Option<I::Item> {
+        self.most = self.most.saturating_sub(1);
+        self.items.next()
+    }
+
+    fn size_hint(&self) -> (usize, Option<usize>) {
+        (0, Some(self.most))
+    }
+}
 
 /// Returns the bytes of the first section with this name, a part of the file.
 ///

@@ -3,6 +3,7 @@
 /// Writes the items of a class: its file, its header, its width, and the length of its header in bytes.
 macro_rules! reader {
     ($erased:ident, $Elf:ident, $Header:ident, $Width:ident, $least:literal) => {
+        use crate::any::Bounded;
         use crate::demangle::SymbolData;
         use crate::erased::binfarce::$erased as erased;
         use crate::erased::binfarce_elf::sections::HasSections;
@@ -164,7 +165,8 @@ macro_rules! reader {
 
             /// Returns an iterator over the sections in file order. A section header is read when the iterator reaches it.
             pub fn sections(&self) -> Sections<'a> {
-                Sections(self.0.sections())
+                // One for each header, or an error in place of one that is missing.
+                Sections(Bounded::new(self.0.sections(), usize::from(self.0.header().shnum) + 1))
             }
 
             /// Returns the first section that `callback` accepts, in file order.
@@ -240,7 +242,7 @@ macro_rules! reader {
             /// the last symbol is truncated.
             pub fn functions(&self, section_name: &str) -> Result<(Functions<'a>, u64), ParseError> {
                 let (functions, size) = self.0.functions(section_name)?;
-                Ok((Functions(functions), size))
+                Ok((Functions(self.bounded(functions)), size))
             }
 
             /// Returns what `symbols` does, of the dynamic symbol table, which a stripped file still has.
@@ -259,7 +261,7 @@ macro_rules! reader {
             /// Those of `functions`, with [`ParseError::SectionIsMissing`] for `.dynsym` and then for `.dynstr`.
             pub fn dynamic_functions(&self, section_name: &str) -> Result<(Functions<'a>, u64), ParseError> {
                 let (functions, size) = self.0.dynamic_functions(section_name)?;
-                Ok((Functions(functions), size))
+                Ok((Functions(self.bounded(functions)), size))
             }
 
             /// Returns an iterator over the function symbols of all sections, each with the index of its section, in the
@@ -271,14 +273,19 @@ macro_rules! reader {
             /// In this order: [`ParseError::UnexpectedEof`] where the section header table doesn't begin in the file or a
             /// section header is truncated; those of `functions` or `dynamic_functions` from the missing symbol table on.
             pub fn all_functions(&self, table: SymbolTable) -> Result<AllFunctions<'a>, ParseError> {
-                Ok(AllFunctions(self.0.all_functions(table)?))
+                Ok(AllFunctions(self.bounded(self.0.all_functions(table)?)))
+            }
+
+            /// The rows of a symbol table in the file, each of 16 bytes or more.
+            fn bounded<I>(&self, rows: I) -> Bounded<I> {
+                Bounded::new(rows, self.0.section_table().data.len() / 16)
             }
         }
 
         /// An iterator over the sections of a file. After an error it ends.
         #[must_use = "iterators are lazy and do nothing unless consumed"]
         #[derive(Clone)]
-        pub struct Sections<'a>(erased::Sections<'a>);
+        pub struct Sections<'a>(Bounded<erased::Sections<'a>>);
 
         impl Iterator for Sections<'_> {
             type Item = Result<Section, ParseError>;
@@ -286,12 +293,16 @@ macro_rules! reader {
             fn next(&mut self) -> Option<Self::Item> {
                 Some(self.0.next()?.map(Section).map_err(ParseError::from))
             }
+
+            fn size_hint(&self) -> (usize, Option<usize>) {
+                self.0.size_hint()
+            }
         }
 
         /// An iterator over the function symbols of a section.
         #[must_use = "iterators are lazy and do nothing unless consumed"]
         #[derive(Clone)]
-        pub struct Functions<'a>(erased::Functions<'a>);
+        pub struct Functions<'a>(Bounded<erased::Functions<'a>>);
 
         impl<'a> Iterator for Functions<'a> {
             type Item = FunctionSymbol<'a>;
@@ -299,18 +310,26 @@ macro_rules! reader {
             fn next(&mut self) -> Option<Self::Item> {
                 self.0.next()
             }
+
+            fn size_hint(&self) -> (usize, Option<usize>) {
+                self.0.size_hint()
+            }
         }
 
         /// An iterator over the function symbols of all sections.
         #[must_use = "iterators are lazy and do nothing unless consumed"]
         #[derive(Clone)]
-        pub struct AllFunctions<'a>(erased::AllFunctions<'a>);
+        pub struct AllFunctions<'a>(Bounded<erased::AllFunctions<'a>>);
 
         impl<'a> Iterator for AllFunctions<'a> {
             type Item = SectionFunction<'a>;
 
             fn next(&mut self) -> Option<Self::Item> {
                 self.0.next()
+            }
+
+            fn size_hint(&self) -> (usize, Option<usize>) {
+                self.0.size_hint()
             }
         }
 

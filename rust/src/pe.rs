@@ -12,6 +12,7 @@
 //! # assert!(matches!(names(b""), Err(ParseError::UnexpectedEof)));
 //! ```
 
+use crate::any::Bounded;
 use crate::demangle::SymbolData;
 use crate::erased::binfarce::pe as erased;
 use crate::error::{Error, ParseError, out_of_memory};
@@ -145,7 +146,8 @@ impl<'a> Pe<'a> {
     /// Returns an iterator over the sections in file order. A section header is read when the iterator reaches it.
     /// Sections whose names aren't UTF-8 are skipped.
     pub fn sections(&self) -> Sections<'a> {
-        Sections(self.0.sections())
+        // One for each header, or an error in place of one that is missing.
+        Sections(Bounded::new(self.0.sections(), usize::from(self.header().number_of_sections) + 1))
     }
 
     /// Returns the first section that `callback` accepts, in file order.
@@ -228,13 +230,17 @@ impl<'a> Pe<'a> {
 /// An iterator over the sections of a file: the answer of [`Pe::sections`]. After an error it ends.
 #[must_use = "iterators are lazy and do nothing unless consumed"]
 #[derive(Clone)]
-pub struct Sections<'a>(erased::Sections<'a>);
+pub struct Sections<'a>(Bounded<erased::Sections<'a>>);
 
 impl<'a> Iterator for Sections<'a> {
     type Item = Result<Section<'a>, ParseError>;
 
     fn next(&mut self) -> Option<Self::Item> {
         Some(self.0.next()?.map(Section).map_err(ParseError::from))
+    }
+
+    fn size_hint(&self) -> (usize, Option<usize>) {
+        self.0.size_hint()
     }
 }
 

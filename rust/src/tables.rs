@@ -1,6 +1,7 @@
 //! The function symbols of a file of any format: of one section or of all, from memory or from a file that is read at offsets.
 
 use crate::any::Functions;
+use crate::erased::binfarce::elf32;
 use crate::erased::binfarce_addresses::at::Places;
 use crate::erased::binfarce_addresses::lookup::Lookup;
 use crate::erased::binfarce_figures::claims::claims_of;
@@ -87,7 +88,7 @@ impl<'a> Tables<'a> {
     /// [`Error::UnknownFormat`]; [`Error::Parse`] where the reader of the file's format refuses it; [`Error::OutOfMemory`]
     /// where an allocation failed.
     pub fn functions(&self) -> Result<Functions<'_>, Error> {
-        Ok(Functions(self.0.functions(Global)?.into_list().0))
+        Ok(Functions(AllFunctions::new(self.0.functions(Global)?.into_list().0.all)?))
     }
 
     /// Returns the function symbols of all sections, each with its section's number; `None` where the tables are of one
@@ -113,7 +114,7 @@ impl<'a> Tables<'a> {
     pub fn all_functions(&self) -> Result<Option<AllFunctions<'_>>, Error> {
         match self.0.functions(Global)? {
             Selected::Section(..) => Ok(None),
-            Selected::All(functions) => Ok(Some(AllFunctions(functions))),
+            Selected::All(functions) => Ok(Some(AllFunctions::new(functions)?)),
         }
     }
 
@@ -290,13 +291,45 @@ impl<'a> Tables<'a> {
 
 /// An iterator over the function symbols of all sections: the answer of [`Tables::all_functions`].
 #[must_use = "iterators are lazy and do nothing unless consumed"]
-pub struct AllFunctions<'a>(functions_of::AllFunctions<'a>);
+#[derive(Clone)]
+pub struct AllFunctions<'a>(Rows<'a>);
+
+/// The rows of an ELF file, which are read when the iterator reaches them, or those of the other formats, in their order.
+#[derive(Clone)]
+enum Rows<'a> {
+    Elf(elf32::AllFunctions<'a>),
+    Listed(std::vec::IntoIter<SectionFunction<'a>>),
+}
+
+impl<'a> AllFunctions<'a> {
+    pub(crate) fn new(functions: functions_of::AllFunctions<'a>) -> Result<Self, Error> {
+        let arranged = match functions {
+            functions_of::AllFunctions::Elf(functions) => return Ok(AllFunctions(Rows::Elf(functions))),
+            arranged => arranged,
+        };
+        let mut list = shim::Vec::new(Global);
+        for function in arranged {
+            list.push(function)?;
+        }
+        Ok(AllFunctions(Rows::Listed(list.into_std().into_iter())))
+    }
+}
 
 impl<'a> Iterator for AllFunctions<'a> {
     type Item = SectionFunction<'a>;
 
     fn next(&mut self) -> Option<Self::Item> {
-        self.0.next()
+        match &mut self.0 {
+            Rows::Elf(rows) => rows.next(),
+            Rows::Listed(rows) => rows.next(),
+        }
+    }
+
+    fn size_hint(&self) -> (usize, Option<usize>) {
+        match &self.0 {
+            Rows::Elf(rows) => rows.size_hint(),
+            Rows::Listed(rows) => rows.size_hint(),
+        }
     }
 }
 

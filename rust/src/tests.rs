@@ -185,9 +185,15 @@ fn tables_of_refused_files() {
 }
 
 #[test]
-fn iterators_stay_at_their_end() {
-    fn stays<T>(mut items: impl FusedIterator<Item = T>) {
-        while items.next().is_some() {}
+fn iterators_stay_at_their_end_and_within_their_bounds() {
+    fn stays<T>(mut items: impl FusedIterator<Item = T> + Clone) {
+        loop {
+            let ((least, most), count) = (items.size_hint(), items.clone().count());
+            assert!(least <= count && most.map_or(true, |most| count <= most));
+            if items.next().is_none() {
+                break;
+            }
+        }
         assert!((0..9).all(|_| items.next().is_none()));
     }
     for (file, _) in FILES {
@@ -196,10 +202,23 @@ fn iterators_stay_at_their_end() {
         for len in [100, file.len() - 30, file.len()] {
             stays(sections(&file[..len]).unwrap());
         }
+        let tables = Tables::new(file, Selection::All, SymbolTable::Symtab).unwrap();
+        stays(tables.all_functions().unwrap().unwrap());
+    }
+    for len in [70, ELF64_LITTLE.len() - 30, ELF64_LITTLE.len()] {
+        stays(elf64::parse(&ELF64_LITTLE[..len], ByteOrder::LittleEndian).unwrap().sections());
     }
     let file = elf64::parse(ELF64_LITTLE, ByteOrder::LittleEndian).unwrap();
     stays(file.functions(".text").unwrap().0);
     stays(file.all_functions(SymbolTable::Symtab).unwrap());
+    // A table of no headers that begins past the file.
+    let mut header = [0; 64];
+    header[40] = 64;
+    let file = elf64::parse(&header, ByteOrder::LittleEndian).unwrap();
+    assert_eq!((file.sections().size_hint(), file.sections().count()), ((0, Some(1)), 1));
+    for len in [200, PE.len()] {
+        stays(pe::parse(&PE[..len]).unwrap().sections());
+    }
 }
 
 /// That each public type has the traits of its kind.
@@ -210,7 +229,7 @@ fn traits() {
     fn error<T: std::error::Error + Send + Sync + 'static>() {}
     fn shown<T: Debug + Send + Sync>() {}
     fn reader<T: Clone + Debug + Send + Sync>() {}
-    fn items<T: FusedIterator + Debug + Send + Sync>() {}
+    fn items<T: FusedIterator + Clone + Debug + Send + Sync>() {}
     small::<(ByteOrder, Format, SymbolTable, Selection<'_>, Form, Kind, demangle::Demangle<'_>)>();
     small::<(FunctionSymbol<'_>, SectionFunction<'_>, Section<'_>)>();
     small::<(elf32::Section, elf64::Section, macho::Section<'_>, pe::Section<'_>)>();
@@ -219,9 +238,7 @@ fn traits() {
     small::<(ParseError, Error, UnexpectedEof, OutOfMemory)>();
     let _: [fn(); 4] = [error::<ParseError>, error::<Error>, error::<UnexpectedEof>, error::<OutOfMemory>];
     value::<(SymbolData, SymbolName, Sums<String>)>();
-    reader::<(elf32::Elf32<'_>, elf64::Elf64<'_>, macho::Macho<'_>, pe::Pe<'_>, Sections<'_>)>();
-    reader::<(elf32::Functions<'_>, elf32::Sections<'_>, elf32::AllFunctions<'_>, macho::Sections<'_>)>();
-    reader::<(elf64::Functions<'_>, elf64::Sections<'_>, elf64::AllFunctions<'_>, pe::Sections<'_>)>();
+    reader::<(elf32::Elf32<'_>, elf64::Elf64<'_>, macho::Macho<'_>, pe::Pe<'_>)>();
     shown::<(Tables<'_>, Symbolizer<'_>, Demangler)>();
     let _: [fn(); 3] = [items::<Functions<'_>>, items::<Sections<'_>>, items::<AllFunctions<'_>>];
     let _: [fn(); 3] = [items::<elf32::Functions<'_>>, items::<elf32::Sections<'_>>, items::<elf32::AllFunctions<'_>>];

@@ -40,6 +40,8 @@
  *     if (made.status == BINFARCE_OK && made.length <= sizeof text)
  *         printf("%.*s\n", (int)made.length, (const char *)text);
  *
+ * `examples/symbols.c` lists the function symbols of a file.
+ *
  * Versions. Within libbinfarce.so.0 functions may be added; signatures, structs and the numbers of enums stay. The words of
  * a status may change, and how much stack and memory a call takes.
  *

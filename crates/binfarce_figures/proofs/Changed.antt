@@ -1,10 +1,13 @@
 -- The sums of two files, the old one's with the names of both.
 use Rattle.std.proofs.Common.{◌≡◌, ℕ, Bool, true, false, List, [], ◌∷◌, ◌++◌, ◌∙◌, codes, filter, map, refl, ap, subst, arith}
+use Rattle.std.specs.Global.{Global}
 use Rattle.std.specs.List.{All, Contains}
+use denote.Ref.{Bor}
 use Rattle.std.specs.Prelude.{if◌then◌else◌}
 use Rattle.std.specs.Str.{bytes_eq}
 use Rattle.std.proofs.lemmas.List.Elements.{All-tail}
-use Rattle.binfarce_tools.specs.Json.{Style}
+use Rattle.binfarce_tools.specs.Json.{style_of}
+use Rattle.binfarce_tools.specs.declared.json.Form.{Form}
 use Rattle.binfarce_tools.specs.Report.{Share, AreCratesOf, sum_of, total}
 use Rattle.binfarce_tools.specs.Sums.{AreSumsOf}
 use Rattle.binfarce_tools.specs.declared.report.CrateSums.{CrateSums}
@@ -72,8 +75,10 @@ compared old new a b sums others a_is b_is are are_new = record {
 }
 
 -- the text of the rows of both, with that of the sums of all sizes
-pub of_changes : (shown : Figures) (style : Style) (old new : List Row) (growth : Growth) (rows text : List ℕ) → IsGrowthOf (shares_of old) (shares_of new) growth → AreRowsFor shown style Changes (shares_of (old ++ zeros new)) (shares_of new) rows
-    → text ≡ rows ++ change_row shown style (codes "[total]") growth.old growth.new → IsTextOfChanges shown style (shares_of old) (shares_of new) text
-of_changes shown style old new growth rows text grown (names, crates, are) is =
-    let P : (List ℕ → ℕ) → Type 0 = λ sum. AreRowsOf (change_row shown style) shown.first difference (filter (λ n. differ n.1.0 n.1.1) (numbers_of sum (sum_of (shares_of new)) names)) rows in
-    (names, rows, of_both old new names crates, subst P (λ i name. all_sum old new name i) are, is ∙ (λ i. rows ++ change_row shown style (codes "[total]") (grown.old_is i) (grown.new_is i)))
+pub of_changes : (alloc : Global) (figures : Bor Figures) (form : Form) (old new : List Row) (growth : Growth) (rows text : List ℕ) → IsGrowthOf (shares_of old) (shares_of new) growth
+    → AreRowsFor (record { alloc = alloc; figures = figures; form = form; columns = Changes }) (shares_of (old ++ zeros new)) (shares_of new) rows
+    → text ≡ rows ++ change_row figures.now (style_of form) (codes "[total]") growth.old growth.new → IsTextOfChanges figures.now (style_of form) (shares_of old) (shares_of new) text
+of_changes alloc figures form old new growth rows text grown (names, crates, are) is =
+    let row = change_row figures.now (style_of form) in
+    let P : (List ℕ → ℕ) → Type 0 = λ sum. AreRowsOf row figures.now.first difference (filter (λ n. differ n.1.0 n.1.1) (numbers_of sum (sum_of (shares_of new)) names)) rows in
+    (names, rows, of_both old new names crates, subst P (λ i name. all_sum old new name i) are, is ∙ (λ i. rows ++ row (codes "[total]") (grown.old_is i) (grown.new_is i)))

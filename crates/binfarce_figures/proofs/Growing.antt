@@ -12,18 +12,18 @@ zip_more {X = X} {Y = Y} R f es i d ys new y lt grown h r =
     let Q : List Y → Type 0 = λ zs. AllZip R (map f (take i es) ++ f (get_or es i d) ∷ []) zs in
     subst P (sym (map_more f es i d lt)) (subst Q (sym grown) (all_zipped_more R (map f (take i es)) ys (f (get_or es i d)) y h r))
 
--- what holds at one place of both
-pub zip_at : {X Y A B : Type 0} (R : X → Y → Type 0) (f : A → X) (g : B → Y) (es : List A) (bs : List B) (i : ℕ) (d : A) (e : B) → AllZip R (map f es) (map g bs) → i < length es
-    → R (f (get_or es i d)) (g (get_or bs i e))
-zip_at R f g [] bs i d e h lt = absurd (omega arith)
-zip_at R f g (a ∷ es) [] i d e h lt = absurd h
-zip_at R f g (a ∷ es) (b ∷ bs) zero d e h lt = h.0
-zip_at R f g (a ∷ es) (b ∷ bs) (suc i) d e h lt = zip_at R f g es bs i d e h.1 (omega arith)
+-- lists side by side whose values are the same
+pub same_values : {X Y V : Type 0} (f : X → V) (g : Y → V) (xs : List X) (ys : List Y) → map g ys ≡ map f xs → AllZip (λ x y. g y ≡ f x) xs ys
+same_values f g [] [] is = tt
+same_values f g [] (y ∷ ys) is = absurd cc
+same_values f g (x ∷ xs) [] is = absurd cc
+same_values f g (x ∷ xs) (y ∷ ys) is = (cc, same_values f g xs ys cc)
 
--- one more of each list, where both are taken as they are
-pub next_of_both : {X Y : Type 0} (R : X → Y → Type 0) (xs : List X) (i : ℕ) (d : X) (ys new : List Y) (y : Y) → i < length xs → new ≡ ys ++ y ∷ []
-    → AllZip R (take i xs) ys → R (get_or xs i d) y → AllZip R (take (i + 1) xs) new
-next_of_both {X = X} {Y = Y} R xs i d ys new y lt grown h r =
-    let P : List X → Type 0 = λ zs. AllZip R zs new in
-    let Q : List Y → Type 0 = λ zs. AllZip R (take i xs ++ get_or xs i d ∷ []) zs in
-    subst P (sym (take_more xs i d lt)) (subst Q (sym grown) (all_zipped_more R (take i xs) ys (get_or xs i d) y h r))
+-- what follows for the outer two of three lists
+pub through : {X Y Z : Type 0} (R : X → Y → Type 0) (S : Y → Z → Type 0) (T : X → Z → Type 0) → ((x : X) (y : Y) (z : Z) → R x y → S y z → T x z) → (xs : List X) (ys : List Y) (zs : List Z) → AllZip R xs ys → AllZip S ys zs → AllZip T xs zs
+through R S T step [] [] [] a b = tt
+through R S T step [] [] (z ∷ zs) a b = absurd b
+through R S T step [] (y ∷ ys) zs a b = absurd a
+through R S T step (x ∷ xs) [] zs a b = absurd a
+through R S T step (x ∷ xs) (y ∷ ys) [] a b = absurd b
+through R S T step (x ∷ xs) (y ∷ ys) (z ∷ zs) a b = (step x y z a.0 b.0, through R S T step xs ys zs a.1 b.1)

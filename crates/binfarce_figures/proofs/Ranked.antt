@@ -28,7 +28,7 @@ pub part_le : {X : Type 0} (f : X → ℕ) (xs : List X) (m n : ℕ) → sum_by 
 part_le f xs m n =
     omega (arith, sum_by-append f (take m (drop n xs)) (drop m (drop n xs)), ap (sum_by f) (take-append-drop m (drop n xs)), sum_by-append f (take n xs) (drop n xs), ap (sum_by f) (take-append-drop n xs))
 
-sum_map : {X Y : Type 0} (f : Y → ℕ) (g : X → Y) (xs : List X) → sum_by f (map g xs) ≡ sum_by (λ x. f (g x)) xs
+pub sum_map : {X Y : Type 0} (f : Y → ℕ) (g : X → Y) (xs : List X) → sum_by f (map g xs) ≡ sum_by (λ x. f (g x)) xs
 sum_map f g [] = refl
 sum_map f g (x ∷ xs) = omega (arith, sum_by-cons f (g x) (map g xs), sum_by-cons (λ x. f (g x)) x xs, sum_map f g xs)
 

@@ -1,6 +1,8 @@
 -- The text of sums, from shares and from a file's answer.
-use Rattle.std.proofs.Common.{◌≡◌, ℕ, ◌<◌, ◌^◌, true, List, [], ◌∷◌, ◌++◌, Option, filter, unwrap_or, refl, sym, ap, subst, ◌∙◌, arith}
+use Rattle.std.proofs.Common.{◌≡◌, ℕ, ◌<◌, ◌^◌, true, List, [], ◌∷◌, ◌++◌, Option, filter, map, unwrap_or, refl, sym, ap, subst, ◌∙◌, arith}
+use Rattle.std.specs.Global.{Global}
 use Rattle.std.specs.List.{AllZip, sum_by}
+use denote.Ref.{Bor}
 use Rattle.std.proofs.lemmas.List.Sums.{sum_by-cons}
 use Rattle.std.proofs.lemmas.List.Sorted.{sum_by-IsPermutation}
 use Rattle.binfarce.specs.SectionEntries.{SectionEntry}
@@ -13,50 +15,48 @@ use Rattle.binfarce_figures.specs.declared.sums.Figures.{Figures}
 use Rattle.binfarce_figures.specs.Claims.{claimed}
 use Rattle.binfarce_figures.specs.Figures.{AreClaimsOf, AreRowsOf, IsKeyRow, IsTextOfShares, copies_of, numbers_of, shares_of, sum_row, whole_text}
 use Rattle.binfarce_figures.specs.Keys.{IsKeyOf}
-use Rattle.binfarce_tools.specs.Json.{Style}
+use Rattle.binfarce_tools.specs.Json.{style_of}
+use Rattle.binfarce_tools.specs.declared.json.Form.{Form}
 use Rattle.binfarce_figures.specs.machine.Columns.{AreRowsFor}
 use Rattle.binfarce_figures.specs.machine.Counts.{counted_shares}
-use Rattle.binfarce_figures.specs.machine.Keyed.{AreClaimsWith, IsKeyed, IsRowWith}
+use Rattle.binfarce_figures.specs.machine.Keyed.{AreClaimsWith, IsKeyed, keyed_values}
+use Rattle.binfarce_figures.specs.machine.Values.{Values, row_values}
 use Rattle.binfarce_figures.proofs.Counted.{counts_are}
+use Rattle.binfarce_figures.proofs.Growing.{same_values, through}
 use Rattle.binfarce_figures.proofs.Places.{claimed_le}
+use Rattle.binfarce_figures.proofs.Ranked.{sum_map}
 
 all_kept : {X : Type 0} (xs : List X) → filter (λ x. true) xs ≡ xs
 all_kept [] = refl
 all_kept (x ∷ xs) = ap (λ (ys : List _). x ∷ ys) (all_kept xs)
 
 -- the text of the rows of sums and counts, with that of the whole
-pub of_shares : (shown : Figures) (style : Style) (size : Option ℕ) (claims : List Row) (sum whole : ℕ) (rows text : List ℕ) → total (shares_of claims) ≡ sum → whole ≡ unwrap_or size sum
-    → AreRowsFor shown style (Sums whole) (shares_of claims) (counted_shares true claims) rows → text ≡ rows ++ whole_text style size sum → IsTextOfShares shown style size (shares_of claims) text
-of_shares shown style size claims sum whole rows text summed whole_is (names, crates, are) is =
+pub of_shares : (alloc : Global) (figures : Bor Figures) (form : Form) (size : Option ℕ) (claims : List Row) (sum whole : ℕ) (rows text : List ℕ) → total (shares_of claims) ≡ sum → whole ≡ unwrap_or size sum
+    → AreRowsFor (record { alloc = alloc; figures = figures; form = form; columns = Sums whole }) (shares_of claims) (counted_shares true claims) rows → text ≡ rows ++ whole_text (style_of form) size sum → IsTextOfShares figures.now (style_of form) size (shares_of claims) text
+of_shares alloc figures form size claims sum whole rows text summed whole_is (names, crates, are) is =
+    let style = style_of form in
     let shares = shares_of claims in
     let counts : numbers_of (sum_of shares) (sum_of (counted_shares true claims)) names ≡ numbers_of (sum_of shares) (copies_of shares) names = ap (λ (f : List ℕ → ℕ). numbers_of (sum_of shares) f names) (λ i name. counts_are claims name i) in
     let kept = all_kept (numbers_of (sum_of shares) (sum_of (counted_shares true claims)) names) in
-    let P : ℕ → List (List ℕ × (ℕ × ℕ)) → Type 0 = λ n numbers. AreRowsOf (sum_row shown style n) shown.first (λ size copies. size) numbers rows in
+    let P : ℕ → List (List ℕ × (ℕ × ℕ)) → Type 0 = λ n numbers. AreRowsOf (sum_row figures.now style n) figures.now.first (λ size copies. size) numbers rows in
     let given = subst (λ (n : ℕ). P n (numbers_of (sum_of shares) (copies_of shares) names)) (whole_is ∙ ap (unwrap_or size) (sym summed)) (subst (P whole) (kept ∙ counts) are) in
     (names, rows, crates, given, is ∙ ap (λ (n : ℕ). rows ++ whole_text style size n) (sym summed))
 
 -- the rows of values with keys are those of the entries
-pub key_rows : (grouping : Grouping) (sections : ℕ → List ℕ) (entries : List SectionEntry) (keyed : List Keyed) (rows : List Row) → AllZip (IsKeyed grouping sections) entries keyed → AllZip IsRowWith keyed rows → AllZip (IsKeyRow grouping sections) entries rows
-key_rows grouping sections [] [] [] a b = tt
-key_rows grouping sections [] [] (r ∷ rows) a b = absurd b
-key_rows grouping sections [] (k ∷ keyed) rows a b = absurd a
-key_rows grouping sections (e ∷ entries) [] rows a b = absurd a
-key_rows grouping sections (e ∷ entries) (k ∷ keyed) [] a b = absurd b
-key_rows grouping sections (e ∷ entries) (k ∷ keyed) (r ∷ rows) a b = (first, key_rows grouping sections entries keyed rows a.1 b.1)
+key_rows : (grouping : Grouping) (sections : ℕ → List ℕ) (entries : List SectionEntry) (keyed : List Keyed) (rows : List Row) → AllZip (IsKeyed grouping sections) entries keyed → map row_values rows ≡ map keyed_values keyed → AllZip (IsKeyRow grouping sections) entries rows
+key_rows grouping sections entries keyed rows are same =
+    through (IsKeyed grouping sections) (λ k r. row_values r ≡ keyed_values k) (IsKeyRow grouping sections) row_of entries keyed rows are (same_values keyed_values row_values keyed rows same)
   where
-    first : IsKeyRow grouping sections e r
-    first = record {
-      section_is = b.0.section_is ∙ a.0.section_is;
-      address_is = b.0.address_is ∙ a.0.address_is;
-      size_is = b.0.size_is ∙ a.0.size_is;
-      name_is = subst (λ (t : List ℕ). IsKeyOf grouping sections e t) (sym b.0.name_is) a.0.key_is;
+    row_of : (e : SectionEntry) (k : Keyed) (r : Row) → IsKeyed grouping sections e k → row_values r ≡ keyed_values k → IsKeyRow grouping sections e r
+    row_of e k r key is = record {
+      section_is = ap (λ (v : Values). v.0) is ∙ key.section_is;
+      address_is = ap (λ (v : Values). v.1.0) is ∙ key.address_is;
+      size_is = ap (λ (v : Values). v.1.1.0) is ∙ key.size_is;
+      name_is = subst (IsKeyOf grouping sections e) (sym (ap (λ (v : Values). v.1.1.1.0) is)) key.key_is;
     }
 
-sizes_are : (keyed : List Keyed) (rows : List Row) → AllZip IsRowWith keyed rows → sum_by (λ (r : Row). r.size) rows ≡ sum_by (λ (k : Keyed). k.size) keyed
-sizes_are [] [] are = refl
-sizes_are [] (r ∷ rows) are = absurd are
-sizes_are (k ∷ keyed) [] are = absurd are
-sizes_are (k ∷ keyed) (r ∷ rows) are = omega (arith, sum_by-cons (λ (r : Row). r.size) r rows, sum_by-cons (λ (k : Keyed). k.size) k keyed, are.0.size_is, sizes_are keyed rows are.1)
+sizes_are : (keyed : List Keyed) (rows : List Row) → map row_values rows ≡ map keyed_values keyed → sum_by (λ (r : Row). r.size) rows ≡ sum_by (λ (k : Keyed). k.size) keyed
+sizes_are keyed rows same = let size = λ (v : Values). v.1.1.0 in sym (sum_map size row_values rows) ∙ ap (sum_by size) same ∙ sum_map size keyed_values keyed
 
 -- the sizes of values with keys are those of the entries
 pub keyed_sizes : (grouping : Grouping) (sections : ℕ → List ℕ) (entries : List SectionEntry) (keyed : List Keyed) → AllZip (IsKeyed grouping sections) entries keyed → sum_by (λ (k : Keyed). k.size) keyed ≡ sum_by (λ (e : SectionEntry). e.entry.size) entries

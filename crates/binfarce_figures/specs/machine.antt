@@ -5,4 +5,5 @@ pub mod Keyed
 pub mod Counts
 pub mod Compared
 pub mod Columns
-pub mod Texts
+pub mod Values
+pub mod Listings

@@ -1,11 +1,11 @@
 //! How many bytes each row adds to those before it.
 
-ghost use Rattle.std.specs.Prelude.{◌≡◌, ◌-◌, ◌+◌, ◌≤◌, ◌<◌, ◌^◌, max, IfOk, OnOk};
-ghost use Rattle.std.specs.List.{AllZip};
+ghost use Rattle.std.specs.Prelude.{◌≡◌, IfOk};
 ghost use Rattle.std.specs.List.Sorted.{IsSortedByKey};
 ghost use Rattle.std.specs.Ordering.{nat_cmp};
-ghost use Rattle.binfarce_figures.specs.Claims.{IsByPlace};
-ghost use Rattle.binfarce_figures.specs.machine.Keyed.{AreClaimsWith, IsRowWith};
+ghost use Rattle.binfarce_figures.specs.Claims;
+ghost use Rattle.binfarce_figures.specs.machine.Keyed.{AreClaimsWith, keyed_values};
+ghost use Rattle.binfarce_figures.specs.machine.Values.{row_values};
 
 use crate::key::Keyed;
 use crate::order::Row;
@@ -19,25 +19,14 @@ const RANGE: u128 = 36893488147419103232;
 pub(crate) fn claims_of<'a>(alloc: Global, keyed: &'a [Keyed]) -> Result<Vec<Row<'a>>, AllocError>
     ensures { IfOk result (λ v. AreClaimsWith keyed.entry.now v.items) }
 {
-    let mut rows = rows_of(alloc, keyed)?;
-    sort_by_place(&mut rows)?;
+    let mut rows: Vec<Row<'_>> = keyed.iter().map(row_of).collect(alloc)?;
+    rows.sort_by_key(|row| place_of(*row))?;
     claimed(alloc, &rows)
-}
-
-// The rows of function symbols with their keys.
-fn rows_of<'a>(alloc: Global, keyed: &'a [Keyed]) -> Result<Vec<Row<'a>>, AllocError>
-    ensures { IfOk result (λ v. AllZip IsRowWith keyed.entry.now v.items) }
-{
-    let mut rows = Vec::with_capacity(alloc, keyed.len())?;
-    for it in keyed {
-        rows.push(row_of(it))?;
-    }
-    Ok(rows)
 }
 
 // The row of a function symbol with its key.
 fn row_of(keyed: &Keyed) -> Row<'_>
-    ensures { IsRowWith keyed.entry.now result }
+    ensures { row_values result ≡ keyed_values keyed.entry.now }
 {
     Row {
         section: keyed.section,
@@ -48,47 +37,26 @@ fn row_of(keyed: &Keyed) -> Row<'_>
     }
 }
 
-// Sorts rows by section and address.
-fn sort_by_place(rows: &mut Vec<Row<'_>>) -> Result<(), AllocError>
-    ensures { OnOk result (IsByPlace rows.old.items rows.new.items) }
-{
-    rows.sort_by_key(|row| place_of(*row))
-}
-
 // Where a row begins.
 fn place_of(row: Row<'_>) -> u128
-    ensures { result ≡ Rattle.binfarce_figures.specs.Claims.place_of row.entry }
+    ensures { result ≡ Claims.place_of row.entry }
 {
     u128::from(row.section) * RANGE + u128::from(row.address)
 }
 
 // Rows with the bytes that each adds as its size.
 fn claimed<'a>(alloc: Global, rows: &[Row<'a>]) -> Result<Vec<Row<'a>>, AllocError>
-    requires { IsSortedByKey Rattle.binfarce_figures.specs.Claims.place_of nat_cmp rows.now }
-    ensures { IfOk result (λ v. v.items ≡ Rattle.binfarce_figures.specs.Claims.claimed rows.now) }
+    requires { IsSortedByKey Claims.place_of nat_cmp rows.now }
+    ensures { IfOk result (λ v. v.items ≡ Claims.claimed rows.now) }
 {
     let mut claims = Vec::with_capacity(alloc, rows.len())?;
     let mut end = 0u128;
     for row in rows {
         let place = place_of(*row);
-        claims.push(with_size(*row, added(end, place, row.size)))?;
-        end = end.max(place + u128::from(row.size));
+        let next = place + u128::from(row.size);
+        let size = next.saturating_sub(end.max(place)) as u64;
+        claims.push(Row { size, ..*row })?;
+        end = end.max(next);
     }
     Ok(claims)
-}
-
-// How many bytes of a row are at or past this end.
-fn added(end: u128, place: u128, size: u64) -> u64
-    requires { place + size < 2 ^ 128 }
-    ensures { result ≡ (place + size) - max end place }
-{
-    let start = end.max(place);
-    (place + u128::from(size)).saturating_sub(start) as u64
-}
-
-/// A row with another size.
-pub(crate) fn with_size(row: Row<'_>, size: u64) -> Row<'_>
-    ensures { result ≡ Rattle.binfarce_figures.specs.Claims.with_size row.entry size }
-{
-    Row { size, ..row }
 }

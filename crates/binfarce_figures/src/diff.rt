@@ -13,8 +13,8 @@ ghost use Rattle.binfarce_figures.specs.Claims.{with_size};
 ghost use Rattle.binfarce_figures.specs.Figures.{shares_of};
 ghost use Rattle.binfarce_figures.specs.machine.Compared.{IsTextWith};
 
-use crate::claims::{claims_of, with_size};
-use crate::figures::{Columns, Figure, push_row, rows_text};
+use crate::claims::claims_of;
+use crate::figures::{Columns, Figure, Layout};
 use crate::key::Keyed;
 use crate::order::Row;
 use crate::sums::{Figures, keyed_in, sums_of};
@@ -90,13 +90,19 @@ fn text_of(
     let old_sums = sums_of(alloc, &all, false)?;
     let new_sums = sums_of(alloc, &new_claims, false)?;
     let columns = Columns::Changes;
-    let mut text = rows_text(alloc, figures, form, columns, &old_sums, &new_sums)?;
+    let layout = Layout {
+        alloc,
+        figures,
+        form,
+        columns,
+    };
+    let mut text = layout.rows(&old_sums, &new_sums)?;
     let total = Figure {
         name: "[total]",
         sum: old_sums.total,
         other: new_sums.total,
     };
-    push_row(alloc, &mut text, figures, form, columns, total)?;
+    layout.push_row(&mut text, total)?;
     let growth = Growth {
         old: old_sums.total,
         new: new_sums.total,
@@ -110,7 +116,7 @@ fn with_names<'a>(rows: Vec<Row<'a>>, others: &[Row<'a>]) -> Result<Vec<Row<'a>>
 {
     let mut all = rows;
     for row in others {
-        all.push(with_size(*row, 0))?;
+        all.push(Row { size: 0, ..*row })?;
     }
     Ok(all)
 }

@@ -2,7 +2,7 @@
 
 ghost use Rattle.std.specs.Prelude.{◌≡◌, ◌++◌, ◌+◌, ◌<◌, ◌^◌, IfOk, OnOk, encode_utf8_all};
 ghost use Rattle.std.specs.String.{string_bytes};
-ghost use Rattle.binfarce_figures.specs.Generic.{depth_after, part, rewritten, shown};
+ghost use Rattle.binfarce_figures.specs.Generic.{depth_after, rewritten, shown};
 
 use std::alloc::AllocError;
 
@@ -30,7 +30,8 @@ pub(crate) fn push_rewritten(text: &mut String, shape: Shape, name: &str) -> Res
     Ok(())
 }
 
-// Appends what is shown in place of a character: nothing of arguments that are left out.
+// Appends what is shown in place of a character: nothing of arguments that are left out, and in a stack `;` of a `::`
+// outside of brackets.
 fn push_shown(
     text: &mut String,
     shape: Shape,
@@ -41,22 +42,12 @@ fn push_shown(
     ensures { OnOk result (string_bytes text.new ≡ string_bytes text.old
         ++ encode_utf8_all (shown shape depth before c)) }
 {
-    match shape {
-        Shape::Stack => push_part(text, depth, before, c),
-        Shape::Generic if depth > 0 => Ok(()),
-        Shape::Generic if opens(shape, before, c) => text.push_str("<..>"),
-        Shape::Generic => text.push(c),
-    }
-}
-
-// Appends what is shown of a character in a stack: of a `::` outside of brackets, a `;`.
-fn push_part(text: &mut String, depth: usize, before: char, c: char) -> Result<(), AllocError>
-    ensures { OnOk result (string_bytes text.new ≡ string_bytes text.old ++ encode_utf8_all (part depth before c)) }
-{
-    match c {
-        ';' => text.push(':'),
-        ':' if depth == 0 && before == ':' => text.push(';'),
-        ':' if depth == 0 => Ok(()),
+    match (shape, c) {
+        (Shape::Generic, _) if depth > 0 => Ok(()),
+        (Shape::Generic, _) if opens(shape, before, c) => text.push_str("<..>"),
+        (Shape::Stack, ';') => text.push(':'),
+        (Shape::Stack, ':') if depth == 0 && before == ':' => text.push(';'),
+        (Shape::Stack, ':') if depth == 0 => Ok(()),
         _ => text.push(c),
     }
 }
@@ -66,14 +57,10 @@ fn depth_after(shape: Shape, depth: usize, before: char, c: char) -> usize
     requires { depth + 1 < 2 ^ 64 }
     ensures { result ≡ depth_after shape depth before c }
 {
-    if depth == 0 {
-        if opens(shape, before, c) { 1 } else { 0 }
-    } else if c == '<' {
-        depth + 1
-    } else if c == '>' && before != '-' {
-        depth - 1
-    } else {
-        depth
+    match c {
+        '<' if depth > 0 || opens(shape, before, c) => depth + 1,
+        '>' if depth > 0 && before != '-' => depth - 1,
+        _ => depth,
     }
 }
 

@@ -43,30 +43,13 @@ pub struct Row<'a> {
 pub(crate) fn sort(rows: &mut Vec<Row<'_>>, order: Option<Order>) -> Result<(), AllocError>
     ensures { OnOk result (IsInOrder order rows.old.items rows.new.items) }
 {
+    let Some(order) = order else {
+        return Ok(());
+    };
+    rows.sort_by_key(|row| row.address)?;
     match order {
-        None => Ok(()),
-        Some(Order::Address) => sort_by_address(rows),
-        Some(Order::Size) => sort_by_size(rows),
-        Some(Order::Name) => sort_by_name(rows),
+        Order::Address => Ok(()),
+        Order::Size => rows.sort_by_key(|row| Reverse(row.size)),
+        Order::Name => rows.sort_by_key(|row| row.name),
     }
-}
-
-fn sort_by_address(rows: &mut Vec<Row<'_>>) -> Result<(), AllocError>
-    ensures { OnOk result (IsByAddress rows.old.items rows.new.items) }
-{
-    rows.sort_by_key(|row| row.address)
-}
-
-fn sort_by_size(rows: &mut Vec<Row<'_>>) -> Result<(), AllocError>
-    ensures { OnOk result (IsByAddressAndKey (λ r. r.size) falling rows.old.items rows.new.items) }
-{
-    sort_by_address(rows)?;
-    rows.sort_by_key(|row| Reverse(row.size))
-}
-
-fn sort_by_name(rows: &mut Vec<Row<'_>>) -> Result<(), AllocError>
-    ensures { OnOk result (IsByAddressAndKey (λ r. r.name.now) (slice_cmp nat_cmp) rows.old.items rows.new.items) }
-{
-    sort_by_address(rows)?;
-    rows.sort_by_key(|row| row.name)
 }

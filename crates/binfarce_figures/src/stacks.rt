@@ -9,7 +9,7 @@ ghost use Rattle.binfarce_tools.specs.ListWords.{outcome_of};
 ghost use Rattle.binfarce_tools.specs.Selection.{answer_in, MemoryIn};
 ghost use Rattle.binfarce_tools.specs.Tables.{AreTablesOf};
 ghost use Rattle.binfarce_tools.specs.Writing.{EndsAs, Takes, Fails, Leaves};
-ghost use Rattle.binfarce_figures.specs.Stacks.{AreStacksIn, AreStacksOf, IsStackLine, stack};
+ghost use Rattle.binfarce_figures.specs.Stacks.{AreStacksIn, AreStacksOf, IsStackLine, stack_of};
 
 use crate::generic::{Shape, push_rewritten};
 use crate::rows::list_of;
@@ -77,26 +77,21 @@ fn push_line(
     put_crate(alloc, &mut crate_name, function.function.name)?;
     let mut trimmed = String::new(alloc);
     demangler.push_trimmed(&mut trimmed, function.function.name)?;
-    push_stack(alloc, text, crate_name.as_str(), trimmed.as_str())?;
+    let mut root = String::new(alloc);
+    push_rewritten(&mut root, Shape::Stack, crate_name.as_str())?;
+    root.push_str(";")?;
+    let mut parts = String::new(alloc);
+    push_rewritten(&mut parts, Shape::Stack, trimmed.as_str())?;
+    push_stack(text, root.as_str(), parts.as_str())?;
     writeln!(text, " {}", function.function.size)
 }
 
-// Appends the stack of a function of this crate.
-fn push_stack(
-    alloc: Global,
-    text: &mut String,
-    crate_name: &str,
-    trimmed: &str,
-) -> Result<(), AllocError>
-    ensures { OnOk result (string_bytes text.new ≡ string_bytes text.old ++ stack crate_name.now trimmed.now) }
+// Appends the crate and the parts of a name, unless these begin with the crate.
+fn push_stack(text: &mut String, root: &str, parts: &str) -> Result<(), AllocError>
+    ensures { OnOk result (string_bytes text.new ≡ string_bytes text.old ++ stack_of root.now parts.now) }
 {
-    let mut root = String::new(alloc);
-    push_rewritten(&mut root, Shape::Stack, crate_name)?;
-    root.push_str(";")?;
-    let mut parts = String::new(alloc);
-    push_rewritten(&mut parts, Shape::Stack, trimmed)?;
     if !parts.as_bytes().starts_with(root.as_bytes()) {
-        text.push_str(root.as_str())?;
+        text.push_str(root)?;
     }
-    text.push_str(parts.as_str())
+    text.push_str(parts)
 }

@@ -15,12 +15,12 @@ ghost use Rattle.binfarce_tools.specs.Tables.{AreTablesOf, section_names};
 ghost use Rattle.binfarce_tools.specs.Writing.{EndsAs, Takes, Fails, Leaves};
 ghost use Rattle.binfarce_tools.specs.declared.report.ReportError.TheVariants.{TooLarge, Write};
 ghost use Rattle.binfarce_figures.specs.Figures.{AreFiguresBy, IsTextOfShares, shares_of, whole_text};
-ghost use Rattle.binfarce_figures.specs.machine.Counts.{counted_share, counted_shares};
-ghost use Rattle.binfarce_figures.specs.machine.Got.{AreGot, AreKeyedIn, IsFaultOf};
+ghost use Rattle.binfarce_figures.specs.machine.Counts.{counted_shares};
+ghost use Rattle.binfarce_figures.specs.machine.Got.{AreKeyedIn, IsFaultOf};
 ghost use Rattle.binfarce_figures.specs.machine.Keyed.{AreClaimsWith};
 
 use crate::claims::claims_of;
-use crate::figures::{Columns, rows_text};
+use crate::figures::{Columns, Layout};
 use crate::key::{Grouping, Keyed, keyed_of};
 use crate::order::Row;
 use crate::rows::list_of;
@@ -92,27 +92,10 @@ pub(crate) fn keyed_in(
         (λ e. IsFaultOf which file section e) }
     ensures fits { MatchResult result (λ r. sum_by (λ k. k.size) r.0.items < 2 ^ 64) (λ e. e ≢ Write) }
 {
-    let (functions, size) = functions_of(alloc, tables)?;
-    Ok((keyed_of(alloc, tables, &functions, size, grouping)?, size))
-}
-
-// The function symbols that the tables were read for, as `list_of` gives them.
-fn functions_of<'a>(
-    alloc: Global,
-    tables: &'a Tables<'_>,
-) -> Result<(Vec<SectionFunction<'a>>, Option<u64>), ReportError>
-    ensures got { (which : SymbolTable) (file : List ℕ) (section : Option (List ℕ))
-        → AreTablesOf which file section tables.entry.now → MatchResult result
-        (λ r. AreGot which file section (section_names tables.entry.now) (map section_function_view r.0.items) r.1)
-        (λ e. IsFaultOf which file section e) }
-    ensures fits { MatchResult result
-        (λ r. sum_by (λ e. e.entry.size) (map section_function_view r.0.items) < 2 ^ 64)
-        (λ e. e ≢ Write) }
-{
     let selected = tables.functions(alloc)?;
     let (functions, size) = list_of(alloc, selected)?;
     check_total(&functions)?;
-    Ok((functions, size))
+    Ok((keyed_of(alloc, tables, &functions, size, grouping)?, size))
 }
 
 // `TooLarge` where the sum of all sizes exceeds 64 bits.
@@ -146,7 +129,13 @@ fn text_of(
     let sums = sums_of(alloc, &claims, false)?;
     let copies = sums_of(alloc, &claims, true)?;
     let columns = Columns::Sums(size.unwrap_or(sums.total));
-    let mut text = rows_text(alloc, figures, form, columns, &sums, &copies)?;
+    let layout = Layout {
+        alloc,
+        figures,
+        form,
+        columns,
+    };
+    let mut text = layout.rows(&sums, &copies)?;
     push_whole(&mut text, form, sums.total, size)?;
     Ok(text)
 }
@@ -163,7 +152,7 @@ pub(crate) fn sums_of(
     let mut crates = BTreeMap::new(alloc);
     let mut total = 0u64;
     for share in shares {
-        let size = counted_size(counted, *share);
+        let size = if counted { 1 } else { share.size };
         total += size;
         add_size(alloc, &mut crates, share.name, size)?;
     }
@@ -172,13 +161,6 @@ pub(crate) fn sums_of(
         total,
         section_size: total,
     })
-}
-
-// The size of a share, or 1 if it is counted.
-fn counted_size(counted: bool, share: Row<'_>) -> u64
-    ensures { result ≡ (counted_share counted share.entry).size }
-{
-    if counted { 1 } else { share.size }
 }
 
 // Appends the lines of the sum of all, and of the section's size; no objects for these.

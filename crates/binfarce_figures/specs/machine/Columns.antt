@@ -1,11 +1,12 @@
 -- What is shown of figures, by what their two numbers are.
 use Rattle.std.specs.Prelude.{ℕ, Bool, true, List, All, Contains, filter, map}
-use Rattle.binfarce_tools.specs.Json.{Style}
+use Rattle.binfarce_tools.specs.Json.{style_of}
 use Rattle.binfarce_tools.specs.Report.{Share, AreCratesOf, sum_of}
 use Rattle.binfarce_tools.specs.Sums.{AreSumsOf}
 use Rattle.binfarce_tools.specs.declared.report.CrateSums.{CrateSums}
 use Rattle.binfarce_figures.specs.declared.figures.Columns.{Columns}
 use Rattle.binfarce_figures.specs.declared.figures.Columns.TheVariants.{Sums, Changes}
+use Rattle.binfarce_figures.specs.declared.figures.Layout.{Layout}
 use Rattle.binfarce_figures.specs.declared.sums.Figures.{Figures}
 use Rattle.binfarce_figures.specs.Changes.{change_columns, change_members, differ, difference}
 use Rattle.binfarce_figures.specs.Figures.{AreRowsOf, numbers_of, row_of, sum_columns, sum_members}
@@ -18,8 +19,9 @@ abbrev pub members_text : Columns → (sum other : ℕ) → List ℕ
 members_text (Sums whole) sum other = sum_members sum other
 members_text Changes sum other = change_members sum other
 
-abbrev pub row_text : Figures → Style → Columns → (name : List ℕ) → (sum other : ℕ) → List ℕ
-row_text shown style columns name sum other = row_of style (columns_text shown columns sum other) (members_text columns sum other) name
+-- a row, by how figures are shown
+abbrev pub row_text : Layout → (name : List ℕ) → (sum other : ℕ) → List ℕ
+row_text layout name sum other = row_of (style_of layout.form) (columns_text layout.figures.now layout.columns sum other) (members_text layout.columns sum other) name
 
 abbrev pub has_row : Columns → (sum other : ℕ) → Bool
 has_row (Sums whole) sum other = true
@@ -36,7 +38,7 @@ pub record AreSummed (first second : List Share) (sums others : CrateSums) : Typ
   pub among : (names : List (List ℕ)) → AreCratesOf first names → All (Contains names) (map (λ s. s.name) second)
 
 -- text has the rows of the names of the first
-abbrev pub AreRowsFor : Figures → Style → Columns → (first second : List Share) → (text : List ℕ) → Type 0
-AreRowsFor shown style columns first second text =
+abbrev pub AreRowsFor : Layout → (first second : List Share) → (text : List ℕ) → Type 0
+AreRowsFor layout first second text =
     (names : List (List ℕ)) × AreCratesOf first names
-    × AreRowsOf (row_text shown style columns) shown.first (rank columns) (filter (λ n. has_row columns n.1.0 n.1.1) (numbers_of (sum_of first) (sum_of second) names)) text
+    × AreRowsOf (row_text layout) layout.figures.now.first (rank layout.columns) (filter (λ n. has_row layout.columns n.1.0 n.1.1) (numbers_of (sum_of first) (sum_of second) names)) text

@@ -1,6 +1,5 @@
 -- Function symbols with their keys.
-use Rattle.std.specs.Prelude.{◌≡◌, ℕ, List}
-use Rattle.std.specs.List.{AllZip}
+use Rattle.std.specs.Prelude.{◌≡◌, ℕ, List, [], map}
 use Rattle.std.specs.String.{string_bytes}
 use Rattle.binfarce.specs.SectionEntries.{SectionEntry}
 use Rattle.binfarce_figures.specs.declared.key.Grouping.{Grouping}
@@ -8,6 +7,7 @@ use Rattle.binfarce_figures.specs.declared.key.Keyed.{Keyed}
 use Rattle.binfarce_figures.specs.declared.order.Row.{Row}
 use Rattle.binfarce_figures.specs.Claims.{IsByPlace, claimed}
 use Rattle.binfarce_figures.specs.Keys.{IsKeyOf}
+use Rattle.binfarce_figures.specs.machine.Values.{Values, row_values}
 
 -- the value is an entry with its key
 pub record IsKeyed (grouping : Grouping) (sections : ℕ → List ℕ) (e : SectionEntry) (k : Keyed) : Type 0 where
@@ -16,13 +16,10 @@ pub record IsKeyed (grouping : Grouping) (sections : ℕ → List ℕ) (e : Sect
   pub size_is : k.size ≡ e.entry.size
   pub key_is : IsKeyOf grouping sections e (string_bytes k.key)
 
--- row is that of a value
-pub record IsRowWith (k : Keyed) (row : Row) : Type 0 where
-  pub section_is : row.section ≡ k.section
-  pub address_is : row.address ≡ k.address
-  pub size_is : row.size ≡ k.size
-  pub name_is : row.name.now ≡ string_bytes k.key
+-- what the row of a value has
+abbrev pub keyed_values : Keyed → Values
+keyed_values k = (k.section, (k.address, (k.size, (string_bytes k.key, []))))
 
 -- claims are what values with keys add, where each byte counts for the first that has it
 abbrev pub AreClaimsWith : List Keyed → List Row → Type 0
-AreClaimsWith keyed claims = (rows sorted : List Row) × AllZip IsRowWith keyed rows × IsByPlace rows sorted × (claims ≡ claimed sorted)
+AreClaimsWith keyed claims = (rows sorted : List Row) × (map row_values rows ≡ map keyed_values keyed) × IsByPlace rows sorted × (claims ≡ claimed sorted)

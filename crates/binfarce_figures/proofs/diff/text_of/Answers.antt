@@ -1,5 +1,4 @@
 use Rattle.std.proofs.Common.{◌<◌, ◌^◌, ◌∙◌, ◌++◌, List, ap, arith, subst, sym}
-use Rattle.binfarce_tools.specs.Json.{style_of}
 use Rattle.binfarce_tools.specs.Report.{total}
 use Rattle.binfarce_figures.specs.declared.diff.Growth.{Growth}
 use Rattle.binfarce_figures.specs.declared.order.Row.{Row}
@@ -20,8 +19,8 @@ sums_of-requires-2 c =
     let P : List Row → Type 0 = λ rs. total (shares_of rs) < 2 ^ 64 in
     subst P (sym c.deref-3.ensures.value) (claims_fit c.args.new.now c.in_ok-new_claims.new_claims.items c.in_ok-new_claims.ensures c.requires.1)
 
-pub rows_text-requires : goal.rows_text-requires
-rows_text-requires c =
+pub rows-requires : goal.rows-requires
+rows-requires c =
     let old = c.in_ok-old_claims.old_claims.items in
     let new = c.in_ok-new_claims.new_claims.items in
     let all = c.deref-2.ensures.value ∙ c.in_ok-all.ensures ∙ ap (λ (rs : List Row). old ++ zeros rs) c.deref.ensures.value in
@@ -35,5 +34,5 @@ returns c =
     let both = compared old new _ _ c.in_ok-old_sums.old_sums c.in_ok-new_sums.new_sums all c.deref-3.ensures.value c.in_ok-old_sums.ensures c.in_ok-new_sums.ensures in
     let growth : Growth = record { old = c.in_ok-old_sums.old_sums.total; new = c.in_ok-new_sums.new_sums.total } in
     let grown : IsGrowthOf (shares_of old) (shares_of new) growth = record { old_is = sym both.first_are.total_is ∙ all_total old new; new_is = sym both.second_are.total_is } in
-    let text = of_changes c.args.figures.now (style_of c.args.form) old new growth _ _ grown (c.in_ok-text.ensures (shares_of (old ++ zeros new)) (shares_of new) both) c.in_ok-push_row.ensures in
+    let text = of_changes c.args.alloc c.args.figures c.args.form old new growth _ _ grown (c.in_ok-text.ensures (shares_of (old ++ zeros new)) (shares_of new) both) c.in_ok-push_row.ensures in
     (old, new, c.in_ok-old_claims.ensures, c.in_ok-new_claims.ensures, text, grown)

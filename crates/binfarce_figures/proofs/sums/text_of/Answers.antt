@@ -1,5 +1,4 @@
 use Rattle.std.proofs.Common.{◌<◌, ◌^◌, List, true, sym, subst, arith}
-use Rattle.binfarce_tools.specs.Json.{style_of}
 use Rattle.binfarce_tools.specs.Report.{total}
 use Rattle.binfarce_figures.specs.declared.order.Row.{Row}
 use Rattle.binfarce_figures.specs.Figures.{shares_of}
@@ -16,8 +15,8 @@ sums_of-requires c =
 pub sums_of-requires-2 : goal.sums_of-requires-2
 sums_of-requires-2 c = omega (arith, count_is c.deref-2.result.now, c.deref-2.ensures.len)
 
-pub rows_text-requires : goal.rows_text-requires
-rows_text-requires c =
+pub rows-requires : goal.rows-requires
+rows-requires c =
     let claims = c.in_ok-claims.claims.items in
     (shares_of claims, counted_shares true claims, counted claims _ _ c.in_ok-sums.sums c.in_ok-copies.copies c.deref.ensures.value c.deref-2.ensures.value c.in_ok-sums.ensures c.in_ok-copies.ensures)
 
@@ -27,5 +26,5 @@ returns c =
     let both = counted claims _ _ c.in_ok-sums.sums c.in_ok-copies.copies c.deref.ensures.value c.deref-2.ensures.value c.in_ok-sums.ensures c.in_ok-copies.ensures in (
       claims,
       c.in_ok-claims.ensures,
-      of_shares c.args.figures.now (style_of c.args.form) c.args.size claims c.in_ok-sums.sums.total c.unwrap_or.result _ _ both.first_are.total_is c.unwrap_or.ensures (c.in_ok-text.ensures (shares_of claims) (counted_shares true claims) both) c.in_ok-push_whole.ensures,
+      of_shares c.args.alloc c.args.figures c.args.form c.args.size claims c.in_ok-sums.sums.total c.unwrap_or.result _ _ both.first_are.total_is c.unwrap_or.ensures (c.in_ok-text.ensures (shares_of claims) (counted_shares true claims) both) c.in_ok-push_whole.ensures,
     )

@@ -1,0 +1,9 @@
+use Rattle.std.proofs.Common.{◌≡◌, take}
+use Rattle.std.specs.List.{flat_map}
+use Rattle.std.specs.String.{string_bytes}
+use Rattle.binfarce_figures.specs.machine.Listings.{shown_row}
+use Rattle.binfarce_figures.proofs.rows.Listing.first_rows.Given as goal
+
+-- the lines of the rows so far
+abbrev pub invariant-loop-row : goal.invariant-loop-row
+invariant-loop-row l = string_bytes l.text ≡ flat_map (shown_row l.self) (take l.row-index (take l.count l.rows))

@@ -1,7 +1,6 @@
 -- What is got of a file's answer for a selection, and how a call ends that writes a text of it.
 use Rattle.std.proofs.Common.{◌≡◌, ℕ, ◌<◌, ◌≤◌, ◌^◌, List, [], ◌∷◌, map, Option, Some, None, Result, Ok, Err, String, string_bytes, refl, sym, ap, subst, ◌∙◌, inl, inr, arith}
-use Rattle.std.specs.Prelude.{IfOk, MatchResult}
-use Rattle.std.specs.Result.{IsErrAnd}
+use Rattle.std.specs.Prelude.{IfOk}
 use Rattle.std.specs.List.{sum_by}
 use Rattle.std.proofs.lemmas.List.Sums.{sum_by-cons}
 use Rattle.binfarce.specs.Refusal.{Refusal}
@@ -17,7 +16,6 @@ use Rattle.binfarce_tools.specs.Selection.{answer_in, MemoryIn}
 use Rattle.binfarce_tools.specs.Tables.{AreTablesOf, section_names}
 use Rattle.binfarce_tools.specs.Writing.{Outcome, EndsAs, Takes, written, write_failed, no_memory, WritesMade}
 use Rattle.binfarce_tools.specs.declared.functions.Selected.{Selected}
-use Rattle.binfarce_tools.specs.declared.report.ReportError.{ReportError}
 use Rattle.binfarce_tools.specs.declared.report.ReportError.TheVariants.{TooLarge}
 use Rattle.binfarce_tools.specs.declared.tables.Tables.{Tables}
 use Rattle.binfarce_figures.specs.Rows.{AreEntriesIn, size_in}
@@ -30,11 +28,6 @@ gets_ok : {L X : Type 0} (Holds : L → X → Type 0) (memory : Result L Refusal
 gets_ok Holds memory None value gets = absurd gets
 gets_ok Holds memory (Some (Err refusal)) value gets = absurd gets
 gets_ok Holds memory (Some (Ok listed)) value gets = (listed, refl, gets)
-
--- a result that passes an error on
-pub passes : {T E : Type 0} (P : T → Type 0) (Q : E → Type 0) (result : Result T E) (e : E) → IsErrAnd result (λ f. f ≡ e) → Q e → MatchResult result P Q
-passes P Q (Ok x) e is q = absurd is
-passes P Q (Err f) e is q = subst Q (sym is) q
 
 of_section : (entries : List Entry) → sum_by (λ (e : SectionEntry). e.entry.size) (in_section 0 entries) ≡ sum_by (λ (e : Entry). e.size) entries
 of_section [] = refl
@@ -73,14 +66,13 @@ module _ (which : SymbolTable) (file : List ℕ) (section : Option (List ℕ)) w
       (l.0, l.1, omega (arith, l.2, fit), l.3.0, l.3.1)
 
   -- its sizes are too large
-  pub too_large_got : (tables : Tables) (selected : Selected) (entries : List SectionEntry) (size : Option ℕ) (e : ReportError) → AreTablesOf which file section tables → GetsIn which file section (Ok selected) → IsListOf selected entries size
-      → e ≡ TooLarge → 2 ^ 64 ≤ sum_by (λ (e : SectionEntry). e.entry.size) entries → IsFaultOf which file section e
-  too_large_got tables selected entries size e are gets list is over =
+  pub too_large_got : (tables : Tables) (selected : Selected) (entries : List SectionEntry) (size : Option ℕ) → AreTablesOf which file section tables → GetsIn which file section (Ok selected) → IsListOf selected entries size
+      → 2 ^ 64 ≤ sum_by (λ (e : SectionEntry). e.entry.size) entries → IsFaultOf which file section TooLarge
+  too_large_got tables selected entries size are gets list over =
       let l = listed_got tables selected entries size are gets list in
       let not_fits : ¬ (ReportFits l.0) = λ fit. absurd (omega (arith, l.2, fit, over)) in
-      let P : ReportError → Type 0 = λ f. IsFaultOf which file section f in
       let Q : Option (Result Listed Refusal) → Type 0 = λ a. EndsAs ReportFits (MemoryIn file section) a (outcome_of (Err TooLarge)) in
-      subst P (sym is) (subst Q (sym l.1) (inr (inr (not_fits, refl))))
+      subst Q (sym l.1) (inr (inr (not_fits, refl)))
 
 module _ {L : Type 0} (answer : Option (Result L Refusal)) (listed : L) (is : answer ≡ Some (Ok listed)) where
   -- how a call ended that wrote a text of a file's answer, if it was made

@@ -4,7 +4,6 @@ pub mod RowListings
 pub mod Places
 pub mod Arguments
 pub mod Widths
-pub mod Sizes
 pub mod Adding
 pub mod Counted
 pub mod Ranked

@@ -19,7 +19,7 @@ use Rattle.binfarce_figures.specs.RowListing.{IsRowOf}
 use Rattle.binfarce_figures.specs.Rows.{AreEntriesIn, IsNameText, IsTailText, size_in}
 use Rattle.binfarce_figures.specs.machine.Listings.{IsNamed, named_values}
 use Rattle.binfarce_figures.specs.machine.SelectedList.{IsListOf}
-use Rattle.binfarce_figures.specs.machine.Values.{Values, row_values}
+use Rattle.binfarce_figures.specs.machine.Keyed.{Values, row_values}
 use Rattle.binfarce_figures.proofs.Growing.{same_values, through}
 
 -- the list of what is left of a selection is that of the file's answer, with the names of the sections that were read

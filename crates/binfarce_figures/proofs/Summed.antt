@@ -19,8 +19,7 @@ use Rattle.binfarce_tools.specs.Json.{style_of}
 use Rattle.binfarce_tools.specs.declared.json.Form.{Form}
 use Rattle.binfarce_figures.specs.machine.Columns.{AreRowsFor}
 use Rattle.binfarce_figures.specs.machine.Counts.{counted_shares}
-use Rattle.binfarce_figures.specs.machine.Keyed.{AreClaimsWith, IsKeyed, keyed_values}
-use Rattle.binfarce_figures.specs.machine.Values.{Values, row_values}
+use Rattle.binfarce_figures.specs.machine.Keyed.{AreClaimsWith, IsKeyed, Values, keyed_values, row_values}
 use Rattle.binfarce_figures.proofs.Counted.{counts_are}
 use Rattle.binfarce_figures.proofs.Growing.{same_values, through}
 use Rattle.binfarce_figures.proofs.Places.{claimed_le}

@@ -24,14 +24,6 @@ IsTailText lines stored text = text ≡ []
 IsTailText (objects file section) stored text =
     (crate_name : List ℕ) × IsCrateOf stored crate_name × (text ≡ text_member (codes "raw") (Some stored) ++ text_member (codes "crate") (Some crate_name))
 
--- a name's text and what follows it
-abbrev pub AreTexts : Naming → Style → (stored : List ℕ) → (texts : List ℕ × List ℕ) → Type 0
-AreTexts naming style stored texts = IsNameText naming stored texts.0 × IsTailText style stored texts.1
-
--- so of an entry's name
-abbrev pub AreTextsFor : Naming → Style → SectionEntry → (texts : List ℕ × List ℕ) → Type 0
-AreTextsFor naming style e texts = AreTexts naming style e.entry.name texts
-
 -- the entries of a file's answer for a selection: of a section with the section number 0; of all sections with their numbers, and these are the names of the sections
 abbrev pub AreEntriesIn : SymbolTable → (file : List ℕ) → (section : Option (List ℕ)) → Listed → (ℕ → Option (List ℕ)) → List SectionEntry → Type 0
 AreEntriesIn which file (Some section) listed names entries = entries ≡ in_section 0 listed.entries

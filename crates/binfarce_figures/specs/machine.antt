@@ -5,5 +5,4 @@ pub mod Keyed
 pub mod Counts
 pub mod Compared
 pub mod Columns
-pub mod Values
 pub mod Listings

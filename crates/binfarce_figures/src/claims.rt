@@ -4,8 +4,7 @@ ghost use Rattle.std.specs.Prelude.{◌≡◌, IfOk};
 ghost use Rattle.std.specs.List.Sorted.{IsSortedByKey};
 ghost use Rattle.std.specs.Ordering.{nat_cmp};
 ghost use Rattle.binfarce_figures.specs.Claims;
-ghost use Rattle.binfarce_figures.specs.machine.Keyed.{AreClaimsWith, keyed_values};
-ghost use Rattle.binfarce_figures.specs.machine.Values.{row_values};
+ghost use Rattle.binfarce_figures.specs.machine.Keyed.{AreClaimsWith, keyed_values, row_values};
 
 use crate::key::Keyed;
 use crate::order::Row;

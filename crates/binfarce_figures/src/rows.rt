@@ -15,7 +15,7 @@ ghost use Rattle.binfarce_figures.specs.RowListing.{IsListingBy};
 ghost use Rattle.binfarce_tools.specs.Json.{style_of};
 ghost use Rattle.binfarce_figures.specs.machine.Listings.{IsNamed, IsTextFor, named_values, shown_row, shown_rows};
 ghost use Rattle.binfarce_figures.specs.machine.SelectedList.{IsListOf};
-ghost use Rattle.binfarce_figures.specs.machine.Values.{row_values};
+ghost use Rattle.binfarce_figures.specs.machine.Keyed.{row_values};
 
 use crate::order::{Order, Row, sort};
 use binfarce::SectionFunction;

@@ -13,7 +13,7 @@ ghost use Rattle.binfarce_tools.specs.Selection.{answer_in, MemoryIn};
 ghost use Rattle.binfarce_tools.specs.Sums.{AreSumsOf, sum_at};
 ghost use Rattle.binfarce_tools.specs.Tables.{AreTablesOf, section_names};
 ghost use Rattle.binfarce_tools.specs.Writing.{EndsAs, Takes, Fails, Leaves};
-ghost use Rattle.binfarce_tools.specs.declared.report.ReportError.TheVariants.{TooLarge, Write};
+ghost use Rattle.binfarce_tools.specs.declared.report.ReportError.TheVariants.{Write};
 ghost use Rattle.binfarce_figures.specs.Figures.{AreFiguresBy, IsTextOfShares, shares_of, whole_text};
 ghost use Rattle.binfarce_figures.specs.machine.Counts.{counted_shares};
 ghost use Rattle.binfarce_figures.specs.machine.Got.{AreKeyedIn, IsFaultOf};
@@ -94,23 +94,18 @@ pub(crate) fn keyed_in(
 {
     let selected = tables.functions(alloc)?;
     let (functions, size) = list_of(alloc, selected)?;
-    check_total(&functions)?;
+    if total_of(&functions) > u128::from(u64::MAX) {
+        return Err(ReportError::TooLarge);
+    }
     Ok((keyed_of(alloc, tables, &functions, size, grouping)?, size))
 }
 
-// `TooLarge` where the sum of all sizes exceeds 64 bits.
-fn check_total(functions: &[SectionFunction<'_>]) -> Result<(), ReportError>
-    ensures { MatchResult result
-        (λ _. sum_by (λ e. e.entry.size) (map section_function_view functions.now) < 2 ^ 64)
-        (λ e. (e ≡ TooLarge) × (2 ^ 64 ≤ sum_by (λ e. e.entry.size) (map section_function_view functions.now))) }
+// The sum of all sizes.
+fn total_of(functions: &[SectionFunction<'_>]) -> u128
+    ensures { result ≡ sum_by (λ e. e.entry.size) (map section_function_view functions.now) }
 {
-    let mut total = 0u64;
-    for function in functions {
-        total = total
-            .checked_add(function.function.size)
-            .ok_or(ReportError::TooLarge)?;
-    }
-    Ok(())
+    let sizes = functions.iter().map(|it| u128::from(it.function.size));
+    sizes.sum()
 }
 
 // The whole text.

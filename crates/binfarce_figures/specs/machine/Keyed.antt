@@ -7,7 +7,6 @@ use Rattle.binfarce_figures.specs.declared.key.Keyed.{Keyed}
 use Rattle.binfarce_figures.specs.declared.order.Row.{Row}
 use Rattle.binfarce_figures.specs.Claims.{IsByPlace, claimed}
 use Rattle.binfarce_figures.specs.Keys.{IsKeyOf}
-use Rattle.binfarce_figures.specs.machine.Values.{Values, row_values}
 
 -- the value is an entry with its key
 pub record IsKeyed (grouping : Grouping) (sections : ℕ → List ℕ) (e : SectionEntry) (k : Keyed) : Type 0 where
@@ -15,6 +14,13 @@ pub record IsKeyed (grouping : Grouping) (sections : ℕ → List ℕ) (e : Sect
   pub address_is : k.address ≡ e.entry.address
   pub size_is : k.size ≡ e.entry.size
   pub key_is : IsKeyOf grouping sections e (string_bytes k.key)
+
+-- what a row has, whatever it points to: a section's number, an address, a size, a name and what follows it
+abbrev pub Values : Type 0
+Values = ℕ × (ℕ × (ℕ × (List ℕ × List ℕ)))
+
+abbrev pub row_values : Row → Values
+row_values row = (row.section, (row.address, (row.size, (row.name.now, row.tail.now))))
 
 -- what the row of a value has
 abbrev pub keyed_values : Keyed → Values

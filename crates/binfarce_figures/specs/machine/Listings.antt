@@ -11,7 +11,7 @@ use Rattle.binfarce_figures.specs.declared.rows.Named.{Named}
 use Rattle.binfarce_figures.specs.declared.rows.Naming.{Naming}
 use Rattle.binfarce_figures.specs.RowListing.{IsListingOf, listing, row_text}
 use Rattle.binfarce_figures.specs.Rows.{IsNameText, IsTailText}
-use Rattle.binfarce_figures.specs.machine.Values.{Values}
+use Rattle.binfarce_figures.specs.machine.Keyed.{Values}
 
 -- the value is an entry with what is shown of its name
 pub record IsNamed (naming : Naming) (style : Style) (e : SectionEntry) (n : Named) : Type 0 where

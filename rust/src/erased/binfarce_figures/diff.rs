@@ -3,8 +3,8 @@
 //! How the sums of two files differ.
 
 use crate::shim::{String, Vec};
-use crate::erased::binfarce_figures::claims::{claims_of, with_size};
-use crate::erased::binfarce_figures::figures::{Columns, Figure, push_row, rows_text};
+use crate::erased::binfarce_figures::claims::claims_of;
+use crate::erased::binfarce_figures::figures::{Columns, Figure, Layout};
 use crate::erased::binfarce_figures::key::Keyed;
 use crate::erased::binfarce_figures::order::Row;
 use crate::erased::binfarce_figures::sums::{Figures, keyed_in, sums_of};
@@ -64,13 +64,19 @@ fn text_of(
     let old_sums = sums_of(alloc, &all, false)?;
     let new_sums = sums_of(alloc, &new_claims, false)?;
     let columns = Columns::Changes;
-    let mut text = rows_text(alloc, figures, form, columns, &old_sums, &new_sums)?;
+    let layout = Layout {
+        alloc,
+        figures,
+        form,
+        columns,
+    };
+    let mut text = layout.rows(&old_sums, &new_sums)?;
     let total = Figure {
         name: "[total]",
         sum: old_sums.total,
         other: new_sums.total,
     };
-    push_row(alloc, &mut text, figures, form, columns, total)?;
+    layout.push_row(&mut text, total)?;
     let growth = Growth {
         old: old_sums.total,
         new: new_sums.total,
@@ -82,7 +88,7 @@ fn text_of(
 fn with_names<'a>(rows: Vec<Row<'a>>, others: &[Row<'a>]) -> Result<Vec<Row<'a>>, AllocError> {
     let mut all = rows;
     for row in others {
-        all.push(with_size(*row, 0))?;
+        all.push(Row { size: 0, ..*row })?;
     }
     Ok(all)
 }

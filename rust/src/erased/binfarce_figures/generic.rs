@@ -26,7 +26,8 @@ pub(crate) fn push_rewritten(text: &mut String, shape: Shape, name: &str) -> Res
     Ok(())
 }
 
-// Appends what is shown in place of a character: nothing of arguments that are left out.
+// Appends what is shown in place of a character: nothing of arguments that are left out, and in a stack `;` of a `::`
+// outside of brackets.
 fn push_shown(
     text: &mut String,
     shape: Shape,
@@ -34,34 +35,22 @@ fn push_shown(
     before: char,
     c: char,
 ) -> Result<(), AllocError> {
-    match shape {
-        Shape::Stack => push_part(text, depth, before, c),
-        Shape::Generic if depth > 0 => Ok(()),
-        Shape::Generic if opens(shape, before, c) => text.push_str("<..>"),
-        Shape::Generic => text.push(c),
-    }
-}
-
-// Appends what is shown of a character in a stack: of a `::` outside of brackets, a `;`.
-fn push_part(text: &mut String, depth: usize, before: char, c: char) -> Result<(), AllocError> {
-    match c {
-        ';' => text.push(':'),
-        ':' if depth == 0 && before == ':' => text.push(';'),
-        ':' if depth == 0 => Ok(()),
+    match (shape, c) {
+        (Shape::Generic, _) if depth > 0 => Ok(()),
+        (Shape::Generic, _) if opens(shape, before, c) => text.push_str("<..>"),
+        (Shape::Stack, ';') => text.push(':'),
+        (Shape::Stack, ':') if depth == 0 && before == ':' => text.push(';'),
+        (Shape::Stack, ':') if depth == 0 => Ok(()),
         _ => text.push(c),
     }
 }
 
 // How many brackets are open after a character.
 fn depth_after(shape: Shape, depth: usize, before: char, c: char) -> usize {
-    if depth == 0 {
-        if opens(shape, before, c) { 1 } else { 0 }
-    } else if c == '<' {
-        depth + 1
-    } else if c == '>' && before != '-' {
-        depth - 1
-    } else {
-        depth
+    match c {
+        '<' if depth > 0 || opens(shape, before, c) => depth + 1,
+        '>' if depth > 0 && before != '-' => depth - 1,
+        _ => depth,
     }
 }
 

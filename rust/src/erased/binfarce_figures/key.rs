@@ -76,48 +76,27 @@ fn key_of(
     size: Option<u64>,
     grouping: Grouping,
 ) -> Result<String, AllocError> {
+    let name = function.function.name;
     let mut key = String::new(alloc);
     if grouping.joins_std {
-        put_crate(alloc, &mut key, function.function.name)?;
+        put_crate(alloc, &mut key, name)?;
         if is_std(key.as_str()) {
             return String::from_str(alloc, "[std]");
         }
+        key.clear();
     }
-    put_own_key(
-        alloc,
-        demangler,
-        &mut key,
-        tables,
-        function,
-        size,
-        grouping.key,
-    )?;
-    Ok(key)
-}
-
-// Overwrites a text by the key of a function symbol that isn't joined to others.
-fn put_own_key(
-    alloc: Global,
-    demangler: &mut Demangler,
-    text: &mut String,
-    tables: &Tables<'_>,
-    function: SectionFunction<'_>,
-    size: Option<u64>,
-    key: Key,
-) -> Result<(), AllocError> {
-    let name = function.function.name;
-    text.clear();
-    match key {
-        Key::Crate => put_crate(alloc, text, name),
-        Key::Function => demangler.push_trimmed(text, name),
+    match grouping.key {
+        Key::Crate => put_crate(alloc, &mut key, name)?,
+        Key::Function => demangler.push_trimmed(&mut key, name)?,
         Key::Generic => {
             let mut trimmed = String::new(alloc);
             demangler.push_trimmed(&mut trimmed, name)?;
-            push_rewritten(text, Shape::Generic, trimmed.as_str())
+            push_rewritten(&mut key, Shape::Generic, trimmed.as_str())?;
         }
-        Key::Section if size.is_some() => text.push_str("text"),
-        Key::Section => push_section(text, tables, function.section),
+        Key::Section if size.is_some() => key.push_str("text")?,
+        Key::Section => push_section(&mut key, tables, function.section)?,
     }
+    Ok(key)
 }
 
 // Whether a crate is one of Rust's standard library, or of those that it is built of.

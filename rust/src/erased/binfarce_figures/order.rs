@@ -39,24 +39,13 @@ pub struct Row<'a> {
 ///
 /// `AllocError` where an allocation failed: the order of the rows is then unspecified.
 pub(crate) fn sort(rows: &mut Vec<Row<'_>>, order: Option<Order>) -> Result<(), AllocError> {
+    let Some(order) = order else {
+        return Ok(());
+    };
+    rows.sort_by_key(|row| row.address)?;
     match order {
-        None => Ok(()),
-        Some(Order::Address) => sort_by_address(rows),
-        Some(Order::Size) => sort_by_size(rows),
-        Some(Order::Name) => sort_by_name(rows),
+        Order::Address => Ok(()),
+        Order::Size => rows.sort_by_key(|row| Reverse(row.size)),
+        Order::Name => rows.sort_by_key(|row| row.name),
     }
-}
-
-fn sort_by_address(rows: &mut Vec<Row<'_>>) -> Result<(), AllocError> {
-    rows.sort_by_key(|row| row.address)
-}
-
-fn sort_by_size(rows: &mut Vec<Row<'_>>) -> Result<(), AllocError> {
-    sort_by_address(rows)?;
-    rows.sort_by_key(|row| Reverse(row.size))
-}
-
-fn sort_by_name(rows: &mut Vec<Row<'_>>) -> Result<(), AllocError> {
-    sort_by_address(rows)?;
-    rows.sort_by_key(|row| row.name)
 }

@@ -55,24 +55,19 @@ fn push_line(
     put_crate(alloc, &mut crate_name, function.function.name)?;
     let mut trimmed = String::new(alloc);
     demangler.push_trimmed(&mut trimmed, function.function.name)?;
-    push_stack(alloc, text, crate_name.as_str(), trimmed.as_str())?;
+    let mut root = String::new(alloc);
+    push_rewritten(&mut root, Shape::Stack, crate_name.as_str())?;
+    root.push_str(";")?;
+    let mut parts = String::new(alloc);
+    push_rewritten(&mut parts, Shape::Stack, trimmed.as_str())?;
+    push_stack(text, root.as_str(), parts.as_str())?;
     writeln!(text, " {}", function.function.size)
 }
 
-// Appends the stack of a function of this crate.
-fn push_stack(
-    alloc: Global,
-    text: &mut String,
-    crate_name: &str,
-    trimmed: &str,
-) -> Result<(), AllocError> {
-    let mut root = String::new(alloc);
-    push_rewritten(&mut root, Shape::Stack, crate_name)?;
-    root.push_str(";")?;
-    let mut parts = String::new(alloc);
-    push_rewritten(&mut parts, Shape::Stack, trimmed)?;
+// Appends the crate and the parts of a name, unless these begin with the crate.
+fn push_stack(text: &mut String, root: &str, parts: &str) -> Result<(), AllocError> {
     if !parts.as_bytes().starts_with(root.as_bytes()) {
-        text.push_str(root.as_str())?;
+        text.push_str(root)?;
     }
-    text.push_str(parts.as_str())
+    text.push_str(parts)
 }

@@ -4,7 +4,7 @@
 
 use crate::shim::{String, Vec};
 use crate::erased::binfarce_figures::claims::claims_of;
-use crate::erased::binfarce_figures::figures::{Columns, rows_text};
+use crate::erased::binfarce_figures::figures::{Columns, Layout};
 use crate::erased::binfarce_figures::key::{Grouping, Keyed, keyed_of};
 use crate::erased::binfarce_figures::order::Row;
 use crate::erased::binfarce_figures::rows::list_of;
@@ -60,30 +60,18 @@ pub(crate) fn keyed_in(
     tables: &Tables<'_>,
     grouping: Grouping,
 ) -> Result<(Vec<Keyed>, Option<u64>), ReportError> {
-    let (functions, size) = functions_of(alloc, tables)?;
+    let selected = tables.functions(alloc)?;
+    let (functions, size) = list_of(alloc, selected)?;
+    if total_of(&functions) > u128::from(u64::MAX) {
+        return Err(ReportError::TooLarge);
+    }
     Ok((keyed_of(alloc, tables, &functions, size, grouping)?, size))
 }
 
-// The function symbols that the tables were read for, as `list_of` gives them.
-fn functions_of<'a>(
-    alloc: Global,
-    tables: &'a Tables<'_>,
-) -> Result<(Vec<SectionFunction<'a>>, Option<u64>), ReportError> {
-    let selected = tables.functions(alloc)?;
-    let (functions, size) = list_of(alloc, selected)?;
-    check_total(&functions)?;
-    Ok((functions, size))
-}
-
-// `TooLarge` where the sum of all sizes exceeds 64 bits.
-fn check_total(functions: &[SectionFunction<'_>]) -> Result<(), ReportError> {
-    let mut total = 0u64;
-    for function in functions {
-        total = total
-            .checked_add(function.function.size)
-            .ok_or(ReportError::TooLarge)?;
-    }
-    Ok(())
+// The sum of all sizes.
+fn total_of(functions: &[SectionFunction<'_>]) -> u128 {
+    let sizes = functions.iter().map(|it| u128::from(it.function.size));
+    sizes.sum()
 }
 
 // The whole text.
@@ -98,7 +86,13 @@ fn text_of(
     let sums = sums_of(alloc, &claims, false)?;
     let copies = sums_of(alloc, &claims, true)?;
     let columns = Columns::Sums(size.unwrap_or(sums.total));
-    let mut text = rows_text(alloc, figures, form, columns, &sums, &copies)?;
+    let layout = Layout {
+        alloc,
+        figures,
+        form,
+        columns,
+    };
+    let mut text = layout.rows(&sums, &copies)?;
     push_whole(&mut text, form, sums.total, size)?;
     Ok(text)
 }
@@ -112,7 +106,7 @@ pub(crate) fn sums_of(
     let mut crates = BTreeMap::new(alloc);
     let mut total = 0u64;
     for share in shares {
-        let size = counted_size(counted, *share);
+        let size = if counted { 1 } else { share.size };
         total += size;
         add_size(alloc, &mut crates, share.name, size)?;
     }
@@ -121,11 +115,6 @@ pub(crate) fn sums_of(
         total,
         section_size: total,
     })
-}
-
-// The size of a share, or 1 if it is counted.
-fn counted_size(counted: bool, share: Row<'_>) -> u64 {
-    if counted { 1 } else { share.size }
 }
 
 // Appends the lines of the sum of all, and of the section's size; no objects for these.

@@ -6,8 +6,7 @@ use Rattle.std.proofs.lemmas.Result.{IfOk-weaker}
 use Rattle.std.specs.List.Sorted.{IsSortedByKey}
 use Rattle.binfarce_figures.specs.declared.order.Row.{Row}
 use Rattle.binfarce_figures.specs.Claims.{IsByPlace, claimed, place_of}
-use Rattle.binfarce_figures.specs.machine.Keyed.{keyed_values}
-use Rattle.binfarce_figures.specs.machine.Values.{row_values}
+use Rattle.binfarce_figures.specs.machine.Keyed.{keyed_values, row_values}
 use Rattle.binfarce_figures.proofs.Ordered.{by_key}
 use Rattle.binfarce_figures.proofs.claims.claims_of.Goals.{In_ok-sort_by_key}
 use Rattle.binfarce_figures.proofs.claims.claims_of.Goals as goal

@@ -1,8 +1,7 @@
-use Rattle.std.proofs.Common.{◌≡◌, List, ℕ, [], ◌∷◌, ◌++◌, ◌∙◌, Ok, Err, OnOk, Result, ap, codes, refl, subst, sym}
+use Rattle.std.proofs.Common.{◌≡◌, List, ℕ, [], ◌∷◌, ◌++◌, ◌∙◌, OnOk, ap, codes, refl, rules, subst, sym}
 use Rattle.std.proofs.lemmas.Result.{on_ok_weaker}
 use Rattle.std.specs.Option.{option_map}
-use Rattle.std.specs.Prelude.{Option, Some, if◌then◌else◌}
-use Rattle.std.specs.Result.{is_ok}
+use Rattle.std.specs.Prelude.{Option, Some}
 use Rattle.std.specs.String.{string_bytes}
 use Rattle.binfarce_tools.specs.Json.{address_member, number_member, object_start, style_of, text_member}
 use Rattle.binfarce_tools.specs.Tables.{section_names}
@@ -11,10 +10,6 @@ use Rattle.binfarce_tools.proofs.Objects.{one, more}
 use Rattle.binfarce_figures.specs.RowListing.{row_text, section_value}
 use Rattle.binfarce_figures.proofs.rows.Listing.push_row.Goals.{in-Some, in-None}
 use Rattle.binfarce_figures.proofs.rows.Listing.push_row.Goals as goal
-
-added : {E : Type 0} (r : Result (Unit {0}) E) (new more old : List ℕ) → new ≡ (if is_ok r then more else old) → OnOk r (new ≡ more)
-added (Ok x) new more old is = is
-added (Err e) new more old is = tt
 
 pub returns-in_ok-push_str-in-Objects : goal.returns-in_ok-push_str-in-Objects
 returns-in_ok-push_str-in-Objects c =
@@ -39,4 +34,4 @@ returns-in_ok-push_str-in-Objects c =
     let t5 = more old (string_bytes c.push_number_member.new.text) (string_bytes c.push_text_member-in-Objects.new.text) (start ∷ section_part ∷ address ∷ size ∷ []) name t4 (c.in_ok-push_text_member-in-Objects-2.ensures) in
     let t6 = more old (string_bytes c.push_text_member-in-Objects.new.text) (string_bytes c.push_str-in-Objects.new.self) (start ∷ section_part ∷ address ∷ size ∷ name ∷ []) tail t5 (c.in_ok-push_str-in-Objects.ensures.bytes) in
     subst (λ (form : Form). OnOk c.push_str-in-Objects-2.result (new ≡ old ++ row_text (style_of form) names listing.size row)) (sym c.in-Objects.is)
-    (on_ok_weaker c.push_str-in-Objects-2.result (λ is. more old (string_bytes c.push_str-in-Objects.new.self) new (start ∷ section_part ∷ address ∷ size ∷ name ∷ tail ∷ []) (codes "}\n") t6 is) (added c.push_str-in-Objects-2.result new _ _ c.push_str-in-Objects-2.ensures.bytes))
+    (on_ok_weaker c.push_str-in-Objects-2.result (λ is. more old (string_bytes c.push_str-in-Objects.new.self) new (start ∷ section_part ∷ address ∷ size ∷ name ∷ tail ∷ []) (codes "}\n") t6 is) (search rules))

@@ -9,7 +9,6 @@ ghost use Rattle.binfarce_tools.specs.Report.{total};
 ghost use Rattle.binfarce_tools.specs.ReportWords.{outcome_of};
 ghost use Rattle.binfarce_tools.specs.Writing.{Takes, Fails, Leaves};
 ghost use Rattle.binfarce_figures.specs.Changes.{AreChangesBy, AreTablesFor, Asked, EndsForBoth, IsGrowthBy, IsGrowthOf, IsTextOfChanges, answer_for, both, ended};
-ghost use Rattle.binfarce_figures.specs.Claims.{with_size};
 ghost use Rattle.binfarce_figures.specs.Figures.{shares_of};
 ghost use Rattle.binfarce_figures.specs.machine.Compared.{IsTextWith};
 
@@ -84,9 +83,12 @@ fn text_of(
     requires { (sum_by (λ k. k.size) old.now < 2 ^ 64) × (sum_by (λ k. k.size) new.now < 2 ^ 64) }
     ensures { IfOk result (λ r. IsTextWith figures.now (style_of form.entry) old.now new.now (string_bytes r.0) r.1) }
 {
-    let old_claims = claims_of(alloc, old)?;
+    let mut all = claims_of(alloc, old)?;
     let new_claims = claims_of(alloc, new)?;
-    let all = with_names(old_claims, &new_claims)?;
+    // The old file's sums have the names of both.
+    for row in &new_claims {
+        all.push(Row { size: 0, ..*row })?;
+    }
     let old_sums = sums_of(alloc, &all, false)?;
     let new_sums = sums_of(alloc, &new_claims, false)?;
     let columns = Columns::Changes;
@@ -97,26 +99,12 @@ fn text_of(
         columns,
     };
     let mut text = layout.rows(&old_sums, &new_sums)?;
+    let (old, new) = (old_sums.total, new_sums.total);
     let total = Figure {
         name: "[total]",
-        sum: old_sums.total,
-        other: new_sums.total,
+        sum: old,
+        other: new,
     };
     layout.push_row(&mut text, total)?;
-    let growth = Growth {
-        old: old_sums.total,
-        new: new_sums.total,
-    };
-    Ok((text, growth))
-}
-
-// Rows with others, whose sizes are 0.
-fn with_names<'a>(rows: Vec<Row<'a>>, others: &[Row<'a>]) -> Result<Vec<Row<'a>>, AllocError>
-    ensures { IfOk result (λ v. v.items ≡ rows.entry.items ++ map (λ r. with_size r 0) others.now) }
-{
-    let mut all = rows;
-    for row in others {
-        all.push(Row { size: 0, ..*row })?;
-    }
-    Ok(all)
+    Ok((text, Growth { old, new }))
 }

@@ -2,7 +2,7 @@
 
 //! How the sums of two files differ.
 
-use crate::shim::{String, Vec};
+use crate::shim::String;
 use crate::erased::binfarce_figures::claims::claims_of;
 use crate::erased::binfarce_figures::figures::{Columns, Figure, Layout};
 use crate::erased::binfarce_figures::key::Keyed;
@@ -58,9 +58,12 @@ fn text_of(
     old: &[Keyed],
     new: &[Keyed],
 ) -> Result<(String, Growth), AllocError> {
-    let old_claims = claims_of(alloc, old)?;
+    let mut all = claims_of(alloc, old)?;
     let new_claims = claims_of(alloc, new)?;
-    let all = with_names(old_claims, &new_claims)?;
+    // The old file's sums have the names of both.
+    for row in &new_claims {
+        all.push(Row { size: 0, ..*row })?;
+    }
     let old_sums = sums_of(alloc, &all, false)?;
     let new_sums = sums_of(alloc, &new_claims, false)?;
     let columns = Columns::Changes;
@@ -71,24 +74,12 @@ fn text_of(
         columns,
     };
     let mut text = layout.rows(&old_sums, &new_sums)?;
+    let (old, new) = (old_sums.total, new_sums.total);
     let total = Figure {
         name: "[total]",
-        sum: old_sums.total,
-        other: new_sums.total,
+        sum: old,
+        other: new,
     };
     layout.push_row(&mut text, total)?;
-    let growth = Growth {
-        old: old_sums.total,
-        new: new_sums.total,
-    };
-    Ok((text, growth))
-}
-
-// Rows with others, whose sizes are 0.
-fn with_names<'a>(rows: Vec<Row<'a>>, others: &[Row<'a>]) -> Result<Vec<Row<'a>>, AllocError> {
-    let mut all = rows;
-    for row in others {
-        all.push(Row { size: 0, ..*row })?;
-    }
-    Ok(all)
+    Ok((text, Growth { old, new }))
 }

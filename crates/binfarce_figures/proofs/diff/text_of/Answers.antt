@@ -1,4 +1,5 @@
 use Rattle.std.proofs.Common.{◌<◌, ◌^◌, ◌∙◌, ◌++◌, List, ap, arith, subst, sym}
+use Rattle.std.proofs.lemmas.List.{take_all}
 use Rattle.binfarce_tools.specs.Report.{total}
 use Rattle.binfarce_figures.specs.declared.diff.Growth.{Growth}
 use Rattle.binfarce_figures.specs.declared.order.Row.{Row}
@@ -11,28 +12,30 @@ use Rattle.binfarce_figures.proofs.diff.text_of.Goals as goal
 pub sums_of-requires : goal.sums_of-requires
 sums_of-requires c =
     let P : List Row → Type 0 = λ rs. total (shares_of rs) < 2 ^ 64 in
-    let old = c.in_ok-old_claims.old_claims.items in
-    subst P (sym (c.deref-2.ensures.value ∙ c.in_ok-all.ensures)) (omega (arith, all_total old c.deref.result.now, claims_fit c.args.old.now old c.in_ok-old_claims.ensures c.requires.0))
+    let old = c.in_ok-all.all.items in
+    let new = c.in_ok-new_claims.new_claims.items in
+    let named = c.deref.ensures.value ∙ c.loop-row.invariant ∙ ap (λ (rs : List Row). old ++ zeros rs) (take_all c.loop-row.row-index c.deref-row-items.result.now c.loop-row-test.false ∙ c.deref-row-items.ensures.value) in
+    subst P (sym named) (omega (arith, all_total old new, claims_fit c.args.old.now old c.in_ok-all.ensures c.requires.0))
 
 pub sums_of-requires-2 : goal.sums_of-requires-2
 sums_of-requires-2 c =
     let P : List Row → Type 0 = λ rs. total (shares_of rs) < 2 ^ 64 in
-    subst P (sym c.deref-3.ensures.value) (claims_fit c.args.new.now c.in_ok-new_claims.new_claims.items c.in_ok-new_claims.ensures c.requires.1)
+    subst P (sym c.deref-2.ensures.value) (claims_fit c.args.new.now c.in_ok-new_claims.new_claims.items c.in_ok-new_claims.ensures c.requires.1)
 
 pub rows-requires : goal.rows-requires
 rows-requires c =
-    let old = c.in_ok-old_claims.old_claims.items in
+    let old = c.in_ok-all.all.items in
     let new = c.in_ok-new_claims.new_claims.items in
-    let all = c.deref-2.ensures.value ∙ c.in_ok-all.ensures ∙ ap (λ (rs : List Row). old ++ zeros rs) c.deref.ensures.value in
-    (shares_of (old ++ zeros new), shares_of new, compared old new _ _ c.in_ok-old_sums.old_sums c.in_ok-new_sums.new_sums all c.deref-3.ensures.value c.in_ok-old_sums.ensures c.in_ok-new_sums.ensures)
+    let named = c.deref.ensures.value ∙ c.loop-row.invariant ∙ ap (λ (rs : List Row). old ++ zeros rs) (take_all c.loop-row.row-index c.deref-row-items.result.now c.loop-row-test.false ∙ c.deref-row-items.ensures.value) in
+    (shares_of (old ++ zeros new), shares_of new, compared old new _ _ c.in_ok-old_sums.old_sums c.in_ok-new_sums.new_sums named c.deref-2.ensures.value c.in_ok-old_sums.ensures c.in_ok-new_sums.ensures)
 
 pub returns : goal.returns
 returns c =
-    let old = c.in_ok-old_claims.old_claims.items in
+    let old = c.in_ok-all.all.items in
     let new = c.in_ok-new_claims.new_claims.items in
-    let all = c.deref-2.ensures.value ∙ c.in_ok-all.ensures ∙ ap (λ (rs : List Row). old ++ zeros rs) c.deref.ensures.value in
-    let both = compared old new _ _ c.in_ok-old_sums.old_sums c.in_ok-new_sums.new_sums all c.deref-3.ensures.value c.in_ok-old_sums.ensures c.in_ok-new_sums.ensures in
+    let named = c.deref.ensures.value ∙ c.loop-row.invariant ∙ ap (λ (rs : List Row). old ++ zeros rs) (take_all c.loop-row.row-index c.deref-row-items.result.now c.loop-row-test.false ∙ c.deref-row-items.ensures.value) in
+    let both = compared old new _ _ c.in_ok-old_sums.old_sums c.in_ok-new_sums.new_sums named c.deref-2.ensures.value c.in_ok-old_sums.ensures c.in_ok-new_sums.ensures in
     let growth : Growth = record { old = c.in_ok-old_sums.old_sums.total; new = c.in_ok-new_sums.new_sums.total } in
     let grown : IsGrowthOf (shares_of old) (shares_of new) growth = record { old_is = sym both.first_are.total_is ∙ all_total old new; new_is = sym both.second_are.total_is } in
     let text = of_changes c.args.alloc c.args.figures c.args.form old new growth _ _ grown (c.in_ok-text.ensures (shares_of (old ++ zeros new)) (shares_of new) both) c.in_ok-push_row.ensures in
-    (old, new, c.in_ok-old_claims.ensures, c.in_ok-new_claims.ensures, text, grown)
+    (old, new, c.in_ok-all.ensures, c.in_ok-new_claims.ensures, text, grown)

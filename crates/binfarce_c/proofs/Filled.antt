@@ -1,19 +1,20 @@
 -- Sections that are put into an array, one after the other.
-use Rattle.std.proofs.Common.{◌≡◌, ℕ, suc, ◌+◌, ◌-◌, ◌^◌, ◌<◌, ◌≤◌, min, List, [], ◌∷◌, ◌++◌, length, length-append, append_assoc, map, Option, Some, Result, Ok, Bool, true, nat_lt, refl, sym, ap, subst, ◌∙◌, arith}
+use Rattle.std.proofs.Common.{◌≡◌, ℕ, suc, ◌+◌, ◌-◌, ◌^◌, ◌<◌, ◌≤◌, min, List, [], ◌∷◌, ◌++◌, length, length-append, append_assoc, map, Option, Some, Result, Ok, Bool, true, false, inl, inr, nat_lt, refl, sym, ap, subst, ◌∙◌, arith}
 use Rattle.std.specs.List.{AllZip, slice_set}
 use Rattle.std.proofs.lemmas.List.{append-nil, set_past}
 use Rattle.std.proofs.Math.Seq.{take-nil, drop-nil}
 use Rattle.std.specs.Bool.{if◌then◌else◌}
 use Rattle.std.proofs.lemmas.Bool.Decides.{nat_tests}
-use Rattle.binfarce.specs.Refusal.{Refusal, unexpected_eof}
-use Rattle.binfarce.specs.Walk.{Walk, YieldsNext, ended, ahead_of}
+use Rattle.binfarce.specs.declared.ParseError.{ParseError}
+use Rattle.binfarce.specs.Refusal.{Refusal, refusal_of, unexpected_eof}
+use Rattle.binfarce.specs.Walk.{Walk, YieldsNext, ended}
 use Rattle.binfarce_c.specs.declared.all_sections.Sections.{Sections}
 use Rattle.binfarce_c.specs.declared.sections.Section.{Section}
 use Rattle.binfarce_c.specs.AllSections.{GivesWalk, walk_of, end_status, count_of}
 use Rattle.binfarce_c.specs.Buffer.{put}
 use Rattle.binfarce_c.specs.Sections.{Details, IsSection}
 use Rattle.binfarce_c.specs.Status.{status_of}
-use Rattle.binfarce_c.specs.machine.Filled.{IsFilled, OneMore}
+use Rattle.binfarce_c.specs.machine.Filled.{IsFilled, OneMore, Shows, Fills}
 
 -- one more has its place behind those before it, where there is one
 put-append : {X : Type 0} (was given : List X) (x : X) → put was (given ++ x ∷ []) ≡ slice_set (put was given) (length given) x
@@ -42,60 +43,71 @@ module _ (was sections old new : List Section) (section : Section) (count next :
       let long : length (put was sections) ≤ length sections = omega (arith, filled.1, full, ap (length {A = Section}) filled.0) in
       (is ∙ filled.0 ∙ sym (set_past (put was sections) (length sections) section long) ∙ sym (put-append was sections section), next_is)
 
--- what was given of a walk, of which this is left
-pub record HasGiven {S : Type 0} (section_details : S → Details) (walk left : Walk S) (was now : List Section) (count : ℕ) : Type 0 where
-  pub before : List S
+put_none : (xs : List Section) → xs ≡ put xs []
+put_none xs = sym (ap (λ (ys : List Section). ys ++ xs) (take-nil (length xs)))
+
+-- what was put into the array so far of what an iterator gives, of which this is left
+pub record HasFilled {T I : Type 0} (gives : I → Option (Result T ParseError) → I → Type 0) (shown : T → Section → Type 0) (whole left : I) (was now : List Section) (count : ℕ) : Type 0 where
   pub sections : List Section
-  pub are : AllZip IsSection (map section_details before) sections
   pub filled : IsFilled was sections now count
-  pub items : walk.items ≡ before ++ left.items
-  pub refusal : walk.refusal ≡ left.refusal
+  pub goes_on : (more : List Section) (status : ℕ) → Shows gives shown left more status → Shows gives shown whole (sections ++ more) status
 
--- nothing was given yet
-pub starts : {S : Type 0} (section_details : S → Details) (walk left : Walk S) (was : List Section) → left ≡ walk → HasGiven section_details walk left was was 0
-starts section_details walk left was same = record {
-  before = [];
+-- nothing was put yet
+pub starts : {T I : Type 0} (gives : I → Option (Result T ParseError) → I → Type 0) (shown : T → Section → Type 0) (whole left : I) (was : List Section) → left ≡ whole → HasFilled gives shown whole left was was 0
+starts gives shown whole left was same = record {
   sections = [];
-  are = tt;
   filled = (put_none was, refl);
-  items = sym (ap (λ w. w.items) same);
-  refusal = sym (ap (λ w. w.refusal) same);
+  goes_on = λ more status shows. subst (λ (iterator : _). Shows gives shown iterator more status) same shows;
 }
-  where
-    put_none : (xs : List Section) → xs ≡ put xs []
-    put_none xs = sym (ap (λ (ys : List Section). ys ++ xs) (take-nil (length xs)))
 
-one_more : {S : Type 0} (section_details : S → Details) (before : List S) (sections : List Section) (item : S) (section : Section) → AllZip IsSection (map section_details before) sections → IsSection (section_details item) section → AllZip IsSection (map section_details (before ++ item ∷ [])) (sections ++ section ∷ [])
-one_more section_details [] [] item section are is = (is, tt)
-one_more section_details [] (s ∷ sections) item section are is = absurd are
-one_more section_details (b ∷ before) [] item section are is = absurd are
-one_more section_details (b ∷ before) (s ∷ sections) item section are is = (are.0, one_more section_details before sections item section are.1 is)
-
--- one section more was given
-pub goes : {S : Type 0} (section_details : S → Details) (walk left after : Walk S) (was now new : List Section) (count next : ℕ) (item : S) (section : Section)
-    → HasGiven section_details walk left was now count → left ≡ ahead_of item after → IsSection (section_details item) section → OneMore section count now new next → HasGiven section_details walk after was new next
-goes section_details walk left after was now new count next item section so step is more = record {
-  before = so.before ++ item ∷ [];
+-- one section more was put
+pub goes : {T I : Type 0} (gives : I → Option (Result T ParseError) → I → Type 0) (shown : T → Section → Type 0) (whole left after : I) (was now new : List Section) (count next : ℕ) (item : T) (section : Section)
+    → HasFilled gives shown whole left was now count → gives left (Some (Ok item)) after → shown item section → OneMore section count now new next → HasFilled gives shown whole after was new next
+goes gives shown whole left after was now new count next item section so step is more = record {
   sections = so.sections ++ section ∷ [];
-  are = one_more section_details so.before so.sections item section so.are is;
   filled = more was so.sections so.filled;
-  items = so.items ∙ ap (λ w. so.before ++ w.items) step ∙ sym (append_assoc so.before (item ∷ []) after.items);
-  refusal = so.refusal ∙ ap (λ w. w.refusal) step;
+  goes_on = λ rest status shows. subst (λ (sections : List Section). Shows gives shown whole sections status) (sym (append_assoc so.sections (section ∷ []) rest)) (so.goes_on (section ∷ rest) status (item, after, step, is, shows));
 }
 
--- and nothing is left
-pub ends : {S : Type 0} (section_details : S → Details) (walk left : Walk S) (was now : List Section) (count : ℕ) (refusal : Option Refusal)
-    → HasGiven section_details walk left was now count → left ≡ ended refusal → GivesWalk section_details walk was now (record { status = end_status refusal; count = count })
-ends section_details walk left was now count refusal so step = record {
-  sections = so.sections;
-  are = subst (λ (items : List _). AllZip IsSection (map section_details items) so.sections) (sym (so.items ∙ ap (λ w. so.before ++ w.items) step ∙ append-nil so.before)) so.are;
-  given_is = ap (λ (r : Option Refusal). record { status = end_status r; count = count }) (sym (so.refusal ∙ ap (λ w. w.refusal) step)) ∙ ap (λ (n : ℕ). record { status = end_status walk.refusal; count = n }) so.filled.1;
-  new_is = so.filled.0;
-}
+-- and no more comes
+pub ends : {T I : Type 0} (gives : I → Option (Result T ParseError) → I → Type 0) (shown : T → Section → Type 0) (whole left : I) (was now : List Section) (count : ℕ) (given : Sections)
+    → HasFilled gives shown whole left was now count → Shows gives shown left [] given.status → given.count ≡ count → Fills gives shown whole was now given
+ends gives shown whole left was now count given so shows same =
+    (so.sections, subst (λ (sections : List Section). Shows gives shown whole sections given.status) (append-nil so.sections) (so.goes_on [] given.status shows), (so.filled.0, same ∙ so.filled.1))
 
--- an item that comes of a walk, and what is left then
-pub step_of : {T S E : Type 0} (why : E → Refusal) (seen : T → S) (left after : Walk S) (item : Result T E) (value : T) → item ≡ Ok value → YieldsNext why seen left (Some item) after → left ≡ ahead_of (seen value) after
-step_of {T} {S} {E} why seen left after item value is step = let P : Result T E → Type 0 = λ r. YieldsNext why seen left (Some r) after in subst P is step
+-- what an iterator over a walk gave is the walk
+module _ {S T I : Type 0} (section_details : S → Details) (seen : T → S) (walk_left : I → Walk S) (shown : T → Section → Type 0)
+    (is_shown : (item : T) (section : Section) → shown item section → IsSection (section_details (seen item)) section) where
+  abbrev pub gives : I → Option (Result T ParseError) → I → Type 0
+  gives before item after = YieldsNext refusal_of seen (walk_left before) item (walk_left after)
+
+  abbrev pub Walked : Walk S → List Section → ℕ → Type 0
+  Walked walk sections status = AllZip IsSection (map section_details walk.items) sections × (status ≡ end_status walk.refusal)
+
+  all_of : (iterator : I) (sections : List Section) (status : ℕ) → Shows gives shown iterator sections status → Walked (walk_left iterator) sections status
+  all_of iterator [] status (left, inl end) = subst (λ (walk : Walk S). Walked walk [] status) (sym end.0.0) (tt, end.1)
+  all_of iterator [] status (left, inr end) = subst (λ (walk : Walk S). Walked walk [] status) (sym end.1.0) (tt, end.2)
+  all_of iterator (section ∷ sections) status shows =
+      let left = shows.1 in
+      let rest = all_of left sections status shows.4 in
+      subst (λ (walk : Walk S). Walked walk (section ∷ sections) status) (sym shows.2) ((is_shown shows.0 section shows.3, rest.0), rest.1)
+
+  -- and of a file that has its header it is the walk over its sections
+  pub whole : (walk : Walk S) (iterator : I) (file : List ℕ) (least : ℕ) (old new : List Section) (given : Sections)
+      → least ≤ length file → walk_left iterator ≡ walk → Fills gives shown iterator old new given → GivesWalk section_details (walk_of least file walk) old new given
+  whole walk iterator file least old new given long same filled =
+      let all = all_of iterator filled.0 given.status filled.1 in
+      subst (λ (w : Walk S). GivesWalk section_details w old new given)
+      (same ∙ sym (ap (λ (b : Bool). if b then ended (Some unexpected_eof) else walk) (is_long (length file) least long)))
+      (record {
+        sections = filled.0;
+        are = all.0;
+        given_is = ap (λ (s : ℕ). record { status = s; count = given.count }) all.1 ∙ ap (λ (n : ℕ). record { status = end_status (walk_left iterator).refusal; count = n }) filled.2.1;
+        new_is = filled.2.0;
+      })
+    where
+      is_long : (a b : ℕ) → b ≤ a → nat_lt a b ≡ false
+      is_long a b le = grind (arith, nat_tests)
 
 -- a file without its header
 pub refused : {S : Type 0} (section_details : S → Details) (walk : Walk S) (file : List ℕ) (least : ℕ) (old : List Section) (refusal : Refusal) (given : Sections)
@@ -106,7 +118,7 @@ refused {S} section_details walk file least old refusal given short why is =
       sections = [];
       are = tt;
       given_is = is ∙ ap (λ (r : Refusal). record { status = status_of r; count = 0 }) why;
-      new_is = sym (ap (λ (ys : List Section). ys ++ old) (take-nil (length old)));
+      new_is = put_none old;
     })
   where
     is_short : (a b : ℕ) → a < b → nat_lt a b ≡ true

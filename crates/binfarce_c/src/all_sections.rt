@@ -1,20 +1,24 @@
 //! All sections of a file, in a caller's array.
 
 ghost use Rattle.std.specs.Prelude.{◌≡◌};
+ghost use Rattle.std.specs.Iterator.{IsFinite};
 ghost use Rattle.binfarce.specs.Elf as elf;
 ghost use Rattle.binfarce.specs.Macho as macho;
 ghost use Rattle.binfarce.specs.Pe as pe;
 ghost use Rattle.binfarce.specs.Refusal.{refusal_of};
+ghost use Rattle.binfarce_elf.specs.Classes.{class_of};
 ghost use Rattle.binfarce_c.specs.AllSections.{GivesWalk, walk_of};
 ghost use Rattle.binfarce_c.specs.Headers.{order_of};
 ghost use Rattle.binfarce_c.specs.Sections.{elf_details, elf_table, macho_details, pe_details};
 ghost use Rattle.binfarce_c.specs.Status.{status_of};
-ghost use Rattle.binfarce_c.specs.machine.Filled.{OneMore};
+ghost use Rattle.binfarce_c.specs.machine.Filled.{Fills, OneMore};
 
 use crate::headers::order_of;
-use crate::sections::{Section, shown_32, shown_64, shown_macho, shown_pe};
+use crate::sections::{Section, shown_elf, shown_macho, shown_pe};
 use crate::status::{OK, status_of};
-use binfarce::{ParseError, elf32, elf64, macho, pe};
+use binfarce::{ByteOrder, ParseError, macho, pe};
+use binfarce_elf::class::Width;
+use binfarce_elf::parts::sections_of_file;
 
 /// What a call that gives sections returns: `struct binfarce_sections`.
 #[repr(C)]
@@ -28,7 +32,6 @@ pub struct Sections {
 
 /// All sections of a 32-bit ELF file. See `binfarce.h`.
 #[unsafe(no_mangle)]
-#[tactic(auto, using(crate::proofs::Drained::of_32_bits))]
 pub extern "C" fn binfarce_elf32_sections(
     file: &[u8],
     big_endian: bool,
@@ -38,15 +41,11 @@ pub extern "C" fn binfarce_elf32_sections(
         GivesWalk (elf_details elf.elf32 table) (walk_of elf.elf32.header_length file.now (elf.walk elf.elf32 table))
         out.old out.new result }
 {
-    match elf32::parse(file, order_of(big_endian)) {
-        Ok(file) => fill_32(&file, out),
-        Err(e) => refused(e, 0),
-    }
+    fill_elf(file, Width::Bits32, order_of(big_endian), out)
 }
 
 /// All sections of a 64-bit ELF file. See `binfarce.h`.
 #[unsafe(no_mangle)]
-#[tactic(auto, using(crate::proofs::Drained::of_64_bits))]
 pub extern "C" fn binfarce_elf64_sections(
     file: &[u8],
     big_endian: bool,
@@ -56,8 +55,16 @@ pub extern "C" fn binfarce_elf64_sections(
         GivesWalk (elf_details elf.elf64 table) (walk_of elf.elf64.header_length file.now (elf.walk elf.elf64 table))
         out.old out.new result }
 {
-    match elf64::parse(file, order_of(big_endian)) {
-        Ok(file) => fill_64(&file, out),
+    fill_elf(file, Width::Bits64, order_of(big_endian), out)
+}
+
+fn fill_elf(file: &[u8], width: Width, byte_order: ByteOrder, out: &mut [Section]) -> Sections
+    ensures { let class = class_of width in let table = elf_table class byte_order file.now in
+        GivesWalk (elf_details class table) (walk_of class.header_length file.now (elf.walk class table))
+        out.old out.new result }
+{
+    match sections_of_file(file, width, byte_order) {
+        Ok((sections, names)) => fill(sections, |section| shown_elf(names, section), out),
         Err(e) => refused(e, 0),
     }
 }
@@ -69,7 +76,7 @@ pub extern "C" fn binfarce_macho_sections(file: &[u8], out: &mut [Section]) -> S
         out.old out.new result }
 {
     match macho::parse(file) {
-        Ok(file) => fill_macho(&file, out),
+        Ok(file) => fill(file.sections(), shown_macho, out),
         Err(e) => refused(e, 0),
     }
 }
@@ -81,59 +88,26 @@ pub extern "C" fn binfarce_pe_sections(file: &[u8], out: &mut [Section]) -> Sect
         out.new result }
 {
     match pe::parse(file) {
-        Ok(file) => fill_pe(&file, out),
+        Ok(file) => fill(file.sections(), shown_pe, out),
         Err(e) => refused(e, 0),
     }
 }
 
-fn fill_32(file: &elf32::Elf32<'_>, out: &mut [Section]) -> Sections
-    ensures { let table = elf.section_table elf.elf32 file.now in
-        GivesWalk (elf_details elf.elf32 table) (elf.walk elf.elf32 table) out.old out.new result }
+// Puts all sections that come into the array, each as it is shown, up to a refusal.
+fn fill<S, I: Iterator<Item = Result<S, ParseError>> + Drop, F: Fn(S) -> Section>(
+    sections: I,
+    shown: F,
+    out: &mut [Section],
+) -> Sections
+    requires can { I.can_next sections }
+    requires ends { IsFinite (I.remaining sections) }
+    requires shows { F.IsAlwaysCallable shown }
+    ensures { Fills I.next_gives (F.post shown) sections out.old out.new result }
 {
     let mut count = 0;
-    for section in file.sections() {
+    for section in sections {
         match section {
-            Ok(section) => count = place(shown_32(file, section), count, out),
-            Err(e) => return refused(e, count),
-        }
-    }
-    Sections { status: OK, count }
-}
-
-fn fill_64(file: &elf64::Elf64<'_>, out: &mut [Section]) -> Sections
-    ensures { let table = elf.section_table elf.elf64 file.now in
-        GivesWalk (elf_details elf.elf64 table) (elf.walk elf.elf64 table) out.old out.new result }
-{
-    let mut count = 0;
-    for section in file.sections() {
-        match section {
-            Ok(section) => count = place(shown_64(file, section), count, out),
-            Err(e) => return refused(e, count),
-        }
-    }
-    Sections { status: OK, count }
-}
-
-fn fill_macho(file: &macho::Macho<'_>, out: &mut [Section]) -> Sections
-    ensures { GivesWalk macho_details (macho.walk file.now) out.old out.new result }
-{
-    let mut count = 0;
-    for section in file.sections() {
-        match section {
-            Ok(section) => count = place(shown_macho(section), count, out),
-            Err(e) => return refused(e, count),
-        }
-    }
-    Sections { status: OK, count }
-}
-
-fn fill_pe(file: &pe::Pe<'_>, out: &mut [Section]) -> Sections
-    ensures { GivesWalk pe_details (pe.walk file.now) out.old out.new result }
-{
-    let mut count = 0;
-    for section in file.sections() {
-        match section {
-            Ok(section) => count = place(shown_pe(section), count, out),
+            Ok(section) => count = place(shown(section), count, out),
             Err(e) => return refused(e, count),
         }
     }

@@ -12,6 +12,7 @@ ghost use Rattle.binfarce.specs.declared.FunctionSymbol.{FunctionSymbol};
 ghost use Rattle.binfarce.specs.ElfSymbols.{elf_file_answer};
 ghost use Rattle.binfarce.specs.PeSymbols.{pe_file_answer};
 ghost use Rattle.binfarce.specs.declared.SymbolTable.TheVariants.{Symtab};
+ghost use Rattle.binfarce_elf.specs.Classes.{class_of};
 ghost use Rattle.binfarce_c.specs.Buffer.{PointsTo};
 ghost use Rattle.binfarce_c.specs.Functions.{AreFunctionsOf, GivesAnswer, GivesFunctions, IsFunctionOf};
 ghost use Rattle.binfarce_c.specs.Headers.{order_of};
@@ -21,14 +22,12 @@ use crate::buffer::put;
 use crate::headers::order_of;
 use crate::status::{NOT_UTF8, OK, detail_of, status_of};
 use binfarce::{ByteOrder, FunctionSymbol, ParseError, elf32, elf64, macho, pe};
+use binfarce_elf::class::Width;
 use std::alloc::{AllocError, Global};
 use std::{ptr, str};
 
 // The function symbols of a file and the size of their section, or the refusal.
 type Found = Result<(Vec<Function>, u64), ParseError>;
-
-// The same, as an ELF file stores them.
-type Stored<'a> = Result<(elf32::Functions<'a>, u64), ParseError>;
 
 /// A function symbol in a caller's array: `struct binfarce_function`.
 #[repr(C)]
@@ -71,7 +70,7 @@ pub extern "C" fn binfarce_elf32_functions(
         out.old out.new result }
 {
     match str::from_utf8(section) {
-        Ok(section) => give(of_elf32(alloc, file, order_of(big_endian), section), out),
+        Ok(section) => give(of_elf(alloc, file, Width::Bits32, big_endian, section), out),
         Err(_) => nothing(NOT_UTF8, 0),
     }
 }
@@ -89,7 +88,7 @@ pub extern "C" fn binfarce_elf64_functions(
         out.old out.new result }
 {
     match str::from_utf8(section) {
-        Ok(section) => give(of_elf64(alloc, file, order_of(big_endian), section), out),
+        Ok(section) => give(of_elf(alloc, file, Width::Bits64, big_endian, section), out),
         Err(_) => nothing(NOT_UTF8, 0),
     }
 }
@@ -118,34 +117,29 @@ pub extern "C" fn binfarce_pe_functions(
     give(of_pe(alloc, file), out)
 }
 
-fn of_elf32(alloc: Global, file: &[u8], byte_order: ByteOrder, section: &str) -> Found
-    ensures { Answers HoldsFound Lists (elf_file_answer Symtab elf32 byte_order file.now section.now) result }
+fn of_elf(alloc: Global, file: &[u8], width: Width, big_endian: bool, section: &str) -> Found
+    ensures { Answers HoldsFound Lists
+        (elf_file_answer Symtab (class_of width) (order_of big_endian) file.now section.now) result }
 {
-    let (functions, size) = stored_in_elf32(file, byte_order, section)?;
+    let (functions, size) = stored_in_elf(file, width, order_of(big_endian), section)?;
     Ok((all_of(alloc, functions)?, size))
 }
 
-fn of_elf64(alloc: Global, file: &[u8], byte_order: ByteOrder, section: &str) -> Found
-    ensures { Answers HoldsFound Lists (elf_file_answer Symtab elf64 byte_order file.now section.now) result }
-{
-    let (functions, size) = stored_in_elf64(file, byte_order, section)?;
-    Ok((all_of(alloc, functions)?, size))
-}
-
-#[tactic(auto, using(crate::proofs::Drained::of_32_bits))]
-fn stored_in_elf32<'a>(file: &'a [u8], byte_order: ByteOrder, section: &str) -> Stored<'a>
+// The same, as the file stores them.
+#[tactic(auto, using(crate::proofs::Drained::of_32_bits, crate::proofs::Drained::of_64_bits))]
+fn stored_in_elf<'a>(
+    file: &'a [u8],
+    width: Width,
+    byte_order: ByteOrder,
+    section: &str,
+) -> Result<(elf32::Functions<'a>, u64), ParseError>
     ensures { Gives refusal_of functions_view
-        (elf_file_answer Symtab elf32 byte_order file.entry.now section.now) result }
+        (elf_file_answer Symtab (class_of width) byte_order file.entry.now section.now) result }
 {
-    elf32::parse(file, byte_order)?.functions(section)
-}
-
-#[tactic(auto, using(crate::proofs::Drained::of_64_bits))]
-fn stored_in_elf64<'a>(file: &'a [u8], byte_order: ByteOrder, section: &str) -> Stored<'a>
-    ensures { Gives refusal_of functions_view
-        (elf_file_answer Symtab elf64 byte_order file.entry.now section.now) result }
-{
-    elf64::parse(file, byte_order)?.functions(section)
+    match width {
+        Width::Bits32 => elf32::parse(file, byte_order)?.functions(section),
+        Width::Bits64 => elf64::parse(file, byte_order)?.functions(section),
+    }
 }
 
 #[tactic(auto, using(crate::proofs::Drained::held))]

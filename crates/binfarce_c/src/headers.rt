@@ -2,16 +2,15 @@
 
 ghost use Rattle.std.specs.Prelude.{◌≡◌};
 ghost use Rattle.binfarce.specs.Elf.{elf32, elf64};
-ghost use Rattle.binfarce.specs.ElfViews as elf;
 ghost use Rattle.binfarce.specs.Format.{format_of};
 ghost use Rattle.binfarce.specs.Macho as macho;
 ghost use Rattle.binfarce.specs.Pe as pe;
-ghost use Rattle.binfarce_c.specs.Headers.{GivesHeader, ChecksHeader, format_number, header_view, order_number, order_of};
+ghost use Rattle.binfarce_c.specs.Headers.{GivesHeader, ChecksHeader, format_number, order_number, order_of};
 
 use crate::status::{OK, status_of};
-use binfarce::{ByteOrder, Format, detect_format, elf32, elf64, macho, pe};
+use binfarce::{ByteOrder, Format, ParseError, detect_format, macho, pe};
 use binfarce_elf::class::Class;
-use binfarce_elf::header::Header;
+use binfarce_elf::header::parse_header;
 
 /// The file header of an ELF file of either class: `struct binfarce_elf_header`.
 #[repr(C)]
@@ -63,46 +62,33 @@ pub extern "C" fn binfarce_detect_format(file: &[u8]) -> u32
 fn of_order(byte_order: ByteOrder) -> u32
     ensures { result ≡ order_number byte_order }
 {
-    match byte_order {
-        ByteOrder::LittleEndian => 0,
-        ByteOrder::BigEndian => 1,
-    }
+    u32::from(byte_order == ByteOrder::BigEndian)
 }
 
 /// The file header of a 32-bit ELF file. See `binfarce.h`.
 #[unsafe(no_mangle)]
-#[tactic(auto, using(crate::proofs::Drained::of_32_bits))]
 pub extern "C" fn binfarce_elf32_header(file: &[u8], big_endian: bool, out: &mut ElfHeader) -> u32
     ensures { GivesHeader elf32 (order_of big_endian) file.now out.old out.new result }
 {
-    match elf32::parse(file, order_of(big_endian)) {
-        Ok(elf) => {
-            *out = widened(elf.header());
-            OK
-        }
-        Err(e) => status_of(e),
-    }
+    elf_header::<u32>(file, order_of(big_endian), out)
 }
 
 /// The file header of a 64-bit ELF file. See `binfarce.h`.
 #[unsafe(no_mangle)]
-#[tactic(auto, using(crate::proofs::Drained::of_64_bits))]
 pub extern "C" fn binfarce_elf64_header(file: &[u8], big_endian: bool, out: &mut ElfHeader) -> u32
     ensures { GivesHeader elf64 (order_of big_endian) file.now out.old out.new result }
 {
-    match elf64::parse(file, order_of(big_endian)) {
-        Ok(elf) => {
-            *out = widened(elf.header());
-            OK
-        }
-        Err(e) => status_of(e),
-    }
+    elf_header::<u64>(file, order_of(big_endian), out)
 }
 
-fn widened<C: Class>(header: Header<C>) -> ElfHeader
-    ensures { header_view result ≡ elf.header_view C.number_of header }
+// The file header of an ELF file of this class, widened.
+fn elf_header<C: Class>(file: &[u8], byte_order: ByteOrder, out: &mut ElfHeader) -> u32
+    ensures { GivesHeader C.table byte_order file.now out.old out.new result }
 {
-    ElfHeader {
+    let Ok(header) = parse_header::<C>(file, byte_order) else {
+        return status_of(ParseError::UnexpectedEof);
+    };
+    *out = ElfHeader {
         elf_type: header.elf_type,
         machine: header.machine,
         version: header.version,
@@ -116,7 +102,8 @@ fn widened<C: Class>(header: Header<C>) -> ElfHeader
         shentsize: header.shentsize,
         shnum: header.shnum,
         shstrndx: header.shstrndx,
-    }
+    };
+    OK
 }
 
 /// Whether a Mach-O file has its file header. See `binfarce.h`.

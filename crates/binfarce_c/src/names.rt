@@ -13,7 +13,7 @@ use std::str;
 
 /// What `binfarce_demangle` returns: `struct binfarce_name`.
 #[repr(C)]
-#[derive(Drop)]
+#[derive(Default, Drop)]
 pub struct SymbolName {
     /// How the call ended.
     pub status: u32,
@@ -61,10 +61,7 @@ pub extern "C" fn binfarce_demangle(
     let Ok(found) = demangle::SymbolName::demangle(alloc, name) else {
         return no_name(OUT_OF_MEMORY);
     };
-    let crate_text = match &found.crate_name {
-        Some(text) => text.as_bytes(),
-        None => &[],
-    };
+    let crate_text = found.crate_name.as_deref().unwrap_or("").as_bytes();
     put(found.complete.as_bytes(), complete);
     put(found.trimmed.as_bytes(), trimmed);
     put(crate_text, crate_name);
@@ -137,11 +134,7 @@ fn mangling_of(name: Demangled<'_>) -> Mangling
 fn kind_number(kind: Kind) -> u32
     ensures { result ≡ kind_number kind }
 {
-    match kind {
-        Kind::Unknown => 0,
-        Kind::Legacy => 1,
-        Kind::V0 => 2,
-    }
+    kind as u32
 }
 
 // No name, for this reason.
@@ -150,11 +143,7 @@ fn no_name(status: u32) -> SymbolName
 {
     SymbolName {
         status,
-        kind: 0,
-        complete_length: 0,
-        trimmed_length: 0,
-        crate_length: 0,
-        has_crate: false,
+        ..SymbolName::default()
     }
 }
 

@@ -2,8 +2,8 @@
 
 //! The library for C and C++: `binfarce.h` declares the exports, and has the rules for callers.
 //!
-//! Each export calls one function of `binfarce` or `binfarce_tools`, and its clauses are that function's, over numbers
-//! and buffers.
+//! Each export calls functions of `binfarce`, `binfarce_elf` or `binfarce_tools`, and its clauses are theirs, over
+//! numbers and buffers.
 
 pub mod all_sections;
 pub mod buffer;

@@ -3,9 +3,11 @@
 //! All sections of a file, in a caller's array.
 
 use crate::erased::binfarce_c::headers::order_of;
-use crate::erased::binfarce_c::sections::{Section, shown_32, shown_64, shown_macho, shown_pe};
+use crate::erased::binfarce_c::sections::{Section, shown_elf, shown_macho, shown_pe};
 use crate::erased::binfarce_c::status::{OK, status_of};
-use crate::erased::binfarce::{ParseError, elf32, elf64, macho, pe};
+use crate::erased::binfarce::{ByteOrder, ParseError, macho, pe};
+use crate::erased::binfarce_elf::class::Width;
+use crate::erased::binfarce_elf::parts::sections_of_file;
 
 /// What a call that gives sections returns: `struct binfarce_sections`.
 #[repr(C)]
@@ -22,10 +24,7 @@ pub fn binfarce_elf32_sections(
     big_endian: bool,
     out: &mut [Section],
 ) -> Sections {
-    match elf32::parse(file, order_of(big_endian)) {
-        Ok(file) => fill_32(&file, out),
-        Err(e) => refused(e, 0),
-    }
+    fill_elf(file, Width::Bits32, order_of(big_endian), out)
 }
 
 /// All sections of a 64-bit ELF file. See `binfarce.h`.
@@ -34,8 +33,12 @@ pub fn binfarce_elf64_sections(
     big_endian: bool,
     out: &mut [Section],
 ) -> Sections {
-    match elf64::parse(file, order_of(big_endian)) {
-        Ok(file) => fill_64(&file, out),
+    fill_elf(file, Width::Bits64, order_of(big_endian), out)
+}
+
+fn fill_elf(file: &[u8], width: Width, byte_order: ByteOrder, out: &mut [Section]) -> Sections {
+    match sections_of_file(file, width, byte_order) {
+        Ok((sections, names)) => fill(sections, |section| shown_elf(names, section), out),
         Err(e) => refused(e, 0),
     }
 }
@@ -43,7 +46,7 @@ pub fn binfarce_elf64_sections(
 /// All sections of a Mach-O file. See `binfarce.h`.
 pub fn binfarce_macho_sections(file: &[u8], out: &mut [Section]) -> Sections {
     match macho::parse(file) {
-        Ok(file) => fill_macho(&file, out),
+        Ok(file) => fill(file.sections(), shown_macho, out),
         Err(e) => refused(e, 0),
     }
 }
@@ -51,49 +54,21 @@ pub fn binfarce_macho_sections(file: &[u8], out: &mut [Section]) -> Sections {
 /// All sections of a PE file. See `binfarce.h`.
 pub fn binfarce_pe_sections(file: &[u8], out: &mut [Section]) -> Sections {
     match pe::parse(file) {
-        Ok(file) => fill_pe(&file, out),
+        Ok(file) => fill(file.sections(), shown_pe, out),
         Err(e) => refused(e, 0),
     }
 }
 
-fn fill_32(file: &elf32::Elf32<'_>, out: &mut [Section]) -> Sections {
+// Puts all sections that come into the array, each as it is shown, up to a refusal.
+fn fill<S, I: Iterator<Item = Result<S, ParseError>>, F: Fn(S) -> Section>(
+    sections: I,
+    shown: F,
+    out: &mut [Section],
+) -> Sections {
     let mut count = 0;
-    for section in file.sections() {
+    for section in sections {
         match section {
-            Ok(section) => count = place(shown_32(file, section), count, out),
-            Err(e) => return refused(e, count),
-        }
-    }
-    Sections { status: OK, count }
-}
-
-fn fill_64(file: &elf64::Elf64<'_>, out: &mut [Section]) -> Sections {
-    let mut count = 0;
-    for section in file.sections() {
-        match section {
-            Ok(section) => count = place(shown_64(file, section), count, out),
-            Err(e) => return refused(e, count),
-        }
-    }
-    Sections { status: OK, count }
-}
-
-fn fill_macho(file: &macho::Macho<'_>, out: &mut [Section]) -> Sections {
-    let mut count = 0;
-    for section in file.sections() {
-        match section {
-            Ok(section) => count = place(shown_macho(section), count, out),
-            Err(e) => return refused(e, count),
-        }
-    }
-    Sections { status: OK, count }
-}
-
-fn fill_pe(file: &pe::Pe<'_>, out: &mut [Section]) -> Sections {
-    let mut count = 0;
-    for section in file.sections() {
-        match section {
-            Ok(section) => count = place(shown_pe(section), count, out),
+            Ok(section) => count = place(shown(section), count, out),
             Err(e) => return refused(e, count),
         }
     }

@@ -7,15 +7,13 @@ use crate::erased::binfarce_c::buffer::put;
 use crate::erased::binfarce_c::headers::order_of;
 use crate::erased::binfarce_c::status::{NOT_UTF8, OK, detail_of, status_of};
 use crate::erased::binfarce::{ByteOrder, FunctionSymbol, ParseError, elf32, elf64, macho, pe};
+use crate::erased::binfarce_elf::class::Width;
 use crate::shim::alloc::{AllocError, Global};
 use crate::shim::ptr;
 use std::str;
 
 // The function symbols of a file and the size of their section, or the refusal.
 type Found = Result<(Vec<Function>, u64), ParseError>;
-
-// The same, as an ELF file stores them.
-type Stored<'a> = Result<(elf32::Functions<'a>, u64), ParseError>;
 
 /// A function symbol in a caller's array: `struct binfarce_function`.
 #[repr(C)]
@@ -53,7 +51,7 @@ pub fn binfarce_elf32_functions(
     out: &mut [Function],
 ) -> Functions {
     match str::from_utf8(section) {
-        Ok(section) => give(of_elf32(alloc, file, order_of(big_endian), section), out),
+        Ok(section) => give(of_elf(alloc, file, Width::Bits32, big_endian, section), out),
         Err(_) => nothing(NOT_UTF8, 0),
     }
 }
@@ -67,7 +65,7 @@ pub fn binfarce_elf64_functions(
     out: &mut [Function],
 ) -> Functions {
     match str::from_utf8(section) {
-        Ok(section) => give(of_elf64(alloc, file, order_of(big_endian), section), out),
+        Ok(section) => give(of_elf(alloc, file, Width::Bits64, big_endian, section), out),
         Err(_) => nothing(NOT_UTF8, 0),
     }
 }
@@ -90,22 +88,22 @@ pub fn binfarce_pe_functions(
     give(of_pe(alloc, file), out)
 }
 
-fn of_elf32(alloc: Global, file: &[u8], byte_order: ByteOrder, section: &str) -> Found {
-    let (functions, size) = stored_in_elf32(file, byte_order, section)?;
+fn of_elf(alloc: Global, file: &[u8], width: Width, big_endian: bool, section: &str) -> Found {
+    let (functions, size) = stored_in_elf(file, width, order_of(big_endian), section)?;
     Ok((all_of(alloc, functions)?, size))
 }
 
-fn of_elf64(alloc: Global, file: &[u8], byte_order: ByteOrder, section: &str) -> Found {
-    let (functions, size) = stored_in_elf64(file, byte_order, section)?;
-    Ok((all_of(alloc, functions)?, size))
-}
-
-fn stored_in_elf32<'a>(file: &'a [u8], byte_order: ByteOrder, section: &str) -> Stored<'a> {
-    elf32::parse(file, byte_order)?.functions(section)
-}
-
-fn stored_in_elf64<'a>(file: &'a [u8], byte_order: ByteOrder, section: &str) -> Stored<'a> {
-    elf64::parse(file, byte_order)?.functions(section)
+// The same, as the file stores them.
+fn stored_in_elf<'a>(
+    file: &'a [u8],
+    width: Width,
+    byte_order: ByteOrder,
+    section: &str,
+) -> Result<(elf32::Functions<'a>, u64), ParseError> {
+    match width {
+        Width::Bits32 => elf32::parse(file, byte_order)?.functions(section),
+        Width::Bits64 => elf64::parse(file, byte_order)?.functions(section),
+    }
 }
 
 fn of_macho(alloc: Global, file: &[u8]) -> Found {

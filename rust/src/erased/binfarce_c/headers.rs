@@ -3,9 +3,9 @@
 //! The format of a file, and its header.
 
 use crate::erased::binfarce_c::status::{OK, status_of};
-use crate::erased::binfarce::{ByteOrder, Format, detect_format, elf32, elf64, macho, pe};
+use crate::erased::binfarce::{ByteOrder, Format, ParseError, detect_format, macho, pe};
 use crate::erased::binfarce_elf::class::Class;
-use crate::erased::binfarce_elf::header::Header;
+use crate::erased::binfarce_elf::header::parse_header;
 
 /// The file header of an ELF file of either class: `struct binfarce_elf_header`.
 #[repr(C)]
@@ -52,36 +52,25 @@ pub fn binfarce_detect_format(file: &[u8]) -> u32 {
 }
 
 fn of_order(byte_order: ByteOrder) -> u32 {
-    match byte_order {
-        ByteOrder::LittleEndian => 0,
-        ByteOrder::BigEndian => 1,
-    }
+    u32::from(byte_order == ByteOrder::BigEndian)
 }
 
 /// The file header of a 32-bit ELF file. See `binfarce.h`.
 pub fn binfarce_elf32_header(file: &[u8], big_endian: bool, out: &mut ElfHeader) -> u32 {
-    match elf32::parse(file, order_of(big_endian)) {
-        Ok(elf) => {
-            *out = widened(elf.header());
-            OK
-        }
-        Err(e) => status_of(e),
-    }
+    elf_header::<u32>(file, order_of(big_endian), out)
 }
 
 /// The file header of a 64-bit ELF file. See `binfarce.h`.
 pub fn binfarce_elf64_header(file: &[u8], big_endian: bool, out: &mut ElfHeader) -> u32 {
-    match elf64::parse(file, order_of(big_endian)) {
-        Ok(elf) => {
-            *out = widened(elf.header());
-            OK
-        }
-        Err(e) => status_of(e),
-    }
+    elf_header::<u64>(file, order_of(big_endian), out)
 }
 
-fn widened<C: Class>(header: Header<C>) -> ElfHeader {
-    ElfHeader {
+// The file header of an ELF file of this class, widened.
+fn elf_header<C: Class>(file: &[u8], byte_order: ByteOrder, out: &mut ElfHeader) -> u32 {
+    let Ok(header) = parse_header::<C>(file, byte_order) else {
+        return status_of(ParseError::UnexpectedEof);
+    };
+    *out = ElfHeader {
         elf_type: header.elf_type,
         machine: header.machine,
         version: header.version,
@@ -95,7 +84,8 @@ fn widened<C: Class>(header: Header<C>) -> ElfHeader {
         shentsize: header.shentsize,
         shnum: header.shnum,
         shstrndx: header.shstrndx,
-    }
+    };
+    OK
 }
 
 /// Whether a Mach-O file has its file header. See `binfarce.h`.

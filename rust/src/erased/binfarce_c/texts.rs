@@ -46,9 +46,8 @@ fn no_report(error: ReportError) -> Text {
     match error {
         ReportError::Unknown => none(UNKNOWN_FORMAT),
         ReportError::Parse(e) => Text {
-            status: status_of(e),
             detail: detail_of(e),
-            length: 0,
+            ..none(status_of(e))
         },
         ReportError::OutOfMemory | ReportError::Write => none(OUT_OF_MEMORY),
         ReportError::TooLarge => none(TOO_LARGE),

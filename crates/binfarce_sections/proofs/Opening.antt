@@ -4,7 +4,7 @@ use Rattle.std.proofs.lemmas.Bool.{le-ltb}
 use Rattle.binfarce.specs.declared.ByteOrder.{ByteOrder}
 use Rattle.binfarce.specs.Elf as elf
 use Rattle.binfarce.specs.Walk.{Walk}
-use Rattle.binfarce_sections.specs.Section.{Section, elf_named, mapped, elf_sections}
+use Rattle.binfarce_sections.specs.Section.{elf_named, mapped, elf_sections}
 use Rattle.binfarce_sections.specs.Views.{named_by}
 
 abbrev pub table_of : elf.ElfClass → ByteOrder → List ℕ → elf.SectionTable

@@ -148,12 +148,10 @@ fn bytes_of<'a>(file: &'a [u8], section: Section<'_>) -> Result<&'a [u8], Sectio
 fn is_named(section: &Section<'_>, word: &str) -> bool
     ensures { result ≡ is_named word.now (section_view section.now) }
 {
-    match section.name {
-        None => false,
-        Some(name) => match section.segment {
-            None => word == name,
-            Some(segment) => word == name || is_full_name(word, segment, name),
-        },
+    match (section.name, section.segment) {
+        (None, _) => false,
+        (Some(name), None) => word == name,
+        (Some(name), Some(segment)) => word == name || is_full_name(word, segment, name),
     }
 }
 
@@ -171,8 +169,5 @@ fn is_full_name(word: &str, segment: &str, name: &str) -> bool
 fn is_after_comma(bytes: &[u8], name: &[u8]) -> bool
     ensures { result ≡ bytes_eq bytes.now (44 ∷ name.now) }
 {
-    match bytes {
-        [b',', rest @ ..] => *rest == *name,
-        _ => false,
-    }
+    matches!(bytes, [b',', rest @ ..] if *rest == *name)
 }

@@ -92,10 +92,7 @@ fn write_lines<S: Sink>(
 {
     let (text, refusal) = lines_of(alloc, sections, form)?;
     write_whole(out, text.as_bytes()).map_err(|_| SectionError::Write)?;
-    match refusal {
-        Some(e) => Err(SectionError::Parse(e)),
-        None => Ok(()),
-    }
+    refusal.map_or(Ok(()), |e| Err(SectionError::Parse(e)))
 }
 
 // The lines of all sections that are left, and the refusal that ends them.
@@ -168,14 +165,12 @@ fn push_name(text: &mut String, segment: Option<&str>, name: Option<&str>) -> Re
         ≡ string_bytes text.old
         ++ name_text (option_map (λ t. t.now) segment.entry) (option_map (λ t. t.now) name.entry)) }
 {
-    match name {
-        None => Ok(()),
-        Some(name) => {
-            if let Some(segment) = segment {
-                text.push_str(segment)?;
-                text.push_str(",")?;
-            }
-            text.push_str(name)
-        }
+    let Some(name) = name else {
+        return Ok(());
+    };
+    if let Some(segment) = segment {
+        text.push_str(segment)?;
+        text.push_str(",")?;
     }
+    text.push_str(name)
 }

@@ -130,8 +130,7 @@ pub(crate) fn open_macho(bytes: &[u8]) -> Result<Sections<'_>, ParseError>
         (λ _. least ≤ length bytes.entry.now)
         (λ _. length bytes.entry.now < least) }
 {
-    let file = macho::parse(bytes)?;
-    Ok(Sections::Macho(file.sections()))
+    Ok(Sections::Macho(macho::parse(bytes)?.sections()))
 }
 
 pub(crate) fn open_pe(bytes: &[u8]) -> Result<Sections<'_>, ParseError>
@@ -140,8 +139,7 @@ pub(crate) fn open_pe(bytes: &[u8]) -> Result<Sections<'_>, ParseError>
         (λ _. least ≤ length bytes.entry.now)
         (λ _. length bytes.entry.now < least) }
 {
-    let file = pe::parse(bytes)?;
-    Ok(Sections::Pe(file.sections()))
+    Ok(Sections::Pe(pe::parse(bytes)?.sections()))
 }
 
 impl<'a> ElfSections<'a> {
@@ -149,10 +147,9 @@ impl<'a> ElfSections<'a> {
     fn next(&mut self) -> Option<Result<Section<'a>, ParseError>>
         ensures { YieldsNext refusal_of section_view (elf_left self.old) result (elf_left self.new) }
     {
-        match self.left.next() {
-            Some(Ok(section)) => Some(Ok(elf_section(self.names, section))),
-            Some(Err(e)) => Some(Err(e)),
-            None => None,
+        match self.left.next()? {
+            Ok(section) => Some(Ok(elf_section(self.names, section))),
+            Err(e) => Some(Err(e)),
         }
     }
 
@@ -177,21 +174,13 @@ fn next_macho<'a>(left: &mut macho::Sections<'a>) -> Option<Result<Section<'a>, 
     ensures { YieldsNext refusal_of section_view (mapped macho_section left.old) result
         (mapped macho_section left.new) }
 {
-    match left.next() {
-        Some(Ok(section)) => Some(Ok(macho_section(section))),
-        Some(Err(e)) => Some(Err(e)),
-        None => None,
-    }
+    Some(left.next()?.map(macho_section))
 }
 
 fn next_pe<'a>(left: &mut pe::Sections<'a>) -> Option<Result<Section<'a>, ParseError>>
     ensures { YieldsNext refusal_of section_view (mapped pe_section left.old) result (mapped pe_section left.new) }
 {
-    match left.next() {
-        Some(Ok(section)) => Some(Ok(pe_section(section))),
-        Some(Err(e)) => Some(Err(e)),
-        None => None,
-    }
+    Some(left.next()?.map(pe_section))
 }
 
 fn elf_section<'a>(names: Option<&'a [u8]>, section: elf_sections::Section<u64>) -> Section<'a>
@@ -246,12 +235,9 @@ fn pe_section(section: pe::Section<'_>) -> Section<'_>
 fn pe_size(virtual_size: u32, raw_size: u32) -> u32
     ensures { result ≡ pe_size virtual_size raw_size }
 {
-    if virtual_size == 0 {
-        raw_size
-    } else if raw_size == 0 {
-        virtual_size
-    } else {
-        virtual_size.min(raw_size)
+    match (virtual_size, raw_size) {
+        (0, size) | (size, 0) => size,
+        _ => virtual_size.min(raw_size),
     }
 }
 

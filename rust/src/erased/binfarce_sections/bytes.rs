@@ -103,12 +103,10 @@ fn bytes_of<'a>(file: &'a [u8], section: Section<'_>) -> Result<&'a [u8], Sectio
 
 // Whether the word names the section.
 fn is_named(section: &Section<'_>, word: &str) -> bool {
-    match section.name {
-        None => false,
-        Some(name) => match section.segment {
-            None => word == name,
-            Some(segment) => word == name || is_full_name(word, segment, name),
-        },
+    match (section.name, section.segment) {
+        (None, _) => false,
+        (Some(name), None) => word == name,
+        (Some(name), Some(segment)) => word == name || is_full_name(word, segment, name),
     }
 }
 
@@ -122,8 +120,5 @@ fn is_full_name(word: &str, segment: &str, name: &str) -> bool {
 
 // Whether the bytes are a comma and the name.
 fn is_after_comma(bytes: &[u8], name: &[u8]) -> bool {
-    match bytes {
-        [b',', rest @ ..] => *rest == *name,
-        _ => false,
-    }
+    matches!(bytes, [b',', rest @ ..] if *rest == *name)
 }

@@ -63,10 +63,7 @@ fn write_lines<S: Sink>(
 ) -> Result<(), SectionError> {
     let (text, refusal) = lines_of(alloc, sections, form)?;
     write_whole(out, text.as_bytes()).map_err(|_| SectionError::Write)?;
-    match refusal {
-        Some(e) => Err(SectionError::Parse(e)),
-        None => Ok(()),
-    }
+    refusal.map_or(Ok(()), |e| Err(SectionError::Parse(e)))
 }
 
 // The lines of all sections that are left, and the refusal that ends them.
@@ -119,14 +116,12 @@ fn push_head(text: &mut String, address: u64, offset: u64, size: u64) -> Result<
 
 // Writes a section's name, in Mach-O after its segment's.
 fn push_name(text: &mut String, segment: Option<&str>, name: Option<&str>) -> Result<(), AllocError> {
-    match name {
-        None => Ok(()),
-        Some(name) => {
-            if let Some(segment) = segment {
-                text.push_str(segment)?;
-                text.push_str(",")?;
-            }
-            text.push_str(name)
-        }
+    let Some(name) = name else {
+        return Ok(());
+    };
+    if let Some(segment) = segment {
+        text.push_str(segment)?;
+        text.push_str(",")?;
     }
+    text.push_str(name)
 }

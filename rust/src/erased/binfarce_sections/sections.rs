@@ -87,22 +87,19 @@ pub(crate) fn elf_sections_of(parts: &SectionParts) -> Sections<'_> {
 }
 
 pub(crate) fn open_macho(bytes: &[u8]) -> Result<Sections<'_>, ParseError> {
-    let file = macho::parse(bytes)?;
-    Ok(Sections::Macho(file.sections()))
+    Ok(Sections::Macho(macho::parse(bytes)?.sections()))
 }
 
 pub(crate) fn open_pe(bytes: &[u8]) -> Result<Sections<'_>, ParseError> {
-    let file = pe::parse(bytes)?;
-    Ok(Sections::Pe(file.sections()))
+    Ok(Sections::Pe(pe::parse(bytes)?.sections()))
 }
 
 impl<'a> ElfSections<'a> {
     // The first section that is left, or why it can't be read.
     fn next(&mut self) -> Option<Result<Section<'a>, ParseError>> {
-        match self.left.next() {
-            Some(Ok(section)) => Some(Ok(elf_section(self.names, section))),
-            Some(Err(e)) => Some(Err(e)),
-            None => None,
+        match self.left.next()? {
+            Ok(section) => Some(Ok(elf_section(self.names, section))),
+            Err(e) => Some(Err(e)),
         }
     }
 
@@ -121,19 +118,11 @@ impl<'a> ElfSections<'a> {
 }
 
 fn next_macho<'a>(left: &mut macho::Sections<'a>) -> Option<Result<Section<'a>, ParseError>> {
-    match left.next() {
-        Some(Ok(section)) => Some(Ok(macho_section(section))),
-        Some(Err(e)) => Some(Err(e)),
-        None => None,
-    }
+    Some(left.next()?.map(macho_section))
 }
 
 fn next_pe<'a>(left: &mut pe::Sections<'a>) -> Option<Result<Section<'a>, ParseError>> {
-    match left.next() {
-        Some(Ok(section)) => Some(Ok(pe_section(section))),
-        Some(Err(e)) => Some(Err(e)),
-        None => None,
-    }
+    Some(left.next()?.map(pe_section))
 }
 
 fn elf_section<'a>(names: Option<&'a [u8]>, section: elf_sections::Section<u64>) -> Section<'a> {
@@ -175,12 +164,9 @@ fn pe_section(section: pe::Section<'_>) -> Section<'_> {
 
 // The smaller one of `VirtualSize` and `SizeOfRawData`, or the other one where one is 0.
 fn pe_size(virtual_size: u32, raw_size: u32) -> u32 {
-    if virtual_size == 0 {
-        raw_size
-    } else if raw_size == 0 {
-        virtual_size
-    } else {
-        virtual_size.min(raw_size)
+    match (virtual_size, raw_size) {
+        (0, size) | (size, 0) => size,
+        _ => virtual_size.min(raw_size),
     }
 }
 

@@ -1,6 +1,5 @@
-use Rattle.std.proofs.Common.{List, ℕ, [], ◌∷◌, codes}
+use Rattle.std.proofs.Common.{[], ◌∷◌, codes}
 use Rattle.std.specs.Option.{option_map}
-use Rattle.std.specs.Prelude.{Option}
 use Rattle.std.specs.String.{string_bytes}
 use Rattle.binfarce_tools.specs.Json.{address_member, number_member, object_start, text_member}
 use Rattle.binfarce_tools.proofs.Objects.{one, more}

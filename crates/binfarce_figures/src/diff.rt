@@ -1,15 +1,14 @@
 //! How the sums of two files differ.
 
-ghost use Rattle.std.specs.Prelude.{◌≡◌, ◌++◌, ◌<◌, ◌^◌, ℕ, List, Some, Ok, codes, filter, length, map, IfOk, OnOk};
-ghost use Rattle.std.specs.List.{AllZip, sum_by};
+ghost use Rattle.std.specs.Prelude.{◌≡◌, ◌<◌, ◌^◌, Some, Ok, IfOk};
+ghost use Rattle.std.specs.List.{sum_by};
 ghost use Rattle.std.specs.String.{string_bytes};
 ghost use Rattle.binfarce.specs.Symbol.{Listed};
 ghost use Rattle.binfarce_tools.specs.Json.{style_of};
 ghost use Rattle.binfarce_tools.specs.Report.{total};
 ghost use Rattle.binfarce_tools.specs.ReportWords.{outcome_of};
 ghost use Rattle.binfarce_tools.specs.Writing.{Takes, Fails, Leaves};
-ghost use Rattle.binfarce_figures.specs.Changes.{AreChangesBy, AreTablesFor, Asked, EndsForBoth, IsGrowthBy, IsGrowthOf, IsTextOfChanges, answer_for, both, ended};
-ghost use Rattle.binfarce_figures.specs.Figures.{shares_of};
+ghost use Rattle.binfarce_figures.specs.Changes.{AreChangesBy, AreTablesFor, Asked, EndsForBoth, IsGrowthBy, answer_for, both, ended};
 ghost use Rattle.binfarce_figures.specs.machine.Compared.{IsTextWith};
 
 use crate::claims::claims_of;

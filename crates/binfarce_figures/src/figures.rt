@@ -69,8 +69,8 @@ impl Layout<'_> {
     ) -> Result<Vec<Figure<'b>>, AllocError>
         ensures { IfOk result (λ v. (first second : List Share)
             → AreSumsOf first sums.entry.now → AreSumsOf second others.now
-            → (names : List (List ℕ)) × AreCratesOf first names × (map figure_view v.items
-            ≡ filter (λ n. has_row self.now.columns n.1.0 n.1.1) (numbers_of (sum_of first) (sum_of second) names))) }
+            → (names : List (List ℕ)) × AreCratesOf first names × (map figure_view v.items ≡ filter
+            (λ n. has_row self.now.columns n.1.0 n.1.1) (numbers_of (sum_of first) (sum_of second) names))) }
     {
         let mut figures = Vec::new(self.alloc);
         for (name, sum) in sums.crates.iter() {

@@ -1,9 +1,7 @@
 //! The order of rows.
 
 ghost use Rattle.std.specs.Prelude.{OnOk};
-ghost use Rattle.std.specs.Cmp.Lexicographic.{slice_cmp};
-ghost use Rattle.std.specs.Ordering.{nat_cmp};
-ghost use Rattle.binfarce_figures.specs.Order.{falling, IsByAddress, IsByAddressAndKey, IsInOrder};
+ghost use Rattle.binfarce_figures.specs.Order.{IsInOrder};
 
 use std::alloc::AllocError;
 use std::cmp::Reverse;

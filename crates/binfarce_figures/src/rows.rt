@@ -8,7 +8,7 @@ ghost use Rattle.binfarce.specs.declared.SymbolTable.{SymbolTable};
 ghost use Rattle.binfarce_tools.specs.Listing.{ListingFits};
 ghost use Rattle.binfarce_tools.specs.ListWords.{outcome_of};
 ghost use Rattle.binfarce_tools.specs.Selection.{answer_in, MemoryIn};
-ghost use Rattle.binfarce_tools.specs.Tables.{AreTablesOf, section_names};
+ghost use Rattle.binfarce_tools.specs.Tables.{AreTablesOf};
 ghost use Rattle.binfarce_tools.specs.Writing.{EndsAs, Takes, Fails, Leaves};
 ghost use Rattle.binfarce_figures.specs.Rows.{IsNameText, IsTailText, count_of};
 ghost use Rattle.binfarce_figures.specs.RowListing.{IsListingBy};

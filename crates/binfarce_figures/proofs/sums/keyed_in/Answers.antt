@@ -1,4 +1,4 @@
-use Rattle.std.proofs.Common.{◌<◌, ◌≤◌, ◌^◌, ◌∙◌, ℕ, List, map, sym, subst, ap, arith}
+use Rattle.std.proofs.Common.{◌∙◌, ℕ, List, map, sym, subst, ap, arith}
 use Rattle.std.specs.List.{AllZip, sum_by}
 use Rattle.binfarce.specs.SectionEntries.{SectionEntry}
 use Rattle.binfarce.specs.SymbolViews.{section_function_view}

@@ -88,8 +88,7 @@ module _ {S T I : Type 0} (section_details : S → Details) (seen : T → S) (wa
   all_of iterator [] status (left, inl end) = subst (λ (walk : Walk S). Walked walk [] status) (sym end.0.0) (tt, end.1)
   all_of iterator [] status (left, inr end) = subst (λ (walk : Walk S). Walked walk [] status) (sym end.1.0) (tt, end.2)
   all_of iterator (section ∷ sections) status shows =
-      let left = shows.1 in
-      let rest = all_of left sections status shows.4 in
+      let rest = all_of shows.1 sections status shows.4 in
       subst (λ (walk : Walk S). Walked walk (section ∷ sections) status) (sym shows.2) ((is_shown shows.0 section shows.3, rest.0), rest.1)
 
   -- and of a file that has its header it is the walk over its sections
@@ -97,29 +96,25 @@ module _ {S T I : Type 0} (section_details : S → Details) (seen : T → S) (wa
       → least ≤ length file → walk_left iterator ≡ walk → Fills gives shown iterator old new given → GivesWalk section_details (walk_of least file walk) old new given
   whole walk iterator file least old new given long same filled =
       let all = all_of iterator filled.0 given.status filled.1 in
+      let is_long : nat_lt (length file) least ≡ false = grind (arith, nat_tests) in
       subst (λ (w : Walk S). GivesWalk section_details w old new given)
-      (same ∙ sym (ap (λ (b : Bool). if b then ended (Some unexpected_eof) else walk) (is_long (length file) least long)))
+      (same ∙ sym (ap (λ (b : Bool). if b then ended (Some unexpected_eof) else walk) is_long))
       (record {
         sections = filled.0;
         are = all.0;
         given_is = ap (λ (s : ℕ). record { status = s; count = given.count }) all.1 ∙ ap (λ (n : ℕ). record { status = end_status (walk_left iterator).refusal; count = n }) filled.2.1;
         new_is = filled.2.0;
       })
-    where
-      is_long : (a b : ℕ) → b ≤ a → nat_lt a b ≡ false
-      is_long a b le = grind (arith, nat_tests)
 
 -- a file without its header
 pub refused : {S : Type 0} (section_details : S → Details) (walk : Walk S) (file : List ℕ) (least : ℕ) (old : List Section) (refusal : Refusal) (given : Sections)
     → length file < least → refusal ≡ unexpected_eof → given ≡ record { status = status_of refusal; count = 0 } → GivesWalk section_details (walk_of least file walk) old old given
 refused {S} section_details walk file least old refusal given short why is =
     let P : Bool → Type 0 = λ b. GivesWalk section_details (if b then ended (Some unexpected_eof) else walk) old old given in
-    subst P (sym (is_short (length file) least short)) (record {
+    let is_short : nat_lt (length file) least ≡ true = grind (arith, nat_tests) in
+    subst P (sym is_short) (record {
       sections = [];
       are = tt;
       given_is = is ∙ ap (λ (r : Refusal). record { status = status_of r; count = 0 }) why;
       new_is = put_none old;
     })
-  where
-    is_short : (a b : ℕ) → a < b → nat_lt a b ≡ true
-    is_short a b lt = grind (arith, nat_tests)

@@ -6,7 +6,6 @@ ghost use Rattle.binfarce.specs.Elf as elf;
 ghost use Rattle.binfarce.specs.Macho as macho;
 ghost use Rattle.binfarce.specs.Pe as pe;
 ghost use Rattle.binfarce.specs.Refusal.{refusal_of};
-ghost use Rattle.binfarce_elf.specs.Classes.{class_of};
 ghost use Rattle.binfarce_c.specs.AllSections.{GivesWalk, walk_of};
 ghost use Rattle.binfarce_c.specs.Headers.{order_of};
 ghost use Rattle.binfarce_c.specs.Sections.{elf_details, elf_table, macho_details, pe_details};
@@ -14,11 +13,9 @@ ghost use Rattle.binfarce_c.specs.Status.{status_of};
 ghost use Rattle.binfarce_c.specs.machine.Filled.{Fills, OneMore};
 
 use crate::headers::order_of;
-use crate::sections::{Section, shown_elf, shown_macho, shown_pe};
+use crate::sections::{Section, shown_32, shown_64, shown_macho, shown_pe};
 use crate::status::{OK, status_of};
-use binfarce::{ByteOrder, ParseError, macho, pe};
-use binfarce_elf::class::Width;
-use binfarce_elf::parts::sections_of_file;
+use binfarce::{ParseError, elf32, elf64, macho, pe};
 
 /// What a call that gives sections returns: `struct binfarce_sections`.
 #[repr(C)]
@@ -41,7 +38,10 @@ pub extern "C" fn binfarce_elf32_sections(
         GivesWalk (elf_details elf.elf32 table) (walk_of elf.elf32.header_length file.now (elf.walk elf.elf32 table))
         out.old out.new result }
 {
-    fill_elf(file, Width::Bits32, order_of(big_endian), out)
+    match elf32::parse(file, order_of(big_endian)) {
+        Ok(file) => fill(file.sections(), |section| shown_32(&file, section), out),
+        Err(e) => refused(e, 0),
+    }
 }
 
 /// All sections of a 64-bit ELF file. See `binfarce.h`.
@@ -55,16 +55,8 @@ pub extern "C" fn binfarce_elf64_sections(
         GivesWalk (elf_details elf.elf64 table) (walk_of elf.elf64.header_length file.now (elf.walk elf.elf64 table))
         out.old out.new result }
 {
-    fill_elf(file, Width::Bits64, order_of(big_endian), out)
-}
-
-fn fill_elf(file: &[u8], width: Width, byte_order: ByteOrder, out: &mut [Section]) -> Sections
-    ensures { let class = class_of width in let table = elf_table class byte_order file.now in
-        GivesWalk (elf_details class table) (walk_of class.header_length file.now (elf.walk class table))
-        out.old out.new result }
-{
-    match sections_of_file(file, width, byte_order) {
-        Ok((sections, names)) => fill(sections, |section| shown_elf(names, section), out),
+    match elf64::parse(file, order_of(big_endian)) {
+        Ok(file) => fill(file.sections(), |section| shown_64(&file, section), out),
         Err(e) => refused(e, 0),
     }
 }

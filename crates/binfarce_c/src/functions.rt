@@ -45,7 +45,7 @@ pub struct Function {
 
 /// What a call that gives function symbols returns: `struct binfarce_functions`.
 #[repr(C)]
-#[derive(Drop)]
+#[derive(Default, Drop)]
 pub struct Functions {
     /// How the call ended.
     pub status: u32,
@@ -229,7 +229,6 @@ fn nothing(status: u32, detail: u32) -> Functions
     Functions {
         status,
         detail,
-        count: 0,
-        section_size: 0,
+        ..Functions::default()
     }
 }

@@ -153,7 +153,6 @@ pub(crate) fn none(status: u32) -> Text
 {
     Text {
         status,
-        detail: 0,
-        length: 0,
+        ..Text::default()
     }
 }

@@ -9,23 +9,16 @@ ghost use Rattle.binfarce.specs.MachoViews as macho_view;
 ghost use Rattle.binfarce.specs.Pe as pe;
 ghost use Rattle.binfarce.specs.PeViews as pe_view;
 ghost use Rattle.binfarce.specs.Refusal.{Gives, refusal_of};
-ghost use Rattle.binfarce.specs.Walk.{first};
-ghost use Rattle.binfarce_elf.specs.Classes.{class_of};
-ghost use Rattle.binfarce_elf.specs.ElfParts.{sections_left};
-ghost use Rattle.binfarce_elf.specs.ElfSymbols.{is_named};
 ghost use Rattle.binfarce_c.specs.Buffer.{PointsTo};
 ghost use Rattle.binfarce_c.specs.Headers.{order_of};
-ghost use Rattle.binfarce_c.specs.Sections.{GivesSection, HasName, IsSection, OfUtf8, elf_details, macho_details, pe_details, elf_section, elf_numbered, macho_section, macho_numbered, pe_section, pe_numbered};
+ghost use Rattle.binfarce_c.specs.Sections.{GivesSection, HasName, IsSection, OfUtf8, elf_details, macho_details, pe_details, numbered, elf_table_section, elf_section, elf_numbered, macho_section, macho_numbered, pe_section, pe_numbered};
 ghost use Rattle.binfarce_c.specs.Status.{status_of};
 ghost use Rattle.binfarce_c.specs.machine.Sought.{Given, IsFound};
 
 use crate::functions::start;
 use crate::headers::order_of;
 use crate::status::{NONE, NOT_UTF8, OK, status_of};
-use binfarce::{ParseError, macho, pe};
-use binfarce_elf::class::Width;
-use binfarce_elf::parts::{AnySections, is_named_in, name_in, sections_of_file};
-use binfarce_elf::sections as elf_sections;
+use binfarce::{ByteOrder, ParseError, elf32, elf64, macho, pe};
 use std::ops::Range;
 use std::str;
 
@@ -74,7 +67,7 @@ pub extern "C" fn binfarce_elf32_section(
         out.new result }
 {
     match str::from_utf8(name) {
-        Ok(name) => give(named_elf(file, Width::Bits32, big_endian, name), out),
+        Ok(name) => give(named_32(file, order_of(big_endian), name), out),
         Err(_) => NOT_UTF8,
     }
 }
@@ -90,7 +83,7 @@ pub extern "C" fn binfarce_elf32_section_at(
 ) -> u32
     ensures { GivesSection (elf_numbered elf.elf32 (order_of big_endian) file.now index) out.old out.new result }
 {
-    give(numbered_elf(file, Width::Bits32, big_endian, index), out)
+    give(numbered_32(file, order_of(big_endian), index), out)
 }
 
 /// The first section of a 64-bit ELF file with this name. See `binfarce.h`.
@@ -107,7 +100,7 @@ pub extern "C" fn binfarce_elf64_section(
         out.new result }
 {
     match str::from_utf8(name) {
-        Ok(name) => give(named_elf(file, Width::Bits64, big_endian, name), out),
+        Ok(name) => give(named_64(file, order_of(big_endian), name), out),
         Err(_) => NOT_UTF8,
     }
 }
@@ -123,7 +116,7 @@ pub extern "C" fn binfarce_elf64_section_at(
 ) -> u32
     ensures { GivesSection (elf_numbered elf.elf64 (order_of big_endian) file.now index) out.old out.new result }
 {
-    give(numbered_elf(file, Width::Bits64, big_endian, index), out)
+    give(numbered_64(file, order_of(big_endian), index), out)
 }
 
 /// The first section of a Mach-O file with this segment's and this section's name. A name that isn't UTF-8 is no
@@ -180,53 +173,94 @@ pub extern "C" fn binfarce_pe_section_at(file: &[u8], index: usize, out: &mut Se
     give(numbered_pe(file, index), out)
 }
 
-fn named_elf(file: &[u8], width: Width, big_endian: bool, name: &str) -> Sought<Section>
-    ensures { IsFound (elf_section (class_of width) (order_of big_endian) file.now name.now) result }
+#[tactic(auto, using(crate::proofs::Drained::of_32_bits))]
+fn named_32(file: &[u8], byte_order: ByteOrder, name: &str) -> Sought<Section>
+    ensures { IsFound (elf_section elf.elf32 byte_order file.now name.now) result }
 {
-    let (sections, names) = sections_of_file(file, width, order_of(big_endian))?;
-    match first_named(sections, names, name)? {
-        Some(section) => Ok(Some(shown_elf(names, section))),
+    named_in_32(&elf32::parse(file, byte_order)?, name)
+}
+
+fn named_in_32(file: &elf32::Elf32<'_>, name: &str) -> Sought<Section>
+    ensures { IsFound (elf_table_section elf.elf32 (elf.section_table elf.elf32 file.now) name.now) result }
+{
+    match file.section_with_name(name)? {
+        Some(section) => Ok(Some(shown_32(file, section))),
         None => Ok(None),
     }
 }
 
-// The first section with this name among the section names, of those that are left.
-fn first_named(
-    sections: AnySections<'_>,
-    names: Option<&[u8]>,
-    name: &str,
-) -> Sought<elf_sections::Section<u64>>
+#[tactic(auto, using(crate::proofs::Drained::of_32_bits))]
+fn numbered_32(file: &[u8], byte_order: ByteOrder, index: usize) -> Sought<Section>
+    ensures { IsFound (elf_numbered elf.elf32 byte_order file.now index) result }
+{
+    let file = elf32::parse(file, byte_order)?;
+    match nth_32(&file, index)? {
+        Some(section) => Ok(Some(shown_32(&file, section))),
+        None => Ok(None),
+    }
+}
+
+fn nth_32(file: &elf32::Elf32<'_>, index: usize) -> Sought<elf32::Section>
     ensures { Gives refusal_of (option_map (elf_view.section_view (λ n. n)))
-        (first (λ s. is_named name.now (elf.name_among (option_map (λ b. b.now) names.entry) s.name_offset))
-        (sections_left sections.entry)) result }
+        (numbered index (elf.walk elf.elf32 (elf.section_table elf.elf32 file.now))) result }
 {
-    for section in sections {
-        let section = section?;
-        if is_named_in(names, &section, name) {
-            return Ok(Some(section));
-        }
-    }
-    Ok(None)
+    file.sections().nth(index).transpose()
 }
 
-fn numbered_elf(file: &[u8], width: Width, big_endian: bool, index: usize) -> Sought<Section>
-    ensures { IsFound (elf_numbered (class_of width) (order_of big_endian) file.now index) result }
-{
-    let (mut sections, names) = sections_of_file(file, width, order_of(big_endian))?;
-    match sections.nth(index).transpose()? {
-        Some(section) => Ok(Some(shown_elf(names, section))),
-        None => Ok(None),
-    }
-}
-
-// A section of an ELF file with these section names.
-pub(crate) fn shown_elf(names: Option<&[u8]>, section: elf_sections::Section<u64>) -> Section
-    ensures { (class : elf.ElfClass) (table : elf.SectionTable)
-        → option_map (λ b. b.now) names.entry ≡ elf.names_bytes class table
-        → IsSection (elf_details class table (elf_view.section_view (λ n. n) section)) result }
+pub(crate) fn shown_32(file: &elf32::Elf32<'_>, section: elf32::Section) -> Section
+    ensures { IsSection (elf_details elf.elf32 (elf.section_table elf.elf32 file.now)
+        (elf_view.section_view (λ n. n) section)) result }
 {
     section_of(
-        name_in(names, &section),
+        section.name(file),
+        "",
+        u64::from(section.address()),
+        section.section_type(),
+        section.range(),
+        u64::from(section.entries()),
+    )
+}
+
+#[tactic(auto, using(crate::proofs::Drained::of_64_bits))]
+fn named_64(file: &[u8], byte_order: ByteOrder, name: &str) -> Sought<Section>
+    ensures { IsFound (elf_section elf.elf64 byte_order file.now name.now) result }
+{
+    named_in_64(&elf64::parse(file, byte_order)?, name)
+}
+
+fn named_in_64(file: &elf64::Elf64<'_>, name: &str) -> Sought<Section>
+    ensures { IsFound (elf_table_section elf.elf64 (elf.section_table elf.elf64 file.now) name.now) result }
+{
+    match file.section_with_name(name)? {
+        Some(section) => Ok(Some(shown_64(file, section))),
+        None => Ok(None),
+    }
+}
+
+#[tactic(auto, using(crate::proofs::Drained::of_64_bits))]
+fn numbered_64(file: &[u8], byte_order: ByteOrder, index: usize) -> Sought<Section>
+    ensures { IsFound (elf_numbered elf.elf64 byte_order file.now index) result }
+{
+    let file = elf64::parse(file, byte_order)?;
+    match nth_64(&file, index)? {
+        Some(section) => Ok(Some(shown_64(&file, section))),
+        None => Ok(None),
+    }
+}
+
+fn nth_64(file: &elf64::Elf64<'_>, index: usize) -> Sought<elf64::Section>
+    ensures { Gives refusal_of (option_map (elf_view.section_view (λ n. n)))
+        (numbered index (elf.walk elf.elf64 (elf.section_table elf.elf64 file.now))) result }
+{
+    file.sections().nth(index).transpose()
+}
+
+pub(crate) fn shown_64(file: &elf64::Elf64<'_>, section: elf64::Section) -> Section
+    ensures { IsSection (elf_details elf.elf64 (elf.section_table elf.elf64 file.now)
+        (elf_view.section_view (λ n. n) section)) result }
+{
+    section_of(
+        section.name(file),
         "",
         section.address(),
         section.section_type(),
@@ -245,8 +279,13 @@ fn named_macho(file: &[u8], segment: &str, name: &str) -> Sought<Section>
 fn numbered_macho(file: &[u8], index: usize) -> Sought<Section>
     ensures { IsFound (macho_numbered file.now index) result }
 {
-    let section = macho::parse(file)?.sections().nth(index).transpose()?;
-    Ok(section.map(shown_macho))
+    Ok(nth_macho(&macho::parse(file)?, index)?.map(shown_macho))
+}
+
+fn nth_macho<'a>(file: &macho::Macho<'a>, index: usize) -> Sought<macho::Section<'a>>
+    ensures { Gives refusal_of (option_map macho_view.section_view) (numbered index (macho.walk file.now)) result }
+{
+    file.sections().nth(index).transpose()
 }
 
 pub(crate) fn shown_macho(section: macho::Section<'_>) -> Section
@@ -265,15 +304,25 @@ pub(crate) fn shown_macho(section: macho::Section<'_>) -> Section
 fn named_pe(file: &[u8], name: &str) -> Sought<Section>
     ensures { IsFound (pe_section file.now name.now) result }
 {
-    let found = pe::parse(file)?.section_with_name(name)?;
-    Ok(found.map(shown_pe))
+    match pe::parse(file)?.section_with_name(name)? {
+        Some(section) => Ok(Some(shown_pe(section))),
+        None => Ok(None),
+    }
 }
 
 fn numbered_pe(file: &[u8], index: usize) -> Sought<Section>
     ensures { IsFound (pe_numbered file.now index) result }
 {
-    let section = pe::parse(file)?.sections().nth(index).transpose()?;
-    Ok(section.map(shown_pe))
+    match nth_pe(&pe::parse(file)?, index)? {
+        Some(section) => Ok(Some(shown_pe(section))),
+        None => Ok(None),
+    }
+}
+
+fn nth_pe<'a>(file: &pe::Pe<'a>, index: usize) -> Sought<pe::Section<'a>>
+    ensures { Gives refusal_of (option_map pe_view.section_view) (numbered index (pe.walk file.now)) result }
+{
+    file.sections().nth(index).transpose()
 }
 
 pub(crate) fn shown_pe(section: pe::Section<'_>) -> Section

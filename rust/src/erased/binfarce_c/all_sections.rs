@@ -3,11 +3,9 @@
 //! All sections of a file, in a caller's array.
 
 use crate::erased::binfarce_c::headers::order_of;
-use crate::erased::binfarce_c::sections::{Section, shown_elf, shown_macho, shown_pe};
+use crate::erased::binfarce_c::sections::{Section, shown_32, shown_64, shown_macho, shown_pe};
 use crate::erased::binfarce_c::status::{OK, status_of};
-use crate::erased::binfarce::{ByteOrder, ParseError, macho, pe};
-use crate::erased::binfarce_elf::class::Width;
-use crate::erased::binfarce_elf::parts::sections_of_file;
+use crate::erased::binfarce::{ParseError, elf32, elf64, macho, pe};
 
 /// What a call that gives sections returns: `struct binfarce_sections`.
 #[repr(C)]
@@ -24,7 +22,10 @@ pub fn binfarce_elf32_sections(
     big_endian: bool,
     out: &mut [Section],
 ) -> Sections {
-    fill_elf(file, Width::Bits32, order_of(big_endian), out)
+    match elf32::parse(file, order_of(big_endian)) {
+        Ok(file) => fill(file.sections(), |section| shown_32(&file, section), out),
+        Err(e) => refused(e, 0),
+    }
 }
 
 /// All sections of a 64-bit ELF file. See `binfarce.h`.
@@ -33,12 +34,8 @@ pub fn binfarce_elf64_sections(
     big_endian: bool,
     out: &mut [Section],
 ) -> Sections {
-    fill_elf(file, Width::Bits64, order_of(big_endian), out)
-}
-
-fn fill_elf(file: &[u8], width: Width, byte_order: ByteOrder, out: &mut [Section]) -> Sections {
-    match sections_of_file(file, width, byte_order) {
-        Ok((sections, names)) => fill(sections, |section| shown_elf(names, section), out),
+    match elf64::parse(file, order_of(big_endian)) {
+        Ok(file) => fill(file.sections(), |section| shown_64(&file, section), out),
         Err(e) => refused(e, 0),
     }
 }

@@ -127,7 +127,6 @@ fn no_name(status: u32) -> SymbolName {
 pub(crate) fn none(status: u32) -> Text {
     Text {
         status,
-        detail: 0,
-        length: 0,
+        ..Text::default()
     }
 }

@@ -5,10 +5,7 @@
 use crate::erased::binfarce_c::functions::start;
 use crate::erased::binfarce_c::headers::order_of;
 use crate::erased::binfarce_c::status::{NONE, NOT_UTF8, OK, status_of};
-use crate::erased::binfarce::{ParseError, macho, pe};
-use crate::erased::binfarce_elf::class::Width;
-use crate::erased::binfarce_elf::parts::{AnySections, is_named_in, name_in, sections_of_file};
-use crate::erased::binfarce_elf::sections as elf_sections;
+use crate::erased::binfarce::{ByteOrder, ParseError, elf32, elf64, macho, pe};
 use std::ops::Range;
 use std::str;
 
@@ -51,7 +48,7 @@ pub fn binfarce_elf32_section(
     out: &mut Section,
 ) -> u32 {
     match str::from_utf8(name) {
-        Ok(name) => give(named_elf(file, Width::Bits32, big_endian, name), out),
+        Ok(name) => give(named_32(file, order_of(big_endian), name), out),
         Err(_) => NOT_UTF8,
     }
 }
@@ -63,7 +60,7 @@ pub fn binfarce_elf32_section_at(
     index: usize,
     out: &mut Section,
 ) -> u32 {
-    give(numbered_elf(file, Width::Bits32, big_endian, index), out)
+    give(numbered_32(file, order_of(big_endian), index), out)
 }
 
 /// The first section of a 64-bit ELF file with this name. See `binfarce.h`.
@@ -74,7 +71,7 @@ pub fn binfarce_elf64_section(
     out: &mut Section,
 ) -> u32 {
     match str::from_utf8(name) {
-        Ok(name) => give(named_elf(file, Width::Bits64, big_endian, name), out),
+        Ok(name) => give(named_64(file, order_of(big_endian), name), out),
         Err(_) => NOT_UTF8,
     }
 }
@@ -86,7 +83,7 @@ pub fn binfarce_elf64_section_at(
     index: usize,
     out: &mut Section,
 ) -> u32 {
-    give(numbered_elf(file, Width::Bits64, big_endian, index), out)
+    give(numbered_64(file, order_of(big_endian), index), out)
 }
 
 /// The first section of a Mach-O file with this segment's and this section's name. A name that isn't UTF-8 is no
@@ -124,41 +121,66 @@ pub fn binfarce_pe_section_at(file: &[u8], index: usize, out: &mut Section) -> u
     give(numbered_pe(file, index), out)
 }
 
-fn named_elf(file: &[u8], width: Width, big_endian: bool, name: &str) -> Sought<Section> {
-    let (sections, names) = sections_of_file(file, width, order_of(big_endian))?;
-    match first_named(sections, names, name)? {
-        Some(section) => Ok(Some(shown_elf(names, section))),
+fn named_32(file: &[u8], byte_order: ByteOrder, name: &str) -> Sought<Section> {
+    named_in_32(&elf32::parse(file, byte_order)?, name)
+}
+
+fn named_in_32(file: &elf32::Elf32<'_>, name: &str) -> Sought<Section> {
+    match file.section_with_name(name)? {
+        Some(section) => Ok(Some(shown_32(file, section))),
         None => Ok(None),
     }
 }
 
-// The first section with this name among the section names, of those that are left.
-fn first_named(
-    sections: AnySections<'_>,
-    names: Option<&[u8]>,
-    name: &str,
-) -> Sought<elf_sections::Section<u64>> {
-    for section in sections {
-        let section = section?;
-        if is_named_in(names, &section, name) {
-            return Ok(Some(section));
-        }
-    }
-    Ok(None)
-}
-
-fn numbered_elf(file: &[u8], width: Width, big_endian: bool, index: usize) -> Sought<Section> {
-    let (mut sections, names) = sections_of_file(file, width, order_of(big_endian))?;
-    match sections.nth(index).transpose()? {
-        Some(section) => Ok(Some(shown_elf(names, section))),
+fn numbered_32(file: &[u8], byte_order: ByteOrder, index: usize) -> Sought<Section> {
+    let file = elf32::parse(file, byte_order)?;
+    match nth_32(&file, index)? {
+        Some(section) => Ok(Some(shown_32(&file, section))),
         None => Ok(None),
     }
 }
 
-// A section of an ELF file with these section names.
-pub(crate) fn shown_elf(names: Option<&[u8]>, section: elf_sections::Section<u64>) -> Section {
+fn nth_32(file: &elf32::Elf32<'_>, index: usize) -> Sought<elf32::Section> {
+    file.sections().nth(index).transpose()
+}
+
+pub(crate) fn shown_32(file: &elf32::Elf32<'_>, section: elf32::Section) -> Section {
     section_of(
-        name_in(names, &section),
+        section.name(file),
+        "",
+        u64::from(section.address()),
+        section.section_type(),
+        section.range(),
+        u64::from(section.entries()),
+    )
+}
+
+fn named_64(file: &[u8], byte_order: ByteOrder, name: &str) -> Sought<Section> {
+    named_in_64(&elf64::parse(file, byte_order)?, name)
+}
+
+fn named_in_64(file: &elf64::Elf64<'_>, name: &str) -> Sought<Section> {
+    match file.section_with_name(name)? {
+        Some(section) => Ok(Some(shown_64(file, section))),
+        None => Ok(None),
+    }
+}
+
+fn numbered_64(file: &[u8], byte_order: ByteOrder, index: usize) -> Sought<Section> {
+    let file = elf64::parse(file, byte_order)?;
+    match nth_64(&file, index)? {
+        Some(section) => Ok(Some(shown_64(&file, section))),
+        None => Ok(None),
+    }
+}
+
+fn nth_64(file: &elf64::Elf64<'_>, index: usize) -> Sought<elf64::Section> {
+    file.sections().nth(index).transpose()
+}
+
+pub(crate) fn shown_64(file: &elf64::Elf64<'_>, section: elf64::Section) -> Section {
+    section_of(
+        section.name(file),
         "",
         section.address(),
         section.section_type(),
@@ -173,8 +195,11 @@ fn named_macho(file: &[u8], segment: &str, name: &str) -> Sought<Section> {
 }
 
 fn numbered_macho(file: &[u8], index: usize) -> Sought<Section> {
-    let section = macho::parse(file)?.sections().nth(index).transpose()?;
-    Ok(section.map(shown_macho))
+    Ok(nth_macho(&macho::parse(file)?, index)?.map(shown_macho))
+}
+
+fn nth_macho<'a>(file: &macho::Macho<'a>, index: usize) -> Sought<macho::Section<'a>> {
+    file.sections().nth(index).transpose()
 }
 
 pub(crate) fn shown_macho(section: macho::Section<'_>) -> Section {
@@ -189,13 +214,21 @@ pub(crate) fn shown_macho(section: macho::Section<'_>) -> Section {
 }
 
 fn named_pe(file: &[u8], name: &str) -> Sought<Section> {
-    let found = pe::parse(file)?.section_with_name(name)?;
-    Ok(found.map(shown_pe))
+    match pe::parse(file)?.section_with_name(name)? {
+        Some(section) => Ok(Some(shown_pe(section))),
+        None => Ok(None),
+    }
 }
 
 fn numbered_pe(file: &[u8], index: usize) -> Sought<Section> {
-    let section = pe::parse(file)?.sections().nth(index).transpose()?;
-    Ok(section.map(shown_pe))
+    match nth_pe(&pe::parse(file)?, index)? {
+        Some(section) => Ok(Some(shown_pe(section))),
+        None => Ok(None),
+    }
+}
+
+fn nth_pe<'a>(file: &pe::Pe<'a>, index: usize) -> Sought<pe::Section<'a>> {
+    file.sections().nth(index).transpose()
 }
 
 pub(crate) fn shown_pe(section: pe::Section<'_>) -> Section {

@@ -58,8 +58,7 @@ pub fn write_section<S: Sink>(file: &[u8], name: &str, out: &mut S) -> Result<()
         (S.taken out.old) (S.taken out.new) result }
     ensures fails { Fails (S.has_failed out.old) (S.has_failed out.new) result }
 {
-    let bytes = section_bytes(file, name)?;
-    write_all(bytes, out)
+    write_all(section_bytes(file, name)?, out)
 }
 
 // Writes all of the bytes.

@@ -98,14 +98,8 @@ fn read_as<S: Source>(
             let parts = elf::read_sections(alloc, source, log, Width::Bits64, byte_order)?;
             Ok(Tables::Elf(parts))
         }
-        Format::Macho => {
-            let beginning = macho::read_sections(alloc, source, log)?;
-            Ok(Tables::Macho(beginning))
-        }
-        Format::PE => {
-            let beginning = pe::read_sections(alloc, source, log)?;
-            Ok(Tables::Pe(beginning))
-        }
+        Format::Macho => Ok(Tables::Macho(macho::read_sections(alloc, source, log)?)),
+        Format::PE => Ok(Tables::Pe(pe::read_sections(alloc, source, log)?)),
         Format::Unknown => Ok(Tables::Unknown),
     }
 }

@@ -37,8 +37,7 @@ pub fn section_bytes<'a>(file: &'a [u8], name: &str) -> Result<&'a [u8], Section
 /// Those of `section_bytes`, before anything is written; `Write` where a write failed: a beginning of the bytes may
 /// then be written.
 pub fn write_section<S: Sink>(file: &[u8], name: &str, out: &mut S) -> Result<(), SectionError> {
-    let bytes = section_bytes(file, name)?;
-    write_all(bytes, out)
+    write_all(section_bytes(file, name)?, out)
 }
 
 // Writes all of the bytes.

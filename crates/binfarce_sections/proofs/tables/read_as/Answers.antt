@@ -38,29 +38,29 @@ returns-in_err-parts-in-Elf64-clause-reads g c = λ file known format_is.
     unread (g.S.Source.may_fail c.args.source.now) sections_view elf_walk (file_sections elf64 c.in-Elf64.byte_order file) file _ _
     (of_format file _ (sym format_is ∙ c.in-Elf64.is) ∙ ap Some (elf_is elf64 c.in-Elf64.byte_order file)) (c.in_err-parts-in-Elf64.ensures.answer file known) c.from_residual-in_err-parts-in-Elf64.ensures
 
-pub returns-in_ok-beginning-in-Macho-clause-reads : goal.returns-in_ok-beginning-in-Macho-clause-reads
+pub returns-in_ok-read_sections-in-Macho-clause-reads : goal.returns-in_ok-read_sections-in-Macho-clause-reads
 unfolding sections_of
-returns-in_ok-beginning-in-Macho-clause-reads g c = λ file known format_is.
-    let read = c.in_ok-beginning-in-Macho.ensures.answer file known in
-    (macho_has file c.in_ok-beginning-in-Macho.beginning.bytes.items (of_format file _ (sym format_is ∙ c.in-Macho.is)) read.1, read.2)
+returns-in_ok-read_sections-in-Macho-clause-reads g c = λ file known format_is.
+    let read = c.in_ok-read_sections-in-Macho.ensures.answer file known in
+    (macho_has file c.in_ok-read_sections-in-Macho.field-0.bytes.items (of_format file _ (sym format_is ∙ c.in-Macho.is)) read.1, read.2)
 
-pub returns-in_ok-beginning-in-PE-clause-reads : goal.returns-in_ok-beginning-in-PE-clause-reads
+pub returns-in_ok-read_sections-in-PE-clause-reads : goal.returns-in_ok-read_sections-in-PE-clause-reads
 unfolding sections_of
-returns-in_ok-beginning-in-PE-clause-reads g c = λ file known format_is.
-    let read = c.in_ok-beginning-in-PE.ensures.answer file known in
-    (pe_has file c.in_ok-beginning-in-PE.beginning.bytes.items (of_format file _ (sym format_is ∙ c.in-PE.is)) read.1, read.2)
+returns-in_ok-read_sections-in-PE-clause-reads g c = λ file known format_is.
+    let read = c.in_ok-read_sections-in-PE.ensures.answer file known in
+    (pe_has file c.in_ok-read_sections-in-PE.field-0.bytes.items (of_format file _ (sym format_is ∙ c.in-PE.is)) read.1, read.2)
 
-pub returns-in_err-beginning-in-Macho-clause-reads : goal.returns-in_err-beginning-in-Macho-clause-reads
+pub returns-in_err-read_sections-in-Macho-clause-reads : goal.returns-in_err-read_sections-in-Macho-clause-reads
 unfolding sections_of
-returns-in_err-beginning-in-Macho-clause-reads g c = λ file known format_is.
+returns-in_err-read_sections-in-Macho-clause-reads g c = λ file known format_is.
     unbegun (g.S.Source.may_fail c.args.source.now) (mapped macho_section) beginning.macho_sections file _ _
-    (of_format file _ (sym format_is ∙ c.in-Macho.is) ∙ ap Some (macho_is file)) (c.in_err-beginning-in-Macho.ensures.answer file known) c.from_residual-in_err-beginning-in-Macho.ensures
+    (of_format file _ (sym format_is ∙ c.in-Macho.is) ∙ ap Some (macho_is file)) (c.in_err-read_sections-in-Macho.ensures.answer file known) c.from_residual-in_err-read_sections-in-Macho.ensures
 
-pub returns-in_err-beginning-in-PE-clause-reads : goal.returns-in_err-beginning-in-PE-clause-reads
+pub returns-in_err-read_sections-in-PE-clause-reads : goal.returns-in_err-read_sections-in-PE-clause-reads
 unfolding sections_of
-returns-in_err-beginning-in-PE-clause-reads g c = λ file known format_is.
+returns-in_err-read_sections-in-PE-clause-reads g c = λ file known format_is.
     unbegun (g.S.Source.may_fail c.args.source.now) (mapped pe_section) beginning.pe_sections file _ _
-    (of_format file _ (sym format_is ∙ c.in-PE.is) ∙ ap Some (pe_is file)) (c.in_err-beginning-in-PE.ensures.answer file known) c.from_residual-in_err-beginning-in-PE.ensures
+    (of_format file _ (sym format_is ∙ c.in-PE.is) ∙ ap Some (pe_is file)) (c.in_err-read_sections-in-PE.ensures.answer file known) c.from_residual-in_err-read_sections-in-PE.ensures
 
 pub returns-in_err-parts-in-Elf32-clause-only : goal.returns-in_err-parts-in-Elf32-clause-only
 unfolding format_parts
@@ -78,18 +78,18 @@ pub returns-in_ok-parts-in-Elf64-clause-only : goal.returns-in_ok-parts-in-Elf64
 unfolding format_parts
 returns-in_ok-parts-in-Elf64-clause-only g c = λ file known. in_format file c.in-Elf64.is (c.in_ok-parts-in-Elf64.ensures.only file known)
 
-pub returns-in_err-beginning-in-Macho-clause-only : goal.returns-in_err-beginning-in-Macho-clause-only
+pub returns-in_err-read_sections-in-Macho-clause-only : goal.returns-in_err-read_sections-in-Macho-clause-only
 unfolding format_parts
-returns-in_err-beginning-in-Macho-clause-only g c = λ file known. passed_only _ (in_format file c.in-Macho.is (c.in_err-beginning-in-Macho.ensures.only file known)) c.from_residual-in_err-beginning-in-Macho.ensures
+returns-in_err-read_sections-in-Macho-clause-only g c = λ file known. passed_only _ (in_format file c.in-Macho.is (c.in_err-read_sections-in-Macho.ensures.only file known)) c.from_residual-in_err-read_sections-in-Macho.ensures
 
-pub returns-in_ok-beginning-in-Macho-clause-only : goal.returns-in_ok-beginning-in-Macho-clause-only
+pub returns-in_ok-read_sections-in-Macho-clause-only : goal.returns-in_ok-read_sections-in-Macho-clause-only
 unfolding format_parts
-returns-in_ok-beginning-in-Macho-clause-only g c = λ file known. in_format file c.in-Macho.is (c.in_ok-beginning-in-Macho.ensures.only file known)
+returns-in_ok-read_sections-in-Macho-clause-only g c = λ file known. in_format file c.in-Macho.is (c.in_ok-read_sections-in-Macho.ensures.only file known)
 
-pub returns-in_err-beginning-in-PE-clause-only : goal.returns-in_err-beginning-in-PE-clause-only
+pub returns-in_err-read_sections-in-PE-clause-only : goal.returns-in_err-read_sections-in-PE-clause-only
 unfolding format_parts
-returns-in_err-beginning-in-PE-clause-only g c = λ file known. passed_only _ (in_format file c.in-PE.is (c.in_err-beginning-in-PE.ensures.only file known)) c.from_residual-in_err-beginning-in-PE.ensures
+returns-in_err-read_sections-in-PE-clause-only g c = λ file known. passed_only _ (in_format file c.in-PE.is (c.in_err-read_sections-in-PE.ensures.only file known)) c.from_residual-in_err-read_sections-in-PE.ensures
 
-pub returns-in_ok-beginning-in-PE-clause-only : goal.returns-in_ok-beginning-in-PE-clause-only
+pub returns-in_ok-read_sections-in-PE-clause-only : goal.returns-in_ok-read_sections-in-PE-clause-only
 unfolding format_parts
-returns-in_ok-beginning-in-PE-clause-only g c = λ file known. in_format file c.in-PE.is (c.in_ok-beginning-in-PE.ensures.only file known)
+returns-in_ok-read_sections-in-PE-clause-only g c = λ file known. in_format file c.in-PE.is (c.in_ok-read_sections-in-PE.ensures.only file known)

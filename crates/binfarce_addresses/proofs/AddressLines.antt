@@ -16,6 +16,7 @@ use Rattle.binfarce_tools.specs.declared.list.ListError.{ListError}
 use Rattle.binfarce_tools.specs.declared.list.ListError.TheVariants.{Unknown, Parse, OutOfMemory, Write}
 use Rattle.binfarce_tools.specs.ListWords.{Writes, outcome_of}
 use Rattle.binfarce_tools.specs.Writing.{Outcome, EndsAs, Takes}
+use Rattle.binfarce_tools.proofs.Lines.{takes_nothing}
 use Rattle.binfarce_addresses.specs.Lookup.{looked_up}
 use Rattle.binfarce_addresses.specs.declared.lookup.Lookup.{Lookup}
 use Rattle.binfarce_addresses.specs.Lines.{found_at, IsTextOf, address_line, IsLineAt, IsLineIn, AreLinesOf, AreLinesAt}
@@ -87,9 +88,6 @@ takes_of memory (Some (Ok listed)) entries lookup addresses old new o made takes
 regroup : (t a b n p d e : List ℕ) → ((t ++ (a ++ b)) ++ n) ++ (p ++ (d ++ e)) ≡ t ++ (a ++ (b ++ ((n ++ (p ++ d)) ++ e)))
 regroup t a b n p d e = simp append_assoc
 
-regroup_unknown : (t a b u : List ℕ) → (t ++ (a ++ b)) ++ u ≡ t ++ (a ++ (b ++ u))
-regroup_unknown t a b u = simp append_assoc
-
 -- the line of an address that an entry holds
 pub shown_line : (entries : List Entry) (lookup : Lookup) (address offset : ℕ) (entry : Entry) (name : List ℕ) (text addressed named new : List ℕ) → found_at entries (looked_up lookup address) ≡ Some entry → offset ≡ address - lookup.base - entry.address → IsShown entry.name name
     → addressed ≡ text ++ (address_text address ++ codes " ") → named ≡ addressed ++ name → new ≡ named ++ (codes "+0x" ++ (digits 16 false offset ++ codes "\n"))
@@ -111,10 +109,12 @@ unknown_line entries lookup address text addressed new found a b =
     let P : Option Entry → Type 0 = λ o. IsTextOf o (address - lookup.base) (codes "??") in (
       address_line address (codes "??"),
       (codes "??", subst P (sym found) refl, refl),
-      b ∙ ap (λ (xs : List ℕ). xs ++ codes "??\n") a ∙ regroup_unknown text (address_text address) (codes " ") (codes "??\n"),
+      b ∙ ap (λ (xs : List ℕ). xs ++ codes "??\n") a ∙ append_assoc text (address_text address ++ codes " ") (codes "??\n") ∙ ap (λ (xs : List ℕ). text ++ xs) (append_assoc (address_text address) (codes " ") (codes "??\n")),
     )
 
 -- what was added, if memory sufficed
 pub added : {E : Type 0} (r : Result (Unit {0}) E) (new more old : List ℕ) → new ≡ (if is_ok r then more else old) → OnOk r (new ≡ more)
 added (Ok x) new more old is = is
 added (Err e) new more old is = tt
+
+pub ruleset endings = (no_memory, outcome, takes_nothing)

@@ -1,5 +1,5 @@
 -- A text in which addresses are annotated, one step after the other.
-use Rattle.std.proofs.Common.{◌≡◌, ◌≢◌, false, true, Bool, ℕ, zero, suc, ◌+◌, ◌-◌, ◌<◌, ◌≤◌, List, [], ◌∷◌, ◌++◌, length, take, drop, get_or, Option, Some, refl, sym, ◌∙◌, ap, subst, append_assoc, append-nil, arith, length-drop, length-take}
+use Rattle.std.proofs.Common.{◌≡◌, ◌≢◌, false, true, Bool, ℕ, zero, suc, ◌+◌, ◌-◌, ◌<◌, ◌≤◌, List, [], ◌∷◌, ◌++◌, length, take, drop, get_or, Option, Some, None, refl, sym, ◌∙◌, ap, subst, append_assoc, append-nil, arith, length-drop, length-take}
 use Rattle.std.specs.Prelude.{◌&&◌, ◌==◌, codes, nat_eq, nat_lt, if◌then◌else◌}
 use Rattle.std.specs.Fmt.{digits}
 use Rattle.std.specs.Int.{is_in_range}
@@ -10,14 +10,12 @@ use Rattle.std.proofs.lemmas.Bool.{eqb-true, ltb-true}
 use Rattle.std.proofs.lemmas.Bool.Decides.{nat_tests}
 use Rattle.std.proofs.lemmas.List.{drop-append-le, drop-drop, take-append-drop, take-append-le}
 use Rattle.std.proofs.lemmas.List.Folds.{prefix_len-append}
-use Rattle.binfarce.specs.Named.{IsShown}
 use Rattle.binfarce.specs.Symbol.{Entry}
 use Rattle.binfarce_addresses.specs.Address.{address_of}
 use Rattle.binfarce_addresses.specs.Annotated.{address_len, digits_len, IsAddedAfter, IsAddedFor, IsAnnotated}
 use Rattle.binfarce_addresses.specs.Annotated.IsAnnotated.{nothing, other_then, address_then}
-use Rattle.binfarce_addresses.specs.Lines.{found_at}
-use Rattle.binfarce_addresses.specs.Lookup.{looked_up}
-use Rattle.binfarce_addresses.specs.machine.Annotating.{Annotates, AreAlike, HasShown, Holds, IsDecided, Leaves, ShowsFirst, ShowsTo}
+use Rattle.binfarce_addresses.specs.machine.Annotating.{Annotates, HasShown, Holds, IsDecided, Leaves, ShowsFirst, ShowsTo}
+use Rattle.binfarce_addresses.specs.machine.Places.{IsFoundFor, IsNamedAt}
 use Rattle.binfarce_addresses.proofs.Streams.{left_of}
 use Rattle.binfarce_addresses.specs.declared.lookup.Lookup.{Lookup}
 use Rattle.binfarce_addresses.specs.declared.annotate.Annotating.{Annotating}
@@ -98,21 +96,23 @@ shows_address entries lookup text added len old mid new is some le adds first se
   second ∙ ap (λ (x : List ℕ). x ++ added) first ∙ append_assoc old (take len text) added,
 )
 
--- what is added after the address of a symbol
-pub adds_place : (entries : List Entry) (lookup : Lookup) (given : Option ℕ) (address offset : ℕ) (entry : Entry) (old new : List ℕ) → given ≡ Some address → found_at entries (looked_up lookup address) ≡ Some entry → offset ≡ address - lookup.base - entry.address
-    → (name : List ℕ) × IsShown entry.name name × (new ≡ old ++ (codes " <" ++ (name ++ (codes "+0x" ++ (digits 16 false offset ++ codes ">")))))
-    → (added : List ℕ) × IsAddedAfter entries lookup given added × (new ≡ old ++ added)
-adds_place entries lookup given address offset entry old new is found into written =
-    let name = written.0 in
-    let shown = digits 16 false (address - lookup.base - entry.address) in
-    let place = name ++ (codes "+0x" ++ shown) in
-    let added = codes " <" ++ (place ++ codes ">") in
-    let same : name ++ (codes "+0x" ++ (shown ++ codes ">")) ≡ place ++ codes ">" = sym (append_assoc name (codes "+0x" ++ shown) (codes ">") ∙ ap (λ (x : List ℕ). name ++ x) (append_assoc (codes "+0x") shown (codes ">"))) in
-    let P : Option Entry → Type 0 = λ e. IsAddedFor e (address - lookup.base) added in
-    let Q : Option ℕ → Type 0 = λ a. IsAddedAfter entries lookup a added in (
-      added,
-      subst Q (sym is) (subst P (sym found) (place, (name, written.1, refl), refl)),
-      written.2 ∙ ap (λ (n : ℕ). old ++ (codes " <" ++ (name ++ (codes "+0x" ++ (digits 16 false n ++ codes ">"))))) into ∙ ap (λ (x : List ℕ). old ++ (codes " <" ++ x)) same,
+-- what is added after an address that no symbol holds
+pub adds_nothing : (entries : List Entry) (lookup : Lookup) (address : Option ℕ) → IsFoundFor entries lookup address None → IsAddedAfter entries lookup address []
+adds_nothing entries lookup None is = refl
+adds_nothing entries lookup (Some address) is = let P : Option Entry → Type 0 = λ e. IsAddedFor e (address - lookup.base) [] in subst P (sym is) refl
+
+-- and after that of a symbol
+pub adds_place : (entries : List Entry) (lookup : Lookup) (address : Option ℕ) (place offset : ℕ) (name : List ℕ) → IsFoundFor entries lookup address (Some (place, offset)) → IsNamedAt entries place name
+    → IsAddedAfter entries lookup address (codes " <" ++ (name ++ (codes "+0x" ++ (digits 16 false offset ++ codes ">"))))
+adds_place entries lookup None place offset name is named = absurd cc
+adds_place entries lookup (Some address) place offset name (entry, found, into, at) named =
+    let shown = named entry at in
+    let number = digits 16 false offset in
+    let P : Option Entry → Type 0 = λ e. IsAddedFor e (address - lookup.base) (codes " <" ++ (name ++ (codes "+0x" ++ (number ++ codes ">")))) in
+    subst P (sym found) (
+      name ++ (codes "+0x" ++ number),
+      (shown.0, shown.1, ap (λ (n : List ℕ). n ++ (codes "+0x" ++ number)) shown.2 ∙ ap (λ (n : ℕ). shown.0 ++ (codes "+0x" ++ digits 16 false n)) into),
+      ap (λ (x : List ℕ). codes " <" ++ x) (sym (append_assoc name (codes "+0x" ++ number) (codes ">") ∙ ap (λ (x : List ℕ). name ++ x) (append_assoc (codes "+0x") number (codes ">")))),
     )
 
 -- too few digits up to the end
@@ -137,6 +137,10 @@ shows_more entries lookup is_last text rest at n old mid new shows from decided 
       first.2 ∙ ap (λ (x : List ℕ). x ++ first.0) shows.2 ∙ append_assoc old shows.0 first.0,
     )
 
+nil : (x : List ℕ) → length x ≡ 0 → x ≡ []
+nil [] none = refl
+nil (b ∷ x) none = absurd (omega (arith, none))
+
 -- all is shown
 pub shows_all : (entries : List Entry) (lookup : Lookup) (text : List ℕ) (at : ℕ) (old new : List ℕ) → ShowsTo entries lookup true text at old new → at ≡ length text → (annotated : List ℕ) × IsAnnotated entries lookup text annotated × (new ≡ old ++ annotated)
 shows_all entries lookup text at old new shows end =
@@ -145,10 +149,6 @@ shows_all entries lookup text at old new shows end =
       annotated_same entries lookup _ _ _ _ (append-nil text) (append-nil shows.0) (shows.1 [] [] (λ last. refl) (annotated_same entries lookup _ _ _ _ (sym left) refl nothing)),
       shows.2,
     )
-  where
-    nil : (x : List ℕ) → length x ≡ 0 → x ≡ []
-    nil [] none = refl
-    nil (b ∷ x) none = absurd (omega (arith, none))
 
 -- nothing is annotated to nothing
 none_annotated : (entries : List Entry) (lookup : Lookup) (text annotated : List ℕ) → IsAnnotated entries lookup text annotated → text ≡ [] → annotated ≡ []
@@ -175,30 +175,24 @@ shows_part entries lookup is_last text bytes kept old new at same shows rest =
 -- nothing is left behind the text's end
 pub kept_none : (bytes kept : List ℕ) (at : ℕ) → kept ≡ take (length bytes - at) (drop at bytes) → at ≡ length bytes → kept ≡ []
 kept_none bytes kept at rest end = nil kept (omega (arith, ap (length {A = ℕ}) rest, length-take (length bytes - at) (drop at bytes), length-drop at bytes, end))
-  where
-    nil : (x : List ℕ) → length x ≡ 0 → x ≡ []
-    nil [] none = refl
-    nil (b ∷ x) none = absurd (omega (arith, none))
 
 -- what is kept, and a part after it
 with_part : (entries : List Entry) (lookup : Lookup) (text kept part made annotated : List ℕ) → Leaves entries lookup false text kept made → IsAnnotated entries lookup (kept ++ part) annotated → IsAnnotated entries lookup (text ++ part) (made ++ annotated)
 with_part entries lookup text kept part made annotated leaves is = leaves part annotated (λ last. absurd cc) is
 
 module _ (first old new : Annotating) (part more : List ℕ) where
-  here : AreAlike first old → (is_last : Bool) → HasShown old.places.now old.lookup is_last (old.kept.items ++ part) new.kept.items more → HasShown first.places.now first.lookup is_last (old.kept.items ++ part) new.kept.items more
-  here alike is_last is =
-      let P : List Entry → Lookup → Type 0 = λ entries lookup. HasShown entries lookup is_last (old.kept.items ++ part) new.kept.items more in
-      subst (λ entries. P entries first.lookup) alike.0 (subst (P old.places.now) alike.1 is)
+  here : old.names ≡ first.names → (is_last : Bool) → HasShown old.names.0 old.names.1 is_last (old.kept.items ++ part) new.kept.items more → HasShown first.names.0 first.names.1 is_last (old.kept.items ++ part) new.kept.items more
+  here alike is_last is = let P : List Entry × Lookup → Type 0 = λ s. HasShown s.0 s.1 is_last (old.kept.items ++ part) new.kept.items more in subst P alike is
 
   -- the next part is annotated
   pub goes_on : Annotates old new false part more → (text made : List ℕ) → Holds first old text made → Holds first new (text ++ part) (made ++ more)
   goes_on pushed text made holds =
-      let entries = first.places.now in
-      let lookup = first.lookup in
+      let entries = first.names.0 in
+      let lookup = first.names.1 in
       let kept = old.kept.items in
       let has = holds.1 in
       let is = here holds.0 false pushed.1 in (
-        (pushed.0.0 ∙ holds.0.0, pushed.0.1 ∙ holds.0.1),
+        pushed.0 ∙ holds.0,
         (
           has.0 ++ is.0,
           ap (λ (x : List ℕ). x ++ part) has.1 ∙ append_assoc has.0 kept part ∙ ap (λ (x : List ℕ). has.0 ++ x) is.1 ∙ sym (append_assoc has.0 is.0 new.kept.items),
@@ -209,10 +203,10 @@ module _ (first old new : Annotating) (part more : List ℕ) where
       )
 
   -- all that came is annotated
-  pub ends : part ≡ [] → Annotates old new true part more → (text made : List ℕ) → Holds first old text made → IsAnnotated first.places.now first.lookup text (made ++ more)
+  pub ends : part ≡ [] → Annotates old new true part more → (text made : List ℕ) → Holds first old text made → IsAnnotated first.names.0 first.names.1 text (made ++ more)
   ends none pushed text made holds =
-      let entries = first.places.now in
-      let lookup = first.lookup in
+      let entries = first.names.0 in
+      let lookup = first.names.1 in
       let kept = old.kept.items in
       let is = here holds.0 true pushed.1 in
       let rest : IsAnnotated entries lookup (kept ++ part) more =
@@ -220,21 +214,21 @@ module _ (first old new : Annotating) (part more : List ℕ) where
       annotated_same entries lookup _ _ _ _ (ap (λ (x : List ℕ). text ++ x) none ∙ append-nil text) refl (with_part entries lookup text kept part made more holds.1.2 rest)
 
 -- the output may break off after what was made
-pub breaks_off : (first now : Annotating) (text part made others : List ℕ) → Holds first now text (made ++ others) → IsBeginningOf (IsAnnotated first.places.now first.lookup) (text ++ part) made
+pub breaks_off : (first now : Annotating) (text part made others : List ℕ) → Holds first now text (made ++ others) → IsBeginningOf (IsAnnotated first.names.0 first.names.1) (text ++ part) made
 breaks_off first now text part made others holds =
     let has = holds.1 in (
       has.0,
       now.kept.items ++ part,
       others,
       ap (λ (x : List ℕ). x ++ part) has.1 ∙ append_assoc has.0 now.kept.items part,
-      λ annotated is. with_part first.places.now first.lookup text now.kept.items part (made ++ others) annotated has.2 is,
+      λ annotated is. with_part first.names.0 first.names.1 text now.kept.items part (made ++ others) annotated has.2 is,
     )
 
-pub breaks_off_done : (first : Annotating) (text made others : List ℕ) → IsAnnotated first.places.now first.lookup text (made ++ others) → IsBeginningOf (IsAnnotated first.places.now first.lookup) text made
+pub breaks_off_done : (first : Annotating) (text made others : List ℕ) → IsAnnotated first.names.0 first.names.1 text (made ++ others) → IsBeginningOf (IsAnnotated first.names.0 first.names.1) text made
 breaks_off_done first text made others is = (
   text,
   [],
   others,
   sym (append-nil text),
-  λ rest none. annotated_same first.places.now first.lookup _ _ _ _ refl (sym (append-nil (made ++ others)) ∙ ap (λ (x : List ℕ). (made ++ others) ++ x) (sym (none_annotated first.places.now first.lookup [] rest none refl))) is,
+  λ rest none. annotated_same first.names.0 first.names.1 _ _ _ _ refl (sym (append-nil (made ++ others)) ∙ ap (λ (x : List ℕ). (made ++ others) ++ x) (sym (none_annotated first.names.0 first.names.1 [] rest none refl))) is,
 )

@@ -192,29 +192,27 @@ module _ (entries : List Entry) (lookup : Lookup) (kept : List ℕ) (count : ℕ
   cut_last = (has.addresses, has.rest, has.begins, has.part, has.are)
 
 module _ (first old new : Lines) (part more : List ℕ) (pushed : Answers old new part more) (text made : List ℕ) (holds : Holds first old text made) where
-  here : AnswersPart first.names first.lookup old.line.items part new.line.items old.missing new.missing more
-  here =
-      let P : List Entry → Lookup → Type 0 = λ entries lookup. AnswersPart entries lookup old.line.items part new.line.items old.missing new.missing more in
-      subst (λ entries. P entries first.lookup) holds.0.0 (subst (P old.names) holds.0.1 pushed.1)
+  here : AnswersPart first.names.0 first.names.1 old.line.items part new.line.items old.missing new.missing more
+  here = let P : List Entry × Lookup → Type 0 = λ s. AnswersPart s.0 s.1 old.line.items part new.line.items old.missing new.missing more in subst P holds.0 pushed.1
 
   -- the next part is answered
   pub goes_on : Holds first new (text ++ part) (made ++ more)
-  goes_on = ((pushed.0.0 ∙ holds.0.0, pushed.0.1 ∙ holds.0.1), part_answered first.names first.lookup old.line.items old.missing text made holds.1 part new.line.items new.missing more here)
+  goes_on = (pushed.0 ∙ holds.0, part_answered first.names.0 first.names.1 old.line.items old.missing text made holds.1 part new.line.items new.missing more here)
 
   -- all lines are
   pub ends : part ≡ 10 ∷ [] → (ended : Bool) → ended ≡ true → old.line.items ≢ [] → IsDone first new ended text (made ++ more)
   ends is false cut some = absurd cc
   ends is true cut some =
-      last_answered first.names first.lookup old.line.items old.missing text made holds.1 new.line.items new.missing more some
-      (subst (λ x. AnswersPart first.names first.lookup old.line.items x new.line.items old.missing new.missing more) is here)
+      last_answered first.names.0 first.names.1 old.line.items old.missing text made holds.1 new.line.items new.missing more some
+      (subst (λ x. AnswersPart first.names.0 first.names.1 old.line.items x new.line.items old.missing new.missing more) is here)
 
 -- no line is left, or it is cut
 pub ends_none : (first now : Lines) (ended : Bool) (text made : List ℕ) → (ended ≡ true → now.line.items ≡ []) → Holds first now text made → IsDone first now ended text (made ++ [])
 ends_none first now ended text made none holds = subst (IsDone first now ended text) (sym (append-nil made)) (by ended none)
   where
     by : (ended : Bool) → (ended ≡ true → now.line.items ≡ []) → IsDone first now ended text made
-    by true none = no_last first.names first.lookup now.line.items now.missing text made holds.1 (none refl)
-    by false none = cut_last first.names first.lookup now.line.items now.missing text made holds.1
+    by true none = no_last first.names.0 first.names.1 now.line.items now.missing text made holds.1 (none refl)
+    by false none = cut_last first.names.0 first.names.1 now.line.items now.missing text made holds.1
 
 -- the output may break off after what was made
 pub breaks_off : (first now : Lines) (text part made others : List ℕ) → Holds first now text (made ++ others) → MayBreakOff first (text ++ part) made

@@ -1,42 +1,45 @@
--- The hexadecimal digits of a number, put one by one from the last on.
-use Rattle.std.proofs.Common.{◌≡◌, ℕ, zero, suc, ◌+◌, ◌/◌, ◌%◌, ◌^◌, ◌<◌, ◌≤◌, List, ◌∷◌, length, set, drop, take, false, eqb, refl, ap, sym, ◌∙◌, arith, replicate}
+-- The hexadecimal digits of a number.
+use Rattle.std.proofs.Common.{◌≡◌, ℕ, zero, suc, ◌+◌, ◌-◌, ◌*◌, ◌/◌, ◌%◌, ◌^◌, ◌<◌, ◌≤◌, min, List, [], ◌∷◌, length, drop, false, eqb, refl, ap, ◌∙◌, arith, replicate}
 use Rattle.std.specs.Fmt.{digit_glyph, digits, digits_onto}
-use Rattle.std.proofs.lemmas.List.{drop-set, take-set-le, take-take, take-replicate}
+use Rattle.std.specs.Int.{leading_zeros, w64}
+use Rattle.std.proofs.Math.Nat.{pow-suc, pow-le-pow_right}
+use Rattle.std.proofs.Math.Seq.{drop-append_seam}
 use Rattle.std.proofs.lemmas.Bool.{cond-true, cond-false, eq-eqb, ne_eqb}
-use Rattle.std.proofs.lemmas.Grind.{pow_more}
+use Rattle.std.proofs.lemmas.List.{length-replicate}
+use Rattle.std.proofs.lemmas.Nat.{leading_length}
+use Rattle.binfarce_tools.specs.Listing.{address_text}
 
-one_digit : (k n : ℕ) (text : List ℕ) → n < 16 → digits_onto (suc k) 16 false n text ≡ digit_glyph false (n % 16) ∷ text
-one_digit k n text small = cond-true (eqb (n / 16) 0) _ _ (eq-eqb (n / 16) 0 (omega arith))
+-- 16 is four bits
+hex : (k : ℕ) → 16 ^ k ≡ 2 ^ (4 * k)
+hex zero = refl
+hex (suc k) =
+    let next : 4 * suc k ≡ suc (suc (suc (suc (4 * k)))) = omega arith in
+    omega (arith, pow-suc 16 k, hex k, ap (λ n. 2 ^ n) next, pow-suc 2 (suc (suc (suc (4 * k)))), pow-suc 2 (suc (suc (4 * k))), pow-suc 2 (suc (4 * k)), pow-suc 2 (4 * k))
 
-more_digits : (k n : ℕ) (text : List ℕ) → 16 ≤ n → digits_onto (suc k) 16 false n text ≡ digits_onto k 16 false (n / 16) (digit_glyph false (n % 16) ∷ text)
-more_digits k n text more = cond-false (eqb (n / 16) 0) _ _ (ne_eqb (n / 16) 0 (λ none. omega arith))
+-- how many digits a number has
+count : (k f n : ℕ) (text : List ℕ) → k < f → n < 16 ^ suc k → (0 < k → 16 ^ k ≤ n) → length (digits_onto f 16 false n text) ≡ suc k + length text
+count k zero n text fuel small large = absurd (omega arith)
+count zero (suc f) n text fuel small large = ap length (cond-true (eqb (n / 16) 0) _ _ (eq-eqb (n / 16) 0 (omega arith))) ∙ (let one : suc (length text) ≡ suc zero + length text = omega arith in one)
+count (suc k) (suc f) n text fuel small large =
+    let low = large (omega arith) in
+    let high = pow-suc 16 (suc k) in
+    let less = pow-suc 16 k in
+    ap length (cond-false (eqb (n / 16) 0) _ _ (ne_eqb (n / 16) 0 (λ none. absurd (omega (arith, low, less, one k)))))
+    ∙ count k f (n / 16) (digit_glyph false (n % 16) ∷ text) (omega arith) (omega (arith, high)) (λ some. omega (arith, low, less)) ∙ (let sum : suc k + suc (length text) ≡ suc (suc k) + length text = omega arith in sum)
+  where
+    one : (k : ℕ) → 0 < 16 ^ k
+    one zero = omega arith
+    one (suc k) = omega (arith, pow-suc 16 k, one k)
 
-pub none_put : (n : ℕ) (ds : List ℕ) → ds ≡ replicate 16 48 → digits_onto 64 16 false n (drop 16 ds) ≡ digits 16 false n
+-- of 16 digits, those from the first one on that isn't 0, or the last one
+pub shown_from : (n zeros : ℕ) → n < 2 ^ 64 → zeros ≡ min (leading_zeros w64 n / 4) 15 → drop zeros (address_text n) ≡ digits 16 false n
 unfolding digits
-none_put n ds zeros = rw zeros refl
-
-pub digit_put : (k at n digit : ℕ) (ds : List ℕ) → at ≡ suc k → at < length ds → 16 ≤ n → digit ≡ digit_glyph false (n % 16) → digits_onto (k + 49) 16 false (n / 16) (drop (k + 1) (set ds at digit)) ≡ digits_onto (at + 49) 16 false n (drop (at + 1) ds)
-digit_put k at n digit ds is within more e =
-    let next : k + 1 ≡ at = omega arith in
-    let fuel : at + 49 ≡ suc (k + 49) = omega arith in
-    rw (next, drop-set ds at digit within, e) (sym (ap (λ m. digits_onto m 16 false n (drop (at + 1) ds)) fuel ∙ more_digits (k + 49) n (drop (at + 1) ds) more))
-
-pub digits_left : (k n : ℕ) → n < 16 ^ (k + 1) → 16 ≤ n → (0 < k) × (n / 16 < 16 ^ k)
-digits_left zero n small more = absurd (omega arith)
-digits_left (suc k) n small more = (omega arith, omega (arith, pow_more 16 (suc k)))
-
-pub zeros_left : (k at digit : ℕ) (ds : List ℕ) → k ≤ at → take at ds ≡ replicate at 48 → take k (set ds at digit) ≡ replicate k 48
-zeros_left k at digit ds h zeros =
-    take-set-le k ds at digit h ∙ sym (take-take k at ds h) ∙ ap (take k) zeros ∙ take-replicate k at 48 h
-
-module _ (at n number digit : ℕ) (ds : List ℕ) (whole : length ds ≡ 16) (within : at ≤ 15) (small : n < 16) (is : digit ≡ digit_glyph false n) (left : digits_onto (at + 49) 16 false n (drop (at + 1) ds) ≡ digits 16 false number) where
-  shown : digits 16 false number ≡ digit ∷ drop (at + 1) ds
-  shown =
-      let fuel : at + 49 ≡ suc (at + 48) = omega arith in
-      let last : n % 16 ≡ n = omega arith in
-      sym left ∙ ap (λ m. digits_onto m 16 false n (drop (at + 1) ds)) fuel ∙ one_digit (at + 48) n (drop (at + 1) ds) small
-      ∙ ap (λ g. digit_glyph false g ∷ drop (at + 1) ds) last ∙ ap (λ d. d ∷ drop (at + 1) ds) (sym is)
-
-  -- the last digit is put: the number begins there
-  pub number_put : drop at (set ds at digit) ≡ digits 16 false number
-  number_put = rw (drop-set ds at digit (omega arith)) (sym shown)
+shown_from n zeros small is =
+    let bits = leading_length 64 n small in
+    let k = 15 - zeros in
+    let four : 4 * suc k ≡ 64 - 4 * zeros = omega (arith, is) in
+    let high : 2 ^ bits.0 ≤ 2 ^ (4 * suc k) = pow-le-pow_right {n = 2} (omega arith) {i = bits.0} {j = 4 * suc k} (omega (arith, is, bits.1)) in
+    let low : 0 < k → 2 ^ suc (4 * k) ≤ 2 ^ bits.0 = λ some. pow-le-pow_right {n = 2} (omega arith) {i = suc (4 * k)} {j = bits.0} (omega (arith, is, bits.1)) in
+    let many : length (digits 16 false n) ≡ suc k + 0 = count k 64 n [] (omega arith) (omega (arith, hex (suc k), high, bits.2)) (λ some. omega (arith, hex k, low some, pow-suc 2 (4 * k), bits.3)) in
+    let before : zeros ≡ length (replicate (16 - length (digits 16 false n)) 48) = omega (arith, is, many, length-replicate {A = ℕ} (16 - length (digits 16 false n)) 48) in
+    ap (λ m. drop m (address_text n)) before ∙ drop-append_seam (replicate (16 - length (digits 16 false n)) 48) (digits 16 false n)

@@ -4,14 +4,13 @@ use Rattle.binfarce.specs.Symbol.{Entry}
 use Rattle.binfarce_tools.specs.Json as json
 use Rattle.binfarce_addresses.specs.Lines.{answer_object, IsSymbolOf}
 use Rattle.binfarce_addresses.specs.Stream.{IsAnswerIn}
-use Rattle.binfarce_addresses.specs.declared.at.Found.{Found}
 use Rattle.binfarce_addresses.specs.declared.lookup.Lookup.{Lookup}
 use Rattle.binfarce_addresses.specs.machine.Places.{IsFoundFor, IsSymbolAt}
 
-pub object_answer : (file : List ℕ) (entries : List Entry) (lookup : Lookup) (address : Option ℕ) (found : Option Found) (symbol : Option (List ℕ × ℕ)) (text : List ℕ) → IsFoundFor entries lookup address found → IsSymbolAt entries found symbol
+pub object_answer : (file : List ℕ) (entries : List Entry) (lookup : Lookup) (address : Option ℕ) (found : Option (ℕ × ℕ)) (symbol : Option (List ℕ × ℕ)) (text : List ℕ) → IsFoundFor entries lookup address found → IsSymbolAt entries found symbol
     → text ≡ answer_object file address symbol → IsAnswerIn (json.objects file []) entries lookup address text
 object_answer file entries lookup None found symbol text nothing is same =
-    let none : symbol ≡ None = subst (λ (o : Option Found). IsSymbolAt entries o symbol) nothing is in
+    let none : symbol ≡ None = subst (λ (o : Option (ℕ × ℕ)). IsSymbolAt entries o symbol) nothing is in
     same ∙ ap (answer_object file None) none
 object_answer file entries lookup (Some address) None symbol text none is same =
     let P : Option Entry → Type 0 = λ o. IsSymbolOf o (address - lookup.base) symbol in
@@ -19,7 +18,7 @@ object_answer file entries lookup (Some address) None symbol text none is same =
 object_answer file entries lookup (Some address) (Some found) symbol text (entry, held, offset, at) (name, named, is) same =
     let shown = named entry at in
     let P : Option Entry → Type 0 = λ o. IsSymbolOf o (address - lookup.base) symbol in
-    let symbol_is = is ∙ ap (λ (n : List ℕ). Some (n, found.offset)) shown.2 ∙ ap (λ (n : ℕ). Some (shown.0, n)) offset in
+    let symbol_is = is ∙ ap (λ (n : List ℕ). Some (n, found.1)) shown.2 ∙ ap (λ (n : ℕ). Some (shown.0, n)) offset in
     (symbol, subst P (sym held) (shown.0, shown.1, symbol_is), same)
 
 -- four parts, one after the other

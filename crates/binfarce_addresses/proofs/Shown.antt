@@ -130,44 +130,23 @@ pub at_none : {T : Type 0} (r : Option T) (P : Type 0) (Q : T → Type 0) → r 
 at_none None P Q is p = p
 at_none (Some x) P Q is p = absurd cc
 
-module _ (functions : List FunctionSymbol) (ranges : List AddressRange) (entries : List Entry) (are : ranges ≡ ranges_of functions) (seen : map function_view functions ≡ entries) (lookup : Lookup) (address x : ℕ) (inside : looked_up lookup address ≡ Some x) where
-  same : ranges ≡ map range_of entries
-  same = are ∙ ranges_view functions ∙ ap (map range_of) seen
+-- what is found among the spans of function symbols is what the address symbolizes to
+module _ (functions : List FunctionSymbol) (spans : List Span) (entries : List Entry) (are : AreSpansOf (ranges_of functions) spans) (seen : map function_view functions ≡ entries) (lookup : Lookup) (address x : ℕ) (inside : looked_up lookup address ≡ Some x) (fits : x < 2 ^ 64) (place : Option ℕ) (at : (k : ℕ) × IsSpanAt spans x k × (place ≡ (span_at spans k).place)) where
+  found : (o : Option ℕ) → place ≡ o → MatchOption o (NoneHolds (map range_of entries) x) (IsFoundAt (map range_of entries) x)
+  found o is =
+      let P : List AddressRange → Option ℕ → Type 0 = λ rs o. MatchOption o (NoneHolds rs x) (IsFoundAt rs x) in
+      subst (λ rs. P rs o) (ranges_view functions ∙ ap (map range_of) seen) (subst (P (ranges_of functions)) (sym at.2 ∙ is) (are at.0 x fits at.1))
 
-  -- where no range holds what is left of the address
-  pub found_none : NoneHolds ranges x → found_at entries (looked_up lookup address) ≡ None
-  found_none none = let P : List AddressRange → Type 0 = λ rs. NoneHolds rs x in ap (found_at entries) inside ∙ not_shown entries x (subst P same none)
+  pub found_none : place ≡ None → found_at entries (looked_up lookup address) ≡ None
+  found_none is = ap (found_at entries) inside ∙ not_shown entries x (found None is)
 
-  -- the range that is found is that of the function symbol at its place
-  range_is : (place : ℕ) (f : FunctionSymbol) → IsFoundAt ranges x place → f ≡ get_or functions place f → get_or ranges place (range_of (function_view f)) ≡ range_of (function_view f)
-  range_is place f found is =
-      ap (λ (rs : List AddressRange). get_or rs place (range_of (function_view f))) are
-      ∙ get_or-map (λ (g : FunctionSymbol). range_of (function_view g)) functions place f (range_of (function_view f)) (omega (arith, found.within, ap (length {A = AddressRange}) are, length-map functions (λ (g : FunctionSymbol). range_of (function_view g))))
-      ∙ ap (λ (g : FunctionSymbol). range_of (function_view g)) (sym is)
+  pub found_within : (p : ℕ) → place ≡ Some p → p < length functions
+  found_within p is = omega (arith, (found (Some p) is).within, length_ranges entries, ap (length {A = Entry}) seen, length-map functions function_view)
 
-  -- the address symbolizes to that function symbol
-  pub found_some : (place : ℕ) (f : FunctionSymbol) → IsFoundAt ranges x place → f ≡ get_or functions place f → found_at entries (looked_up lookup address) ≡ Some (function_view f)
-  found_some place f found is =
-      let P : List AddressRange → Type 0 = λ rs. IsFoundAt rs x place in
-      let lt : place < length functions = omega (arith, found.within, ap (length {A = AddressRange}) are, length-map functions (λ (g : FunctionSymbol). range_of (function_view g))) in
-      ap (found_at entries) inside ∙ shown entries x place (function_view f) (subst P same found)
-      ∙ ap Some (ap (λ (es : List Entry). get_or es place (function_view f)) (sym seen) ∙ get_or-map function_view functions place f (function_view f) lt ∙ ap function_view (sym is))
-
-  -- and is at that place
-  pub is_at_place : (place : ℕ) (f : FunctionSymbol) → IsFoundAt ranges x place → f ≡ get_or functions place f → IsAtPlace entries place (function_view f)
-  is_at_place place f found is =
-      let lt : place < length functions = omega (arith, found.within, ap (length {A = AddressRange}) are, length-map functions (λ (g : FunctionSymbol). range_of (function_view g))) in (
-        omega (arith, lt, ap (length {A = Entry}) seen, length-map functions function_view),
-        ap (λ (es : List Entry). get_or es place (function_view f)) (sym seen) ∙ get_or-map function_view functions place f (function_view f) lt ∙ ap function_view (sym is),
+  pub found_some : (p : ℕ) (f : FunctionSymbol) → place ≡ Some p → f ≡ get_or functions p f → (found_at entries (looked_up lookup address) ≡ Some (function_view f)) × IsAtPlace entries p (function_view f)
+  found_some p f is here =
+      let lt = found_within p is in
+      let entry : get_or entries p (function_view f) ≡ function_view f = ap (λ (es : List Entry). get_or es p (function_view f)) (sym seen) ∙ get_or-map function_view functions p f (function_view f) lt ∙ ap function_view (sym here) in (
+        ap (found_at entries) inside ∙ shown entries x p (function_view f) (found (Some p) is) ∙ ap Some entry,
+        (omega (arith, lt, ap (length {A = Entry}) seen, length-map functions function_view), entry),
       )
-
--- what the search among the spans gives
-by_spans : (ranges : List AddressRange) (spans : List Span) → AreSpansOf ranges spans → (x : ℕ) (place : Option ℕ) → x < 2 ^ 64 → (k : ℕ) × IsSpanAt spans x k × (place ≡ (span_at spans k).place)
-    → MatchOption place (NoneHolds ranges x) (IsFoundAt ranges x)
-by_spans ranges spans are x place fits at = let P : Option ℕ → Type 0 = λ o. MatchOption o (NoneHolds ranges x) (IsFoundAt ranges x) in subst P (sym at.2) (are at.0 x fits at.1)
-
-pub none_by_spans : (ranges : List AddressRange) (spans : List Span) → AreSpansOf ranges spans → (x : ℕ) (place : Option ℕ) → x < 2 ^ 64 → (k : ℕ) × IsSpanAt spans x k × (place ≡ (span_at spans k).place) → place ≡ None → NoneHolds ranges x
-none_by_spans ranges spans are x place fits at is = let P : Option ℕ → Type 0 = λ o. MatchOption o (NoneHolds ranges x) (IsFoundAt ranges x) in subst P is (by_spans ranges spans are x place fits at)
-
-pub found_by_spans : (ranges : List AddressRange) (spans : List Span) → AreSpansOf ranges spans → (x : ℕ) (place : Option ℕ) (p : ℕ) → x < 2 ^ 64 → (k : ℕ) × IsSpanAt spans x k × (place ≡ (span_at spans k).place) → place ≡ Some p → IsFoundAt ranges x p
-found_by_spans ranges spans are x place p fits at is = let P : Option ℕ → Type 0 = λ o. MatchOption o (NoneHolds ranges x) (IsFoundAt ranges x) in subst P is (by_spans ranges spans are x place fits at)

@@ -1,5 +1,5 @@
 -- The lines of a text, answered one after the other.
-use Rattle.std.proofs.Common.{◌≡◌, ◌≢◌, Bool, true, false, ℕ, ◌+◌, ◌-◌, ◌<◌, ◌≤◌, add-one, drop-cons, List, [], ◌∷◌, ◌++◌, length, drop, take, get_or, Option, Some, None, refl, sym, ap, subst, ◌∙◌, arith, append-nil, append_assoc, length-append}
+use Rattle.std.proofs.Common.{◌≡◌, ◌≢◌, Bool, true, false, ℕ, ◌+◌, ◌-◌, ◌<◌, ◌≤◌, add-one, drop-cons, List, [], ◌∷◌, ◌++◌, length, drop, take, get_or, Option, Some, None, Result, Ok, Err, refl, sym, ap, subst, ◌∙◌, arith, append-nil, append_assoc, length-append}
 use Rattle.std.specs.Prelude.{is_none, is_some, not, cond}
 use Rattle.std.specs.Int.{from_bool}
 use Rattle.std.proofs.Math.Seq.{drop-append-add}
@@ -8,6 +8,11 @@ use Rattle.std.proofs.lemmas.List.Elements.{All-from_get_or}
 use Rattle.std.proofs.lemmas.List.Sums.{sum_by_push}
 use Rattle.std.proofs.lemmas.Grind.{flat_map-append}
 use Rattle.binfarce_addresses.specs.Stream.{line_address, missing, with_line_feeds, Begins, HasNoLineFeed, Writes}
+use Rattle.std.proofs.KnownBytes.{Appends-nil, Consumes-nil}
+use Rattle.std.specs.Result.{IsErrAnd}
+use Rattle.binfarce_text.specs.Streams.{Streams}
+use Rattle.binfarce_text.specs.declared.streams.StreamError.{StreamError}
+use Rattle.binfarce_text.specs.declared.streams.StreamError.TheVariants.{OutOfMemory}
 use Rattle.binfarce_addresses.proofs.AddressLines.{all_zip_both}
 
 behind_line : (line others left : List ℕ) → left ≡ line ++ 10 ∷ others → drop (length line + 1) left ≡ others
@@ -84,3 +89,9 @@ is_missing None true count is counted = counted
 is_missing None false count is counted = absurd cc
 is_missing (Some address) true count is counted = absurd cc
 is_missing (Some address) false count is counted = counted
+
+-- no memory sufficed for a first step
+pub stopped : {T : Type 0} (All : T → List ℕ → List ℕ → Type 0) (Whole Begun : List ℕ → List ℕ → Type 0) (given old : Option (List ℕ)) (result : Result T StreamError) → Begun [] [] → IsErrAnd result (λ e. e ≡ OutOfMemory) → Streams All Whole Begun given given old old result
+stopped All Whole Begun given old (Ok x) begun is = absurd is
+stopped All Whole Begun given old (Err e) begun is =
+    let P : StreamError → Type 0 = λ e. Streams All Whole Begun given given old old (Err e) in subst P (sym is) ([], [], Consumes-nil given, begun, Appends-nil old)

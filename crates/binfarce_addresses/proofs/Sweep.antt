@@ -1,5 +1,6 @@
 -- The steps of a sweep.
-use Rattle.std.proofs.Common.{◌≡◌, ℕ, ◌+◌, ◌-◌, ◌^◌, ◌<◌, ◌≤◌, inl, inr, List, [], ◌∷◌, ◌++◌, length, take, Option, Some, None, refl, sym, ap, subst, ◌∙◌, arith, length-append, length-take}
+use Rattle.std.proofs.Common.{◌≡◌, ℕ, ◌+◌, ◌-◌, ◌^◌, ◌<◌, ◌≤◌, inl, inr, List, [], ◌∷◌, ◌++◌, length, take, Option, Some, None, MatchOption, sym, ap, subst, ◌∙◌, arith, length-append, length-take}
+use Rattle.std.specs.Prelude.{IsSomeAnd}
 use Rattle.std.proofs.Math.ListN.{get_or-append}
 use Rattle.std.proofs.Math.Seq.{get_or-append_seam}
 use Rattle.std.proofs.lemmas.Bool.{cases_lt}
@@ -7,7 +8,7 @@ use Rattle.std.proofs.lemmas.List.{get_or-take}
 use Rattle.binfarce_addresses.specs.declared.ranges.Row.{Row}
 use Rattle.binfarce_addresses.specs.declared.ranges.Span.{Span}
 use Rattle.binfarce_addresses.specs.Range.{AreSpans, no_span, span_at}
-use Rattle.binfarce_addresses.specs.machine.Sweep.{AreInOrder, AreSwept, DoReach, IsInnermost, IsLastAt, IsSweep, end_at, here, row_at, stack_at}
+use Rattle.binfarce_addresses.specs.machine.Sweep.{AreInOrder, AreSwept, DoReach, IsInnermost, IsInnermostRow, IsLastAt, IsSweep, end_at, here, row_at, stack_at}
 
 -- one span more
 pub record IsGrown (spans : List Span) (span : Span) (more : List Span) : Type 0 where
@@ -135,8 +136,8 @@ closed rows n spans more stack short span sweep some is grows begins inner =
 -- the next row opens: of the open rows those stay that reach further
 pub opened : (rows : List Row) (n : ℕ) (spans more : List Span) (stack next : List ℕ) (q : ℕ) (span : Span) → AreInOrder rows → n < length rows → IsSweep rows n spans stack → here spans ≤ (row_at rows n).address → DoReach rows stack (row_at rows n).address
     → q ≤ length stack → ((m : ℕ) → m < q → (row_at rows n).last < end_at rows stack m) → ((m : ℕ) → q ≤ m → m < length stack → end_at rows stack m ≤ (row_at rows n).last) → next ≡ take q stack ++ n ∷ [] → IsGrown spans span more
-    → span.start ≡ (row_at rows n).address → span.place ≡ Some (row_at rows n).place.0 → IsSweep rows (n + 1) more next
-opened rows n spans more stack next q span order lt sweep low reach within further outlived is grows begins place =
+    → span.start ≡ (row_at rows n).address → IsInnermost rows next span.place → IsSweep rows (n + 1) more next
+opened rows n spans more stack next q span order lt sweep low reach within further outlived is grows begins inner =
     let row = row_at rows n in
     let kept : length (take q stack) ≡ q = omega (arith, length-take q stack) in
     let count : length next ≡ q + 1 = omega (arith, kept, ap (length {A = ℕ}) is, length-append (take q stack) (n ∷ [])) in
@@ -151,10 +152,7 @@ opened rows n spans more stack next q span order lt sweep low reach within furth
       final = λ k address inside from below.
           not_yet rows n address (span_at more k).place (before k address inside below)
           (still rows n spans stack sweep span more grows (λ a from_here less m open_too. omega (arith, begins, reach m open_too)) k address inside from below);
-      inner =
-          let P : Option ℕ → Type 0 = λ o. IsInnermost rows next o in
-          let last : length next - 1 ≡ q = omega (arith, count) in
-          subst P (sym (ap (λ (s : Span). s.place) (newest rows n spans stack sweep span more grows) ∙ place)) (omega (arith, count), ap (λ (j : ℕ). (row_at rows j).place.0) (sym (ap (stack_at next) last ∙ top)));
+      inner = let P : Span → Type 0 = λ s. IsInnermost rows next s.place in subst P (sym (newest rows n spans stack sweep span more grows)) inner;
       known = λ m inside. elim (cases_lt m q) [
         | inl old ↦ omega (arith, same m old, sweep.known m (omega arith))
         | inr ge ↦ omega (arith, top_at m ge inside)
@@ -194,23 +192,6 @@ opened rows n spans more stack next q span order lt sweep low reach within furth
         let start : here more ≡ (row_at rows n).address = ap (λ (s : Span). s.start) (newest rows n spans stack sweep span more grows) ∙ begins in
         omega (arith, start, spans_are.rise (k + 1) (length more - 1) (omega arith) (omega arith))
 
--- nothing was swept
-pub begun : (rows : List Row) (spans : List Span) (stack : List ℕ) → spans ≡ no_span ∷ [] → stack ≡ [] → IsSweep rows 0 spans stack
-begun rows spans stack one none =
-    let P : List Span → Type 0 = λ s. IsSweep rows 0 s stack in
-    let Q : List ℕ → Type 0 = λ s. IsSweep rows 0 (no_span ∷ []) s in
-    subst P (sym one) (subst Q (sym none) record {
-      are = record { some = omega arith; first = refl; rise = λ i j le lt. let a : i ≡ 0 = omega arith in let b : j ≡ 0 = omega arith in omega (arith, ap (λ (k : ℕ). (span_at (no_span ∷ []) k).start) a, ap (λ (k : ℕ). (span_at (no_span ∷ []) k).start) b) };
-      final = λ k address lt low high. absurd (omega arith);
-      inner = refl;
-      known = λ m lt. absurd (omega arith);
-      begun = λ m lt. absurd (omega arith);
-      reach = λ m lt. absurd (omega arith);
-      later = λ l m less lt. absurd (omega arith);
-      nested = λ l m less lt. absurd (omega arith);
-      cover = λ j address lt low holds. absurd (omega arith);
-    })
-
 -- all rows were swept, and those that are open reach the last address
 pub swept : (rows : List Row) (spans : List Span) (stack : List ℕ) → IsSweep rows (length rows) spans stack → DoReach rows stack (2 ^ 64 - 1) → AreSwept rows spans
 swept rows spans stack sweep reach = record {
@@ -234,3 +215,14 @@ do_reach rows n spans stack kept address sweep within are last m lt =
       | inl less ↦ omega (arith, same, last (omega arith), sweep.nested m top less (omega arith))
       | inr ge ↦ let is : m ≡ top = omega arith in omega (arith, same, last (omega arith), ap (end_at rows stack) is)
     ]
+
+-- the place of the last open row
+pub placed : (rows : List Row) (stack : List ℕ) (row : Option Row) (place : Option ℕ) → IsInnermostRow rows stack row → MatchOption row (place ≡ None) (λ r. IsSomeAnd place (λ p. p ≡ r.place.0)) → IsInnermost rows stack place
+placed rows stack None place none is = let P : Option ℕ → Type 0 = λ o. IsInnermost rows stack o in subst P (sym is) none
+placed rows stack (Some r) None inner is = absurd is
+placed rows stack (Some r) (Some p) inner is = (inner.0, is ∙ ap (λ (row : Row). row.place.0) inner.1)
+
+pub still_known : (limit : ℕ) (stack short : List ℕ) → short ≡ take (length stack - 1) stack → ((m : ℕ) → m < length stack → stack_at stack m < limit) → (m : ℕ) → m < length short → stack_at short m < limit
+still_known limit stack short is known m lt =
+    let below : m < length stack - 1 = omega (arith, lt, ap (length {A = ℕ}) is, length-take (length stack - 1) stack) in
+    omega (arith, ap (λ (xs : List ℕ). stack_at xs m) is ∙ get_or-take (length stack - 1) stack m 0 below, known m (omega arith))

@@ -1,5 +1,5 @@
 -- Lines with white space around an address, and what is kept of a line's first part.
-use Rattle.std.proofs.Common.{◌≡◌, ◌≢◌, inl, inr, ◌⊎◌, ℕ, zero, suc, ◌+◌, ◌-◌, ◌<◌, ◌≤◌, min, Bool, true, false, cond, ◌&&◌, ◌||◌, eqb, true≢false, nat_eq, List, [], ◌∷◌, ◌++◌, length, drop, take, reverse, get_or, Some, None, if◌then◌else◌, refl, sym, ap, subst, ◌∙◌, arith, length-append, length-drop}
+use Rattle.std.proofs.Common.{◌≡◌, ◌≢◌, inl, inr, ◌⊎◌, ℕ, zero, suc, ◌+◌, ◌-◌, ◌<◌, min, Bool, true, false, cond, ◌&&◌, ◌||◌, eqb, true≢false, nat_eq, List, [], ◌∷◌, ◌++◌, length, drop, take, reverse, get_or, Some, None, if◌then◌else◌, refl, sym, ap, subst, ◌∙◌, arith, length-append, length-drop}
 use Rattle.std.specs.Prelude.{◌==◌, IfOk, Result, Ok, Err}
 use Rattle.std.specs.Global.{Vec}
 use Rattle.std.specs.Char.{is_ascii_hexdigit, is_ascii_whitespace}
@@ -238,10 +238,6 @@ kept_word line begun word n is some ends few = record {
 pub keeps : {E : Type 0} (line kept : List ℕ) (result : Result (Vec ℕ) E) → IfOk result (λ v. v.items ≡ kept) → IsKeptOf line kept → IfOk result (λ v. IsKeptOf line v.items)
 keeps line kept (Ok v) is keep = subst (IsKeptOf line) (sym is) keep
 keeps line kept (Err e) is keep = tt
-
-pub short : {E : Type 0} (kept : List ℕ) (result : Result (Vec ℕ) E) → IfOk result (λ v. v.items ≡ kept) → length kept ≤ 19 → IfOk result (λ v. length v.items ≤ 19)
-short kept (Ok v) is le = subst (λ (xs : List ℕ). length xs ≤ 19) (sym is) le
-short kept (Err e) is le = tt
 
 pub is_some : (n : ℕ) → (n == 0) ≡ false → 0 < n
 is_some n e = grind (arith, nat_tests)

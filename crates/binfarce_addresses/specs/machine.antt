@@ -1,5 +1,7 @@
 -- Definitions that only private contracts cite.
 pub mod Places
+pub mod Answers
 pub mod Answering
 pub mod Annotating
 pub mod Sweep
+pub mod Sweeping

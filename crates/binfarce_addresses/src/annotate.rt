@@ -9,19 +9,15 @@ ghost use Rattle.binfarce_addresses.specs.machine.Annotating.{Annotates, IsDecid
 
 use crate::address::parse_address;
 use crate::at::Places;
+use crate::digits::push_offset;
 use crate::lookup::Lookup;
-use crate::stream::{CHUNK, LONGEST, write_all};
-use binfarce::demangle::push_shown;
+use crate::names::Names;
+use crate::stream::{CHUNK, LONGEST};
 use binfarce_text::streams::{Pass, StreamError, pass_stream};
 use binfarce_tools::list::Sink;
+use binfarce_tools::writing::write_whole;
 use std::alloc::{AllocError, Global};
-use std::fmt::Write;
 use std::io::Read;
-
-// The fewest and the most digits of an address.
-const FEWEST: usize = 4;
-
-const MOST: usize = 16;
 
 /// Appends the text with ` <name+0x1f>` after each address that a function symbol holds: its readable name, and the
 /// offset of the address into it, by this lookup. An address is `0x` and 4 to 16 hexadecimal digits, in upper or lower
@@ -41,13 +37,7 @@ pub fn push_annotated(
         ((annotated : List ℕ) × IsAnnotated places.now lookup.entry text.now annotated
         × (out.new.items ≡ out.old.items ++ annotated)) }
 {
-    let annotating = Annotating {
-        alloc,
-        places,
-        lookup,
-        kept: Vec::new(alloc),
-    };
-    annotating.push_decided(true, text, out)?;
+    Names::new(alloc, places, lookup, 0)?.push_decided(true, text, out)?;
     Ok(())
 }
 
@@ -73,8 +63,7 @@ pub fn annotate_stream<R: Read, S: Sink>(
 {
     let mut pass = Annotating {
         alloc,
-        places,
-        lookup,
+        names: Names::new(alloc, places, lookup, places.functions.len())?,
         kept: Vec::new(alloc),
     };
     pass_stream(alloc, &mut pass, CHUNK, input, out)
@@ -84,8 +73,7 @@ pub fn annotate_stream<R: Read, S: Sink>(
 #[derive(Drop)]
 struct Annotating<'b, 'a> {
     alloc: Global,
-    places: &'b Places<'a>,
-    lookup: Lookup<'b>,
+    names: Names<'b, 'a>,
     // The address at the text's end that may go on.
     kept: Vec<u8>,
 }
@@ -98,15 +86,17 @@ impl Annotating<'_, '_> {
         ensures short { OnOk result (length self.new.kept.items ≤ 18) }
     {
         self.kept.extend_from_slice(part)?;
-        let at = self.push_decided(is_last, &self.kept, out)?;
+        let at = self.names.push_decided(is_last, &self.kept, out)?;
         self.kept = Vec::from_slice(self.alloc, &self.kept[at..])?;
         Ok(())
     }
+}
 
+impl Names<'_, '_> {
     // Appends the annotated text before an address at its end that may go on, and returns where that begins. With
     // nothing after the text, this is its end.
     fn push_decided(
-        &self,
+        &mut self,
         is_last: bool,
         text: &[u8],
         out: &mut Vec<u8>,
@@ -114,8 +104,9 @@ impl Annotating<'_, '_> {
         ensures within { IfOk result (λ at. at ≤ length text.now) }
         ensures short { IfOk result (λ at. length text.now ≤ at + 18) }
         ensures last { is_last ≡ true → IfOk result (λ at. at ≡ length text.now) }
-        ensures shows { IfOk result (λ at. ShowsTo self.now.places.now self.now.lookup is_last text.now at
+        ensures shows { IfOk result (λ at. ShowsTo self.old.0 self.old.1 is_last text.now at
             out.old.items out.new.items) }
+        ensures same { self.new ≡ self.old }
     {
         let mut at = 0;
         while at < text.len() && is_decided(is_last, &text[at..]) {
@@ -127,11 +118,12 @@ impl Annotating<'_, '_> {
 
     // Appends the annotated text of an address that the text begins with, or of bytes before the next one. Returns how
     // many bytes these are.
-    fn push_first(&self, text: &[u8], out: &mut Vec<u8>) -> Result<usize, AllocError>
+    fn push_first(&mut self, text: &[u8], out: &mut Vec<u8>) -> Result<usize, AllocError>
         requires { 0 < length text.now }
         ensures within { IfOk result (λ n. (0 < n) × (n ≤ length text.now)) }
-        ensures shows { IfOk result (λ n. ShowsFirst self.now.places.now self.now.lookup text.now n out.old.items
+        ensures shows { IfOk result (λ n. ShowsFirst self.old.0 self.old.1 text.now n out.old.items
             out.new.items) }
+        ensures same { self.new ≡ self.old }
     {
         let len = address_len(text);
         if len == 0 {
@@ -146,21 +138,18 @@ impl Annotating<'_, '_> {
 
     // Appends what is added after an address: the readable name of its function symbol and the offset, in angle
     // brackets.
-    fn push_added(&self, address: Option<u64>, out: &mut Vec<u8>) -> Result<(), AllocError>
-        ensures { OnOk result
-            ((added : List ℕ) × IsAddedAfter self.now.places.now self.now.lookup address added
+    fn push_added(&mut self, address: Option<u64>, out: &mut Vec<u8>) -> Result<(), AllocError>
+        ensures added { OnOk result
+            ((added : List ℕ) × IsAddedAfter self.old.0 self.old.1 address added
             × (out.new.items ≡ out.old.items ++ added)) }
+        ensures same { self.new ≡ self.old }
     {
-        let Some(address) = address else {
+        let Some((place, offset)) = self.answer_to(address).found else {
             return Ok(());
         };
-        let Some((function, offset)) = self.places.find(self.lookup, address) else {
-            return Ok(());
-        };
-        let mut place = String::from_str(self.alloc, " <")?;
-        push_shown(self.alloc, &mut place, function.name)?;
-        write!(place, "+0x{offset:x}>")?;
-        out.extend_from_slice(place.as_bytes())
+        out.extend_from_slice(b" <")?;
+        self.push_name(out, place)?;
+        push_offset(out, offset, b'>')
     }
 }
 
@@ -186,7 +175,7 @@ impl<S: Sink> Pass<S> for Annotating<'_, '_> {
     }
 
     fn write(out: &mut S, bytes: &[u8]) -> Result<(), StreamError> {
-        write_all(out, bytes)
+        write_whole(out, bytes).map_err(|_| StreamError::Write)
     }
 }
 
@@ -215,14 +204,10 @@ fn address_len(text: &[u8]) -> usize
     ensures within { result ≤ length text.now }
     ensures len { result ≡ address_len text.now }
 {
-    if !text.starts_with(b"0x") {
-        return 0;
+    match text.strip_prefix(b"0x").map_or(0, digits_len) {
+        digits @ 4..=16 => 2 + digits,
+        _ => 0,
     }
-    let digits = digits_len(&text[2..]);
-    if digits < FEWEST || digits > MOST {
-        return 0;
-    }
-    2 + digits
 }
 
 // How many hexadecimal digits the text begins with.

@@ -16,7 +16,7 @@ ghost use Rattle.binfarce_addresses.specs.Lookup.{looked_up};
 ghost use Rattle.binfarce_addresses.specs.Lines.{found_at, IsLineAt, AreLinesAt};
 ghost use Rattle.binfarce_addresses.specs.PlacesViews.{IsMadeOf};
 ghost use Rattle.binfarce_addresses.specs.Stream.{AreAnswersOf, IsAnswerOf};
-ghost use Rattle.binfarce_addresses.specs.machine.Places.{AreFoundFor, ArePlacesOf, IsAtPlace, IsFoundFor};
+ghost use Rattle.binfarce_addresses.specs.machine.Places.{ArePlacesOf, IsAtPlace, IsFoundFor};
 
 use crate::lookup::Lookup;
 use crate::names::Names;
@@ -39,11 +39,7 @@ pub struct Places<'a> {
 }
 
 // What an address symbolizes to: the place of a function symbol, and the offset of the address into it.
-#[derive(Clone, Copy)]
-pub(crate) struct Found {
-    pub(crate) place: usize,
-    pub(crate) offset: u64,
-}
+pub(crate) type Found = (usize, u64);
 
 impl<'a> Model for Places<'a> {
     ghost Value = { List Entry };
@@ -90,19 +86,19 @@ impl<'a> Places<'a> {
             (λ f. (found_at self.now (looked_up lookup.entry address) ≡ Some (function_view f.0))
             × (f.1 ≡ address - lookup.entry.base - f.0.address)) }
     {
-        let found = self.find_place(lookup, Some(address))?;
-        Some((self.functions[found.place], found.offset))
+        let (place, offset) = self.find_place(lookup, Some(address))?;
+        Some((self.functions[place], offset))
     }
 
     // What an address symbolizes to; nothing without an address.
     #[inline(always)]
-    fn find_place(&self, lookup: Lookup<'_>, address: Option<u64>) -> Option<Found>
+    pub(crate) fn find_place(&self, lookup: Lookup<'_>, address: Option<u64>) -> Option<Found>
         ensures { IsFoundFor self.now lookup.entry address result }
     {
         let address = address?;
         let place = self.ranges.find(lookup.in_file(address)?)?;
         let offset = lookup.offset_in(address, self.functions[place].address);
-        Some(Found { place, offset })
+        Some((place, offset))
     }
 
     // The function symbol at a place.
@@ -131,43 +127,25 @@ impl<'a> Places<'a> {
             ((line : List ℕ) × IsLineAt self.now lookup.entry address line
             × (text.new.items ≡ text.old.items ++ line)) }
     {
-        let found = self.find_place(lookup, Some(address));
-        Names::new(alloc, self, 0)?.push_answer(text, lookup, Some(address), found)
-    }
-
-    // What each address symbolizes to.
-    pub(crate) fn find_all(
-        &self,
-        alloc: Global,
-        lookup: Lookup<'_>,
-        addresses: &[Option<u64>],
-    ) -> Result<Vec<Option<Found>>, AllocError>
-        ensures { IfOk result (λ v. AreFoundFor self.now lookup.entry addresses.now v.items) }
-    {
-        addresses
-            .iter()
-            .map(|address| self.find_place(lookup, *address))
-            .collect(alloc)
+        let mut names = Names::new(alloc, self, lookup, 0)?;
+        let answer = names.answer_to(Some(address));
+        names.push_line(text, answer)
     }
 }
 
 // The places of function symbols.
-fn places_of(alloc: Global, functions: Functions<'_>) -> Result<Places<'_>, AllocError>
-    ensures { IfOk result (λ p. p ≡ functions_left functions.entry) }
+fn places_of(alloc: Global, listed: Functions<'_>) -> Result<Places<'_>, AllocError>
+    ensures { IfOk result (λ p. p ≡ functions_left listed.entry) }
 {
-    let mut kept = Vec::new(alloc);
+    let mut functions = Vec::new(alloc);
     let mut ranges = Vec::new(alloc);
-    for function in functions {
-        ranges.push(AddressRange {
-            address: function.address,
-            size: function.size,
-        })?;
-        kept.push(function)?;
+    for function in listed {
+        let FunctionSymbol { address, size, .. } = function;
+        ranges.push(AddressRange { address, size })?;
+        functions.push(function)?;
     }
-    Ok(Places {
-        functions: kept,
-        ranges: Ranges::new(alloc, &ranges)?,
-    })
+    let ranges = Ranges::new(alloc, &ranges)?;
+    Ok(Places { functions, ranges })
 }
 
 /// Symbolizes addresses in an executable: a line for each, in their order.
@@ -233,6 +211,7 @@ pub fn at_tables<S: Sink>(
 ///
 /// `OutOfMemory` where an allocation failed; `Write` where a write failed, which alone can leave a beginning of the
 /// lines written.
+#[tactic(auto, using(crate::proofs::AddressLines::endings))]
 pub fn write_lines<S: Sink>(
     alloc: Global,
     places: &Places<'_>,

@@ -1,6 +1,6 @@
 //! Numbers in hexadecimal digits.
 
-ghost use Rattle.std.specs.Prelude.{◌≡◌, ◌<◌, ◌++◌, OnOk, false, codes, drop, length, replicate};
+ghost use Rattle.std.specs.Prelude.{◌≡◌, ◌++◌, ◌∷◌, [], OnOk, false, codes};
 ghost use Rattle.std.specs.Fmt.{digits};
 ghost use Rattle.binfarce_tools.specs.Listing.{address_text};
 
@@ -11,49 +11,30 @@ use std::alloc::AllocError;
 pub(crate) fn push_address(text: &mut Vec<u8>, address: u64) -> Result<(), AllocError>
     ensures { OnOk result (text.new.items ≡ text.old.items ++ (address_text address ++ codes " ")) }
 {
-    let mut shown = [b'0'; 16];
-    put_all_digits(&mut shown, address);
-    text.extend_from_slice(&shown)?;
+    text.extend_from_slice(&digits_of(address))?;
     Ok(text.push(b' ')?)
 }
 
-/// Appends an offset and a line feed to the text.
-pub(crate) fn push_offset(text: &mut Vec<u8>, offset: u64) -> Result<(), AllocError>
-    ensures { OnOk result (text.new.items ≡ text.old.items
-        ++ (codes "+0x" ++ (digits 16 false offset ++ codes "\n"))) }
+/// Appends an offset and a byte to the text.
+#[inline(always)]
+pub(crate) fn push_offset(text: &mut Vec<u8>, offset: u64, end: u8) -> Result<(), AllocError>
+    ensures { OnOk result (text.new.items ≡ text.old.items ++ (codes "+0x" ++ (digits 16 false offset ++ end ∷ []))) }
 {
-    let mut shown = [b'0'; 16];
-    let at = put_digits(&mut shown, offset);
+    let zeros = (offset.leading_zeros() / 4).min(15) as usize;
     text.extend_from_slice(b"+0x")?;
-    text.extend_from_slice(&shown[at..])?;
-    Ok(text.push(b'\n')?)
+    text.extend_from_slice(&digits_of(offset)[zeros..])?;
+    Ok(text.push(end)?)
 }
 
-// Puts all 16 digits of a number: the number of steps is fixed, so no branch is mispredicted.
-fn put_all_digits(shown: &mut [u8], number: u64)
-    requires { length shown.old ≡ 16 }
-    ensures { shown.new ≡ address_text number }
+// The 16 digits of a number: the number of steps is fixed, so no branch is mispredicted.
+fn digits_of(number: u64) -> [u8; 16]
+    ensures { result ≡ address_text number }
 {
+    let mut shown = [b'0'; 16];
     let mut rest = number;
     for k in 0..16 {
         shown[15 - k] = hex_digit(rest % 16);
         rest /= 16;
     }
-}
-
-// Puts a number into the last of 16 zeros, and returns where it begins.
-fn put_digits(shown: &mut [u8], number: u64) -> usize
-    requires { shown.old ≡ replicate 16 48 }
-    ensures within { result < 16 }
-    ensures number { drop result shown.new ≡ digits 16 false number }
-{
-    let mut rest = number;
-    let mut at = 15;
-    while rest >= 16 {
-        shown[at] = hex_digit(rest % 16);
-        rest /= 16;
-        at -= 1;
-    }
-    shown[at] = hex_digit(rest);
-    at
+    shown
 }

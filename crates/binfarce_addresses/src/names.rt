@@ -6,7 +6,9 @@ ghost use Rattle.binfarce.specs.Symbol.{Entry};
 ghost use Rattle.binfarce_tools.specs.Json.{lines, objects};
 ghost use Rattle.binfarce_addresses.specs.Lines.{address_value, symbol_members};
 ghost use Rattle.binfarce_addresses.specs.Stream.{IsAnswerIn, IsAnswerOf};
-ghost use Rattle.binfarce_addresses.specs.machine.Places.{AreKept, IsFoundFor, IsNamedAt, IsSymbolAt};
+ghost use Rattle.binfarce_addresses.specs.declared.lookup.Lookup.{Lookup};
+ghost use Rattle.binfarce_addresses.specs.machine.Places.{AreKept, IsNamedAt, IsSymbolAt};
+ghost use Rattle.binfarce_addresses.specs.machine.Answers.{AreAnswersTo, IsAnswerTo};
 
 use crate::at::{Found, Places};
 use crate::digits::{push_address, push_offset};
@@ -18,11 +20,13 @@ use binfarce_tools::json::{
 use std::alloc::{AllocError, Global};
 use std::marker::Model;
 
-/// The readable names of the function symbols of places that were needed so far.
+/// The readable names of the function symbols of places that were needed so far, and what answers the addresses of one
+/// lookup with them.
 #[derive(Drop)]
 pub(crate) struct Names<'b, 'a> {
+    pub(crate) alloc: Global,
     pub(crate) places: &'b Places<'a>,
-    alloc: Global,
+    pub(crate) lookup: Lookup<'b>,
     demangler: Demangler,
     // The names, one after the other.
     text: String,
@@ -30,10 +34,17 @@ pub(crate) struct Names<'b, 'a> {
     kept: Vec<(usize, usize)>,
 }
 
-impl<'b, 'a> Model for Names<'b, 'a> {
-    ghost Value = { List Entry };
+// What is answered to a line: its address, and what that symbolizes to.
+#[derive(Clone, Copy)]
+pub(crate) struct Answer {
+    pub(crate) address: Option<u64>,
+    pub(crate) found: Option<Found>,
+}
 
-    ghost view = { λ s. s.places.now };
+impl<'b, 'a> Model for Names<'b, 'a> {
+    ghost Value = { List Entry × Lookup };
+
+    ghost view = { λ s. (s.places.now, s.lookup) };
 
     ghost invariant = { λ s. AreKept s.places.now (string_bytes s.text) s.kept.items };
 }
@@ -43,34 +54,52 @@ impl<'b, 'a> Names<'b, 'a> {
     pub(crate) fn new(
         alloc: Global,
         places: &'b Places<'a>,
+        lookup: Lookup<'b>,
         room: usize,
     ) -> Result<Names<'b, 'a>, AllocError>
-        ensures { IfOk result (λ n. n ≡ places.entry.now) }
+        ensures { IfOk result (λ n. n ≡ (places.entry.now, lookup.entry)) }
     {
         Ok(Names {
-            places,
             alloc,
+            places,
+            lookup,
             demangler: Demangler::new(alloc),
             text: String::new(alloc),
             kept: vec![in alloc; (0, 0); room]?,
         })
     }
 
+    // The answer to a line with the address, or with none.
+    #[inline(always)]
+    pub(crate) fn answer_to(&self, address: Option<u64>) -> Answer
+        ensures is { IsAnswerTo self.now.0 self.now.1 result }
+        ensures address { result.address ≡ address }
+    {
+        let found = self.places.find_place(self.lookup, address);
+        Answer { address, found }
+    }
+
+    // The answers to lines with the addresses, or with none.
+    pub(crate) fn answers_to(&self, addresses: &[Option<u64>]) -> Result<Vec<Answer>, AllocError>
+        ensures { IfOk result (λ v. AreAnswersTo self.now.0 self.now.1 addresses.now v.items) }
+    {
+        addresses
+            .iter()
+            .map(|address| self.answer_to(*address))
+            .collect(self.alloc)
+    }
+
     // Reads the first and the last byte of each name, or of the symbol's own where none is kept: a prefetch, without
     // which random addresses take a fifth more.
-    pub(crate) fn read_ahead(
-        &self,
-        alloc: Global,
-        found: &[Option<Found>],
-    ) -> Result<Vec<(u8, u8)>, AllocError> {
-        found
+    pub(crate) fn read_ahead(&self, answers: &[Answer]) -> Result<Vec<(u8, u8)>, AllocError> {
+        answers
             .iter()
-            .map(|found| self.ends_at(*found).unwrap_or((0, 0)))
-            .collect(alloc)
+            .map(|answer| self.ends_at(answer.found).unwrap_or((0, 0)))
+            .collect(self.alloc)
     }
 
     fn ends_at(&self, found: Option<Found>) -> Option<(u8, u8)> {
-        let place = found?.place;
+        let (place, _) = found?;
         let places = self.places;
         let name = match self.name_at(place) {
             Some(name) => name,
@@ -79,101 +108,84 @@ impl<'b, 'a> Names<'b, 'a> {
         Some((*name.first()?, *name.last()?))
     }
 
-    // Appends the answer of a line to the text: that of its address, for which this is found, or of none.
-    pub(crate) fn push_answer(
-        &mut self,
-        text: &mut Vec<u8>,
-        lookup: Lookup<'_>,
-        address: Option<u64>,
-        found: Option<Found>,
-    ) -> Result<(), AllocError>
-        requires { IsFoundFor self.old lookup address found }
+    // Appends the line of an answer to the text.
+    pub(crate) fn push_line(&mut self, text: &mut Vec<u8>, answer: Answer) -> Result<(), AllocError>
+        requires { IsAnswerTo self.old.0 self.old.1 answer }
         ensures answer { OnOk result
-            ((answer : List ℕ) × IsAnswerOf self.old lookup.entry address answer
-            × (text.new.items ≡ text.old.items ++ answer)) }
+            ((written : List ℕ) × IsAnswerOf self.old.0 self.old.1 answer.address written
+            × (text.new.items ≡ text.old.items ++ written)) }
         ensures same { self.new ≡ self.old }
     {
-        match lookup.form {
-            Form::Lines => self.push_line(text, lookup, address, found),
+        match self.lookup.form {
+            Form::Lines => self.push_plain(text, answer),
             Form::Objects(file, _) => {
-                let object = self.object_of(file, lookup, address, found)?;
+                let object = self.object_of(file, answer)?;
                 text.extend_from_slice(object.as_bytes())
             }
         }
     }
 
-    // Appends the answer as a line.
-    fn push_line(
-        &mut self,
-        text: &mut Vec<u8>,
-        lookup: Lookup<'_>,
-        address: Option<u64>,
-        found: Option<Found>,
-    ) -> Result<(), AllocError>
-        requires { IsFoundFor self.old lookup address found }
+    // Appends the line that is no object.
+    fn push_plain(&mut self, text: &mut Vec<u8>, answer: Answer) -> Result<(), AllocError>
+        requires { IsAnswerTo self.old.0 self.old.1 answer }
         ensures answer { OnOk result
-            ((answer : List ℕ) × IsAnswerIn lines self.old lookup.entry address answer
-            × (text.new.items ≡ text.old.items ++ answer)) }
+            ((written : List ℕ) × IsAnswerIn lines self.old.0 self.old.1 answer.address written
+            × (text.new.items ≡ text.old.items ++ written)) }
         ensures same { self.new ≡ self.old }
     {
-        match address {
-            Some(address) => push_address(text, address)?,
-            None => return text.extend_from_slice(b"??\n"),
-        }
-        match found {
-            Some(found) => {
-                self.push_name(text, found.place)?;
-                push_offset(text, found.offset)
+        let Some(address) = answer.address else {
+            return text.extend_from_slice(b"??\n");
+        };
+        push_address(text, address)?;
+        match answer.found {
+            Some((place, offset)) => {
+                self.push_name(text, place)?;
+                push_offset(text, offset, b'\n')
             }
             None => text.extend_from_slice(b"??\n"),
         }
     }
 
     // The answer as an object.
-    fn object_of(
-        &mut self,
-        file: &str,
-        lookup: Lookup<'_>,
-        address: Option<u64>,
-        found: Option<Found>,
-    ) -> Result<String, AllocError>
-        requires { IsFoundFor self.old lookup address found }
-        ensures answer { IfOk result (λ t. IsAnswerIn (objects file.now []) self.old lookup.entry address
+    fn object_of(&mut self, file: &str, answer: Answer) -> Result<String, AllocError>
+        requires { IsAnswerTo self.old.0 self.old.1 answer }
+        ensures answer { IfOk result (λ t. IsAnswerIn (objects file.now []) self.old.0 self.old.1 answer.address
             (string_bytes t)) }
         ensures same { self.new ≡ self.old }
     {
         let mut object = String::new(self.alloc);
         push_start(&mut object, file)?;
-        push_given(&mut object, address)?;
-        self.push_symbol(&mut object, found)?;
+        push_given(&mut object, answer.address)?;
+        self.push_symbol(&mut object, answer.found)?;
         object.push_str("}\n")?;
         Ok(object)
     }
 
     // Appends the members of the symbol that was found, or of none.
     fn push_symbol(&mut self, text: &mut String, found: Option<Found>) -> Result<(), AllocError>
-        requires { IfSome found (λ f. f.place < length self.old) }
+        requires { IfSome found (λ f. f.0 < length self.old.0) }
         ensures symbol { OnOk result
-            ((symbol : Option (List ℕ × ℕ)) × IsSymbolAt self.old found symbol
+            ((symbol : Option (List ℕ × ℕ)) × IsSymbolAt self.old.0 found symbol
             × (string_bytes text.new ≡ string_bytes text.old ++ symbol_members symbol)) }
         ensures same { self.new ≡ self.old }
     {
-        let Some(found) = found else {
+        let Some((place, offset)) = found else {
             push_text_member(text, "name", None)?;
             return push_text_member(text, "offset", None);
         };
         let mut name = String::new(self.alloc);
         self.demangler
-            .push_shown(&mut name, self.places.at(found.place).name)?;
+            .push_shown(&mut name, self.places.at(place).name)?;
         push_text_member(text, "name", Some(name.as_str()))?;
-        push_number_member(text, "offset", found.offset)
+        push_number_member(text, "offset", offset)
     }
 
     // Appends the readable name of the function symbol at a place to the text, and keeps it, if there is room for it.
-    fn push_name(&mut self, text: &mut Vec<u8>, place: usize) -> Result<(), AllocError>
-        requires { place < length self.old }
+    #[inline(always)]
+    pub(crate) fn push_name(&mut self, text: &mut Vec<u8>, place: usize) -> Result<(), AllocError>
+        requires { place < length self.old.0 }
         ensures name { OnOk result
-            ((name : List ℕ) × IsNamedAt self.old place name
+            ((name : List ℕ) × IsNamedAt self.old.0 place name
             × (text.new.items ≡ text.old.items ++ name)) }
         ensures same { self.new ≡ self.old }
     {
@@ -191,7 +203,7 @@ impl<'b, 'a> Names<'b, 'a> {
     // The name that is kept at a place.
     #[inline(always)]
     fn name_at(&self, place: usize) -> Option<&[u8]>
-        ensures { IfSome result (λ name. IsNamedAt self.now place name.now) }
+        ensures { IfSome result (λ name. IsNamedAt self.now.0 place name.now) }
     {
         match self.kept.get(place) {
             Some((from, to)) if from < to => self.text.as_bytes().get(*from..*to),

@@ -3,7 +3,8 @@
 ghost use Rattle.std.specs.Prelude.{◌≡◌, ◌+◌, ◌-◌, ◌<◌, ◌≤◌, ◌^◌, ℕ, List, true, length, IfOk, OnOk};
 ghost use Rattle.binfarce_addresses.specs.Range.{AreSpans, AreSpansOf, IsSpanAt, span_at};
 ghost use Rattle.binfarce_addresses.specs.declared.ranges.Span.{Span};
-ghost use Rattle.binfarce_addresses.specs.machine.Sweep.{AreInOrder, AreRowsOf, AreSwept, DoReach, IsInnermost, IsSweep, here, stack_at, row_at};
+ghost use Rattle.binfarce_addresses.specs.machine.Sweep.{AreInOrder, AreRowsOf, AreSwept, DoReach, IsInnermostRow, here, row_at};
+ghost use Rattle.binfarce_addresses.specs.machine.Sweeping.{BeginsSpan, DoesKnow, IsSweptTo};
 
 use crate::slices::Slices;
 use std::alloc::{AllocError, Global};
@@ -67,20 +68,10 @@ impl Ranges {
     pub fn find(&self, address: u64) -> Option<usize>
         ensures { (k : ℕ) × IsSpanAt self.now address k × (result ≡ (span_at self.now k).place) }
     {
-        self.spans[self.place_at(address)].place
-    }
-
-    // The place of the span at an address.
-    #[inline(always)]
-    fn place_at(&self, address: u64) -> usize
-        ensures { IsSpanAt self.now address result }
-    {
-        if let Some(place) = self.slices.near(&self.spans, address) {
-            if self.is_at(place, address) {
-                return place;
-            }
+        match self.slices.near(&self.spans, address) {
+            Some(place) if self.is_at(place, address) => self.spans[place].place,
+            _ => self.spans[self.spans.partition_point(|span| span.start <= address) - 1].place,
         }
-        self.spans.partition_point(|span| span.start <= address) - 1
     }
 
     // Whether the span at the place is that at the address.
@@ -110,94 +101,86 @@ fn rows_of(alloc: Global, ranges: &[AddressRange]) -> Result<Vec<Row>, AllocErro
     Ok(rows)
 }
 
-// The spans of the rows, by one sweep. A row is open from its address on, until it ends or a later row does that
-// reaches as far: the open rows end one after the other, from the last one to the first.
+// The spans of the rows, by one sweep.
 fn spans_of(alloc: Global, rows: &[Row]) -> Result<Vec<Span>, AllocError>
     requires { AreInOrder rows.now }
     ensures { IfOk result (λ v. AreSwept rows.now v.items) }
 {
-    let mut stack = Vec::new(alloc);
+    let stack = Vec::new(alloc);
     let mut spans = Vec::with_capacity(alloc, rows.len())?;
     spans.push(Span {
         start: 0,
         place: None,
     })?;
+    let mut sweep = Sweep { stack, spans };
     for row in 0..rows.len() {
-        close_before(rows, row, &mut stack, &mut spans)?;
-        open_row(rows, row, &mut stack, &mut spans)?;
+        sweep.close_before(rows, rows[row].address)?;
+        sweep.open(rows, row)?;
     }
-    close_before(rows, rows.len(), &mut stack, &mut spans)?;
-    Ok(spans)
+    sweep.close_before(rows, u64::MAX)?;
+    Ok(sweep.spans)
 }
 
-// Closes the open rows that end before this row begins, or before the last address where there is no such row: from the
-// end of each on, the next open one is found, or none.
-fn close_before(
-    rows: &[Row],
-    row: usize,
-    stack: &mut Vec<usize>,
-    spans: &mut Vec<Span>,
-) -> Result<(), AllocError>
-    requires swept { IsSweep rows.now row spans.old.items stack.old.items }
-    requires within { row ≤ length rows.now }
-    requires behind { row < length rows.now → here spans.old.items ≤ (row_at rows.now row).address }
-    ensures swept { OnOk result (IsSweep rows.now row spans.new.items stack.new.items) }
-    ensures behind { OnOk result (row < length rows.now → here spans.new.items ≤ (row_at rows.now row).address) }
-    ensures next { OnOk result
-        (row < length rows.now → DoReach rows.now stack.new.items (row_at rows.now row).address) }
-    ensures last { OnOk result (length rows.now ≤ row → DoReach rows.now stack.new.items (2 ^ 64 - 1)) }
-{
-    let address = rows.get(row).map_or(u64::MAX, |row| row.address);
-    while !stack.is_empty() {
-        let top = stack.len() - 1;
-        let last = rows[stack[top]].last;
-        if last >= address {
-            break;
+// A sweep over the rows. A row is open from its address on, until it ends or a later row does that reaches as far: the
+// open rows end one after the other, from the last one to the first.
+#[derive(Drop)]
+struct Sweep {
+    // The places of the open rows among the rows.
+    stack: Vec<usize>,
+    spans: Vec<Span>,
+}
+
+impl Sweep {
+    // Closes the open rows that end before the address: from the end of each on, the next open one is found, or none.
+    fn close_before(&mut self, rows: &[Row], address: u64) -> Result<(), AllocError>
+        requires { (n : ℕ) × IsSweptTo rows.now self.old n }
+        ensures swept { OnOk result ((n : ℕ) → IsSweptTo rows.now self.old n → IsSweptTo rows.now self.new n) }
+        ensures behind { OnOk result (here self.old.spans.items ≤ address → here self.new.spans.items ≤ address) }
+        ensures reach { OnOk result (DoReach rows.now self.new.stack.items address) }
+    {
+        while let Some(row) = self.innermost(rows) {
+            if row.last >= address {
+                break;
+            }
+            self.stack.pop();
+            self.begin(rows, row.last + 1)?;
         }
-        stack.truncate(top);
-        spans.push(Span {
-            start: last + 1,
-            place: innermost(rows, stack),
-        })?;
+        Ok(())
     }
-    Ok(())
-}
 
-// The place of the last open row.
-fn innermost(rows: &[Row], stack: &[usize]) -> Option<usize>
-    requires { (m : ℕ) → m < length stack.now → stack_at stack.now m < length rows.now }
-    ensures { IsInnermost rows.now stack.now result }
-{
-    Some(rows[*stack.last()?].place.0)
-}
-
-// Opens the next row. Open rows that it outlives are dropped: none of their addresses from here on finds them.
-fn open_row(
-    rows: &[Row],
-    row: usize,
-    stack: &mut Vec<usize>,
-    spans: &mut Vec<Span>,
-) -> Result<(), AllocError>
-    requires order { AreInOrder rows.now }
-    requires within { row < length rows.now }
-    requires swept { IsSweep rows.now row spans.old.items stack.old.items }
-    requires behind { here spans.old.items ≤ (row_at rows.now row).address }
-    requires reach { DoReach rows.now stack.old.items (row_at rows.now row).address }
-    ensures swept { OnOk result (IsSweep rows.now (row + 1) spans.new.items stack.new.items) }
-    ensures behind { OnOk result (here spans.new.items ≡ (row_at rows.now row).address) }
-{
-    let last = rows[row].last;
-    while !stack.is_empty() {
-        let top = stack.len() - 1;
-        if rows[stack[top]].last > last {
-            break;
+    // Opens the next row. Open rows that it outlives are dropped: none of their addresses from here on finds them.
+    fn open(&mut self, rows: &[Row], row: usize) -> Result<(), AllocError>
+        requires order { AreInOrder rows.now }
+        requires within { row < length rows.now }
+        requires swept { IsSweptTo rows.now self.old row }
+        requires behind { here self.old.spans.items ≤ (row_at rows.now row).address }
+        requires reach { DoReach rows.now self.old.stack.items (row_at rows.now row).address }
+        ensures swept { OnOk result (IsSweptTo rows.now self.new (row + 1)) }
+        ensures behind { OnOk result (here self.new.spans.items ≡ (row_at rows.now row).address) }
+    {
+        let Row { address, last, .. } = rows[row];
+        while matches!(self.innermost(rows), Some(open) if open.last <= last) {
+            self.stack.pop();
         }
-        stack.truncate(top);
+        self.stack.push(row)?;
+        self.begin(rows, address)
     }
-    stack.push(row)?;
-    spans.push(Span {
-        start: rows[row].address,
-        place: Some(rows[row].place.0),
-    })?;
-    Ok(())
+
+    // Begins a span at an address, with the place of the last open row.
+    #[tactic(auto, using(crate::proofs::Sweep::placed))]
+    fn begin(&mut self, rows: &[Row], start: u64) -> Result<(), AllocError>
+        requires { DoesKnow rows.now self.old }
+        ensures { OnOk result (BeginsSpan rows.now self.old self.new start) }
+    {
+        let place = self.innermost(rows).map(|row| row.place.0);
+        Ok(self.spans.push(Span { start, place })?)
+    }
+
+    // The last open row.
+    fn innermost(&self, rows: &[Row]) -> Option<Row>
+        requires { DoesKnow rows.now self.now }
+        ensures { IsInnermostRow rows.now self.now.stack.items result }
+    {
+        Some(rows[*self.stack.last()?])
+    }
 }

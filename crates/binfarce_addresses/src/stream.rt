@@ -2,7 +2,6 @@
 
 ghost use Rattle.std.specs.Prelude.{◌≡◌, ◌≤◌, ◌<◌, ◌++◌, ◌∷◌, [], ℕ, List, length, MatchOption, IfOk, OnOk};
 ghost use Rattle.binfarce_text.specs.Streams.{Fails};
-ghost use Rattle.binfarce_text.specs.machine.Passing.{WritesAll};
 ghost use Rattle.binfarce_addresses.specs.Answered.{AnswersOf};
 ghost use Rattle.binfarce_addresses.specs.Stream.{HasNoLineFeed, Streams};
 ghost use Rattle.binfarce_addresses.specs.machine.Answering.{AreAddressesOf, Answers, IsKeptOf};
@@ -49,35 +48,25 @@ pub fn push_lines(
 ) -> Result<Answered, AllocError>
     ensures { IfOk result (AnswersOf places.now lookup.entry bytes.now text.old.items text.new.items) }
 {
-    push_answers(
-        alloc,
-        &mut Names::new(alloc, places, 0)?,
-        lookup,
-        bytes,
-        text,
-    )
+    Names::new(alloc, places, lookup, 0)?.push_answers(bytes, text)
 }
 
-// As `push_lines`, with the names that are known. All addresses are looked up before the first answer is written, so
-// that cache misses overlap.
-fn push_answers(
-    alloc: Global,
-    names: &mut Names<'_, '_>,
-    lookup: Lookup<'_>,
-    bytes: &[u8],
-    text: &mut Vec<u8>,
-) -> Result<Answered, AllocError>
-    ensures answers { IfOk result
-        (AnswersOf names.old lookup.entry bytes.now text.old.items text.new.items) }
-    ensures same { names.new ≡ names.old }
-{
-    let (addresses, answered) = addresses_of(alloc, bytes)?;
-    let found = names.places.find_all(alloc, lookup, &addresses)?;
-    names.read_ahead(alloc, &found)?;
-    for k in 0..addresses.len() {
-        names.push_answer(text, lookup, addresses[k], found[k])?;
+impl Names<'_, '_> {
+    // Appends to `text` the answers of the whole lines of `bytes`. All addresses are looked up before the first answer
+    // is written, so that cache misses overlap.
+    fn push_answers(&mut self, bytes: &[u8], text: &mut Vec<u8>) -> Result<Answered, AllocError>
+        ensures answers { IfOk result
+            (AnswersOf self.old.0 self.old.1 bytes.now text.old.items text.new.items) }
+        ensures same { self.new ≡ self.old }
+    {
+        let (addresses, answered) = addresses_of(self.alloc, bytes)?;
+        let answers = self.answers_to(&addresses)?;
+        self.read_ahead(&answers)?;
+        for answer in &answers {
+            self.push_line(text, *answer)?;
+        }
+        Ok(answered)
     }
-    Ok(answered)
 }
 
 // The addresses of the whole lines of `bytes`, or none, and the length of these lines.
@@ -127,8 +116,7 @@ pub fn answer_lines<R: Read, S: Sink>(
 {
     let mut lines = Lines {
         alloc,
-        names: Names::new(alloc, places, places.functions.len())?,
-        lookup,
+        names: Names::new(alloc, places, lookup, places.functions.len())?,
         line: Vec::new(alloc),
         missing: 0,
     };
@@ -141,7 +129,6 @@ pub fn answer_lines<R: Read, S: Sink>(
 struct Lines<'b, 'a> {
     alloc: Global,
     names: Names<'b, 'a>,
-    lookup: Lookup<'b>,
     // What is kept of the last line so far.
     line: Vec<u8>,
     // How many lines have no address.
@@ -155,7 +142,7 @@ impl Lines<'_, '_> {
             × (out.new.items ≡ out.old.items ++ more)) }
     {
         self.line.extend_from_slice(part)?;
-        let answered = push_answers(self.alloc, &mut self.names, self.lookup, &self.line, out)?;
+        let answered = self.names.push_answers(&self.line, out)?;
         self.missing = self.missing.saturating_add(answered.missing);
         self.line = kept_of(self.alloc, &self.line[answered.len..])?;
         Ok(())
@@ -188,7 +175,7 @@ impl<S: Sink> Pass<S> for Lines<'_, '_> {
     }
 
     fn write(out: &mut S, bytes: &[u8]) -> Result<(), StreamError> {
-        write_all(out, bytes)
+        write_whole(out, bytes).map_err(|_| StreamError::Write)
     }
 }
 
@@ -207,12 +194,4 @@ fn kept_of(alloc: Global, line: &[u8]) -> Result<Vec<u8>, AllocError>
         return Vec::from_slice(alloc, b"?");
     }
     Vec::from_slice(alloc, &begun[..begun.len().min(len + 1)])
-}
-
-// Writes the bytes in as many calls as the sink needs.
-pub(crate) fn write_all<S: Sink>(out: &mut S, bytes: &[u8]) -> Result<(), StreamError>
-    ensures takes { WritesAll (S.taken out.old) (S.taken out.new) bytes.now result }
-    ensures fails { Fails (S.has_failed out.old) (S.has_failed out.new) result }
-{
-    write_whole(out, bytes).map_err(|_| StreamError::Write)
 }

@@ -30,24 +30,20 @@ Leaves entries lookup is_last text left shown =
 abbrev pub ShowsTo : (entries : List Entry) (lookup : Lookup) (is_last : Bool) (text : List ℕ) (at : ℕ) (old new : List ℕ) → Type 0
 ShowsTo entries lookup is_last text at old new = (shown : List ℕ) × Leaves entries lookup is_last text (drop at text) shown × (new ≡ old ++ shown)
 
--- both annotate by these entries and this lookup
-abbrev pub AreAlike : (first now : Annotating) → Type 0
-AreAlike first now = (now.places.now ≡ first.places.now) × (now.lookup ≡ first.lookup)
-
 -- the text was shown up to what is kept
 abbrev pub HasShown : (entries : List Entry) (lookup : Lookup) (is_last : Bool) (text kept made : List ℕ) → Type 0
 HasShown entries lookup is_last text kept made = (before : List ℕ) × (text ≡ before ++ kept) × Leaves entries lookup is_last text kept made
 
 abbrev pub Holds : (first now : Annotating) (text made : List ℕ) → Type 0
-Holds first now text made = AreAlike first now × HasShown first.places.now first.lookup false text now.kept.items made
+Holds first now text made = (now.names ≡ first.names) × HasShown first.names.0 first.names.1 false text now.kept.items made
 
 abbrev pub IsDone : (first now : Annotating) (ended : Bool) (text made : List ℕ) → Type 0
-IsDone first now ended text made = IsAnnotated first.places.now first.lookup text made
+IsDone first now ended text made = IsAnnotated first.names.0 first.names.1 text made
 
 abbrev pub MayBreakOff : (first : Annotating) (text made : List ℕ) → Type 0
-MayBreakOff first text made = IsBeginningOf (IsAnnotated first.places.now first.lookup) text made
+MayBreakOff first text made = IsBeginningOf (IsAnnotated first.names.0 first.names.1) text made
 
 -- the next part is shown up to what is kept, which is nothing at the text's end
 abbrev pub Annotates : (old new : Annotating) (is_last : Bool) (part more : List ℕ) → Type 0
 Annotates old new is_last part more =
-    AreAlike old new × HasShown old.places.now old.lookup is_last (old.kept.items ++ part) new.kept.items more × (is_last ≡ true → new.kept.items ≡ [])
+    (new.names ≡ old.names) × HasShown old.names.0 old.names.1 is_last (old.kept.items ++ part) new.kept.items more × (is_last ≡ true → new.kept.items ≡ [])

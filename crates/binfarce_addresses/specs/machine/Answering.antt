@@ -41,19 +41,15 @@ pub record AnswersPart (entries : List Entry) (lookup : Lookup) (kept part next 
   pub are : AreAnswersOf entries lookup addresses more
   pub counts : after ≡ min (before + missing addresses) (2 ^ 64 - 1)
 
--- both answer by these entries and this lookup
-abbrev pub AreAlike : (first now : Lines) → Type 0
-AreAlike first now = (now.names ≡ first.names) × (now.lookup ≡ first.lookup)
-
 abbrev pub Holds : (first now : Lines) (text made : List ℕ) → Type 0
-Holds first now text made = AreAlike first now × HasAnswered first.names first.lookup now.line.items now.missing text made
+Holds first now text made = (now.names ≡ first.names) × HasAnswered first.names.0 first.names.1 now.line.items now.missing text made
 
 abbrev pub IsDone : (first now : Lines) (ended : Bool) (text made : List ℕ) → Type 0
-IsDone first now true text made = AnswersAll first.names first.lookup now.missing text made
-IsDone first now false text made = AnswersWhole first.names first.lookup text made
+IsDone first now true text made = AnswersAll first.names.0 first.names.1 now.missing text made
+IsDone first now false text made = AnswersWhole first.names.0 first.names.1 text made
 
 abbrev pub MayBreakOff : (first : Lines) (text made : List ℕ) → Type 0
-MayBreakOff first text made = AnswersSome first.names first.lookup text made
+MayBreakOff first text made = AnswersSome first.names.0 first.names.1 text made
 
 abbrev pub Answers : (old new : Lines) (part more : List ℕ) → Type 0
-Answers old new part more = AreAlike old new × AnswersPart old.names old.lookup old.line.items part new.line.items old.missing new.missing more
+Answers old new part more = (new.names ≡ old.names) × AnswersPart old.names.0 old.names.1 old.line.items part new.line.items old.missing new.missing more

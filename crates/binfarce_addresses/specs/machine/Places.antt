@@ -7,7 +7,6 @@ use Rattle.binfarce.specs.declared.FunctionSymbol.{FunctionSymbol}
 use Rattle.binfarce_addresses.specs.Lines.{found_at}
 use Rattle.binfarce_addresses.specs.Lookup.{looked_up}
 use Rattle.binfarce_addresses.specs.declared.lookup.Lookup.{Lookup}
-use Rattle.binfarce_addresses.specs.declared.at.Found.{Found}
 use Rattle.binfarce_addresses.specs.declared.ranges.AddressRange.{AddressRange}
 use Rattle.binfarce_addresses.specs.declared.ranges.Span.{Span}
 use Rattle.binfarce_addresses.specs.Range.{AreSpansOf}
@@ -27,9 +26,9 @@ abbrev pub IsNamedAt : List Entry → ℕ → List ℕ → Type 0
 IsNamedAt entries place text = (entry : Entry) → IsAtPlace entries place entry → (name : List ℕ) × IsShown entry.name name × (text ≡ name)
 
 -- the symbol is the name and the offset of what is found
-abbrev pub IsSymbolAt : List Entry → Option Found → Option (List ℕ × ℕ) → Type 0
+abbrev pub IsSymbolAt : List Entry → Option (ℕ × ℕ) → Option (List ℕ × ℕ) → Type 0
 IsSymbolAt entries None symbol = symbol ≡ None
-IsSymbolAt entries (Some found) symbol = (name : List ℕ) × IsNamedAt entries found.place name × (symbol ≡ Some (name, found.offset))
+IsSymbolAt entries (Some found) symbol = (name : List ℕ) × IsNamedAt entries found.0 name × (symbol ≡ Some (name, found.1))
 
 -- each part of the text that is kept for a place, and isn't empty, is the readable name of the entry there
 abbrev pub AreKept : (entries : List Entry) (text : List ℕ) (kept : List (ℕ × ℕ)) → Type 0
@@ -40,16 +39,11 @@ pub record ArePlacesOf (functions : List FunctionSymbol) (spans : List Span) : T
   pub are : AreSpansOf (ranges_of functions) spans
 
 -- the address symbolizes to this: the place of an entry, and the offset into it
-abbrev pub IsShownAt : List Entry → Lookup → ℕ → Option Found → Type 0
+abbrev pub IsShownAt : List Entry → Lookup → ℕ → Option (ℕ × ℕ) → Type 0
 IsShownAt entries lookup address found =
     MatchOption found (found_at entries (looked_up lookup address) ≡ None)
-    (λ f. (entry : Entry) × (found_at entries (looked_up lookup address) ≡ Some entry) × (f.offset ≡ address - lookup.base - entry.address) × IsAtPlace entries f.place entry)
+    (λ f. (entry : Entry) × (found_at entries (looked_up lookup address) ≡ Some entry) × (f.1 ≡ address - lookup.base - entry.address) × IsAtPlace entries f.0 entry)
 
 -- this is found for a line with the address, or with none
-abbrev pub IsFoundFor : List Entry → Lookup → Option ℕ → Option Found → Type 0
+abbrev pub IsFoundFor : List Entry → Lookup → Option ℕ → Option (ℕ × ℕ) → Type 0
 IsFoundFor entries lookup address found = MatchOption address (found ≡ None) (λ a. IsShownAt entries lookup a found)
-
--- these are found for lines with the addresses, or with none
-abbrev pub AreFoundFor : List Entry → Lookup → List (Option ℕ) → List (Option Found) → Type 0
-AreFoundFor entries lookup addresses found =
-    (length found ≡ length addresses) × ((k : ℕ) → k < length addresses → IsFoundFor entries lookup (slice_index_or addresses k None) (slice_index_or found k None))

@@ -71,6 +71,11 @@ abbrev pub IsInnermost : List Row → List ℕ → Option ℕ → Type 0
 IsInnermost rows stack place =
     MatchOption place (length stack ≡ 0) (λ p. (0 < length stack) × (p ≡ (row_at rows (stack_at stack (length stack - 1))).place.0))
 
+-- the last open row
+abbrev pub IsInnermostRow : List Row → List ℕ → Option Row → Type 0
+IsInnermostRow rows stack row =
+    MatchOption row (length stack ≡ 0) (λ r. (0 < length stack) × (r ≡ row_at rows (stack_at stack (length stack - 1))))
+
 -- all open rows reach the address
 abbrev pub DoReach : List Row → List ℕ → ℕ → Type 0
 DoReach rows stack address = (m : ℕ) → m < length stack → address ≤ end_at rows stack m

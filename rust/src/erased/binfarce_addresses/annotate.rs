@@ -2,21 +2,18 @@
 
 //! Annotates the addresses within a text.
 
-use crate::shim::{String, Vec};
+use crate::shim::Vec;
 use crate::erased::binfarce_addresses::address::parse_address;
 use crate::erased::binfarce_addresses::at::Places;
+use crate::erased::binfarce_addresses::digits::push_offset;
 use crate::erased::binfarce_addresses::lookup::Lookup;
-use crate::erased::binfarce_addresses::stream::{CHUNK, LONGEST, write_all};
-use crate::erased::binfarce::demangle::push_shown;
+use crate::erased::binfarce_addresses::names::Names;
+use crate::erased::binfarce_addresses::stream::{CHUNK, LONGEST};
 use crate::erased::binfarce_text::streams::{Pass, StreamError, pass_stream};
 use crate::erased::binfarce_tools::list::Sink;
+use crate::erased::binfarce_tools::writing::write_whole;
 use crate::shim::alloc::{AllocError, Global};
 use crate::shim::io::Read;
-
-// The fewest and the most digits of an address.
-const FEWEST: usize = 4;
-
-const MOST: usize = 16;
 
 /// Appends the text with ` <name+0x1f>` after each address that a function symbol holds: its readable name, and the
 /// offset of the address into it, by this lookup. An address is `0x` and 4 to 16 hexadecimal digits, in upper or lower
@@ -32,13 +29,7 @@ pub fn push_annotated(
     text: &[u8],
     out: &mut Vec<u8>,
 ) -> Result<(), AllocError> {
-    let annotating = Annotating {
-        alloc,
-        places,
-        lookup,
-        kept: Vec::new(alloc),
-    };
-    annotating.push_decided(true, text, out)?;
+    Names::new(alloc, places, lookup, 0)?.push_decided(true, text, out)?;
     Ok(())
 }
 
@@ -59,8 +50,7 @@ pub fn annotate_stream<R: Read, S: Sink>(
 ) -> Result<(), StreamError> {
     let mut pass = Annotating {
         alloc,
-        places,
-        lookup,
+        names: Names::new(alloc, places, lookup, places.functions.len())?,
         kept: Vec::new(alloc),
     };
     pass_stream(alloc, &mut pass, CHUNK, input, out)
@@ -69,8 +59,7 @@ pub fn annotate_stream<R: Read, S: Sink>(
 // What annotates a text that comes in parts.
 struct Annotating<'b, 'a> {
     alloc: Global,
-    places: &'b Places<'a>,
-    lookup: Lookup<'b>,
+    names: Names<'b, 'a>,
     // The address at the text's end that may go on.
     kept: Vec<u8>,
 }
@@ -79,15 +68,17 @@ impl Annotating<'_, '_> {
     // Annotates the kept text and the next part, and keeps an address at its end that may go on, unless the text ends.
     fn push(&mut self, is_last: bool, part: &[u8], out: &mut Vec<u8>) -> Result<(), AllocError> {
         self.kept.extend_from_slice(part)?;
-        let at = self.push_decided(is_last, &self.kept, out)?;
+        let at = self.names.push_decided(is_last, &self.kept, out)?;
         self.kept = Vec::from_slice(self.alloc, &self.kept[at..])?;
         Ok(())
     }
+}
 
+impl Names<'_, '_> {
     // Appends the annotated text before an address at its end that may go on, and returns where that begins. With
     // nothing after the text, this is its end.
     fn push_decided(
-        &self,
+        &mut self,
         is_last: bool,
         text: &[u8],
         out: &mut Vec<u8>,
@@ -102,7 +93,7 @@ impl Annotating<'_, '_> {
 
     // Appends the annotated text of an address that the text begins with, or of bytes before the next one. Returns how
     // many bytes these are.
-    fn push_first(&self, text: &[u8], out: &mut Vec<u8>) -> Result<usize, AllocError> {
+    fn push_first(&mut self, text: &[u8], out: &mut Vec<u8>) -> Result<usize, AllocError> {
         let len = address_len(text);
         if len == 0 {
             let others = others_len(text);
@@ -116,17 +107,13 @@ impl Annotating<'_, '_> {
 
     // Appends what is added after an address: the readable name of its function symbol and the offset, in angle
     // brackets.
-    fn push_added(&self, address: Option<u64>, out: &mut Vec<u8>) -> Result<(), AllocError> {
-        let Some(address) = address else {
+    fn push_added(&mut self, address: Option<u64>, out: &mut Vec<u8>) -> Result<(), AllocError> {
+        let Some((place, offset)) = self.answer_to(address).found else {
             return Ok(());
         };
-        let Some((function, offset)) = self.places.find(self.lookup, address) else {
-            return Ok(());
-        };
-        let mut place = String::from_str(self.alloc, " <")?;
-        push_shown(self.alloc, &mut place, function.name)?;
-        write!(place, "+0x{offset:x}>")?;
-        out.extend_from_slice(place.as_bytes())
+        out.extend_from_slice(b" <")?;
+        self.push_name(out, place)?;
+        push_offset(out, offset, b'>')
     }
 }
 
@@ -140,7 +127,7 @@ impl<S: Sink> Pass<S> for Annotating<'_, '_> {
     }
 
     fn write(out: &mut S, bytes: &[u8]) -> Result<(), StreamError> {
-        write_all(out, bytes)
+        write_whole(out, bytes).map_err(|_| StreamError::Write)
     }
 }
 
@@ -161,14 +148,10 @@ fn is_decided(is_last: bool, text: &[u8]) -> bool {
 
 // The length of the address that the text begins with, or 0.
 fn address_len(text: &[u8]) -> usize {
-    if !text.starts_with(b"0x") {
-        return 0;
+    match text.strip_prefix(b"0x").map_or(0, digits_len) {
+        digits @ 4..=16 => 2 + digits,
+        _ => 0,
     }
-    let digits = digits_len(&text[2..]);
-    if digits < FEWEST || digits > MOST {
-        return 0;
-    }
-    2 + digits
 }
 
 // How many hexadecimal digits the text begins with.

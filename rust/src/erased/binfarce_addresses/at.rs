@@ -2,7 +2,7 @@
 
 //! Symbolizes addresses in an executable, a line for each.
 
-use crate::shim::{CollectIn, Vec};
+use crate::shim::Vec;
 use crate::erased::binfarce_addresses::lookup::Lookup;
 use crate::erased::binfarce_addresses::names::Names;
 use crate::erased::binfarce_addresses::ranges::{AddressRange, Ranges};
@@ -22,11 +22,7 @@ pub struct Places<'a> {
 }
 
 // What an address symbolizes to: the place of a function symbol, and the offset of the address into it.
-#[derive(Clone, Copy)]
-pub(crate) struct Found {
-    pub(crate) place: usize,
-    pub(crate) offset: u64,
-}
+pub(crate) type Found = (usize, u64);
 
 impl<'a> Places<'a> {
     /// The places of a file's function symbols: of an ELF file those of the section.
@@ -53,17 +49,17 @@ impl<'a> Places<'a> {
 
     /// The function symbol that an address symbolizes to by this lookup, and the offset of the address into it.
     pub fn find(&self, lookup: Lookup<'_>, address: u64) -> Option<(FunctionSymbol<'a>, u64)> {
-        let found = self.find_place(lookup, Some(address))?;
-        Some((self.functions[found.place], found.offset))
+        let (place, offset) = self.find_place(lookup, Some(address))?;
+        Some((self.functions[place], offset))
     }
 
     // What an address symbolizes to; nothing without an address.
     #[cfg_attr(not(debug_assertions), inline(always))]
-    fn find_place(&self, lookup: Lookup<'_>, address: Option<u64>) -> Option<Found> {
+    pub(crate) fn find_place(&self, lookup: Lookup<'_>, address: Option<u64>) -> Option<Found> {
         let address = address?;
         let place = self.ranges.find(lookup.in_file(address)?)?;
         let offset = lookup.offset_in(address, self.functions[place].address);
-        Some(Found { place, offset })
+        Some((place, offset))
     }
 
     // The function symbol at a place.
@@ -85,39 +81,23 @@ impl<'a> Places<'a> {
         lookup: Lookup<'_>,
         address: u64,
     ) -> Result<(), AllocError> {
-        let found = self.find_place(lookup, Some(address));
-        Names::new(alloc, self, 0)?.push_answer(text, lookup, Some(address), found)
-    }
-
-    // What each address symbolizes to.
-    pub(crate) fn find_all(
-        &self,
-        alloc: Global,
-        lookup: Lookup<'_>,
-        addresses: &[Option<u64>],
-    ) -> Result<Vec<Option<Found>>, AllocError> {
-        addresses
-            .iter()
-            .map(|address| self.find_place(lookup, *address))
-            .collect_in(alloc)
+        let mut names = Names::new(alloc, self, lookup, 0)?;
+        let answer = names.answer_to(Some(address));
+        names.push_line(text, answer)
     }
 }
 
 // The places of function symbols.
-fn places_of(alloc: Global, functions: Functions<'_>) -> Result<Places<'_>, AllocError> {
-    let mut kept = Vec::new(alloc);
+fn places_of(alloc: Global, listed: Functions<'_>) -> Result<Places<'_>, AllocError> {
+    let mut functions = Vec::new(alloc);
     let mut ranges = Vec::new(alloc);
-    for function in functions {
-        ranges.push(AddressRange {
-            address: function.address,
-            size: function.size,
-        })?;
-        kept.push(function)?;
+    for function in listed {
+        let FunctionSymbol { address, size, .. } = function;
+        ranges.push(AddressRange { address, size })?;
+        functions.push(function)?;
     }
-    Ok(Places {
-        functions: kept,
-        ranges: Ranges::new(alloc, &ranges)?,
-    })
+    let ranges = Ranges::new(alloc, &ranges)?;
+    Ok(Places { functions, ranges })
 }
 
 /// Symbolizes addresses in an executable: a line for each, in their order.

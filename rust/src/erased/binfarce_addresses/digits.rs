@@ -8,39 +8,26 @@ use crate::shim::alloc::AllocError;
 
 /// Appends an address and a blank to the text.
 pub(crate) fn push_address(text: &mut Vec<u8>, address: u64) -> Result<(), AllocError> {
-    let mut shown = [b'0'; 16];
-    put_all_digits(&mut shown, address);
-    text.extend_from_slice(&shown)?;
+    text.extend_from_slice(&digits_of(address))?;
     Ok(text.push(b' ')?)
 }
 
-/// Appends an offset and a line feed to the text.
-pub(crate) fn push_offset(text: &mut Vec<u8>, offset: u64) -> Result<(), AllocError> {
-    let mut shown = [b'0'; 16];
-    let at = put_digits(&mut shown, offset);
+/// Appends an offset and a byte to the text.
+#[cfg_attr(not(debug_assertions), inline(always))]
+pub(crate) fn push_offset(text: &mut Vec<u8>, offset: u64, end: u8) -> Result<(), AllocError> {
+    let zeros = (offset.leading_zeros() / 4).min(15) as usize;
     text.extend_from_slice(b"+0x")?;
-    text.extend_from_slice(&shown[at..])?;
-    Ok(text.push(b'\n')?)
+    text.extend_from_slice(&digits_of(offset)[zeros..])?;
+    Ok(text.push(end)?)
 }
 
-// Puts all 16 digits of a number: the number of steps is fixed, so no branch is mispredicted.
-fn put_all_digits(shown: &mut [u8], number: u64) {
+// The 16 digits of a number: the number of steps is fixed, so no branch is mispredicted.
+fn digits_of(number: u64) -> [u8; 16] {
+    let mut shown = [b'0'; 16];
     let mut rest = number;
     for k in 0..16 {
         shown[15 - k] = hex_digit(rest % 16);
         rest /= 16;
     }
-}
-
-// Puts a number into the last of 16 zeros, and returns where it begins.
-fn put_digits(shown: &mut [u8], number: u64) -> usize {
-    let mut rest = number;
-    let mut at = 15;
-    while rest >= 16 {
-        shown[at] = hex_digit(rest % 16);
-        rest /= 16;
-        at -= 1;
-    }
-    shown[at] = hex_digit(rest);
-    at
+    shown
 }

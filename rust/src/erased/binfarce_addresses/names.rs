@@ -12,10 +12,12 @@ use crate::erased::binfarce_tools::json::{
 };
 use crate::shim::alloc::{AllocError, Global};
 
-/// The readable names of the function symbols of places that were needed so far.
+/// The readable names of the function symbols of places that were needed so far, and what answers the addresses of one
+/// lookup with them.
 pub(crate) struct Names<'b, 'a> {
+    pub(crate) alloc: Global,
     pub(crate) places: &'b Places<'a>,
-    alloc: Global,
+    pub(crate) lookup: Lookup<'b>,
     demangler: Demangler,
     // The names, one after the other.
     text: String,
@@ -23,37 +25,57 @@ pub(crate) struct Names<'b, 'a> {
     kept: Vec<(usize, usize)>,
 }
 
+// What is answered to a line: its address, and what that symbolizes to.
+#[derive(Clone, Copy)]
+pub(crate) struct Answer {
+    pub(crate) address: Option<u64>,
+    pub(crate) found: Option<Found>,
+}
+
 impl<'b, 'a> Names<'b, 'a> {
     /// No name so far, with room for so many.
     pub(crate) fn new(
         alloc: Global,
         places: &'b Places<'a>,
+        lookup: Lookup<'b>,
         room: usize,
     ) -> Result<Names<'b, 'a>, AllocError> {
         Ok(Names {
-            places,
             alloc,
+            places,
+            lookup,
             demangler: Demangler::new(alloc),
             text: String::new(alloc),
             kept: Vec::filled(alloc, (0, 0), room)?,
         })
     }
 
+    // The answer to a line with the address, or with none.
+    #[cfg_attr(not(debug_assertions), inline(always))]
+    pub(crate) fn answer_to(&self, address: Option<u64>) -> Answer {
+        let found = self.places.find_place(self.lookup, address);
+        Answer { address, found }
+    }
+
+    // The answers to lines with the addresses, or with none.
+    pub(crate) fn answers_to(&self, addresses: &[Option<u64>]) -> Result<Vec<Answer>, AllocError> {
+        addresses
+            .iter()
+            .map(|address| self.answer_to(*address))
+            .collect_in(self.alloc)
+    }
+
     // Reads the first and the last byte of each name, or of the symbol's own where none is kept: a prefetch, without
     // which random addresses take a fifth more.
-    pub(crate) fn read_ahead(
-        &self,
-        alloc: Global,
-        found: &[Option<Found>],
-    ) -> Result<Vec<(u8, u8)>, AllocError> {
-        found
+    pub(crate) fn read_ahead(&self, answers: &[Answer]) -> Result<Vec<(u8, u8)>, AllocError> {
+        answers
             .iter()
-            .map(|found| self.ends_at(*found).unwrap_or((0, 0)))
-            .collect_in(alloc)
+            .map(|answer| self.ends_at(answer.found).unwrap_or((0, 0)))
+            .collect_in(self.alloc)
     }
 
     fn ends_at(&self, found: Option<Found>) -> Option<(u8, u8)> {
-        let place = found?.place;
+        let (place, _) = found?;
         let places = self.places;
         let name = match self.name_at(place) {
             Some(name) => name,
@@ -62,75 +84,58 @@ impl<'b, 'a> Names<'b, 'a> {
         Some((*name.first()?, *name.last()?))
     }
 
-    // Appends the answer of a line to the text: that of its address, for which this is found, or of none.
-    pub(crate) fn push_answer(
-        &mut self,
-        text: &mut Vec<u8>,
-        lookup: Lookup<'_>,
-        address: Option<u64>,
-        found: Option<Found>,
-    ) -> Result<(), AllocError> {
-        match lookup.form {
-            Form::Lines => self.push_line(text, lookup, address, found),
+    // Appends the line of an answer to the text.
+    pub(crate) fn push_line(&mut self, text: &mut Vec<u8>, answer: Answer) -> Result<(), AllocError> {
+        match self.lookup.form {
+            Form::Lines => self.push_plain(text, answer),
             Form::Objects(file, _) => {
-                let object = self.object_of(file, lookup, address, found)?;
+                let object = self.object_of(file, answer)?;
                 text.extend_from_slice(object.as_bytes())
             }
         }
     }
 
-    // Appends the answer as a line.
-    fn push_line(
-        &mut self,
-        text: &mut Vec<u8>,
-        lookup: Lookup<'_>,
-        address: Option<u64>,
-        found: Option<Found>,
-    ) -> Result<(), AllocError> {
-        match address {
-            Some(address) => push_address(text, address)?,
-            None => return text.extend_from_slice(b"??\n"),
-        }
-        match found {
-            Some(found) => {
-                self.push_name(text, found.place)?;
-                push_offset(text, found.offset)
+    // Appends the line that is no object.
+    fn push_plain(&mut self, text: &mut Vec<u8>, answer: Answer) -> Result<(), AllocError> {
+        let Some(address) = answer.address else {
+            return text.extend_from_slice(b"??\n");
+        };
+        push_address(text, address)?;
+        match answer.found {
+            Some((place, offset)) => {
+                self.push_name(text, place)?;
+                push_offset(text, offset, b'\n')
             }
             None => text.extend_from_slice(b"??\n"),
         }
     }
 
     // The answer as an object.
-    fn object_of(
-        &mut self,
-        file: &str,
-        lookup: Lookup<'_>,
-        address: Option<u64>,
-        found: Option<Found>,
-    ) -> Result<String, AllocError> {
+    fn object_of(&mut self, file: &str, answer: Answer) -> Result<String, AllocError> {
         let mut object = String::new(self.alloc);
         push_start(&mut object, file)?;
-        push_given(&mut object, address)?;
-        self.push_symbol(&mut object, found)?;
+        push_given(&mut object, answer.address)?;
+        self.push_symbol(&mut object, answer.found)?;
         object.push_str("}\n")?;
         Ok(object)
     }
 
     // Appends the members of the symbol that was found, or of none.
     fn push_symbol(&mut self, text: &mut String, found: Option<Found>) -> Result<(), AllocError> {
-        let Some(found) = found else {
+        let Some((place, offset)) = found else {
             push_text_member(text, "name", None)?;
             return push_text_member(text, "offset", None);
         };
         let mut name = String::new(self.alloc);
         self.demangler
-            .push_shown(&mut name, self.places.at(found.place).name)?;
+            .push_shown(&mut name, self.places.at(place).name)?;
         push_text_member(text, "name", Some(name.as_str()))?;
-        push_number_member(text, "offset", found.offset)
+        push_number_member(text, "offset", offset)
     }
 
     // Appends the readable name of the function symbol at a place to the text, and keeps it, if there is room for it.
-    fn push_name(&mut self, text: &mut Vec<u8>, place: usize) -> Result<(), AllocError> {
+    #[cfg_attr(not(debug_assertions), inline(always))]
+    pub(crate) fn push_name(&mut self, text: &mut Vec<u8>, place: usize) -> Result<(), AllocError> {
         if let Some(name) = self.name_at(place) {
             return text.extend_from_slice(name);
         }

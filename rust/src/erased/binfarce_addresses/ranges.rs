@@ -50,18 +50,10 @@ impl Ranges {
     /// The index of the range that holds the address: of several, the one that begins last, and of these the first.
     /// `None` if none does.
     pub fn find(&self, address: u64) -> Option<usize> {
-        self.spans[self.place_at(address)].place
-    }
-
-    // The place of the span at an address.
-    #[cfg_attr(not(debug_assertions), inline(always))]
-    fn place_at(&self, address: u64) -> usize {
-        if let Some(place) = self.slices.near(&self.spans, address) {
-            if self.is_at(place, address) {
-                return place;
-            }
+        match self.slices.near(&self.spans, address) {
+            Some(place) if self.is_at(place, address) => self.spans[place].place,
+            _ => self.spans[self.spans.partition_point(|span| span.start <= address) - 1].place,
         }
-        self.spans.partition_point(|span| span.start <= address) - 1
     }
 
     // Whether the span at the place is that at the address.
@@ -87,71 +79,62 @@ fn rows_of(alloc: Global, ranges: &[AddressRange]) -> Result<Vec<Row>, AllocErro
     Ok(rows)
 }
 
-// The spans of the rows, by one sweep. A row is open from its address on, until it ends or a later row does that
-// reaches as far: the open rows end one after the other, from the last one to the first.
+// The spans of the rows, by one sweep.
 fn spans_of(alloc: Global, rows: &[Row]) -> Result<Vec<Span>, AllocError> {
-    let mut stack = Vec::new(alloc);
+    let stack = Vec::new(alloc);
     let mut spans = Vec::with_capacity(alloc, rows.len())?;
     spans.push(Span {
         start: 0,
         place: None,
     })?;
+    let mut sweep = Sweep { stack, spans };
     for row in 0..rows.len() {
-        close_before(rows, row, &mut stack, &mut spans)?;
-        open_row(rows, row, &mut stack, &mut spans)?;
+        sweep.close_before(rows, rows[row].address)?;
+        sweep.open(rows, row)?;
     }
-    close_before(rows, rows.len(), &mut stack, &mut spans)?;
-    Ok(spans)
+    sweep.close_before(rows, u64::MAX)?;
+    Ok(sweep.spans)
 }
 
-// Closes the open rows that end before this row begins, or before the last address where there is no such row: from the
-// end of each on, the next open one is found, or none.
-fn close_before(
-    rows: &[Row],
-    row: usize,
-    stack: &mut Vec<usize>,
-    spans: &mut Vec<Span>,
-) -> Result<(), AllocError> {
-    let address = rows.get(row).map_or(u64::MAX, |row| row.address);
-    while !stack.is_empty() {
-        let top = stack.len() - 1;
-        let last = rows[stack[top]].last;
-        if last >= address {
-            break;
+// A sweep over the rows. A row is open from its address on, until it ends or a later row does that reaches as far: the
+// open rows end one after the other, from the last one to the first.
+struct Sweep {
+    // The places of the open rows among the rows.
+    stack: Vec<usize>,
+    spans: Vec<Span>,
+}
+
+impl Sweep {
+    // Closes the open rows that end before the address: from the end of each on, the next open one is found, or none.
+    fn close_before(&mut self, rows: &[Row], address: u64) -> Result<(), AllocError> {
+        while let Some(row) = self.innermost(rows) {
+            if row.last >= address {
+                break;
+            }
+            self.stack.pop();
+            self.begin(rows, row.last + 1)?;
         }
-        stack.truncate(top);
-        spans.push(Span {
-            start: last + 1,
-            place: innermost(rows, stack),
-        })?;
+        Ok(())
     }
-    Ok(())
-}
 
-// The place of the last open row.
-fn innermost(rows: &[Row], stack: &[usize]) -> Option<usize> {
-    Some(rows[*stack.last()?].place.0)
-}
-
-// Opens the next row. Open rows that it outlives are dropped: none of their addresses from here on finds them.
-fn open_row(
-    rows: &[Row],
-    row: usize,
-    stack: &mut Vec<usize>,
-    spans: &mut Vec<Span>,
-) -> Result<(), AllocError> {
-    let last = rows[row].last;
-    while !stack.is_empty() {
-        let top = stack.len() - 1;
-        if rows[stack[top]].last > last {
-            break;
+    // Opens the next row. Open rows that it outlives are dropped: none of their addresses from here on finds them.
+    fn open(&mut self, rows: &[Row], row: usize) -> Result<(), AllocError> {
+        let Row { address, last, .. } = rows[row];
+        while matches!(self.innermost(rows), Some(open) if open.last <= last) {
+            self.stack.pop();
         }
-        stack.truncate(top);
+        self.stack.push(row)?;
+        self.begin(rows, address)
     }
-    stack.push(row)?;
-    spans.push(Span {
-        start: rows[row].address,
-        place: Some(rows[row].place.0),
-    })?;
-    Ok(())
+
+    // Begins a span at an address, with the place of the last open row.
+    fn begin(&mut self, rows: &[Row], start: u64) -> Result<(), AllocError> {
+        let place = self.innermost(rows).map(|row| row.place.0);
+        Ok(self.spans.push(Span { start, place })?)
+    }
+
+    // The last open row.
+    fn innermost(&self, rows: &[Row]) -> Option<Row> {
+        Some(rows[*self.stack.last()?])
+    }
 }

@@ -18,10 +18,8 @@ pub(crate) struct Slices {
 impl Slices {
     /// The slices of spans in the order of their addresses. The only error is a failed allocation.
     pub(crate) fn new(alloc: Global, spans: &[Span]) -> Result<Slices, AllocError> {
-        let (first, last) = match spans {
-            [_, first, .., last] => (first.start, last.start),
-            _ => (0, 0),
-        };
+        let first = spans.get(1).map_or(0, |span| span.start);
+        let last = spans.last().map_or(0, |span| span.start);
         // The slices are as many as the spans, or half as many.
         let each = last.saturating_sub(first) / (spans.len() as u64).max(1);
         let mut slices = Slices {
@@ -31,9 +29,8 @@ impl Slices {
         };
         for (k, span) in spans.iter().enumerate() {
             let before = u32::try_from(k.saturating_sub(1)).unwrap_or(u32::MAX);
-            for _ in slices.before.len()..=slices.slice_of(span.start) {
-                slices.before.push(before)?;
-            }
+            let slice = slices.slice_of(span.start);
+            slices.before.resize(slice.saturating_add(1), before)?;
         }
         Ok(slices)
     }

@@ -43,31 +43,21 @@ pub fn push_lines(
     bytes: &[u8],
     text: &mut Vec<u8>,
 ) -> Result<Answered, AllocError> {
-    push_answers(
-        alloc,
-        &mut Names::new(alloc, places, 0)?,
-        lookup,
-        bytes,
-        text,
-    )
+    Names::new(alloc, places, lookup, 0)?.push_answers(bytes, text)
 }
 
-// As `push_lines`, with the names that are known. All addresses are looked up before the first answer is written, so
-// that cache misses overlap.
-fn push_answers(
-    alloc: Global,
-    names: &mut Names<'_, '_>,
-    lookup: Lookup<'_>,
-    bytes: &[u8],
-    text: &mut Vec<u8>,
-) -> Result<Answered, AllocError> {
-    let (addresses, answered) = addresses_of(alloc, bytes)?;
-    let found = names.places.find_all(alloc, lookup, &addresses)?;
-    names.read_ahead(alloc, &found)?;
-    for k in 0..addresses.len() {
-        names.push_answer(text, lookup, addresses[k], found[k])?;
+impl Names<'_, '_> {
+    // Appends to `text` the answers of the whole lines of `bytes`. All addresses are looked up before the first answer
+    // is written, so that cache misses overlap.
+    fn push_answers(&mut self, bytes: &[u8], text: &mut Vec<u8>) -> Result<Answered, AllocError> {
+        let (addresses, answered) = addresses_of(self.alloc, bytes)?;
+        let answers = self.answers_to(&addresses)?;
+        self.read_ahead(&answers)?;
+        for answer in &answers {
+            self.push_line(text, *answer)?;
+        }
+        Ok(answered)
     }
-    Ok(answered)
 }
 
 // The addresses of the whole lines of `bytes`, or none, and the length of these lines.
@@ -107,8 +97,7 @@ pub fn answer_lines<R: Read, S: Sink>(
 ) -> Result<u64, StreamError> {
     let mut lines = Lines {
         alloc,
-        names: Names::new(alloc, places, places.functions.len())?,
-        lookup,
+        names: Names::new(alloc, places, lookup, places.functions.len())?,
         line: Vec::new(alloc),
         missing: 0,
     };
@@ -120,7 +109,6 @@ pub fn answer_lines<R: Read, S: Sink>(
 struct Lines<'b, 'a> {
     alloc: Global,
     names: Names<'b, 'a>,
-    lookup: Lookup<'b>,
     // What is kept of the last line so far.
     line: Vec<u8>,
     // How many lines have no address.
@@ -131,7 +119,7 @@ impl Lines<'_, '_> {
     // Answers the whole lines of the kept text and the next part, and keeps the rest.
     fn push(&mut self, part: &[u8], out: &mut Vec<u8>) -> Result<(), AllocError> {
         self.line.extend_from_slice(part)?;
-        let answered = push_answers(self.alloc, &mut self.names, self.lookup, &self.line, out)?;
+        let answered = self.names.push_answers(&self.line, out)?;
         self.missing = self.missing.saturating_add(answered.missing);
         self.line = kept_of(self.alloc, &self.line[answered.len..])?;
         Ok(())
@@ -152,7 +140,7 @@ impl<S: Sink> Pass<S> for Lines<'_, '_> {
     }
 
     fn write(out: &mut S, bytes: &[u8]) -> Result<(), StreamError> {
-        write_all(out, bytes)
+        write_whole(out, bytes).map_err(|_| StreamError::Write)
     }
 }
 
@@ -168,9 +156,4 @@ fn kept_of(alloc: Global, line: &[u8]) -> Result<Vec<u8>, AllocError> {
         return Vec::from_slice(alloc, b"?");
     }
     Vec::from_slice(alloc, &begun[..begun.len().min(len + 1)])
-}
-
-// Writes the bytes in as many calls as the sink needs.
-pub(crate) fn write_all<S: Sink>(out: &mut S, bytes: &[u8]) -> Result<(), StreamError> {
-    write_whole(out, bytes).map_err(|_| StreamError::Write)
 }

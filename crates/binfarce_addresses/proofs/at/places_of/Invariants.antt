@@ -7,6 +7,6 @@ use Rattle.binfarce_addresses.proofs.at.places_of.Given as goal
 -- those that are kept, and after them those that are left, are all
 abbrev pub invariant-loop-function : goal.invariant-loop-function
 invariant-loop-function l = record {
-  all : map function_view l.kept.items ++ functions_left l.function-iterator ≡ functions_left l.fn.functions;
-  ranges : l.ranges.items ≡ ranges_of l.kept.items;
+  all : map function_view l.functions.items ++ functions_left l.function-iterator ≡ functions_left l.fn.listed;
+  ranges : l.ranges.items ≡ ranges_of l.functions.items;
 }

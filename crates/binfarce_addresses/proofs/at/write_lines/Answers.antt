@@ -2,23 +2,14 @@ use Rattle.std.proofs.Common.{◌≡◌, ℕ, List, Some, Ok, sym, subst, arith}
 use Rattle.std.proofs.lemmas.List.{take_all}
 use Rattle.binfarce.specs.Symbol.{Entry, Listed}
 use Rattle.binfarce_addresses.specs.Lines.{AreLinesAt, AreLinesOf}
-use Rattle.binfarce_tools.proofs.Lines.{takes, takes_nothing}
-use Rattle.binfarce_addresses.proofs.AddressLines.{no_memory, one_line, outcome}
+use Rattle.binfarce_tools.proofs.Lines.{takes}
+use Rattle.binfarce_addresses.proofs.AddressLines.{one_line}
 use Rattle.binfarce_addresses.proofs.at.write_lines.Goals as goal
 
 pub loop-address-preserved : goal.loop-address-preserved
 loop-address-preserved g c =
     let line = c.in_ok-push_line.ensures in
     one_line c.args.places.now c.args.lookup c.args.addresses.now c.loop-address.address-index line.0 c.loop-address.text.items c.push_line.new.text.items c.loop-address-test.true c.loop-address.invariant line.1 line.2
-
-pub returns-in_err-push_line-clause-outcome : goal.returns-in_err-push_line-clause-outcome
-returns-in_err-push_line-clause-outcome g c = λ listed made. no_memory (λ _. ⊥) listed c.from_residual.result c.from_residual.ensures.1
-
-pub returns-in_err-push_line-clause-takes : goal.returns-in_err-push_line-clause-takes
-returns-in_err-push_line-clause-takes g c = λ listed made. takes_nothing (AreLinesAt c.args.lookup c.args.addresses.now) (Some (Ok listed)) _ c.from_residual.result c.from_residual.ensures.1
-
-pub returns-clause-outcome : goal.returns-clause-outcome
-returns-clause-outcome g c = λ listed made. outcome (λ _. ⊥) listed c.as_slice.result.now _ _ c.write_whole.result c.write_whole.ensures.takes
 
 pub returns-clause-takes : goal.returns-clause-takes
 returns-clause-takes g c = λ listed made.

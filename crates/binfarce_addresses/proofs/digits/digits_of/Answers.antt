@@ -1,7 +1,7 @@
 use Rattle.std.proofs.Common.{◌-◌, ◌+◌, ◌/◌, ◌≡◌, ◌∙◌, ap, sym, drop, set, arith}
 use Rattle.std.proofs.Math.ListN.{length-set}
 use Rattle.binfarce_tools.proofs.Heads.{hex_onto, hex_onto_address, hex_onto_ends, hex_onto_step}
-use Rattle.binfarce_addresses.proofs.digits.put_all_digits.Goals as goal
+use Rattle.binfarce_addresses.proofs.digits.digits_of.Goals as goal
 
 pub loop-k-preserved : goal.loop-k-preserved
 loop-k-preserved c =

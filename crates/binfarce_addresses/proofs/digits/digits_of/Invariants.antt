@@ -1,6 +1,6 @@
 use Rattle.std.proofs.Common.{◌≡◌, [], ◌-◌, drop, length}
 use Rattle.binfarce_tools.proofs.Heads.{hex_onto}
-use Rattle.binfarce_addresses.proofs.digits.put_all_digits.Given as goal
+use Rattle.binfarce_addresses.proofs.digits.digits_of.Given as goal
 
 -- the digits that are left, before those that are put, are the number's
 abbrev pub invariant-loop-k : goal.invariant-loop-k

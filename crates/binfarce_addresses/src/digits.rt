@@ -18,7 +18,8 @@ pub(crate) fn push_address(text: &mut Vec<u8>, address: u64) -> Result<(), Alloc
 /// Appends an offset and a byte to the text.
 #[inline(always)]
 pub(crate) fn push_offset(text: &mut Vec<u8>, offset: u64, end: u8) -> Result<(), AllocError>
-    ensures { OnOk result (text.new.items ≡ text.old.items ++ (codes "+0x" ++ (digits 16 false offset ++ end ∷ []))) }
+    ensures { OnOk result (text.new.items ≡ text.old.items
+        ++ (codes "+0x" ++ (digits 16 false offset ++ end ∷ []))) }
 {
     let zeros = (offset.leading_zeros() / 4).min(15) as usize;
     text.extend_from_slice(b"+0x")?;

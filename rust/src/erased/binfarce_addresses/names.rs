@@ -89,8 +89,7 @@ impl<'b, 'a> Names<'b, 'a> {
         match self.lookup.form {
             Form::Lines => self.push_plain(text, answer),
             Form::Objects(file, _) => {
-                let object = self.object_of(file, answer)?;
-                text.extend_from_slice(object.as_bytes())
+                text.extend_from_slice(self.object_of(file, answer)?.as_bytes())
             }
         }
     }

@@ -8,25 +8,21 @@ use Rattle.binfarce_addresses.proofs.names.Names.push_added.Goals as goal
 
 pub returns-in_default-clause-added : goal.returns-in_default-clause-added
 returns-in_default-clause-added c =
-    let entries = c.args.self.now.0 in
-    let lookup = c.args.self.now.1 in
-    let is : IsFoundFor entries lookup c.args.address None =
-    subst (λ (o : Option (ℕ × ℕ)). IsFoundFor entries lookup c.args.address o) c.in_default.is (subst (λ (a : Option ℕ). IsFoundFor entries lookup a c.answer_to.result.found) c.answer_to.ensures.address c.answer_to.ensures.is) in
-    ([], adds_nothing entries lookup c.args.address is, sym (append-nil c.args.out.now.items))
+    let is : IsFoundFor c.args.self.now.0 c.args.self.now.1 c.args.address None =
+    subst (λ (o : Option (ℕ × ℕ)). IsFoundFor c.args.self.now.0 c.args.self.now.1 c.args.address o) c.in_default.is (subst (λ (a : Option ℕ). IsFoundFor c.args.self.now.0 c.args.self.now.1 a c.answer_to.result.found) c.answer_to.ensures.address c.answer_to.ensures.is) in
+    ([], adds_nothing c.args.self.now.0 c.args.self.now.1 c.args.address is, sym (append-nil c.args.out.now.items))
 
 pub returns-clause-added : goal.returns-clause-added
 returns-clause-added c =
-    let entries = c.args.self.now.0 in
-    let lookup = c.args.self.now.1 in
     let found = c.in-Some in
-    let is : IsFoundFor entries lookup c.args.address (Some (found.place, found.offset)) =
-    subst (λ (o : Option (ℕ × ℕ)). IsFoundFor entries lookup c.args.address o) found.is (subst (λ (a : Option ℕ). IsFoundFor entries lookup a c.answer_to.result.found) c.answer_to.ensures.address c.answer_to.ensures.is) in
+    let is : IsFoundFor c.args.self.now.0 c.args.self.now.1 c.args.address (Some (found.place, found.offset)) =
+    subst (λ (o : Option (ℕ × ℕ)). IsFoundFor c.args.self.now.0 c.args.self.now.1 c.args.address o) found.is (subst (λ (a : Option ℕ). IsFoundFor c.args.self.now.0 c.args.self.now.1 a c.answer_to.result.found) c.answer_to.ensures.address c.answer_to.ensures.is) in
     let name = c.in_ok-push_name.ensures.name in
     let number = digits 16 false found.offset in
     let end = codes "+0x" ++ (number ++ codes ">") in
     let front = name.2 ∙ ap (λ (xs : List ℕ). xs ++ name.0) c.in_ok-extend_from_slice.ensures.items in
     on_ok_weaker c.push_offset.result (λ written. (
       codes " <" ++ (name.0 ++ end),
-      adds_place entries lookup c.args.address found.place found.offset name.0 is name.1,
+      adds_place c.args.self.now.0 c.args.self.now.1 c.args.address found.place found.offset name.0 is name.1,
       written ∙ ap (λ (xs : List ℕ). xs ++ end) front ∙ append_assoc (c.args.out.now.items ++ codes " <") name.0 end ∙ append_assoc c.args.out.now.items (codes " <") (name.0 ++ end),
     )) c.push_offset.ensures

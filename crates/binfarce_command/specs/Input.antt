@@ -55,12 +55,6 @@ abbrev pub ReadsFirst : Option (List ℕ) → Option (List ℕ) → List ℕ →
 ReadsFirst old new bytes (Ok x) = IfSome old (λ file. bytes ≡ take 8 file) × Consumes old new bytes
 ReadsFirst old new bytes (Err e) = IsUnread e
 
--- a byte, or none, is read after these bytes; `false` at the end
-abbrev pub ReadsByte : Option (List ℕ) → Option (List ℕ) → List ℕ → List ℕ → Result Bool Fault → Type 0
-ReadsByte old new before bytes (Ok true) = (part : List ℕ) × (bytes ≡ before ++ part) × (length part ≤ 1) × Consumes old new part
-ReadsByte old new before bytes (Ok false) = (bytes ≡ before) × Consumes old new [] × IsAtEnd new
-ReadsByte old new before bytes (Err e) = IsUnread e
-
 -- the rest of a reader is read after these bytes
 abbrev pub ReadsRest : Option (List ℕ) → Option (List ℕ) → List ℕ → Result (Vec ℕ) Fault → Type 0
 ReadsRest old new bytes (Ok v) = IfSome old (λ rest. v.items ≡ bytes ++ rest) × Consumes old new (appended_bytes bytes v.items) × IsAtEnd new

@@ -129,12 +129,11 @@ fn give_hint<F: Read + Source<Log = ()>, Y: System<F>>(
 fn heading(alloc: Global, path: &str, are_several: bool) -> Result<Vec<u8>, AllocError>
     ensures { IfOk result (λ v. v.items ≡ heading are_several path.now) }
 {
-    if are_several {
-        let text = format!(in alloc; "\n{path}:\n")?;
-        Vec::from_slice(alloc, text.as_bytes())
-    } else {
-        Ok(Vec::new(alloc))
+    if !are_several {
+        return Ok(Vec::new(alloc));
     }
+    let text = format!(in alloc; "\n{path}:\n")?;
+    Vec::from_slice(alloc, text.as_bytes())
 }
 
 // Shows the source after what is left of the heading, which is written also where the text is empty.
@@ -169,22 +168,18 @@ pub fn open_input<F: Read + Source<Log = ()> + Drop, Y: System<F>>(
     ensures bytes { Y.bytes_at system.new ≡ Y.bytes_at system.old }
     ensures may_fail { Y.may_fail_at system.new ≡ Y.may_fail_at system.old }
 {
-    match system.open(path) {
-        Ok(file) => {
-            let mut input = OpenFile::new(file);
-            match input.load(alloc) {
-                Ok(()) => Some(input),
-                Err(fault) => {
-                    system.report(path, fault, input.take_reason());
-                    None
-                }
-            }
-        }
+    let mut input = match system.open(path) {
+        Ok(file) => OpenFile::new(file),
         Err(e) => {
             system.report(path, Fault::Unreadable, Some(e));
-            None
+            return None;
         }
+    };
+    if let Err(fault) = input.load(alloc) {
+        system.report(path, fault, input.take_reason());
+        return None;
     }
+    Some(input)
 }
 
 /// Whether the work on a file is done. Why the file is refused is reported.
@@ -205,8 +200,7 @@ pub fn reported<F: Read + Source<Log = ()>, Y: System<F>>(
 {
     match done {
         Ok(()) => Ok(true),
-        Err(Fault::Write) => Err(Fault::Write),
-        Err(Fault::Missing(count)) => Err(Fault::Missing(count)),
+        Err(Fault::Write | Fault::Missing(_)) => done.map(|()| true),
         Err(Fault::Input) => Ok(false),
         Err(fault) => {
             system.report(path, fault, input.take_reason());

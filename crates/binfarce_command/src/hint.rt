@@ -14,7 +14,7 @@ use binfarce_bytes::ParseError;
 use binfarce_bytes::source::Source;
 use binfarce_sections::bytes::write_section_of;
 use binfarce_tools::SymbolTable;
-use binfarce_tools::functions::{AllFunctions, Functions, Selected};
+use binfarce_tools::functions::{Functions, Selected};
 use binfarce_tools::list::Out;
 use binfarce_tools::tables::{Selection, Tables, read};
 use std::alloc::Global;
@@ -128,22 +128,15 @@ pub fn completed<S: Source<Log = ()>>(
     if !matches!(hint, Hint::None) {
         return hint;
     }
-    match read(alloc, source, &mut (), which, Selection::All) {
-        Ok(tables) => match tables.functions(alloc) {
-            Ok(Selected::All(functions)) => others(count_of(functions)),
-            _ => hint,
-        },
-        Err(_) => hint,
+    let Ok(tables) = read(alloc, source, &mut (), which, Selection::All) else {
+        return hint;
+    };
+    match tables.functions(alloc) {
+        Ok(Selected::All(functions)) => {
+            others(functions.fold(0usize, |count, _| count.saturating_add(1)))
+        }
+        _ => hint,
     }
-}
-
-// How many function symbols are left.
-fn count_of(functions: AllFunctions<'_>) -> usize {
-    let mut count = 0usize;
-    for _ in functions {
-        count = count.saturating_add(1);
-    }
-    count
 }
 
 // The hint where all sections have so many.

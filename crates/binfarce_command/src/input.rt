@@ -1,8 +1,8 @@
 //! The input of a command: files and standard input.
 
-ghost use Rattle.std.specs.Prelude.{◌≡◌, ℕ, List, [], Some, None};
+ghost use Rattle.std.specs.Prelude.{◌≡◌, ℕ, List, [], Some, None, Ok, is_ok, MatchResult, IfErr};
 ghost use Rattle.std.specs.IoError.{error_kind};
-ghost use Rattle.binfarce_command.specs.Input.{Loads, ReadsByte, ReadsFirst, ReadsJudged, ReadsRest, bytes_of, file_of, loaded, may_fail_of};
+ghost use Rattle.binfarce_command.specs.Input.{Loads, ReadsFirst, ReadsJudged, ReadsRest, bytes_of, file_of, loaded, may_fail_of};
 
 use crate::fault::Fault;
 use binfarce_bytes::format::{Format, detect_format};
@@ -78,13 +78,17 @@ impl<F> OpenFile<F> {
         self.reason.take()
     }
 
-    // Keeps the error, and gives one of the same kind.
-    fn keep(&self, e: Error) -> Error
-        ensures { error_kind result ≡ error_kind e }
+    // What a read came to. Its error is kept, and one of the same kind takes its place.
+    fn keep<T>(&self, read: io::Result<T>) -> io::Result<T>
+        ensures cases { MatchResult read (λ x. result ≡ Ok x)
+            (λ e. IfErr result (λ kept. error_kind kept ≡ error_kind e)) }
+        ensures variant { is_ok result ≡ is_ok read }
     {
-        let kind = e.kind();
-        self.reason.set(Some(e));
-        Error::from(kind)
+        read.map_err(|e| {
+            let kind = e.kind();
+            self.reason.set(Some(e));
+            Error::from(kind)
+        })
     }
 }
 
@@ -115,10 +119,8 @@ impl<F: Read> Read for OpenFile<F> {
     ghost remaining = { λ s. F.remaining (file_of s) };
 
     fn read(&mut self, buf: &mut [u8]) -> io::Result<usize> {
-        match self.file.read(buf) {
-            Ok(n) => Ok(n),
-            Err(e) => Err(self.keep(e)),
-        }
+        let read = self.file.read(buf);
+        self.keep(read)
     }
 }
 
@@ -134,20 +136,14 @@ impl<F: Source<Log = ()>> Source for OpenFile<F> {
     fn length(&self) -> io::Result<u64> {
         match &self.bytes {
             Some(bytes) => bytes.as_slice().length(),
-            None => match self.file.length() {
-                Ok(n) => Ok(n),
-                Err(e) => Err(self.keep(e)),
-            },
+            None => self.keep(self.file.length()),
         }
     }
 
     fn fill_at(&self, log: &mut (), offset: u64, buf: &mut [u8]) -> io::Result<()> {
         match &self.bytes {
             Some(bytes) => bytes.as_slice().fill_at(log, offset, buf),
-            None => match self.file.fill_at(log, offset, buf) {
-                Ok(()) => Ok(()),
-                Err(e) => Err(self.keep(e)),
-            },
+            None => self.keep(self.file.fill_at(log, offset, buf)),
         }
     }
 }
@@ -181,29 +177,17 @@ fn read_first<R: Read>(reader: &mut R, bytes: &mut Vec<u8>) -> Result<(), Fault>
     requires { bytes.old.items ≡ [] }
     ensures { ReadsFirst (R.remaining reader.old) (R.remaining reader.new) bytes.new.items result }
 {
+    let mut byte = [0; 1];
     for _ in 0..u64::MAX {
         if bytes.len() >= MAGIC_LENGTH {
             return Ok(());
         }
-        if !read_byte(reader, bytes)? {
-            return Ok(());
+        match reader.read(&mut byte) {
+            Ok(0) => return Ok(()),
+            Ok(_) => bytes.extend_from_slice(&byte)?,
+            Err(e) if e.kind() == ErrorKind::Interrupted => {}
+            Err(e) => return Err(Fault::from(e)),
         }
     }
     Err(Fault::Unreadable)
-}
-
-// Reads a byte, or none where a signal interrupts. `false` at the end.
-fn read_byte<R: Read>(reader: &mut R, bytes: &mut Vec<u8>) -> Result<bool, Fault>
-    ensures { ReadsByte (R.remaining reader.old) (R.remaining reader.new) bytes.old.items bytes.new.items result }
-{
-    let mut byte = [0; 1];
-    match reader.read(&mut byte) {
-        Ok(0) => Ok(false),
-        Ok(_) => {
-            bytes.extend_from_slice(&byte)?;
-            Ok(true)
-        }
-        Err(e) if e.kind() == ErrorKind::Interrupted => Ok(true),
-        Err(e) => Err(Fault::from(e)),
-    }
 }

@@ -30,22 +30,23 @@ use binfarce_figures::key::{Grouping, Key};
 use binfarce_figures::rows::{Naming, Shown};
 use binfarce_figures::sums::Figures;
 use binfarce_filtering::stream::{StreamError, filter_stream};
-use binfarce_tools::SymbolTable;
+use binfarce_tools::SymbolTable::{Dynsym, Symtab};
 use binfarce_tools::json::Form;
 use binfarce_tools::report::{ReportError, sums_of_tables};
 use binfarce_tools::tables::{Selection, Tables};
-use binfarce_words::words::{Arguments, Call, Command, Flag, Wrong, read_call};
+use binfarce_words::words::Flag::{
+    self, All, Annotate, Base, By, Dynamic, FailAbove, First, Folded, Full, Json, NoTotal, Percent,
+    Raw, Return, Section, Sort, Std,
+};
+use binfarce_words::words::{Arguments, Call, Command, Wrong, read_call};
+use std::env;
 use std::fs::File;
 use std::io::{self, Error, ErrorKind, Input, Write};
 use std::process::ExitCode;
-use std::{env, mem};
 
 fn main(rt: HostRuntime) -> ExitCode {
     let status = match arguments(&rt) {
-        Ok(words) => match read_call(rt.alloc(), words.as_slice()) {
-            Ok(call) => run(&rt, &call),
-            Err(wrong) => refuse(&rt, &wrong),
-        },
+        Ok(words) => run(&rt, words.as_slice()).unwrap_or_else(|wrong| refuse(&rt, &wrong)),
         Err(e) if e.kind() == ErrorKind::OutOfMemory => refuse(&rt, &Wrong::OutOfMemory),
         Err(_) => refuse(&rt, &Wrong::NotUtf8),
     };
@@ -57,20 +58,16 @@ fn arguments(rt: &HostRuntime) -> io::Result<Vec<String>> {
     Ok(env::args(rt)?.skip(1).collect(rt.alloc())?)
 }
 
-// Runs a call, and returns the program's exit status.
-fn run(rt: &HostRuntime, call: &Call<'_>) -> u8 {
-    let read = match call {
-        Call::Run(Command::At, given) => read_addresses(rt.alloc(), others(given)),
-        _ => Ok(Vec::new(rt.alloc())),
+// Runs the call that the words mean, and returns the program's exit status.
+fn run<'a>(rt: &HostRuntime, words: &'a [String]) -> Result<u8, Wrong<'a>> {
+    let call = read_call(rt.alloc(), words)?;
+    let addresses = match &call {
+        Call::Run(Command::At, given) => read_addresses(rt.alloc(), others(given))?,
+        _ => Vec::new(rt.alloc()),
     };
-    match read {
-        Ok(addresses) => {
-            let mut out = Output::new(rt.alloc(), io::writer(rt));
-            let done = answer(rt, call, &addresses, &mut out);
-            ended(rt, done, out.into_parts().1)
-        }
-        Err(wrong) => refuse(rt, &wrong),
-    }
+    let mut out = Output::new(rt.alloc(), io::writer(rt));
+    let done = answer(rt, &call, &addresses, &mut out);
+    Ok(ended(rt, done, out.into_parts().1))
 }
 
 // The operands after the first one.
@@ -84,6 +81,16 @@ fn others<'b, 'a>(given: &'b Arguments<'a>) -> &'b [&'a str] {
 // The first operand.
 fn first<'a>(given: &Arguments<'a>) -> &'a str {
     given.operands.first().copied().unwrap_or("")
+}
+
+// The second operand.
+fn second<'a>(given: &Arguments<'a>) -> Option<&'a str> {
+    given.operands.get(1).copied()
+}
+
+// Whether one of the options is given.
+fn has_any(given: &Arguments<'_>, flags: &[Flag]) -> bool {
+    flags.iter().any(|flag| given.has(*flag))
 }
 
 // Runs a call, and flushes the output. `false` where a file was refused.
@@ -108,17 +115,13 @@ fn answer<W: Write>(
             is_done
         }
     };
-    match out.flush() {
-        Ok(()) => Ok(is_done),
-        Err(_) => Err(Fault::Write),
-    }
+    out.flush().map_err(|_| Fault::Write)?;
+    Ok(is_done)
 }
 
 fn print<W: Write>(text: &str, out: &mut Output<W>) -> Result<bool, Fault> {
-    match out.write_all(text.as_bytes()) {
-        Ok(()) => Ok(true),
-        Err(_) => Err(Fault::Write),
-    }
+    let written = out.write_all(text.as_bytes());
+    written.map(|()| true).map_err(|_| Fault::Write)
 }
 
 // A command's work: the system around it, what it is given, and where it writes.
@@ -135,14 +138,11 @@ impl<W: Write> Work<'_, '_, W> {
         match command {
             Command::List => self.show_all(listing_of(given)),
             // By crate, as `binfarce-size` sums them, unless something else is asked for.
-            Command::Size
-                if given.has(Flag::By)
-                    || given.has(Flag::First)
-                    || given.has(Flag::Percent)
-                    || given.has(Flag::Std)
-                    || given.has(Flag::Json) => { self.show_all(Kind::Figures(figures_of(given))) }
+            Command::Size if has_any(given, &[By, First, Percent, Std, Json]) => {
+                self.show_all(Kind::Figures(figures_of(given)))
+            }
             Command::Size => self.show_all(Kind::Sums),
-            Command::Map if given.has(Flag::Folded) => self.show_all(Kind::Stacks),
+            Command::Map if given.has(Folded) => self.show_all(Kind::Stacks),
             Command::Map => self.show_all(Kind::Picture),
             Command::Diff => self.compare(),
             Command::Filter => self.filter(),
@@ -152,13 +152,12 @@ impl<W: Write> Work<'_, '_, W> {
     }
 
     // Prints the objects of the files that were refused since the last time, if objects are asked for.
-    fn print_refusals(&mut self) -> Result<bool, Fault> {
-        let empty = String::new(self.host.rt.alloc());
-        let refusals = mem::replace(&mut self.host.refusals, empty);
-        if !self.given.has(Flag::Json) {
-            return Ok(true);
+    fn print_refusals(&mut self) -> Result<(), Fault> {
+        if self.given.has(Json) {
+            print(self.host.refusals.as_str(), self.out)?;
+            self.host.refusals.clear();
         }
-        print(refusals.as_str(), self.out)
+        Ok(())
     }
 
     // Shows the function symbols of all files that are given.
@@ -167,16 +166,13 @@ impl<W: Write> Work<'_, '_, W> {
         let asked = Request {
             kind,
             symbols: symbols_of(self.given, false),
-            is_json: self.given.has(Flag::Json),
+            is_json: self.given.has(Json),
         };
-        let files = self.given.operands.as_slice();
-        if !asked.is_json {
-            return show_files(alloc, &mut self.host, &asked, files, self.out);
-        }
         // Objects have the names of their files, and need no headings.
+        let most = if asked.is_json { 1 } else { usize::MAX };
         let mut are_shown = true;
-        for path in files {
-            are_shown &= show_files(alloc, &mut self.host, &asked, &[*path], self.out)?;
+        for files in self.given.operands.chunks(most) {
+            are_shown &= show_files(alloc, &mut self.host, &asked, files, self.out)?;
             self.print_refusals()?;
         }
         Ok(are_shown)
@@ -186,16 +182,15 @@ impl<W: Write> Work<'_, '_, W> {
     fn compare(&mut self) -> Result<bool, Fault> {
         let given = self.given;
         let alloc = self.host.rt.alloc();
-        let paths = (first(given), others(given).first().copied().unwrap_or(""));
-        let (Some(old), Some(new)) = (
-            self.host.tables_at(given, paths.0)?,
-            self.host.tables_at(given, paths.1)?,
-        ) else {
+        let paths = (first(given), second(given).unwrap_or(""));
+        let old = self.host.tables_at(given, paths.0)?;
+        let new = self.host.tables_at(given, paths.1)?;
+        let (Some(old), Some(new)) = (old, new) else {
             return Ok(false);
         };
         let form = form_of(given, paths.1);
         match diff(alloc, &old, &new, &figures_of(given), form, self.out) {
-            Ok(growth) => judged(growth, given.count(Flag::FailAbove)),
+            Ok(growth) => judged(growth, given.count(FailAbove)),
             Err(ReportError::Write) => Err(Fault::Write),
             Err(e) => {
                 let is_old = sums_of_tables(alloc, &old).is_err();
@@ -209,7 +204,7 @@ impl<W: Write> Work<'_, '_, W> {
     // Demangles the names in standard input, or the given ones.
     fn filter(&mut self) -> Result<bool, Fault> {
         let alloc = self.host.rt.alloc();
-        let full = self.given.has(Flag::Full);
+        let full = self.given.has(Full);
         if !self.given.operands.is_empty() {
             let text = lines_of(alloc, self.given.operands.as_slice())?;
             filter_stream(alloc, full, &mut text.as_slice(), self.out)?;
@@ -218,11 +213,7 @@ impl<W: Write> Work<'_, '_, W> {
         let mut input = OpenFile::new(self.host.rt.stdin());
         match filter_stream(alloc, full, &mut input, self.out) {
             Ok(()) => Ok(true),
-            Err(StreamError::Read) => {
-                self.host
-                    .report("standard input", Fault::Unreadable, input.take_reason());
-                Ok(false)
-            }
+            Err(StreamError::Read) => self.host.report_input(&input),
             Err(e) => Err(Fault::from(e)),
         }
     }
@@ -237,29 +228,22 @@ impl<W: Write> Work<'_, '_, W> {
         };
         let symbols = symbols_of(given, true);
         let lookup = Lookup {
-            base: given.address(Flag::Base).unwrap_or(0),
-            is_return: given.has(Flag::Return),
+            base: given.address(Base).unwrap_or(0),
+            is_return: given.has(Return),
             form: form_of(given, path),
         };
         if !addresses.is_empty() {
             let done = answer_all(alloc, &file, &symbols, lookup, addresses, self.out);
             return reported(alloc, &mut self.host, path, &file, done);
         }
-        let mut input = OpenFile::new(self.host.rt.reader());
-        let annotates = given.has(Flag::Annotate);
-        let done = match answer_input(
-            alloc, &file, &symbols, lookup, annotates, &mut input, self.out,
-        ) {
-            Ok(0) => Ok(()),
+        let input = &mut OpenFile::new(self.host.rt.reader());
+        let annotates = given.has(Annotate);
+        match answer_input(alloc, &file, &symbols, lookup, annotates, input, self.out) {
+            Ok(0) => Ok(true),
             Ok(missing) => Err(Fault::Missing(missing)),
-            Err(Fault::Input) => {
-                self.host
-                    .report("standard input", Fault::Unreadable, input.take_reason());
-                Err(Fault::Input)
-            }
-            Err(fault) => Err(fault),
-        };
-        reported(alloc, &mut self.host, path, &file, done)
+            Err(Fault::Input) => self.host.report_input(input),
+            Err(fault) => reported(alloc, &mut self.host, path, &file, Err(fault)),
+        }
     }
 
     // Writes the bytes of the section that is named, or a line for each section.
@@ -269,7 +253,7 @@ impl<W: Write> Work<'_, '_, W> {
         let Some(file) = open_input(alloc, &mut self.host, path) else {
             return Ok(false);
         };
-        let name = others(self.given).first().copied();
+        let name = second(self.given);
         let form = form_of(self.given, path);
         let written = write_or_list(alloc, &file, name, form, self.out).map_err(Fault::from);
         reported(alloc, &mut self.host, path, &file, written)
@@ -278,21 +262,20 @@ impl<W: Write> Work<'_, '_, W> {
 
 // How function symbols are listed: in their order and whole, unless something else is asked for.
 fn listing_of(given: &Arguments<'_>) -> Kind {
-    let naming = match (given.has(Flag::Raw), given.has(Flag::Full)) {
+    if !has_any(given, &[Sort, First, NoTotal, Raw, Full, Json]) {
+        return Kind::Listing;
+    }
+    let naming = match (given.has(Raw), given.has(Full)) {
         (true, _) => Naming::Stored,
         (false, true) => Naming::Complete,
         (false, false) => Naming::Trimmed,
     };
-    let shown = Shown {
+    Kind::Rows(Shown {
         order: given.order(),
-        first: given.count(Flag::First),
+        first: given.count(First),
         naming,
-        has_total: !given.has(Flag::Sort) && !given.has(Flag::First) && !given.has(Flag::NoTotal),
-    };
-    if shown.has_total && naming == Naming::Trimmed && !given.has(Flag::Json) {
-        return Kind::Listing;
-    }
-    Kind::Rows(shown)
+        has_total: !has_any(given, &[Sort, First, NoTotal]),
+    })
 }
 
 // What sizes are summed by, and how the sums are shown.
@@ -300,16 +283,16 @@ fn figures_of(given: &Arguments<'_>) -> Figures {
     Figures {
         grouping: Grouping {
             key: given.key().unwrap_or(Key::Crate),
-            joins_std: given.has(Flag::Std),
+            joins_std: given.has(Std),
         },
-        first: given.count(Flag::First),
-        has_percent: given.has(Flag::Percent),
+        first: given.count(First),
+        has_percent: given.has(Percent),
     }
 }
 
 // How rows are written.
 fn form_of<'a>(given: &Arguments<'_>, path: &'a str) -> Form<'a> {
-    if given.has(Flag::Json) {
+    if given.has(Json) {
         Form::Objects(path, "")
     } else {
         Form::Lines
@@ -319,13 +302,9 @@ fn form_of<'a>(given: &Arguments<'_>, path: &'a str) -> Form<'a> {
 // The function symbols that are asked for: of the section that is named, or if none is, of `.text`; but of all sections
 // for sums by section, and where all are the default.
 fn symbols_of<'a>(given: &Arguments<'a>, are_all: bool) -> Symbols<'a> {
-    let which = if given.has(Flag::Dynamic) {
-        SymbolTable::Dynsym
-    } else {
-        SymbolTable::Symtab
-    };
-    let selection = match given.value(Flag::Section) {
-        _ if given.has(Flag::All) => Selection::All,
+    let which = if given.has(Dynamic) { Dynsym } else { Symtab };
+    let selection = match given.value(Section) {
+        _ if given.has(All) => Selection::All,
         Some(section) => Selection::Section(section),
         None if are_all || given.key() == Some(Key::Section) => Selection::All,
         None => Selection::Section(".text"),
@@ -359,6 +338,12 @@ impl Host<'_> {
             }
         }
     }
+
+    // Reports that standard input can't be read.
+    fn report_input<F>(&mut self, input: &OpenFile<F>) -> Result<bool, Fault> {
+        self.report("standard input", Fault::Unreadable, input.take_reason());
+        Ok(false)
+    }
 }
 
 impl System<FileOrStdin> for Host<'_> {
@@ -366,10 +351,7 @@ impl System<FileOrStdin> for Host<'_> {
         if path == "-" {
             return Ok(FileOrStdin::Standard(self.rt.stdin()));
         }
-        match File::open(self.rt, path) {
-            Ok(file) => Ok(FileOrStdin::File(file)),
-            Err(e) => Err(e),
-        }
+        Ok(FileOrStdin::File(File::open(self.rt, path)?))
     }
 
     fn report(&mut self, path: &str, fault: Fault, reason: Option<Error>) {

@@ -56,10 +56,7 @@ impl<W: Write> Output<W> {
         ensures written { OnOk result ((pending self.new ≡ []) × (has_failed self.new ≡ has_failed self.old)) }
         ensures fails { IfErr result (λ e. (e ≡ Unwritten) × (has_failed self.new ≡ true)) }
     {
-        match self.write_heading() {
-            Some(()) => Ok(()),
-            None => Err(Fault::Write),
-        }
+        self.write_heading().ok_or(Fault::Write)
     }
 
     // Writes the rest of the heading.

@@ -5,7 +5,7 @@ ghost use Rattle.std.specs.IoError.{error_kind};
 ghost use Rattle.std.specs.Option.{option_map};
 ghost use Rattle.std.specs.String.{string_bytes};
 ghost use Rattle.binfarce_command.specs.FaultWords.{refusal_object};
-ghost use Rattle.binfarce_command.specs.Status.{fault_status, is_broken_pipe, judged, status_of, write_status, wrong_status};
+ghost use Rattle.binfarce_command.specs.Status.{fault_status, is_broken_pipe, judged, status_of, wrong_status};
 
 use crate::fault::Fault;
 use binfarce_figures::diff::Growth;
@@ -32,9 +32,13 @@ pub fn ended(rt: &HostRuntime, done: Result<bool, Fault>, reason: Option<Error>)
     ensures { result ≡ status_of done (option_map error_kind reason) }
 {
     match done {
-        Ok(true) => 0,
-        Ok(false) => 1,
-        Err(Fault::Write) => write_failed(rt, reason),
+        Ok(is_done) => u8::from(!is_done),
+        Err(Fault::Write) if is_broken_pipe(&reason) => 0,
+        Err(Fault::Write) => {
+            let message = message_of(rt.alloc(), Fault::Write, reason);
+            report(rt, "standard output", &message);
+            1
+        }
         Err(fault) => {
             let _ = eprintln!(rt; "binfarce: {fault}");
             status(fault)
@@ -68,31 +72,11 @@ pub fn judged(growth: Growth, limit: Option<usize>) -> Result<bool, Fault>
     }
 }
 
-fn write_failed(rt: &HostRuntime, reason: Option<Error>) -> u8
-    ensures { result ≡ write_status (option_map error_kind reason) }
-{
-    if is_broken_pipe(&reason) {
-        return 0;
-    }
-    report(
-        rt,
-        "standard output",
-        &message_of(rt.alloc(), Fault::Write, reason),
-    );
-    1
-}
-
 // Whether the reader of the output has closed it.
 fn is_broken_pipe(reason: &Option<Error>) -> bool
     ensures { result ≡ is_broken_pipe (option_map error_kind reason.now) }
 {
-    match reason {
-        Some(e) => match e.kind() {
-            ErrorKind::BrokenPipe => true,
-            _ => false,
-        },
-        None => false,
-    }
+    matches!(reason, Some(e) if e.kind() == ErrorKind::BrokenPipe)
 }
 
 /// Why a file is refused, in words.
@@ -116,9 +100,7 @@ impl fmt::Display for Message {
 /// Why a file is refused: the system's reason, where a read or a write failed.
 pub fn message_of(alloc: Global, fault: Fault, reason: Option<Error>) -> Message {
     match reason {
-        Some(e) if fault == Fault::Unreadable || fault == Fault::Write => match words_of(
-            alloc, &e,
-        ) {
+        Some(e) if matches!(fault, Fault::Unreadable | Fault::Write) => match words_of(alloc, &e) {
             Ok(words) => Message::Reason(words),
             Err(_) => Message::Fault(Fault::OutOfMemory),
         },

@@ -88,12 +88,11 @@ fn give_hint<F: Read + Source<Log = ()>, Y: System<F>>(
 
 // What precedes a file's text.
 fn heading(alloc: Global, path: &str, are_several: bool) -> Result<Vec<u8>, AllocError> {
-    if are_several {
-        let text = String::formatted(alloc, format_args!("\n{path}:\n"))?;
-        Vec::from_slice(alloc, text.as_bytes())
-    } else {
-        Ok(Vec::new(alloc))
+    if !are_several {
+        return Ok(Vec::new(alloc));
     }
+    let text = String::formatted(alloc, format_args!("\n{path}:\n"))?;
+    Vec::from_slice(alloc, text.as_bytes())
 }
 
 // Shows the source after what is left of the heading, which is written also where the text is empty.
@@ -115,22 +114,18 @@ pub fn open_input<F: Read + Source<Log = ()>, Y: System<F>>(
     system: &mut Y,
     path: &str,
 ) -> Option<OpenFile<F>> {
-    match system.open(path) {
-        Ok(file) => {
-            let mut input = OpenFile::new(file);
-            match input.load(alloc) {
-                Ok(()) => Some(input),
-                Err(fault) => {
-                    system.report(path, fault, input.take_reason());
-                    None
-                }
-            }
-        }
+    let mut input = match system.open(path) {
+        Ok(file) => OpenFile::new(file),
         Err(e) => {
             system.report(path, Fault::Unreadable, Some(e));
-            None
+            return None;
         }
+    };
+    if let Err(fault) = input.load(alloc) {
+        system.report(path, fault, input.take_reason());
+        return None;
     }
+    Some(input)
 }
 
 /// Whether the work on a file is done. Why the file is refused is reported.
@@ -147,8 +142,7 @@ pub fn reported<F: Read + Source<Log = ()>, Y: System<F>>(
 ) -> Result<bool, Fault> {
     match done {
         Ok(()) => Ok(true),
-        Err(Fault::Write) => Err(Fault::Write),
-        Err(Fault::Missing(count)) => Err(Fault::Missing(count)),
+        Err(Fault::Write | Fault::Missing(_)) => done.map(|()| true),
         Err(Fault::Input) => Ok(false),
         Err(fault) => {
             system.report(path, fault, input.take_reason());

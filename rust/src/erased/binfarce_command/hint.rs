@@ -9,7 +9,7 @@ use crate::erased::binfarce_bytes::ParseError;
 use crate::erased::binfarce_bytes::source::Source;
 use crate::erased::binfarce_sections::bytes::write_section_of;
 use crate::erased::binfarce_tools::SymbolTable;
-use crate::erased::binfarce_tools::functions::{AllFunctions, Functions, Selected};
+use crate::erased::binfarce_tools::functions::{Functions, Selected};
 use crate::erased::binfarce_tools::list::Out;
 use crate::erased::binfarce_tools::tables::{Selection, Tables, read};
 use crate::shim::alloc::Global;
@@ -110,22 +110,15 @@ pub fn completed<S: Source<Log = ()>>(
     if !matches!(hint, Hint::None) {
         return hint;
     }
-    match read(alloc, source, &mut (), which, Selection::All) {
-        Ok(tables) => match tables.functions(alloc) {
-            Ok(Selected::All(functions)) => others(count_of(functions)),
-            _ => hint,
-        },
-        Err(_) => hint,
+    let Ok(tables) = read(alloc, source, &mut (), which, Selection::All) else {
+        return hint;
+    };
+    match tables.functions(alloc) {
+        Ok(Selected::All(functions)) => {
+            others(functions.fold(0usize, |count, _| count.saturating_add(1)))
+        }
+        _ => hint,
     }
-}
-
-// How many function symbols are left.
-fn count_of(functions: AllFunctions<'_>) -> usize {
-    let mut count = 0usize;
-    for _ in functions {
-        count = count.saturating_add(1);
-    }
-    count
 }
 
 // The hint where all sections have so many.

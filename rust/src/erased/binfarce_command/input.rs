@@ -73,11 +73,13 @@ impl<F> OpenFile<F> {
         self.reason.take()
     }
 
-    // Keeps the error, and gives one of the same kind.
-    fn keep(&self, e: Error) -> Error {
-        let kind = e.kind();
-        self.reason.set(Some(e));
-        Error::from(kind)
+    // What a read came to. Its error is kept, and one of the same kind takes its place.
+    fn keep<T>(&self, read: io::Result<T>) -> io::Result<T> {
+        read.map_err(|e| {
+            let kind = e.kind();
+            self.reason.set(Some(e));
+            Error::from(kind)
+        })
     }
 }
 
@@ -99,10 +101,8 @@ impl<F: Read + Source<Log = ()>> OpenFile<F> {
 
 impl<F: Read> Read for OpenFile<F> {
     fn read(&mut self, buf: &mut [u8]) -> io::Result<usize> {
-        match self.file.read(buf) {
-            Ok(n) => Ok(n),
-            Err(e) => Err(self.keep(e)),
-        }
+        let read = self.file.read(buf);
+        self.keep(read)
     }
 }
 
@@ -112,20 +112,14 @@ impl<F: Source<Log = ()>> Source for OpenFile<F> {
     fn length(&self) -> io::Result<u64> {
         match &self.bytes {
             Some(bytes) => bytes.as_slice().length(),
-            None => match self.file.length() {
-                Ok(n) => Ok(n),
-                Err(e) => Err(self.keep(e)),
-            },
+            None => self.keep(self.file.length()),
         }
     }
 
     fn fill_at(&self, log: &mut (), offset: u64, buf: &mut [u8]) -> io::Result<()> {
         match &self.bytes {
             Some(bytes) => bytes.as_slice().fill_at(log, offset, buf),
-            None => match self.file.fill_at(log, offset, buf) {
-                Ok(()) => Ok(()),
-                Err(e) => Err(self.keep(e)),
-            },
+            None => self.keep(self.file.fill_at(log, offset, buf)),
         }
     }
 }
@@ -152,27 +146,17 @@ fn read_rest<R: Read>(reader: &mut R, mut bytes: Vec<u8>) -> Result<Vec<u8>, Fau
 
 // Reads the first 8 bytes, or all where there are fewer.
 fn read_first<R: Read>(reader: &mut R, bytes: &mut Vec<u8>) -> Result<(), Fault> {
+    let mut byte = [0; 1];
     for _ in 0..u64::MAX {
         if bytes.len() >= MAGIC_LENGTH {
             return Ok(());
         }
-        if !read_byte(reader, bytes)? {
-            return Ok(());
+        match reader.read(&mut byte) {
+            Ok(0) => return Ok(()),
+            Ok(_) => bytes.extend_from_slice(&byte)?,
+            Err(e) if e.kind() == ErrorKind::Interrupted => {}
+            Err(e) => return Err(Fault::from(e)),
         }
     }
     Err(Fault::Unreadable)
-}
-
-// Reads a byte, or none where a signal interrupts. `false` at the end.
-fn read_byte<R: Read>(reader: &mut R, bytes: &mut Vec<u8>) -> Result<bool, Fault> {
-    let mut byte = [0; 1];
-    match reader.read(&mut byte) {
-        Ok(0) => Ok(false),
-        Ok(_) => {
-            bytes.extend_from_slice(&byte)?;
-            Ok(true)
-        }
-        Err(e) if e.kind() == ErrorKind::Interrupted => Ok(true),
-        Err(e) => Err(Fault::from(e)),
-    }
 }

@@ -41,10 +41,7 @@ impl<W: Write> Output<W> {
     ///
     /// `Write` where a write fails.
     pub fn end(&mut self) -> Result<(), Fault> {
-        match self.write_heading() {
-            Some(()) => Ok(()),
-            None => Err(Fault::Write),
-        }
+        self.write_heading().ok_or(Fault::Write)
     }
 
     // Writes the rest of the heading.

@@ -24,9 +24,13 @@ pub fn refuse(rt: &HostRuntime, wrong: &Wrong<'_>) -> u8 {
 /// failure.
 pub fn ended(rt: &HostRuntime, done: Result<bool, Fault>, reason: Option<Error>) -> u8 {
     match done {
-        Ok(true) => 0,
-        Ok(false) => 1,
-        Err(Fault::Write) => write_failed(rt, reason),
+        Ok(is_done) => u8::from(!is_done),
+        Err(Fault::Write) if is_broken_pipe(&reason) => 0,
+        Err(Fault::Write) => {
+            let message = message_of(rt.alloc(), Fault::Write, reason);
+            report(rt, "standard output", &message);
+            1
+        }
         Err(fault) => {
             let _ = rt.eprintln(format_args!("binfarce: {fault}"));
             status(fault)
@@ -56,27 +60,9 @@ pub fn judged(growth: Growth, limit: Option<usize>) -> Result<bool, Fault> {
     }
 }
 
-fn write_failed(rt: &HostRuntime, reason: Option<Error>) -> u8 {
-    if is_broken_pipe(&reason) {
-        return 0;
-    }
-    report(
-        rt,
-        "standard output",
-        &message_of(rt.alloc(), Fault::Write, reason),
-    );
-    1
-}
-
 // Whether the reader of the output has closed it.
 fn is_broken_pipe(reason: &Option<Error>) -> bool {
-    match reason {
-        Some(e) => match e.kind() {
-            ErrorKind::BrokenPipe => true,
-            _ => false,
-        },
-        None => false,
-    }
+    matches!(reason, Some(e) if e.kind() == ErrorKind::BrokenPipe)
 }
 
 /// Why a file is refused, in words.
@@ -100,9 +86,7 @@ impl fmt::Display for Message {
 /// Why a file is refused: the system's reason, where a read or a write failed.
 pub fn message_of(alloc: Global, fault: Fault, reason: Option<Error>) -> Message {
     match reason {
-        Some(e) if fault == Fault::Unreadable || fault == Fault::Write => match words_of(
-            alloc, &e,
-        ) {
+        Some(e) if matches!(fault, Fault::Unreadable | Fault::Write) => match words_of(alloc, &e) {
             Ok(words) => Message::Reason(words),
             Err(_) => Message::Fault(Fault::OutOfMemory),
         },

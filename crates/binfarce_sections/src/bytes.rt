@@ -99,8 +99,7 @@ pub fn write_section_of<F: Source, S: Sink>(
 fn first_section<'a>(file: &'a [u8], name: &str) -> Result<Option<Section<'a>>, SectionError>
     ensures { Finds (sections_of (format_of file.entry.now) file.entry.now) name.now result }
 {
-    let sections = sections_of(file)?;
-    Ok(first_in(sections, name)?)
+    Ok(first_in(sections_of(file)?, name)?)
 }
 
 // The first section with this name, of those that are left.

@@ -65,8 +65,7 @@ pub fn write_section_of<F: Source, S: Sink>(
 
 // The first section of this name.
 fn first_section<'a>(file: &'a [u8], name: &str) -> Result<Option<Section<'a>>, SectionError> {
-    let sections = sections_of(file)?;
-    Ok(first_in(sections, name)?)
+    Ok(first_in(sections_of(file)?, name)?)
 }
 
 // The first section with this name, of those that are left.

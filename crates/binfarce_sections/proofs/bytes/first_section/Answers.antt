@@ -11,8 +11,8 @@ returns-in_err-first_in c =
     let walk = sections_of (format_of c.args.file.now) c.args.file.now in
     let e = c.in_err-first_in.field-0.0 in
     err_is (λ r. Finds walk c.args.name.now r) c.from_residual-in_err-first_in.result (Parse e) c.from_residual-in_err-first_in.ensures
-    (found_err walk c.in_ok-sections.sections c.args.name.now e c.in_ok-sections.ensures.opens c.in_err-first_in.ensures)
+    (found_err walk c.in_ok-sections_of.field-0 c.args.name.now e c.in_ok-sections_of.ensures.opens c.in_err-first_in.ensures)
 
 pub returns : goal.returns
 returns c =
-    found_ok (sections_of (format_of c.args.file.now) c.args.file.now) c.in_ok-sections.sections c.args.name.now c.in_ok-first_in.field-0 c.in_ok-sections.ensures.opens c.in_ok-first_in.ensures
+    found_ok (sections_of (format_of c.args.file.now) c.args.file.now) c.in_ok-sections_of.field-0 c.args.name.now c.in_ok-first_in.field-0 c.in_ok-sections_of.ensures.opens c.in_ok-first_in.ensures

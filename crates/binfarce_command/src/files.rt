@@ -116,12 +116,9 @@ fn give_hint<F: Read + Source<Log = ()>, Y: System<F>>(
     ensures bytes { Y.bytes_at system.new ≡ Y.bytes_at system.old }
     ensures may_fail { Y.may_fail_at system.new ≡ Y.may_fail_at system.old }
 {
-    match hint {
-        Some(hint) if is_shown => {
-            let which = asked.symbols.which;
-            system.hint(path, completed(alloc, input, which, hint));
-        }
-        _ => {}
+    if let Some(hint) = hint.filter(|_| is_shown) {
+        let which = asked.symbols.which;
+        system.hint(path, completed(alloc, input, which, hint));
     }
 }
 

@@ -77,12 +77,9 @@ fn give_hint<F: Read + Source<Log = ()>, Y: System<F>>(
     is_shown: bool,
     hint: Option<Hint>,
 ) {
-    match hint {
-        Some(hint) if is_shown => {
-            let which = asked.symbols.which;
-            system.hint(path, completed(alloc, input, which, hint));
-        }
-        _ => {}
+    if let Some(hint) = hint.filter(|_| is_shown) {
+        let which = asked.symbols.which;
+        system.hint(path, completed(alloc, input, which, hint));
     }
 }
 

@@ -18,6 +18,7 @@ use std::alloc::{AllocError, Global};
 
 /// What sizes are summed by.
 #[derive(Debug, Clone, Copy, PartialEq)]
+#[non_exhaustive]
 pub enum Key {
     /// The crate, as in `report`.
     Crate,

@@ -61,32 +61,20 @@ form_of flags.Json = (codes "--json", [], Nothing)
 form_of flags.FailAbove = (codes "--fail-above", [], Count)
 form_of flags.Folded = (codes "--folded", [], Nothing)
 
--- the orders of lines, and the name of each
-abbrev pub all_orders : List Order
-all_orders = orders.Address ∷ orders.Size ∷ orders.Name ∷ []
-
-abbrev pub order_name : Order → List ℕ
-order_name orders.Address = codes "address"
-order_name orders.Size = codes "size"
-order_name orders.Name = codes "name"
-
--- the order of this name
+-- the order of lines that a name names
 abbrev pub order_named : List ℕ → Option Order
-order_named name = find (λ order. bytes_eq (order_name order) name) all_orders
+order_named name = if bytes_eq name (codes "address") then Some orders.Address
+    else if bytes_eq name (codes "size") then Some orders.Size
+    else if bytes_eq name (codes "name") then Some orders.Name
+    else None
 
--- the keys of sums, and the name of each
-abbrev pub all_keys : List Key
-all_keys = keys.Crate ∷ keys.Function ∷ keys.Generic ∷ keys.Section ∷ []
-
-abbrev pub key_name : Key → List ℕ
-key_name keys.Crate = codes "crate"
-key_name keys.Function = codes "function"
-key_name keys.Generic = codes "generic"
-key_name keys.Section = codes "section"
-
--- the key of this name
+-- the key of sums that a name names
 abbrev pub key_named : List ℕ → Option Key
-key_named name = find (λ key. bytes_eq (key_name key) name) all_keys
+key_named name = if bytes_eq name (codes "crate") then Some keys.Crate
+    else if bytes_eq name (codes "function") then Some keys.Function
+    else if bytes_eq name (codes "generic") then Some keys.Generic
+    else if bytes_eq name (codes "section") then Some keys.Section
+    else None
 
 abbrev pub flag_name : Flag → List ℕ
 flag_name flag = (form_of flag).0

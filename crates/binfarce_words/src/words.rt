@@ -4,7 +4,7 @@ ghost use Rattle.std.specs.Prelude.{◌≡◌, ◌∷◌, find, map, reverse, is
 ghost use Rattle.std.specs.Option.{option_map};
 ghost use Rattle.std.specs.String.{string_bytes};
 ghost use Rattle.std.specs.Str.{bytes_eq};
-ghost use Rattle.binfarce_words.specs.Words.{after_word, are_given, asks_help, asks_version, bad_value, call_of, checked, command_named, count_given, count_in, flag_name, flag_named, flags_of, form_of, given_of, help_call, is_met_by, is_named, is_option, key_given, number_given, operands_checked, order_given, parts_of, unknown_option, value_given, with_operand, with_option};
+ghost use Rattle.binfarce_words.specs.Words.{after_word, are_given, asks_help, asks_version, bad_value, call_of, checked, command_named, count_given, count_in, flag_name, flag_named, flags_of, form_of, given_of, help_call, is_met_by, is_named, is_option, key_given, key_named, number_given, operands_checked, order_given, order_named, parts_of, unknown_option, value_given, with_operand, with_option};
 ghost use Rattle.binfarce_words.specs.WordViews.{Gives, Changes, HasNearest, given_view, reading_view, call_view, wrong_view};
 
 use crate::named::{Named, find_named, nearest};
@@ -124,38 +124,28 @@ pub enum Takes {
     Key,
 }
 
-/// All orders of lines.
-pub const ORDERS: [Order; 3] = [Order::Address, Order::Size, Order::Name];
-
-impl Named for Order {
-    ghost use Rattle.binfarce_words.specs.Words.{order_name};
-
-    ghost text = { order_name };
-
-    fn name(self) -> &'static str {
-        match self {
-            Order::Address => "address",
-            Order::Size => "size",
-            Order::Name => "name",
-        }
+// The order of this name.
+fn order_named(name: &str) -> Option<Order>
+    ensures { result ≡ order_named name.now }
+{
+    match name {
+        "address" => Some(Order::Address),
+        "size" => Some(Order::Size),
+        "name" => Some(Order::Name),
+        _ => None,
     }
 }
 
-/// All keys of sums.
-pub const KEYS: [Key; 4] = [Key::Crate, Key::Function, Key::Generic, Key::Section];
-
-impl Named for Key {
-    ghost use Rattle.binfarce_words.specs.Words.{key_name};
-
-    ghost text = { key_name };
-
-    fn name(self) -> &'static str {
-        match self {
-            Key::Crate => "crate",
-            Key::Function => "function",
-            Key::Generic => "generic",
-            Key::Section => "section",
-        }
+// The key of this name.
+fn key_named(name: &str) -> Option<Key>
+    ensures { result ≡ key_named name.now }
+{
+    match name {
+        "crate" => Some(Key::Crate),
+        "function" => Some(Key::Function),
+        "generic" => Some(Key::Generic),
+        "section" => Some(Key::Section),
+        _ => None,
     }
 }
 
@@ -168,8 +158,8 @@ impl Takes {
             Takes::Nothing | Takes::Text => true,
             Takes::Address => parse_address(value.as_bytes()).is_some(),
             Takes::Count => count_in(value).is_some(),
-            Takes::Order => find_named(&ORDERS, value).is_some(),
-            Takes::Key => find_named(&KEYS, value).is_some(),
+            Takes::Order => order_named(value).is_some(),
+            Takes::Key => key_named(value).is_some(),
         }
     }
 }
@@ -375,14 +365,14 @@ impl<'a> Arguments<'a> {
     pub fn order(&self) -> Option<Order>
         ensures { result ≡ order_given (given_view self.now) }
     {
-        find_named(&ORDERS, self.value(Sort)?)
+        order_named(self.value(Sort)?)
     }
 
     /// The key that sizes are summed by.
     pub fn key(&self) -> Option<Key>
         ensures { result ≡ key_given (given_view self.now) }
     {
-        find_named(&KEYS, self.value(By)?)
+        key_named(self.value(By)?)
     }
 
     // Takes an option.

@@ -13,6 +13,7 @@ use crate::shim::alloc::{AllocError, Global};
 
 /// What sizes are summed by.
 #[derive(Debug, Clone, Copy, PartialEq)]
+#[non_exhaustive]
 pub enum Key {
     /// The crate, as in `report`.
     Crate,

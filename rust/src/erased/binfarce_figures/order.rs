@@ -8,6 +8,7 @@ use std::cmp::Reverse;
 
 /// What a listing is sorted by.
 #[derive(Debug, Clone, Copy, PartialEq)]
+#[non_exhaustive]
 pub enum Order {
     /// By rising address.
     Address,

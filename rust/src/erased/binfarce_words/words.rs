@@ -116,30 +116,24 @@ pub enum Takes {
     Key,
 }
 
-/// All orders of lines.
-pub const ORDERS: [Order; 3] = [Order::Address, Order::Size, Order::Name];
-
-impl Named for Order {
-    fn name(self) -> &'static str {
-        match self {
-            Order::Address => "address",
-            Order::Size => "size",
-            Order::Name => "name",
-        }
+// The order of this name.
+fn order_named(name: &str) -> Option<Order> {
+    match name {
+        "address" => Some(Order::Address),
+        "size" => Some(Order::Size),
+        "name" => Some(Order::Name),
+        _ => None,
     }
 }
 
-/// All keys of sums.
-pub const KEYS: [Key; 4] = [Key::Crate, Key::Function, Key::Generic, Key::Section];
-
-impl Named for Key {
-    fn name(self) -> &'static str {
-        match self {
-            Key::Crate => "crate",
-            Key::Function => "function",
-            Key::Generic => "generic",
-            Key::Section => "section",
-        }
+// The key of this name.
+fn key_named(name: &str) -> Option<Key> {
+    match name {
+        "crate" => Some(Key::Crate),
+        "function" => Some(Key::Function),
+        "generic" => Some(Key::Generic),
+        "section" => Some(Key::Section),
+        _ => None,
     }
 }
 
@@ -150,8 +144,8 @@ impl Takes {
             Takes::Nothing | Takes::Text => true,
             Takes::Address => parse_address(value.as_bytes()).is_some(),
             Takes::Count => count_in(value).is_some(),
-            Takes::Order => find_named(&ORDERS, value).is_some(),
-            Takes::Key => find_named(&KEYS, value).is_some(),
+            Takes::Order => order_named(value).is_some(),
+            Takes::Key => key_named(value).is_some(),
         }
     }
 }
@@ -331,12 +325,12 @@ impl<'a> Arguments<'a> {
 
     /// The order that is asked for.
     pub fn order(&self) -> Option<Order> {
-        find_named(&ORDERS, self.value(Sort)?)
+        order_named(self.value(Sort)?)
     }
 
     /// The key that sizes are summed by.
     pub fn key(&self) -> Option<Key> {
-        find_named(&KEYS, self.value(By)?)
+        key_named(self.value(By)?)
     }
 
     // Takes an option.

@@ -72,7 +72,7 @@ static bool kept_parts(void) {
     } names[] = {{"_ZN3foo3barE", 3}, {"_RNvC6_123foo3bar", 2}, {"main", 0}};
     for (size_t i = 0; i < sizeof names / sizeof *names; i++) {
         const uint8_t *name = (const uint8_t *)names[i].name;
-        struct binfarce_mangling mangling;
+        struct binfarce_mangling mangling = {0};
         if (binfarce_mangling(name, strlen(names[i].name), &mangling) != BINFARCE_OK || !goes_to(name, names[i].prefix, mangling.part, names[i].name))
             return false;
     }

@@ -49,16 +49,16 @@ static uint32_t named(uint32_t format, const uint8_t *file, size_t length, const
 int main(int argc, char **argv) {
     size_t length, room = 16;
     uint8_t *file;
-    struct binfarce_section *all = NULL, *grown, again;
+    struct binfarce_section *all = NULL, again = {0};
     struct binfarce_sections given;
     uint32_t format;
     if (argc != 2 || !(file = read_file(argv[1], &length)))
         return fprintf(stderr, "usage: sections FILE\n"), 2;
     format = binfarce_detect_format(file, length);
     do {
-        if (!(grown = realloc(all, room * sizeof *all)))
+        free(all);
+        if (!(all = calloc(room, sizeof *all)))
             return refuse(BINFARCE_OUT_OF_MEMORY, 0);
-        all = grown;
         given = all_sections(format, file, length, all, room);
     } while (given.count > room && (room = given.count));
     for (size_t i = 0; i < given.count; i++) {

@@ -23,7 +23,8 @@ static uint32_t print(const struct binfarce_function *function, uint8_t **text, 
     struct binfarce_text trimmed = binfarce_trimmed(name, function->name_length, *text, *room);
     if (trimmed.length > *room) {
         free(*text);
-        *text = malloc(*room = trimmed.length);
+        if (!(*text = calloc(*room = trimmed.length, 1)))
+            return BINFARCE_OUT_OF_MEMORY;
         trimmed = binfarce_trimmed(name, function->name_length, *text, *room);
     }
     if (trimmed.status != BINFARCE_OK)
@@ -37,13 +38,14 @@ static uint32_t print(const struct binfarce_function *function, uint8_t **text, 
 int main(int argc, char **argv) {
     struct binfarce_function none, *found;
     size_t length, room = 256;
-    uint8_t *file, *text = malloc(room);
+    uint8_t *file, *text = calloc(room, 1);
     const char *section = argc > 2 ? argv[2] : ".text";
     if (argc < 2 || argc > 3 || !text || !(file = read_file(argv[1], &length)))
         return fprintf(stderr, "usage: symbols FILE [SECTION]\n"), 2;
     struct binfarce_functions all = functions(file, length, section, &none, 0);
     if (all.status == BINFARCE_OK) {
-        found = calloc(all.count + 1, sizeof *found);
+        if (!(found = calloc(all.count + 1, sizeof *found)))
+            return refuse(BINFARCE_OUT_OF_MEMORY, 0);
         all = functions(file, length, section, found, all.count);
         for (size_t i = 0; i < all.count && all.status == BINFARCE_OK; i++)
             all.status = print(&found[i], &text, &room);

@@ -2,12 +2,14 @@
  * binfarce: readable names of Rust symbols, and the function symbols of ELF, Mach-O and PE files.
  *
  * `cargo build --release` makes libbinfarce.a and libbinfarce.so from plain Rust, erased from proved sources;
- * bindings/archive.sh makes a libbinfarce.a by the Rattle kit, proved down to these functions: for every name and every file a
- * call returns what the written definitions say. Both assume, without a check, that the caller keeps these rules:
+ * bindings/archive.sh makes a libbinfarce.a by the Rattle kit, proved down to these functions: given memory and stack, for
+ * every name and every file a call returns what the written definitions say. Both assume, without a check, that the caller
+ * keeps these rules:
  *
  * - Pointers. Each pointer points to as many bytes as the length after it says, for the whole call. They are readable, and
- *   writable where the pointer isn't const. No pointer may be NULL, even where its length is 0: any other address will do then
- *   (`""`, or the address of a variable). No length is above PTRDIFF_MAX. Memory that a call may write to is initialised.
+ *   writable where the pointer isn't const. No pointer may be NULL, even where its length is 0: any other aligned address
+ *   will do then (`""` for bytes, or a variable's). No length is above PTRDIFF_MAX. Memory that a call may write to is
+ *   initialised before, as by calloc.
  * - Overlap. A buffer that a call writes to overlaps no other argument.
  * - Alignment. A pointer to a struct is aligned as C aligns it; bytes need no alignment.
  * - Stack. A call nests as deep as a name does, at most 500 levels. 512 KiB were enough for the deepest names that were tried;
@@ -22,15 +24,16 @@
  * Lengths. A call that gives a text writes as much of it as the buffer has room for, and leaves the rest of the buffer
  * unchanged. It always returns the whole length: if that exceeds the buffer's, the caller grows the buffer and calls again. A
  * text may be cut within a character. A call that gives no text (status isn't BINFARCE_OK) leaves the buffer unchanged, and its
- * lengths are 0. So do calls that give arrays of functions. Calls that give all sections give those before a refusal.
+ * lengths are 0. A refused call for functions leaves its array unchanged too. Calls that give all sections give those before a
+ * refusal.
  *
  * Memory. The calls that say so allocate by malloc and realloc while they run (on Windows by HeapAlloc), and free all of it
  * before they return. If an allocation fails, they return BINFARCE_OUT_OF_MEMORY. With the kit's archive malloc has to align
  * blocks as the C library's does.
  *
- * Threads. There is no global state: calls may run on any threads at once, as long as no buffer is shared. They don't lock
- * and don't block. A call that allocates may not come from a signal handler, nor from a child forked of a process with
- * threads.
+ * Threads. There is no global state: calls may run on any threads at once, as long as no buffer is shared. Only malloc may lock
+ * or block. From a signal handler, or a child forked of a process with threads, only calls that don't allocate may come; a
+ * handler's stack has to suffice for the name.
  *
  * Example. It prints `foo::bar`:
  *
@@ -45,7 +48,8 @@
  * Versions. Within libbinfarce.so.0 functions may be added; signatures, structs and the numbers of enums stay. The words of
  * a status may change, and how much stack and memory a call takes.
  *
- * Missing: the header fields of Mach-O and PE files, dynamic symbols, those of all sections, and the function at an address.
+ * Missing: the header fields of Mach-O and PE files, dynamic symbols, symbols of all sections, the function at an address, and
+ * what the command has beside listings and reports: filter, diff, map, JSON.
  *
  * Machines. cargo's libraries are for every target of Rust of 32 or 64 bits; the kit's archive is for x86-64-v2 with the
  * System V calling convention. After ./install `pkg-config --cflags --libs binfarce` prints how to link the library.
@@ -73,7 +77,7 @@ enum binfarce_status {
     BINFARCE_UNKNOWN_FORMAT = 4, /* the file's first bytes name no supported format */
     BINFARCE_TOO_LARGE = 5,      /* the sum of all sizes is 2^64 or more */
     /* Why a reader refuses a file. */
-    BINFARCE_SYMBOLS_SECTION_IS_MISSING = 6, /* no section has the requested name */
+    BINFARCE_SYMBOLS_SECTION_IS_MISSING = 6, /* a call for functions, a listing or a report: no section has this name */
     BINFARCE_SYMTAB_IS_MISSING = 7,          /* an ELF file has no symbol table */
     BINFARCE_STRTAB_IS_MISSING = 8,          /* its symbol table links to no section */
     BINFARCE_UNEXPECTED_SECTION_TYPE = 9,    /* that section's type isn't 3 (SHT_STRTAB): `detail` has it */
@@ -227,7 +231,7 @@ struct binfarce_functions {
 /*
  * The function symbols of a file in the order of its listing, in the caller's array: of an ELF file those of the section
  * with this name, of a Mach-O or PE file those of the text. Refused as the file's reader refuses, and with
- * BINFARCE_NOT_UTF8 for the section's name or BINFARCE_OUT_OF_MEMORY. They allocate for each symbol.
+ * BINFARCE_NOT_UTF8 for the section's name or BINFARCE_OUT_OF_MEMORY. They allocate, more for more symbols.
  */
 struct binfarce_functions binfarce_elf32_functions(const uint8_t *file, size_t file_length, bool big_endian,
                                                    const uint8_t *section, size_t section_length,

@@ -1,7 +1,7 @@
 //! Readable names of symbols.
 //!
 //! A name is mangled in the legacy form (`_ZN..E`) or in v0 (`_R..`, RFC 2603). A v0 name that nests deeper than
-//! [`MAX_LEVELS`] levels or takes more than [`MAX_STEPS`] steps to print has no readable form: its kind is
+//! [`MAX_LEVELS`] levels or takes more than [`MAX_STEPS`] steps to print has no readable form: [`SymbolName::kind`] is
 //! [`Kind::Unknown`]. So no name uses up the stack or runs for long.
 //!
 //! # Examples

@@ -53,7 +53,7 @@ macro_rules! reader {
             ///
             /// # Errors
             ///
-            /// [`ParseError::MalformedInput`] where the range's end passes 64 bits.
+            /// [`ParseError::MalformedInput`] where the range's end passes a `usize`.
             pub fn range(&self) -> Result<Range<usize>, ParseError> {
                 Ok(self.0.range()?)
             }

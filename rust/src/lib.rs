@@ -1,8 +1,8 @@
 //! A small reader of executables: function symbols, sections and headers of ELF, Mach-O and PE files, and readable names of
 //! Rust symbols.
 //!
-//! The public paths and signatures of the Rust crate `binfarce` are here, and more. The code below them, in the module
-//! `erased`, is plain Rust made from the proved sources in `crates/` by erasing their contracts: those sources are proved for
+//! The public paths and signatures of the Rust crate `binfarce` are here, but for its module `ar`, and more. The code below
+//! them, in the module `erased`, is plain Rust made from the proved sources in `crates/` by erasing their contracts: those sources are proved for
 //! every byte string, and this crate is safe Rust without dependencies.
 //!
 //! - Names: [`demangle`], and [`filter()`] and [`filter_stream`] for those in a text.

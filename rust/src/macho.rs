@@ -47,7 +47,7 @@ impl<'a> Section<'a> {
     ///
     /// # Errors
     ///
-    /// [`ParseError::MalformedInput`] where the range's end passes 64 bits.
+    /// [`ParseError::MalformedInput`] where the range's end passes a `usize`.
     pub fn range(&self) -> Result<Range<usize>, ParseError> {
         Ok(self.0.range()?)
     }

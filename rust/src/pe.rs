@@ -50,7 +50,7 @@ impl<'a> Section<'a> {
     ///
     /// # Errors
     ///
-    /// None: the range always fits 64 bits.
+    /// [`ParseError::MalformedInput`] where the range's end passes a `usize`: not on 64-bit machines.
     pub fn range(&self) -> Result<Range<usize>, ParseError> {
         Ok(self.0.range()?)
     }

@@ -70,9 +70,8 @@ impl<'a> Tables<'a> {
     /// # Errors
     ///
     /// [`Error::Parse`] where the reader of the file's format refuses it; [`ParseError::SectionIsMissing`] for
-    /// [`SymbolTable::Dynsym`] of a Mach-O or PE file; [`Error::OutOfMemory`] where an allocation failed. A file that nothing
-    /// is read of yet, a file of unknown format, and a Mach-O file with refused symbols are refused by the calls that need
-    /// the function symbols.
+    /// [`SymbolTable::Dynsym`] of a Mach-O or PE file; [`Error::OutOfMemory`] where an allocation failed. Other refusals come
+    /// from the calls that need the function symbols.
     pub fn new(file: &'a [u8], selection: Selection<'a>, table: SymbolTable) -> Result<Self, Error> {
         Ok(Tables(match (selection, table) {
             (Selection::Section(section), SymbolTable::Symtab) => tables::Tables::whole(file, section),
@@ -336,8 +335,9 @@ impl<'a> Iterator for AllFunctions<'a> {
 of_iterators!(AllFunctions);
 
 impl Tables<'static> {
-    /// Reads the tables of a file at offsets: its first 8 bytes, its headers, the symbol table and its strings, and nothing
-    /// else. `file` is a [`File`](std::fs::File), or anything else that can be read from the offsets that it is set to.
+    /// Reads the tables of a file at offsets: its first 8 bytes, its headers, the symbol table and its strings, and the last
+    /// byte; but all of a Mach-O file whose load commands pass their stated end. `file` is a [`File`](std::fs::File), or
+    /// anything else that can be read from the offsets that it is set to.
     ///
     /// # Errors
     ///

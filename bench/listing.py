@@ -154,13 +154,13 @@ def judge(args, cases, rows_of, shown=lambda name: name):
         if len(expected) != len(got) and refusal == got_refusal:
             faults.append("lines: expected %d, but got %d" % (len(expected), len(got)))
         for row, (want, have) in enumerate(zip(expected, got)):
-            name, listed = want[2], have[2]
+            name, text = want[2], have[2]
             if MANGLED.match(name):
                 name = answers.get(name, (None, None))[1]
             else:
-                listed = shown(listed)
+                text = shown(text)
             total["unnamed" if name is None else "named"] += 1
-            if want[:2] != have[:2] or (name is not None and name != listed):
+            if want[:2] != have[:2] or (name is not None and name != text):
                 faults.append("line %d, stored name %s:\n    expected %x %d %s\n    but got  %x %d %s" % (
                     row + 1, short(want[2]), want[0], want[1], short(name), have[0], have[1], short(have[2])))
         total["files"] += 1

@@ -382,20 +382,16 @@ impl<'a> Arguments<'a> {
         if !flag.form().2.is_met_by(value) {
             return Err(bad_value(flag, value));
         }
-        match self.options.push((flag, value)) {
-            Ok(()) => Ok(()),
-            Err(_) => Err(Wrong::OutOfMemory),
-        }
+        self.options
+            .push((flag, value))
+            .map_err(|_| Wrong::OutOfMemory)
     }
 
     // Takes an operand.
     fn push(&mut self, word: &'a str) -> Result<(), Wrong<'a>>
         ensures { Changes given_view (Ok (with_operand (given_view self.old) word.now)) self.new result }
     {
-        match self.operands.push(word) {
-            Ok(()) => Ok(()),
-            Err(_) => Err(Wrong::OutOfMemory),
-        }
+        self.operands.push(word).map_err(|_| Wrong::OutOfMemory)
     }
 }
 
@@ -495,10 +491,7 @@ fn command_named(word: &str) -> Result<Command, Wrong<'_>>
 fn flag_named<'a>(command: Command, word: &'a str, name: &str) -> Result<Flag, Wrong<'a>>
     ensures { Gives (λ flag. flag) (flag_named command word.entry.now name.now) result }
 {
-    match find_flag(command.flags(), name) {
-        Some(flag) => Ok(flag),
-        None => Err(unknown_option(command, word)),
-    }
+    find_flag(command.flags(), name).ok_or_else(|| unknown_option(command, word))
 }
 
 // The first of these options that is written with this name.

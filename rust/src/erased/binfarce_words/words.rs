@@ -338,18 +338,14 @@ impl<'a> Arguments<'a> {
         if !flag.form().2.is_met_by(value) {
             return Err(bad_value(flag, value));
         }
-        match self.options.push((flag, value)) {
-            Ok(()) => Ok(()),
-            Err(_) => Err(Wrong::OutOfMemory),
-        }
+        self.options
+            .push((flag, value))
+            .map_err(|_| Wrong::OutOfMemory)
     }
 
     // Takes an operand.
     fn push(&mut self, word: &'a str) -> Result<(), Wrong<'a>> {
-        match self.operands.push(word) {
-            Ok(()) => Ok(()),
-            Err(_) => Err(Wrong::OutOfMemory),
-        }
+        self.operands.push(word).map_err(|_| Wrong::OutOfMemory)
     }
 }
 
@@ -431,10 +427,7 @@ fn command_named(word: &str) -> Result<Command, Wrong<'_>> {
 
 // The option of the command that is written with this name.
 fn flag_named<'a>(command: Command, word: &'a str, name: &str) -> Result<Flag, Wrong<'a>> {
-    match find_flag(command.flags(), name) {
-        Some(flag) => Ok(flag),
-        None => Err(unknown_option(command, word)),
-    }
+    find_flag(command.flags(), name).ok_or_else(|| unknown_option(command, word))
 }
 
 // The first of these options that is written with this name.

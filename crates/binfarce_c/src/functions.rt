@@ -125,7 +125,7 @@ fn of_elf(alloc: Global, file: &[u8], width: Width, big_endian: bool, section: &
     Ok((all_of(alloc, functions)?, size))
 }
 
-// The same, as the file stores them.
+// The function symbols of an ELF file as it stores them, and the size of their section, or the refusal.
 #[tactic(auto, using(crate::proofs::Drained::of_32_bits, crate::proofs::Drained::of_64_bits))]
 fn stored_in_elf<'a>(
     file: &'a [u8],

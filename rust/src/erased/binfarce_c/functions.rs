@@ -94,7 +94,7 @@ fn of_elf(alloc: Global, file: &[u8], width: Width, big_endian: bool, section: &
     Ok((all_of(alloc, functions)?, size))
 }
 
-// The same, as the file stores them.
+// The function symbols of an ELF file as it stores them, and the size of their section, or the refusal.
 fn stored_in_elf<'a>(
     file: &'a [u8],
     width: Width,

@@ -2,6 +2,7 @@
 use Rattle.std.proofs.Common.{◌≡◌, ◌≢◌, inl, inr, ◌⊎◌, false, true, Bool, ℕ, ◌+◌, List, [], ◌∷◌, ◌++◌, length, drop, get_or, Option, refl, sym, ◌∙◌, ap, subst, append_assoc, append-nil, arith}
 use Rattle.std.specs.Prelude.{◌==◌, is_none, cond}
 use Rattle.std.specs.List.{AllZip, concat}
+use Rattle.std.proofs.lemmas.Bool.{eqb-true}
 use Rattle.std.proofs.lemmas.List.Elements.{All-append, All-head, All-tail}
 use Rattle.std.proofs.lemmas.List.Folds.{concat-append}
 use Rattle.std.proofs.lemmas.List.Sums.{sum_by-append}
@@ -10,7 +11,7 @@ use Rattle.binfarce_addresses.specs.Stream.{line_address, missing, with_line_fee
 use Rattle.binfarce_addresses.specs.machine.Answering.{Answers, AnswersPart, HasAnswered, Holds, IsDone, IsKeptOf, MayBreakOff}
 use Rattle.binfarce_addresses.proofs.AddressLines.{all_zip_both}
 use Rattle.binfarce_addresses.proofs.Streams.{begins_both}
-use Rattle.binfarce_addresses.proofs.Trimmed.{is_none as none, is_some}
+use Rattle.binfarce_addresses.proofs.Trimmed.{is_some}
 use Rattle.binfarce_addresses.specs.declared.stream.Lines.{Lines}
 use Rattle.binfarce_addresses.specs.declared.lookup.Lookup.{Lookup}
 
@@ -223,15 +224,10 @@ pub breaks_off_done : (first now : Lines) (ended : Bool) (text made others : Lis
 breaks_off_done first now true text made others is = (is.0, [], others, is.1, is.2)
 breaks_off_done first now false text made others is = (is.0, is.1, others, inl is.2, is.4)
 
--- a text that ended isn't cut
-pub cut_off : (ended : Bool) (P : Type 0) → ended ≡ false → ended ≡ true → P
-cut_off true P cut is = absurd cc
-cut_off false P cut is = absurd cc
-
 -- a text that is empty, or isn't
 pub not_nil : (xs : List ℕ) (n : ℕ) → n ≡ length xs → (n == 0) ≡ false → xs ≢ []
 not_nil xs n len e = λ none. absurd (omega (arith, len, is_some n e, ap (length {A = ℕ}) none))
 
 pub nil : (xs : List ℕ) (n : ℕ) → n ≡ length xs → (n == 0) ≡ true → xs ≡ []
 nil [] n len e = refl
-nil (x ∷ xs) n len e = absurd (omega (arith, len, none n e))
+nil (x ∷ xs) n len e = absurd (omega (arith, len, eqb-true n 0 e))

@@ -1,7 +1,6 @@
 -- Lines with white space around an address, and what is kept of a line's first part.
 use Rattle.std.proofs.Common.{◌≡◌, ◌≢◌, inl, inr, ◌⊎◌, ℕ, zero, suc, ◌+◌, ◌-◌, ◌<◌, min, Bool, true, false, cond, ◌&&◌, ◌||◌, eqb, true≢false, nat_eq, List, [], ◌∷◌, ◌++◌, length, drop, take, reverse, get_or, Some, None, if◌then◌else◌, refl, sym, ap, subst, ◌∙◌, arith, length-append, length-drop}
-use Rattle.std.specs.Prelude.{◌==◌, IfOk, Result, Ok, Err}
-use Rattle.std.specs.Global.{Vec}
+use Rattle.std.specs.Prelude.{◌==◌}
 use Rattle.std.specs.Char.{is_ascii_hexdigit, is_ascii_whitespace}
 use Rattle.std.specs.Int.{is_in_range}
 use Rattle.std.specs.List.{list_all, prefix_len, suffix_len}
@@ -235,12 +234,5 @@ kept_word line begun word n is some ends few = record {
     from_kept more = ap (λ (t : List ℕ). address_of (trim_end t)) (first begun some starts n more (omega (arith, few, some))) ∙ ap (λ (t : List ℕ). address_of (trim_end (t ++ more))) same_take
 
 -- what is copied of these bytes
-pub keeps : {E : Type 0} (line kept : List ℕ) (result : Result (Vec ℕ) E) → IfOk result (λ v. v.items ≡ kept) → IsKeptOf line kept → IfOk result (λ v. IsKeptOf line v.items)
-keeps line kept (Ok v) is keep = subst (IsKeptOf line) (sym is) keep
-keeps line kept (Err e) is keep = tt
-
 pub is_some : (n : ℕ) → (n == 0) ≡ false → 0 < n
 is_some n e = grind (arith, nat_tests)
-
-pub is_none : (n : ℕ) → (n == 0) ≡ true → n ≡ 0
-is_none n e = grind (arith, nat_tests)

@@ -8,11 +8,8 @@ ghost use Rattle.binfarce_addresses.specs.Address.{address_of, hexadecimal};
 pub fn parse_address(word: &[u8]) -> Option<u64>
     ensures { result ≡ address_of word.now }
 {
-    if word.starts_with(b"0x") || word.starts_with(b"0X") {
-        hex_number(&word[2..])
-    } else {
-        hex_number(word)
-    }
+    let digits = word.strip_prefix(b"0x").or(word.strip_prefix(b"0X"));
+    hex_number(digits.unwrap_or(word))
 }
 
 // The number that 1 to 16 digits write.

@@ -100,11 +100,8 @@ impl<'b, 'a> Names<'b, 'a> {
 
     fn ends_at(&self, found: Option<Found>) -> Option<(u8, u8)> {
         let (place, _) = found?;
-        let places = self.places;
-        let name = match self.name_at(place) {
-            Some(name) => name,
-            None => places.functions.get(place)?.name.as_bytes(),
-        };
+        let own = || Some(self.places.functions.get(place)?.name.as_bytes());
+        let name = self.name_at(place).or_else(own)?;
         Some((*name.first()?, *name.last()?))
     }
 

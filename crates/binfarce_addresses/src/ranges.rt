@@ -4,7 +4,7 @@ ghost use Rattle.std.specs.Prelude.{◌≡◌, ◌+◌, ◌-◌, ◌<◌, ◌≤
 ghost use Rattle.binfarce_addresses.specs.Range.{AreSpans, AreSpansOf, IsSpanAt, span_at};
 ghost use Rattle.binfarce_addresses.specs.declared.ranges.Span.{Span};
 ghost use Rattle.binfarce_addresses.specs.machine.Sweep.{AreInOrder, AreRowsOf, AreSwept, DoReach, IsInnermostRow, here, row_at};
-ghost use Rattle.binfarce_addresses.specs.machine.Sweeping.{BeginsSpan, DoesKnow, IsSweptTo};
+ghost use Rattle.binfarce_addresses.specs.machine.Sweeping.{AreOpenRowsAmong, BeginsSpan, IsSweptTo};
 
 use crate::slices::Slices;
 use std::alloc::{AllocError, Global};
@@ -169,7 +169,7 @@ impl Sweep {
     // Begins a span at an address, with the place of the last open row.
     #[tactic(auto, using(crate::proofs::Sweep::placed))]
     fn begin(&mut self, rows: &[Row], start: u64) -> Result<(), AllocError>
-        requires { DoesKnow rows.now self.old }
+        requires { AreOpenRowsAmong rows.now self.old }
         ensures { OnOk result (BeginsSpan rows.now self.old self.new start) }
     {
         let place = self.innermost(rows).map(|row| row.place.0);
@@ -178,7 +178,7 @@ impl Sweep {
 
     // The last open row.
     fn innermost(&self, rows: &[Row]) -> Option<Row>
-        requires { DoesKnow rows.now self.now }
+        requires { AreOpenRowsAmong rows.now self.now }
         ensures { IsInnermostRow rows.now self.now.stack.items result }
     {
         Some(rows[*self.stack.last()?])

@@ -9,8 +9,8 @@ abbrev pub IsSweptTo : List Row → Sweep → ℕ → Type 0
 IsSweptTo rows sweep n = (n ≤ length rows) × IsSweep rows n sweep.spans.items sweep.stack.items
 
 -- each open row is one of the rows
-abbrev pub DoesKnow : List Row → Sweep → Type 0
-DoesKnow rows sweep = (m : ℕ) → m < length sweep.stack.items → stack_at sweep.stack.items m < length rows
+abbrev pub AreOpenRowsAmong : List Row → Sweep → Type 0
+AreOpenRowsAmong rows sweep = (m : ℕ) → m < length sweep.stack.items → stack_at sweep.stack.items m < length rows
 
 -- one span more, with the place of the last open row
 abbrev pub BeginsSpan : List Row → Sweep → Sweep → ℕ → Type 0

@@ -5,11 +5,8 @@
 /// The address in a word: 1 to 16 hexadecimal digits, in upper or lower case, optionally after `0x` or `0X`. `None` for
 /// any other word. Nothing is allocated.
 pub fn parse_address(word: &[u8]) -> Option<u64> {
-    if word.starts_with(b"0x") || word.starts_with(b"0X") {
-        hex_number(&word[2..])
-    } else {
-        hex_number(word)
-    }
+    let digits = word.strip_prefix(b"0x").or(word.strip_prefix(b"0X"));
+    hex_number(digits.unwrap_or(word))
 }
 
 // The number that 1 to 16 digits write.

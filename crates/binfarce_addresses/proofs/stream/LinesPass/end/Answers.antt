@@ -1,7 +1,7 @@
-use Rattle.std.proofs.Common.{◌≡◌, ◌++◌, ◌∷◌, ◌∙◌, ℕ, List, [], true, refl, sym, append-nil, arith}
+use Rattle.std.proofs.Common.{◌≡◌, ◌++◌, ◌∷◌, ◌∙◌, ℕ, List, [], true, true≢false, refl, sym, append-nil, arith}
 use Rattle.std.proofs.lemmas.Result.{on_ok_weaker}
 use Rattle.binfarce_addresses.specs.machine.Answering.{Answers}
-use Rattle.binfarce_addresses.proofs.Answering.{breaks_off, breaks_off_done, cut_off, ends, ends_none, nil, not_nil}
+use Rattle.binfarce_addresses.proofs.Answering.{breaks_off, breaks_off_done, ends, ends_none, nil, not_nil}
 use Rattle.binfarce_addresses.proofs.stream.LinesPass.end.Goals.{then-not-ended-via-then-not-ended, then-not-ended-via-else-not-ended+then-is_empty}
 use Rattle.binfarce_addresses.proofs.stream.LinesPass.end.Goals as goal
 
@@ -9,7 +9,7 @@ pub returns-then-not-ended-clause-makes : goal.returns-then-not-ended-clause-mak
 returns-then-not-ended-clause-makes g c =
     let self = c.args.self.now in
     let none : c.args.ended ≡ true → self.line.items ≡ [] = elim c.then-not-ended.branch [
-      | then-not-ended-via-then-not-ended w ↦ λ ended. cut_off c.args.ended (self.line.items ≡ []) w.if-not-ended.true ended
+      | then-not-ended-via-then-not-ended w ↦ λ ended. absurd (true≢false (sym ended ∙ w.if-not-ended.true))
       | then-not-ended-via-else-not-ended+then-is_empty w ↦ λ ended. nil self.line.items self.line.len (omega (arith, self.line.ok)) (sym w.is_empty.ensures ∙ w.if-is_empty.true)
     ] in
     ([], (λ first text made holds. ends_none first self c.args.ended text made none holds), sym (append-nil c.args.out.now.items))

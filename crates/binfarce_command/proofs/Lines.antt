@@ -1,5 +1,5 @@
 -- How the lines of standard input are answered: where the file isn't read, and where its entries can be had.
-use Rattle.std.proofs.Common.{◌≡◌, inl, inr, ap, ℕ, Bool, false, true, List, [], Option, Some, None, Result, Ok, Err, IsErrAnd, refl, sym, subst}
+use Rattle.std.proofs.Common.{◌≡◌, inl, inr, ap, ℕ, Bool, false, true, List, Option, Some, None, Result, Ok, Err, IsErrAnd, refl, sym, subst}
 use Rattle.std.proofs.KnownBytes.{Appends-nil, Consumes-nil}
 use Rattle.binfarce.specs.Refusal.{Refusal, refusal_of}
 use Rattle.binfarce.specs.Symbol.{Entry, Listed}
@@ -15,7 +15,6 @@ use Rattle.binfarce_tools.specs.declared.list.ListError.TheVariants as errors
 use Rattle.binfarce_command.specs.At.{AnswersInput, HasPlaces, IsUntouched, WritesOf, lines_end}
 use Rattle.binfarce_command.specs.Faults.{stream_fault, read_fault}
 use Rattle.binfarce_command.specs.declared.fault.Fault.{Fault}
-use Rattle.binfarce_command.specs.declared.fault.Fault.TheVariants.{OutOfMemory as Full}
 
 -- lines were answered
 pub of_lines : (annotates : Bool) (entries : List Entry) (lookup : Lookup) (given left old new : Option (List ℕ)) (ended : Result ℕ StreamError) → annotates ≡ false → Streams entries lookup given left old new ended → WritesOf annotates entries lookup given left old new ended

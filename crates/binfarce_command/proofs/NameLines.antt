@@ -1,6 +1,5 @@
 -- The lines of names, name after name.
-use Rattle.std.proofs.Common.{◌≡◌, ◌∙◌, ℕ, suc, ◌+◌, ◌<◌, ◌≤◌, List, [], ◌∷◌, ◌++◌, map, length, drop, get_or, sym, ap, add-one, append_assoc, append-nil, drop-cons, Bor}
-use Rattle.std.proofs.Math.ListN.{drop_of_length-le}
+use Rattle.std.proofs.Common.{◌≡◌, ◌∙◌, ℕ, suc, ◌+◌, ◌<◌, List, [], ◌∷◌, ◌++◌, map, length, drop, get_or, sym, ap, add-one, append_assoc, drop-cons, Bor}
 use Rattle.binfarce_command.specs.Filter.{lines_of}
 
 -- with the lines of the names that are left, the text is the lines of all

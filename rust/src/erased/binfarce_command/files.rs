@@ -56,31 +56,15 @@ fn show_file<F: Read + Source<Log = ()>, Y: System<F>, W: Write>(
     out: &mut Output<W>,
 ) -> Result<bool, Fault> {
     out.begin(heading(alloc, path, are_several)?);
-    match open_input(alloc, system, path) {
-        Some(input) => {
-            let mut hint = None;
-            let shown = show_source(alloc, asked, path, &input, &mut hint, out);
-            give_hint(alloc, system, asked, path, &input, shown.is_ok(), hint);
-            reported(alloc, system, path, &input, shown)
-        }
-        None => Ok(false),
+    let Some(input) = open_input(alloc, system, path) else {
+        return Ok(false);
+    };
+    let mut hint = None;
+    let shown = show_source(alloc, asked, path, &input, &mut hint, out);
+    if let Some(hint) = hint.filter(|_| shown.is_ok()) {
+        system.hint(path, completed(alloc, &input, asked.symbols.which, hint));
     }
-}
-
-// Gives the hint on a file that is shown, if there is one.
-fn give_hint<F: Read + Source<Log = ()>, Y: System<F>>(
-    alloc: Global,
-    system: &mut Y,
-    asked: &Request<'_>,
-    path: &str,
-    input: &OpenFile<F>,
-    is_shown: bool,
-    hint: Option<Hint>,
-) {
-    if let Some(hint) = hint.filter(|_| is_shown) {
-        let which = asked.symbols.which;
-        system.hint(path, completed(alloc, input, which, hint));
-    }
+    reported(alloc, system, path, &input, shown)
 }
 
 // What precedes a file's text.

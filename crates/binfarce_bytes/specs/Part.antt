@@ -1,4 +1,4 @@
--- A part of a file, files that agree in parts, and sources that surely give parts.
+-- A part of a file, sets of parts, and files that agree in parts.
 use Rattle.std.specs.Prelude.{◌≡◌, ℕ, ◌+◌, Bool, true, List, [], ◌∷◌, length, All, Option, Some, None, nat_le, if◌then◌else◌}
 use Rattle.binfarce_bytes.specs.Field.{Field}
 use Rattle.binfarce_bytes.specs.Number.{bytes_at}
@@ -33,6 +33,10 @@ pub record SameParts (parts : List Part) (file other : List ℕ) : Type 0 where
   pub lengths : length file ≡ length other
   pub each : All (SameIn file other) parts
 
--- a source surely gives each of these parts
-abbrev pub AreSure : (Part → Bool) → List Part → Type 0
-AreSure is_sure parts = All (λ p. is_sure p ≡ true) parts
+-- a set of parts: its answer to the question whether it has a part
+abbrev pub PartSet : Type 0
+PartSet = Part → Bool
+
+-- the set has each of these parts
+abbrev pub HasAll : PartSet → List Part → Type 0
+HasAll set parts = All (λ p. set p ≡ true) parts

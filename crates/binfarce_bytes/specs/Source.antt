@@ -1,5 +1,5 @@
--- The bytes of a source.
-use Rattle.binfarce_bytes.specs.Part.{Part, AreSure}
+-- The bytes of a source, and the parts that it was asked for.
+use Rattle.binfarce_bytes.specs.Part.{Part, PartSet, HasAll}
 use Rattle.std.specs.Prelude.{◌≡◌, ◌⊎◌, ◌+◌, ◌<◌, ◌≤◌, ℕ, Bool, true, List, take, drop, length, Option, IfSome}
 
 -- the bytes from an offset on, as many as size; fewer where the source ends
@@ -14,11 +14,20 @@ IsPart known offset part = IfSome known (λ bytes. (offset + length part ≤ len
 abbrev pub MayMiss : Bool → Option (List ℕ) → ℕ → ℕ → Type 0
 MayMiss may_fail known offset size = (may_fail ≡ true) ⊎ IfSome known (λ bytes. length bytes < offset + size)
 
--- between two logs a source was asked for these parts alone: a set that has them, and all of the first log, has all of the second
-abbrev pub AskedFor : ((Part → Bool) → Bool) → ((Part → Bool) → Bool) → List Part → Type 0
-AskedFor before after parts = (allowed : Part → Bool) → AreSure allowed parts → before allowed ≡ true → after allowed ≡ true
+-- a log of the parts that a source was asked for: its answer to the question whether a set has all of them
+abbrev pub PartLog : Type 0
+PartLog = PartSet → Bool
 
--- a reading of these parts alone: between two logs the source was asked for no other, and where it surely gives them, the reading didn't fail for want of one
-pub record ReadsOnly (is_sure : Part → Bool) (before after : (Part → Bool) → Bool) (parts : List Part) (readable : Type 0) : Type 0 where
+-- the set has all parts of the log
+abbrev pub HasLog : PartSet → PartLog → Type 0
+HasLog set log = log set ≡ true
+
+-- from the log before to the log after, a source was asked for nothing but these parts: a set that has these parts and all parts of the log before has all
+-- parts of the log after
+abbrev pub AskedFor : PartLog → PartLog → List Part → Type 0
+AskedFor before after parts = (set : PartSet) → HasAll set parts → HasLog set before → HasLog set after
+
+-- a reading asked a source for nothing but these parts; and if the source surely gives each of them, the reading didn't fail because of the source
+pub record ReadsOnly (sure : PartSet) (before after : PartLog) (parts : List Part) (readable : Type 0) : Type 0 where
   pub asked : AskedFor before after parts
-  pub given : AreSure is_sure parts → readable
+  pub given : HasAll sure parts → readable

@@ -3,8 +3,8 @@
 ghost use Rattle.std.specs.Prelude.{◌≡◌, ◌⊎◌, ◌∷◌, [], Bool, true, false, List, ℕ, Option, None, IfOk, IfErr, OnOk, IfSome, length};
 ghost use Rattle.std.specs.IoError.{error_kind};
 ghost use Rattle.std.specs.declared.io.ErrorKind.TheVariants.{OutOfMemory};
-ghost use Rattle.binfarce_bytes.specs.Part.{Part, part};
-ghost use Rattle.binfarce_bytes.specs.Source.{IsPart, MayMiss, AskedFor};
+ghost use Rattle.binfarce_bytes.specs.Part.{Part, PartSet, part};
+ghost use Rattle.binfarce_bytes.specs.Source.{IsPart, MayMiss, PartLog, AskedFor};
 
 use crate::parser::to_index;
 use std::alloc::Global;
@@ -14,7 +14,7 @@ use std::os::unix::fs::FileExt;
 
 /// A source that is read at offsets.
 pub trait Source {
-    /// A log of the parts that it is asked for; `()` where none is kept.
+    /// A log of the parts that it was asked for; `()` where none is kept.
     type Log;
 
     // All its bytes, where they are known.
@@ -23,11 +23,11 @@ pub trait Source {
     // Whether it may fail to give its length, or bytes that it has.
     ghost may_fail: { Self → Bool } = { λ _. true };
 
-    // Whether it surely gives these bytes. One that can't give its length gives none surely.
-    ghost is_sure: { Self → Part → Bool } = { λ _ _. false };
+    // The set of the parts that it surely gives. One that can't give its length gives none surely.
+    ghost is_sure: { Self → PartSet } = { λ _ _. false };
 
-    // Whether each part in a log is one of these.
-    ghost logs_only: { Self.Log → (Part → Bool) → Bool } = { λ _ _. true };
+    // A log's answer to the question whether a set has all its parts.
+    ghost logs_only: { Self.Log → PartLog } = { λ _ _. true };
 
     /// Its length in bytes. An error where it can't be read at offsets.
     fn length(&self) -> io::Result<u64>

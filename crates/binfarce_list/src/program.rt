@@ -1,15 +1,21 @@
 //! The program, over any reader and any writer.
 
-ghost use Rattle.std.specs.Prelude.{◌≡◌, ◌⊎◌, ℕ, List, [], true, Some};
+ghost use Rattle.std.specs.Prelude.{◌≡◌, ◌⊎◌, ℕ, List, [], true, map, Some, None, MatchResult, IfSome};
+ghost use Rattle.std.specs.String.{string_bytes};
 ghost use Rattle.binfarce_tools.specs.Answer.{file_answer, FileNeedsMemory};
 ghost use Rattle.binfarce_tools.specs.Listing.{IsListingOf, ListingFits};
+ghost use Rattle.binfarce_tools.specs.Given.{words_of};
 ghost use Rattle.binfarce_tools.specs.Sink.{writer_of, has_failed};
+ghost use Rattle.binfarce_tools.specs.Status.{status_of};
 ghost use Rattle.binfarce_tools.specs.Writing.{ProgramEndsAs, Takes, Fails, Leaves};
-ghost use Rattle.binfarce_list.specs.Program.{outcome_of};
+ghost use Rattle.binfarce_list.specs.Program.{outcome_of, is_usage};
+ghost use Rattle.binfarce_list.specs.declared.program.Fault.TheVariants.{Usage};
 
 use binfarce_bytes::source::Source;
-use binfarce_tools::list::{ListError, Out, list_tables};
-use binfarce_tools::program::{Failure, tables_of};
+use binfarce_tools::list::{ListError, Out, list, list_tables};
+use binfarce_tools::program::{
+    Failure, file_and_section, is_read_at_offsets, read_whole, tables_at,
+};
 use std::alloc::Global;
 use std::io::{Read, Write};
 use thiserror::Error;
@@ -49,17 +55,44 @@ impl binfarce_tools::program::Fault for Fault {
 
     ghost is_usage = { is_usage };
 
-    fn is_usage(&self) -> bool {
-        matches!(self, Fault::Usage)
+    fn status(&self) -> u8 {
+        status(self)
     }
 }
 
-/// Lists the function symbols of a file's section. Of a file that can be read at offsets only the headers, the symbol
-/// table and the names are read; any other is first read to its end.
+/// The file and the section in the arguments after the program's own name. The section is by default `.text`.
+///
+/// `Usage` for none, and for more than two.
+pub fn words(arguments: &[String]) -> Result<(&str, &str), Fault>
+    ensures { let given = words_of (map string_bytes arguments.now) in MatchResult result
+        (λ w. given ≡ Some (w.0.now, w.1.now)) (λ e. (given ≡ None) × (e ≡ Usage)) }
+{
+    Ok(file_and_section(arguments)?)
+}
+
+/// Reads a file to its end, and lists the function symbols of its section.
 ///
 /// `File` where it can't be read; `List` where an allocation fails while it is read, and as `list` refuses.
+pub fn run<R: Read, W: Write>(
+    alloc: Global,
+    file: &mut R,
+    section: &str,
+    out: &mut Out<W>,
+) -> Result<(), Fault>
+    ensures outcome { IfSome (R.remaining file.old) (λ bytes. ProgramEndsAs (Unit {0}) ListingFits
+        (FileNeedsMemory bytes) (file_answer bytes section.now) (outcome_of result)) }
+    ensures takes { IfSome (R.remaining file.old) (λ bytes. Takes IsListingOf (file_answer bytes section.now)
+        (W.contents (writer_of out.old)) (W.contents (writer_of out.new)) (outcome_of result)) }
+    ensures fails { Fails (has_failed out.old) (has_failed out.new) (outcome_of result) }
+    ensures leaves { Leaves out.old out.new (outcome_of result) }
+{
+    let bytes = read_whole(alloc, file)?;
+    list(alloc, &bytes, section, out).map_err(Fault::List)
+}
+
+/// As `run`, but of a file that can be read at offsets only the headers, the symbol table and the names are read.
 #[tactic(auto, unfolding(binfarce_tools::specs::Selection::answer_in, binfarce_tools::specs::Selection::MemoryIn))]
-pub fn run<F: Read + Source<Log = ()>, W: Write>(
+pub fn run_file<F: Read + Source<Log = ()>, W: Write>(
     alloc: Global,
     file: &mut F,
     section: &str,
@@ -74,6 +107,19 @@ pub fn run<F: Read + Source<Log = ()>, W: Write>(
     ensures fails { Fails (has_failed out.old) (has_failed out.new) (outcome_of result) }
     ensures leaves { Leaves out.old out.new (outcome_of result) }
 {
-    let tables = tables_of(alloc, file, section)?;
+    if !is_read_at_offsets(file) {
+        return run(alloc, file, section, out);
+    }
+    let tables = tables_at(alloc, file, section)?;
     list_tables(alloc, &tables, out).map_err(Fault::List)
+}
+
+/// The program's exit status: 2 for wrong arguments, and 1 for any other fault.
+pub fn status(fault: &Fault) -> u8
+    ensures { result ≡ status_of (is_usage fault.now) }
+{
+    match fault {
+        Fault::Usage => 2,
+        _ => 1,
+    }
 }

@@ -2,11 +2,13 @@
 #![tactic(auto)]
 
 mod program;
+#[cfg(test)]
+mod tests;
 
-use crate::program::{Fault, run};
+use crate::program::{Fault, run_file, words};
 use binfarce_tools::list::Out;
-use binfarce_tools::program::{arguments, exit, file_and_section, finish, open};
-use std::io;
+use binfarce_tools::program::{arguments, exit, finish, open};
+use std::io::{self, Write};
 use std::process::ExitCode;
 
 fn main(rt: HostRuntime) -> ExitCode {
@@ -15,9 +17,10 @@ fn main(rt: HostRuntime) -> ExitCode {
 
 fn report_file(rt: &HostRuntime) -> Result<(), Fault> {
     let arguments = arguments(rt)?;
-    let (path, section) = file_and_section(arguments.as_slice())?;
+    let (path, section) = words(arguments.as_slice())?;
     let mut file = open(rt, path)?;
     let mut out = Out::new(io::writer(rt));
-    let reported = run(rt.alloc(), &mut file, section, &mut out);
-    finish(out.into_inner(), reported)
+    let reported = run_file(rt.alloc(), &mut file, section, &mut out);
+    let flushed = out.into_inner().flush();
+    finish(flushed, reported)
 }

@@ -1,6 +1,6 @@
 //! Code that the programs share: for arguments, for the file that they read, and for their exit.
 
-ghost use Rattle.std.specs.Prelude.{◌≡◌, ◌≢◌, ◌⊎◌, ℕ, List, [], Bool, true, false, map, Err, Some, None, MatchResult, IfSome, IfOk, IfErr, OnOk};
+ghost use Rattle.std.specs.Prelude.{◌≡◌, ◌≢◌, ◌⊎◌, ℕ, List, [], Bool, true, false, map, Ok, Err, Some, None, MatchResult, IfSome, IfOk, IfErr, IsErrAnd};
 ghost use Rattle.std.specs.IoError.{error_kind};
 ghost use Rattle.std.specs.Process.{exit_status};
 ghost use Rattle.std.specs.String.{string_bytes};
@@ -14,7 +14,7 @@ use binfarce_bytes::source::Source;
 use binfarce_tables::ReadError;
 use std::alloc::Global;
 use std::fs::File;
-use std::io::{self, ErrorKind, Read, Write};
+use std::io::{self, ErrorKind, Read};
 use std::process::ExitCode;
 use std::{env, fmt};
 
@@ -38,9 +38,9 @@ pub trait Fault: fmt::Display + From<Failure> {
     // The arguments are wrong.
     ghost is_usage: { Self → Bool };
 
-    /// Whether the arguments are wrong.
-    fn is_usage(&self) -> bool
-        ensures { result ≡ is_usage self.now };
+    /// The program's exit status: 2 for wrong arguments, and 1 for any other fault.
+    fn status(&self) -> u8
+        ensures { result ≡ status_of (is_usage self.now) };
 }
 
 /// The arguments after the program's own name. `Usage` where they can't be taken, as where one isn't UTF-8.
@@ -120,29 +120,12 @@ pub fn read_whole<R: Read>(alloc: Global, file: &mut R) -> Result<Vec<u8>, Failu
     Ok(bytes)
 }
 
-/// The tables of a file for the function symbols of a section. Of a file that can be read at offsets only the headers,
-/// the symbol table and the names are read; any other is first read to its end.
+/// The tables of a source for the function symbols of a section. Only the headers, the symbol table and the names are
+/// read, at offsets.
 ///
 /// `File` where it can't be read; `Refused` with the error of its format's reader; `OutOfMemory` where an allocation
 /// fails.
-pub fn tables_of<F: Read + Source<Log = ()>>(
-    alloc: Global,
-    file: &mut F,
-    section: &str,
-) -> Result<Tables<'static>, Failure>
-    ensures gets { (bytes : List ℕ) → F.bytes file.old ≡ Some bytes → F.remaining file.old ≡ Some bytes
-        → GetsTables ((F.may_fail file.old ≡ true) ⊎ (bytes ≡ [])) bytes section.now result }
-    ensures unwritten { IfErr result (λ e. e ≢ Unwritten) }
-{
-    if is_read_at_offsets(file) {
-        return symbols_of(alloc, file, section);
-    }
-    let bytes = read_whole(alloc, file)?;
-    symbols_of(alloc, &bytes.as_slice(), section)
-}
-
-// The tables of a source that is read at offsets, for the function symbols of a section.
-fn symbols_of<S: Source<Log = ()>>(
+pub fn tables_at<S: Source<Log = ()>>(
     alloc: Global,
     source: &S,
     section: &str,
@@ -158,20 +141,18 @@ fn symbols_of<S: Source<Log = ()>>(
     }
 }
 
-/// Flushes the output, and returns the result of a program's work: its own fault if it has one, and else `Write` where
-/// the flush fails.
-pub fn finish<W: Write + Drop, F: From<Failure>>(mut out: W, ended: Result<(), F>) -> Result<(), F>
-    ensures first { IfErr ended (λ f. result ≡ Err f) }
-    ensures flush { OnOk ended (IfErr result (λ f. F.from_gives Unwritten f)) }
+/// The result of a program: the fault of its work if it has one, and else `Write` where the flush after it failed.
+pub fn finish<F: From<Failure>>(flushed: io::Result<()>, ended: Result<(), F>) -> Result<(), F>
+    ensures { MatchResult ended
+        (λ done. MatchResult flushed (λ _. result ≡ Ok done) (λ _. IsErrAnd result (F.from_gives Unwritten)))
+        (λ fault. result ≡ Err fault) }
 {
-    let flushed = out.flush();
     ended?;
     flushed.map_err(|_| Failure::Write)?;
     Ok(())
 }
 
-/// Prints a program's fault to standard error, if it has one, and returns its exit status: 2 for wrong arguments, and 1
-/// for any other fault.
+/// Prints a program's fault to standard error, if it has one, and returns its exit status.
 pub fn exit<F: Fault + Drop>(rt: &HostRuntime, ended: Result<(), F>) -> ExitCode
     ensures { MatchResult ended (λ _. exit_status result ≡ 0)
         (λ f. exit_status result ≡ status_of (F.is_usage f)) }
@@ -180,13 +161,7 @@ pub fn exit<F: Fault + Drop>(rt: &HostRuntime, ended: Result<(), F>) -> ExitCode
         Ok(()) => ExitCode::SUCCESS,
         Err(fault) => {
             let _ = eprintln!(rt; "{fault}");
-            ExitCode::from(status(&fault))
+            ExitCode::from(fault.status())
         }
     }
-}
-
-fn status<F: Fault>(fault: &F) -> u8
-    ensures { result ≡ status_of (F.is_usage fault.now) }
-{
-    if fault.is_usage() { 2 } else { 1 }
 }

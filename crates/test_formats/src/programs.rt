@@ -2,7 +2,7 @@
 
 use binfarce_tools::program::{Failure, file_and_section, finish, read_whole};
 use std::alloc::{AllocError, Global};
-use std::io::{self, ErrorKind, Write};
+use std::io::{Error, ErrorKind};
 use test_samples::streams::Source;
 
 /// The file and the section that are given by these words between quotes.
@@ -54,25 +54,6 @@ fn counting(alloc: Global, count: usize) -> Result<Vec<u8>, AllocError> {
     Ok(bytes)
 }
 
-// Takes all, and fails when it is flushed, if it does.
-#[derive(Drop)]
-struct Flushed {
-    fails: bool,
-}
-
-impl Write for Flushed {
-    fn write(&mut self, bytes: &[u8]) -> io::Result<usize> {
-        Ok(bytes.len())
-    }
-
-    fn flush(&mut self) -> io::Result<()> {
-        if self.fails {
-            return Err(io::Error::from(ErrorKind::BrokenPipe));
-        }
-        Ok(())
-    }
-}
-
 /// What is reported of work that succeeds or fails, `Ok` or `File`, before a flush that does, `Ok` or `Err`.
 pub fn finished(alloc: Global, words: &str) -> Result<String, AllocError> {
     let (work, flush) = words.split_once(' ').unwrap_or((words, ""));
@@ -80,7 +61,10 @@ pub fn finished(alloc: Global, words: &str) -> Result<String, AllocError> {
         "File" => Err(Failure::File),
         _ => Ok(()),
     };
-    let fails = flush == "Err";
-    let finished = finish(Flushed { fails }, ended);
+    let flushed = match flush {
+        "Err" => Err(Error::from(ErrorKind::BrokenPipe)),
+        _ => Ok(()),
+    };
+    let finished = finish(flushed, ended);
     format!(in alloc; "{finished:?}")
 }

@@ -5,10 +5,10 @@
 pub(crate) mod program;
 
 use crate::shim::HostRuntime;
-use crate::erased::binfarce_size::program::{Fault, run};
+use crate::erased::binfarce_size::program::{Fault, run_file, words};
 use crate::erased::binfarce_tools::list::Out;
-use crate::erased::binfarce_tools::program::{arguments, exit, file_and_section, finish, open};
-use crate::shim::io;
+use crate::erased::binfarce_tools::program::{arguments, exit, finish, open};
+use crate::shim::io::{self, Write};
 use std::process::ExitCode;
 
 pub fn main(rt: HostRuntime) -> ExitCode {
@@ -17,9 +17,10 @@ pub fn main(rt: HostRuntime) -> ExitCode {
 
 fn report_file(rt: &HostRuntime) -> Result<(), Fault> {
     let arguments = arguments(rt)?;
-    let (path, section) = file_and_section(arguments.as_slice())?;
+    let (path, section) = words(arguments.as_slice())?;
     let mut file = open(rt, path)?;
     let mut out = Out::new(io::writer(rt));
-    let reported = run(rt.alloc(), &mut file, section, &mut out);
-    finish(out.into_inner(), reported)
+    let reported = run_file(rt.alloc(), &mut file, section, &mut out);
+    let flushed = out.into_inner().flush();
+    finish(flushed, reported)
 }

@@ -2,10 +2,13 @@
 
 //! The program, over any reader and any writer.
 
+use crate::shim::String;
 use crate::erased::binfarce_bytes::source::Source;
 use crate::erased::binfarce_tools::list::Out;
-use crate::erased::binfarce_tools::program::{Failure, tables_of};
-use crate::erased::binfarce_tools::report::{ReportError, report_tables};
+use crate::erased::binfarce_tools::program::{
+    Failure, file_and_section, is_read_at_offsets, read_whole, tables_at,
+};
+use crate::erased::binfarce_tools::report::{ReportError, report, report_tables};
 use crate::shim::alloc::Global;
 use crate::shim::io::{Read, Write};
 
@@ -45,21 +48,49 @@ impl From<Failure> for Fault {
 }
 
 impl crate::erased::binfarce_tools::program::Fault for Fault {
-    fn is_usage(&self) -> bool {
-        matches!(self, Fault::Usage)
+    fn status(&self) -> u8 {
+        status(self)
     }
 }
 
-/// Reports how much of a file's section each crate takes. Of a file that can be read at offsets only the headers, the
-/// symbol table and the names are read; any other is first read to its end.
+/// The file and the section in the arguments after the program's own name. The section is by default `.text`.
+///
+/// `Usage` for none, and for more than two.
+pub fn words(arguments: &[String]) -> Result<(&str, &str), Fault> {
+    Ok(file_and_section(arguments)?)
+}
+
+/// Reads a file to its end, and reports how much of its section each crate takes.
 ///
 /// `File` where it can't be read; `Report` where an allocation fails while it is read, and as `report` refuses.
-pub fn run<F: Read + Source<Log = ()>, W: Write>(
+pub fn run<R: Read, W: Write>(
+    alloc: Global,
+    file: &mut R,
+    section: &str,
+    out: &mut Out<W>,
+) -> Result<(), Fault> {
+    let bytes = read_whole(alloc, file)?;
+    report(alloc, &bytes, section, out).map_err(Fault::Report)
+}
+
+/// As `run`, but of a file that can be read at offsets only the headers, the symbol table and the names are read.
+pub fn run_file<F: Read + Source<Log = ()>, W: Write>(
     alloc: Global,
     file: &mut F,
     section: &str,
     out: &mut Out<W>,
 ) -> Result<(), Fault> {
-    let tables = tables_of(alloc, file, section)?;
+    if !is_read_at_offsets(file) {
+        return run(alloc, file, section, out);
+    }
+    let tables = tables_at(alloc, file, section)?;
     report_tables(alloc, &tables, out).map_err(Fault::Report)
+}
+
+/// The program's exit status: 2 for wrong arguments, and 1 for any other fault.
+pub fn status(fault: &Fault) -> u8 {
+    match fault {
+        Fault::Usage => 2,
+        _ => 1,
+    }
 }

@@ -9,7 +9,7 @@ use crate::erased::binfarce_bytes::source::Source;
 use crate::erased::binfarce_tables::ReadError;
 use crate::shim::alloc::Global;
 use crate::shim::fs::File;
-use crate::shim::io::{self, ErrorKind, Read, Write};
+use crate::shim::io::{self, ErrorKind, Read};
 use std::process::ExitCode;
 use crate::shim::env;
 use std::fmt;
@@ -31,8 +31,8 @@ pub enum Failure {
 
 /// Why a program ended early. Its text is the printed line.
 pub trait Fault: fmt::Display + From<Failure> {
-    /// Whether the arguments are wrong.
-    fn is_usage(&self) -> bool;
+    /// The program's exit status: 2 for wrong arguments, and 1 for any other fault.
+    fn status(&self) -> u8;
 }
 
 /// The arguments after the program's own name. `Usage` where they can't be taken, as where one isn't UTF-8.
@@ -94,25 +94,12 @@ pub fn read_whole<R: Read>(alloc: Global, file: &mut R) -> Result<Vec<u8>, Failu
     Ok(bytes)
 }
 
-/// The tables of a file for the function symbols of a section. Of a file that can be read at offsets only the headers,
-/// the symbol table and the names are read; any other is first read to its end.
+/// The tables of a source for the function symbols of a section. Only the headers, the symbol table and the names are
+/// read, at offsets.
 ///
 /// `File` where it can't be read; `Refused` with the error of its format's reader; `OutOfMemory` where an allocation
 /// fails.
-pub fn tables_of<F: Read + Source<Log = ()>>(
-    alloc: Global,
-    file: &mut F,
-    section: &str,
-) -> Result<Tables<'static>, Failure> {
-    if is_read_at_offsets(file) {
-        return symbols_of(alloc, file, section);
-    }
-    let bytes = read_whole(alloc, file)?;
-    symbols_of(alloc, &bytes.as_slice(), section)
-}
-
-// The tables of a source that is read at offsets, for the function symbols of a section.
-fn symbols_of<S: Source<Log = ()>>(
+pub fn tables_at<S: Source<Log = ()>>(
     alloc: Global,
     source: &S,
     section: &str,
@@ -124,27 +111,20 @@ fn symbols_of<S: Source<Log = ()>>(
     }
 }
 
-/// Flushes the output, and returns the result of a program's work: its own fault if it has one, and else `Write` where
-/// the flush fails.
-pub fn finish<W: Write, F: From<Failure>>(mut out: W, ended: Result<(), F>) -> Result<(), F> {
-    let flushed = out.flush();
+/// The result of a program: the fault of its work if it has one, and else `Write` where the flush after it failed.
+pub fn finish<F: From<Failure>>(flushed: io::Result<()>, ended: Result<(), F>) -> Result<(), F> {
     ended?;
     flushed.map_err(|_| Failure::Write)?;
     Ok(())
 }
 
-/// Prints a program's fault to standard error, if it has one, and returns its exit status: 2 for wrong arguments, and 1
-/// for any other fault.
+/// Prints a program's fault to standard error, if it has one, and returns its exit status.
 pub fn exit<F: Fault>(rt: &HostRuntime, ended: Result<(), F>) -> ExitCode {
     match ended {
         Ok(()) => ExitCode::SUCCESS,
         Err(fault) => {
             let _ = rt.eprintln(format_args!("{fault}"));
-            ExitCode::from(status(&fault))
+            ExitCode::from(fault.status())
         }
     }
-}
-
-fn status<F: Fault>(fault: &F) -> u8 {
-    if fault.is_usage() { 2 } else { 1 }
 }

@@ -5,7 +5,7 @@
 use crate::shim::{String, Vec};
 use crate::erased::binfarce_tools::program::{Failure, file_and_section, finish, read_whole};
 use crate::shim::alloc::{AllocError, Global};
-use crate::shim::io::{self, ErrorKind, Write};
+use crate::shim::io::{Error, ErrorKind};
 use crate::erased::test_samples::streams::Source;
 
 /// The file and the section that are given by these words between quotes.
@@ -57,24 +57,6 @@ fn counting(alloc: Global, count: usize) -> Result<Vec<u8>, AllocError> {
     Ok(bytes)
 }
 
-// Takes all, and fails when it is flushed, if it does.
-struct Flushed {
-    fails: bool,
-}
-
-impl Write for Flushed {
-    fn write(&mut self, bytes: &[u8]) -> io::Result<usize> {
-        Ok(bytes.len())
-    }
-
-    fn flush(&mut self) -> io::Result<()> {
-        if self.fails {
-            return Err(io::Error::from(ErrorKind::BrokenPipe));
-        }
-        Ok(())
-    }
-}
-
 /// What is reported of work that succeeds or fails, `Ok` or `File`, before a flush that does, `Ok` or `Err`.
 pub fn finished(alloc: Global, words: &str) -> Result<String, AllocError> {
     let (work, flush) = words.split_once(' ').unwrap_or((words, ""));
@@ -82,7 +64,10 @@ pub fn finished(alloc: Global, words: &str) -> Result<String, AllocError> {
         "File" => Err(Failure::File),
         _ => Ok(()),
     };
-    let fails = flush == "Err";
-    let finished = finish(Flushed { fails }, ended);
+    let flushed = match flush {
+        "Err" => Err(Error::from(ErrorKind::BrokenPipe)),
+        _ => Ok(()),
+    };
+    let finished = finish(flushed, ended);
     String::formatted(alloc, format_args!("{finished:?}"))
 }

@@ -6,7 +6,7 @@ set -eu
 cd "$(dirname "$0")"
 [ $# -eq 0 ] || { echo "usage: ./test.sh" >&2; exit 2; }
 
-tools="rt python3 cargo gcc g++ nm readelf strip valgrind pkg-config groff tar setsid"
+tools="rt python3 cargo cargo-fmt cargo-clippy gcc g++ nm readelf strip valgrind pkg-config groff tar setsid"
 missing=$(for tool in $tools; do command -v "$tool" >/dev/null || echo "$tool"; done)
 [ -z "$missing" ] || { echo "test.sh: these tools are missing:" $missing; exit 1; }
 
@@ -25,7 +25,7 @@ diff -r --exclude=out crates "$scratch/crates" >>"$scratch/layout" || true
 [ ! -s "$scratch/layout" ] || { cat "$scratch/layout"; fail "the layout or a wrong body"; }
 
 # The plain crate, with overflow checks as a build for tests has them, and the programs and libraries as users get them.
-setsid sh -exc 'cargo test --offline --workspace; examples/run.sh; tests/install.sh; tests/unproved.sh' >"$scratch/plain" 2>&1 &
+setsid sh -exc 'tests/lints.sh; cargo test --offline --workspace; examples/run.sh; tests/install.sh; tests/unproved.sh' >"$scratch/plain" 2>&1 &
 beside=$!
 { rt ci || true; } 2>&1 | tee "$scratch/gate" | sed '$d'
 last=$(tail -n 1 "$scratch/gate")

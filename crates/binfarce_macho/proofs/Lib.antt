@@ -7,6 +7,7 @@ pub mod SectionNames
 pub mod SectionsLeft
 pub mod Held
 pub mod AllWalks
-pub mod Groups
+pub mod TextRows
+pub mod EachSection
 pub mod SectionLists
 pub mod Selected

@@ -1,5 +1,6 @@
 pub mod CommandWalks
 pub mod Walks
+pub mod Searches
 pub mod Kept
 pub mod MachoAnswers
 pub mod MachoLaws

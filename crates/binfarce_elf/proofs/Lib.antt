@@ -1,5 +1,6 @@
 pub mod Headers
 pub mod Walks
+pub mod Searches
 pub mod Names
 pub mod RowsLeft
 pub mod RowParts

@@ -240,6 +240,7 @@ impl<'a, C: Class> Iterator for Sections<'a, C> {
 }
 
 // The section of this index, where those before it were whole; `None` where there are no more.
+#[inline]
 fn section_left<C: Class>(
     table: Table<'_>,
     index: Half,
@@ -277,16 +278,12 @@ pub fn first_section<C: Class, F: Fn(Section<C>) -> bool>(
         (λ _. unexpected_eof) (section_view C.number_of) (F.post callback)
         (walk C.table (table_view table.entry)) result }
 {
-    let mut start = table.shoff;
-    if start >= table.data.len() {
-        return Err(UnexpectedEof {});
-    }
-    for index in 0..table.shnum {
-        let section = section_at(table.data, start, table.byte_order, index)?;
+    let mut index = 0;
+    while let Some(section) = section_left::<C>(table, index)? {
         if callback(section) {
             return Ok(Some(section));
         }
-        start += C::SECTION_LENGTH;
+        index += 1;
     }
     Ok(None)
 }

@@ -2,7 +2,7 @@
 use Rattle.std.proofs.Common.{◌≡◌, ℕ, zero, suc, ◌+◌, ◌-◌, ◌<◌, ◌≤◌, Bool, true, false, List, [], ◌∷◌, length, Option, Some, None, Result, Ok, Err, IsErrAnd, refl, sym, ap, ◌∙◌, arith, cond, ltb}
 use Rattle.std.proofs.lemmas.Bool.{lt-ltb, le-ltb, ltb-false}
 use Rattle.binfarce_bytes.specs.Refusal.{Refusal, Gives, malformed_input}
-use Rattle.binfarce_bytes.specs.Walk.{Walk, first, ended, ahead_of}
+use Rattle.binfarce_bytes.specs.Walk.{Walk, YieldsNext, first, ended, ahead_of}
 use Rattle.binfarce_macho.specs.Macho.{Command, header_of, header_fields, command_at, commands_from}
 use Rattle.binfarce_macho.specs.machine.RawMacho.{Takes, command_view, damage_refusal}
 use Rattle.binfarce_macho.specs.declared.commands.Damage.{Damage}
@@ -79,11 +79,17 @@ inside file (suc n) offset command left e = by_head (ltb (length file) (offset +
     by_head false is e = by_size (ltb (command_at file offset).size 8) (ltb-false (length file) (offset + 8) is) e
 
 -- what an item shows of a walk
+pub yields_ok : {T S E : Type 0} (why : E → Refusal) (seen : T → S) (walk left : Walk S) (item : Result T E) (value : T) → item ≡ Ok value → YieldsNext why seen walk (Some item) left → walk ≡ ahead_of (seen value) left
+yields_ok why seen walk left item value is yields = rw is at yields
+
+pub yields_err : {T S E : Type 0} (why : E → Refusal) (seen : T → S) (walk left : Walk S) (item : Result T E) (error : E) → item ≡ Err error → YieldsNext why seen walk (Some item) left → walk ≡ ended (Some (why error))
+yields_err why seen walk left item error is yields = let at = rw is at yields in at.0
+
 pub takes_ok : (walk left : Walk Command) (item : Result raw.Command Damage) (command : raw.Command) → item ≡ Ok command → Takes walk (Some item) left → walk ≡ ahead_of (command_view command) left
-takes_ok walk left item command is takes = rw is at takes
+takes_ok = yields_ok damage_refusal command_view
 
 pub takes_err : (walk left : Walk Command) (item : Result raw.Command Damage) (damage : Damage) → item ≡ Err damage → Takes walk (Some item) left → walk ≡ ended (Some (damage_refusal damage))
-takes_err walk left item damage is takes = let at = rw is at takes in at.0
+takes_err = yields_err damage_refusal command_view
 
 -- a search among commands, as a loop goes over them
 pub first_found : (test : Command → Bool) (command : Command) (left : Walk Command) → test command ≡ true → first test (ahead_of command left) ≡ Ok (Some command)

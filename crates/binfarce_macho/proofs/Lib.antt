@@ -1,5 +1,6 @@
 pub mod CommandWalks
 pub mod Walks
+pub mod Searches
 pub mod Kept
 pub mod MachoAnswers
 pub mod MachoLaws
@@ -7,6 +8,7 @@ pub mod SectionNames
 pub mod SectionsLeft
 pub mod Held
 pub mod AllWalks
-pub mod Groups
+pub mod TextRows
+pub mod EachSection
 pub mod SectionLists
 pub mod Selected

@@ -1,8 +1,9 @@
 -- The sections of a file by their numbers, as a loop lists their entries.
-use Rattle.std.proofs.Common.{◌≡◌, ◌≢◌, ℕ, ◌+◌, List, [], ◌∷◌, ◌++◌, slice_get, take, Option, None, Some, Ok, sym, ap, ◌∙◌, arith}
+use Rattle.std.proofs.Common.{◌≡◌, ◌≢◌, ℕ, zero, suc, ◌+◌, List, [], ◌∷◌, ◌++◌, slice_get, take, Option, None, Some, Ok, refl, length, sym, ap, ◌∙◌, arith}
 use Rattle.std.specs.List.{range_with_len, flat_map}
 use Rattle.std.proofs.lemmas.Grind.{flat_map-append}
 use Rattle.std.proofs.lemmas.List.{append-nil}
+use Rattle.std.proofs.lemmas.Option.{slice_get_past}
 use Rattle.binfarce_bytes.specs.Refusal.{Refusal}
 use Rattle.binfarce_bytes.specs.SectionEntries.{SectionEntry, unless}
 use Rattle.binfarce_bytes.proofs.Rows.{range_more}
@@ -42,3 +43,12 @@ module _ (sections : List NumberedSection) (symbols : Symbols) where
   pub all_added : (k : ℕ) (entries : List SectionEntry) → k ≡ 255 → entries ≡ flat_map entries_of_index (range_with_len 0 k) → entries ≡ entries_of_all sections symbols
   unfolding entries_of_all
   all_added k entries all is = is ∙ ap (λ (n : ℕ). flat_map entries_of_index (range_with_len 0 n)) all
+
+  -- no section has an entry
+  pub no_sections : length sections ≡ 0 → entries_of_all sections symbols ≡ []
+  unfolding entries_of_all
+  no_sections none = each 0 255
+    where
+      each : (a n : ℕ) → flat_map entries_of_index (range_with_len a n) ≡ []
+      each a zero = refl
+      each a (suc n) = ap (λ (o : Option NumberedSection). entries_at symbols (a + 1) o ++ flat_map entries_of_index (range_with_len (a + 1) n)) (slice_get_past sections a (omega arith)) ∙ each (a + 1) n

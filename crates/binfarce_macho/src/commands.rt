@@ -25,17 +25,6 @@ pub(crate) enum Damage {
     Truncated,
 }
 
-impl From<UnexpectedEof> for Damage {
-    ghost use Rattle.std.specs.Prelude.{◌≡◌};
-    ghost use Rattle.binfarce_macho.specs.declared.commands.Damage.TheVariants.{Truncated};
-
-    ghost from_gives = { λ _ damage. damage ≡ Truncated };
-
-    fn from(_: UnexpectedEof) -> Self {
-        Damage::Truncated
-    }
-}
-
 impl From<Damage> for ParseError {
     ghost use Rattle.std.specs.Prelude.{◌≡◌};
     ghost use Rattle.binfarce_bytes.specs.Refusal.{refusal_of};

@@ -1,20 +1,19 @@
 //! The function symbols of the selected sections.
 
-ghost use Rattle.std.specs.Prelude.{◌≡◌, ◌≢◌, ℕ, ◌+◌, ◌-◌, ◌*◌, ◌<◌, ◌≤◌, ◌^◌, ◌++◌, [], ◌∷◌, length, map, All, Some, Ok, IfOk, OnErr, unwrap_or, MatchResult};
+ghost use Rattle.std.specs.Prelude.{◌≡◌, ◌≢◌, ℕ, ◌+◌, ◌-◌, ◌*◌, ◌/◌, ◌<◌, ◌≤◌, ◌++◌, [], ◌∷◌, length, map, slice_get, All, None, Some, Ok, IfOk, OnErr, unwrap_or, MatchOption};
 ghost use Rattle.std.specs.Option.{option_map};
-ghost use Rattle.binfarce_bytes.specs.Refusal.{Gives, refusal_of, out_of_memory};
+ghost use Rattle.binfarce_bytes.specs.Refusal.{Gives, refusal_of};
 ghost use Rattle.binfarce_bytes.specs.Entries.{Answers};
 ghost use Rattle.binfarce_bytes.specs.RowViews.{row_view, rows_view};
-ghost use Rattle.binfarce_bytes.specs.SectionEntries.{in_section};
 ghost use Rattle.binfarce_bytes.specs.Selection.{section_of};
-ghost use Rattle.binfarce_bytes.specs.Sizes.{addresses_of, least_above};
+ghost use Rattle.binfarce_bytes.specs.Sizes.{addresses_of, arranged, least_above};
 ghost use Rattle.binfarce_bytes.specs.SymbolViews.{function_view, section_function_view, HoldsSectionFunctions, HoldsSized};
 ghost use Rattle.binfarce_macho.specs.Macho.{header_of};
-ghost use Rattle.binfarce_macho.specs.MachoSections.{lies_in, is_label, function_name, kept_rows, section_entry, entries_of, entries_of_all};
+ghost use Rattle.binfarce_macho.specs.MachoSections.{lies_in, is_label, function_name, entries_of_all};
 ghost use Rattle.binfarce_macho.specs.MachoSelection.{entries_in, selected_answer, NeedsMemory, SomeAddress, FileNeedsMemory, extent_view, numbered_view, sections_view, symbols_view, the_text};
-ghost use Rattle.binfarce_macho.specs.MachoSymbols.{row_addresses, is_candidate, size_up_to, sized_entry, entry_of, located_at, located_by, text_end_of};
+ghost use Rattle.binfarce_macho.specs.MachoSymbols.{row_addresses, is_candidate, size_up_to, sized_entry, entry_of, located_by, text_end_of};
 ghost use Rattle.binfarce_macho.specs.MachoViews.{header_view};
-ghost use Rattle.binfarce_macho.specs.machine.RawMacho.{symbol_view, number_by, group_rows, group_entry, group_added, rows_added, counted, text_at_end, IsInside, Fits};
+ghost use Rattle.binfarce_macho.specs.machine.RawMacho.{symbol_view, located_view, text_added, named_in, function_in, HoldsKept, IsInside};
 
 use crate::header::MachoHeader;
 use crate::numbered::{MAX_SECT, NumberedSection, SelectedSections, selected_sections};
@@ -26,6 +25,7 @@ use binfarce_bytes::functions::{FunctionSymbol, SectionFunction, Selection};
 use binfarce_bytes::parser::parse_null_string;
 use binfarce_bytes::sizes::{RowAddress, arrange};
 use std::alloc::{AllocError, Global};
+use std::mem;
 
 // The bits of a row's type that make it an entry for a debugger, and those that say where the symbol is defined.
 const N_STAB: u8 = 0xE0;
@@ -35,19 +35,18 @@ const N_TYPE: u8 = 0x0E;
 // The symbol is defined in the row's section.
 const N_SECT: u8 = 0x0E;
 
-// Which rows of the symbol table are listed: those of the text, or those of the section of this number.
+// The symbols of a text that ends at this address.
 #[derive(Clone, Copy)]
-pub(crate) enum Rule {
-    Text,
-    Section(u8),
+pub(crate) struct TextRows<'a> {
+    pub(crate) end: u64,
+    pub(crate) symbols: SymbolBytes<'a>,
 }
 
-// Rows that are listed together: by which rule, where their section is in memory, and the symbols.
-#[derive(Clone, Copy)]
-pub(crate) struct Group<'a> {
-    pub(crate) rule: Rule,
-    pub(crate) extent: Extent,
-    pub(crate) symbols: SymbolBytes<'a>,
+// The rows that are kept of each section, in table order, and by a row's number the name of one that is kept.
+#[derive(Drop)]
+struct Kept<'a> {
+    rows: Vec<Vec<RowAddress>>,
+    names: Vec<&'a str>,
 }
 
 /// The function symbols of a selection of a file with this header, and the text's size in bytes, `None` for all
@@ -102,17 +101,9 @@ fn functions_of_text<'a>(
         Answers HoldsSectionFunctions (λ _. SomeAddress found)
         (entries_in (the_text (extent_view text)) (Some (symbols_view symbols.entry))) result }
 {
-    text_end(text)?;
+    let end = text_end(text)?;
     let mut functions = Vec::new(alloc);
-    push_functions(
-        alloc,
-        &mut functions,
-        Group {
-            rule: Rule::Text,
-            extent: text,
-            symbols,
-        },
-    )?;
+    push_functions(alloc, &mut functions, TextRows { end, symbols })?;
     Ok(functions)
 }
 
@@ -125,83 +116,34 @@ fn text_end(text: Extent) -> Result<u64, ParseError>
         .ok_or(ParseError::MalformedInput)
 }
 
-// The function symbols of all sections, of which the first is number 1. Only a failed allocation is an error.
-fn functions_of_all<'a>(
-    alloc: Global,
-    sections: &[NumberedSection],
-    symbols: SymbolBytes<'a>,
-) -> Result<Vec<SectionFunction<'a>>, ParseError>
-    ensures { Answers HoldsSectionFunctions (λ _. sections.now ≢ [])
-        (Ok (entries_of_all (map numbered_view sections.now) (symbols_view symbols.entry))) result }
-{
-    let mut functions = Vec::new(alloc);
-    for index in 0..MAX_SECT {
-        match sections.get(usize::from(index)) {
-            None => {}
-            Some(section) => push_section(alloc, &mut functions, section, index + 1, symbols)?,
-        }
-    }
-    Ok(functions)
-}
-
-// Adds the function symbols of the section of this number.
-fn push_section<'a>(
-    alloc: Global,
-    functions: &mut Vec<SectionFunction<'a>>,
-    section: &NumberedSection,
-    number: u8,
-    symbols: SymbolBytes<'a>,
-) -> Result<(), ParseError>
-    ensures { MatchResult result
-        (λ _. map section_function_view functions.new.items
-        ≡ map section_function_view functions.old.items
-        ++ in_section number (entries_of (symbols_view symbols.entry) (numbered_view section.now) number))
-        (λ e. refusal_of e ≡ out_of_memory) }
-{
-    if !section.has_instructions {
-        return Ok(());
-    }
-    push_functions(
-        alloc,
-        functions,
-        Group {
-            rule: Rule::Section(number),
-            extent: section.extent,
-            symbols,
-        },
-    )
-}
-
-// Adds the function symbols of the rows of a group.
+// Adds the function symbols of the text.
 fn push_functions<'a>(
     alloc: Global,
     functions: &mut Vec<SectionFunction<'a>>,
-    group: Group<'a>,
+    text: TextRows<'a>,
 ) -> Result<(), ParseError>
-    requires { Fits group }
-    ensures { Answers (λ entries _. map section_function_view functions.new.items ≡ entries)
-        (λ _. group_rows group.entry ≢ [])
-        (group_added (map section_function_view functions.old.items) group.entry) result }
+    ensures { let rows = row_addresses text.entry.symbols.rows.now in
+        Answers (λ entries _. map section_function_view functions.new.items ≡ entries) (λ _. rows ≢ [])
+        (text_added (map section_function_view functions.old.items) text.entry (arranged rows)) result }
 {
-    let rows = rows_of(alloc, group)?;
+    let rows = rows_of(alloc, text.symbols)?;
     if rows.is_empty() {
         return Ok(());
     }
     let arranged = arrange(alloc, rows)?;
-    push_rows(functions, group, &arranged.rows, &arranged.above)
+    push_rows(functions, text, &arranged.rows, &arranged.above)
 }
 
-// The rows of a group whose addresses end a size, in table order.
-fn rows_of(alloc: Global, group: Group<'_>) -> Result<Vec<RowAddress>, AllocError>
-    requires { Fits group }
-    ensures rows { IfOk result
-        (λ v. (rows_view v.items ≡ group_rows group.entry) × All (IsInside group.entry) v.items) }
-    ensures memory { OnErr result (group_rows group.entry ≢ []) }
+// The rows of the symbol table whose addresses end a size in the text: those that have one, in table order.
+fn rows_of(alloc: Global, symbols: SymbolBytes<'_>) -> Result<Vec<RowAddress>, AllocError>
+    ensures rows { IfOk result (λ v. (rows_view v.items ≡ row_addresses symbols.entry.rows.now)
+        × All (λ r. r.index * 16 + 16 ≤ length symbols.entry.rows.now) v.items) }
+    ensures memory { OnErr result (row_addresses symbols.entry.rows.now ≢ []) }
 {
     let mut rows = Vec::new(alloc);
-    for k in 0..group.symbols.rows.len() / SYMBOL_LENGTH {
-        let row = symbol_at(group.symbols.rows, k * SYMBOL_LENGTH).unwrap();
-        if ends_size(group, row) {
+    for k in 0..symbols.rows.len() / SYMBOL_LENGTH {
+        let row = symbol_at(symbols.rows, k * SYMBOL_LENGTH).unwrap();
+        if row.value != 0 {
             rows.push(RowAddress {
                 address: row.value,
                 index: k,
@@ -211,35 +153,23 @@ fn rows_of(alloc: Global, group: Group<'_>) -> Result<Vec<RowAddress>, AllocErro
     Ok(rows)
 }
 
-// Whether a row's address ends a size: in the text that of each row with an address, and in another section that of a
-// row that is kept.
-fn ends_size(group: Group<'_>, row: SymbolRow) -> bool
-    ensures { result ≡ counted group.entry (symbol_view row) }
-{
-    match group.rule {
-        Rule::Text => row.value != 0,
-        Rule::Section(number) => {
-            function_name(group.symbols.strings, group.extent, number, row).is_some()
-        }
-    }
-}
-
-// Adds the function symbols of arranged rows, given the least address above each.
+// Adds the function symbols of arranged rows of the text, given the least address above each.
 fn push_rows<'a>(
     functions: &mut Vec<SectionFunction<'a>>,
-    group: Group<'a>,
+    text: TextRows<'a>,
     rows: &[RowAddress],
     above: &[Option<u64>],
 ) -> Result<(), ParseError>
-    requires above { above.now ≡ map (λ r. least_above (addresses_of (group_rows group)) r.address) rows.now }
-    requires inside { All (IsInside group) rows.now }
+    requires above { above.now
+        ≡ map (λ r. least_above (addresses_of (row_addresses text.symbols.rows.now)) r.address) rows.now }
+    requires whole { All (λ r. r.index * 16 + 16 ≤ length text.symbols.rows.now) rows.now }
     ensures { Answers (λ entries _. map section_function_view functions.new.items ≡ entries) (λ _. rows.now ≢ [])
-        (rows_added (map section_function_view functions.old.items) group.entry (rows_view rows.now)) result }
+        (text_added (map section_function_view functions.old.items) text.entry (rows_view rows.now)) result }
 {
     for k in 0..rows.len() {
-        match entry_of(group, rows[k], above[k])? {
+        match text_entry(text, rows[k], above[k])? {
             None => {}
-            Some(function) => push_function(functions, number_of(group.rule), function)?,
+            Some(function) => push_function(functions, function)?,
         }
     }
     Ok(())
@@ -247,62 +177,35 @@ fn push_rows<'a>(
 
 fn push_function<'a>(
     functions: &mut Vec<SectionFunction<'a>>,
-    section: u32,
     function: FunctionSymbol<'a>,
 ) -> Result<(), AllocError>
     ensures { IfOk result (λ _. functions.new.items
-        ≡ functions.old.items ++ record { section = section; function = function.entry } ∷ []) }
+        ≡ functions.old.items ++ record { section = 1; function = function.entry } ∷ []) }
 {
-    functions.push(SectionFunction { section, function })?;
+    functions.push(SectionFunction {
+        section: 1,
+        function,
+    })?;
     Ok(())
 }
 
-// The number of the section whose rows are listed.
-fn number_of(rule: Rule) -> u32
-    ensures { result ≡ number_by rule }
-{
-    match rule {
-        Rule::Text => 1,
-        Rule::Section(number) => u32::from(number),
-    }
-}
-
-// The function symbol of a row of the group, given the least address above its own.
-fn entry_of<'a>(
-    group: Group<'a>,
-    at: RowAddress,
-    above: Option<u64>,
-) -> Result<Option<FunctionSymbol<'a>>, ParseError>
-    requires above { above ≡ least_above (addresses_of (group_rows group)) at.address }
-    requires inside { IsInside group at }
-    ensures { Gives refusal_of (option_map function_view) (group_entry group.entry (row_view at)) result }
-{
-    match group.rule {
-        Rule::Text => text_entry(group.extent, group.symbols, at, above),
-        Rule::Section(number) => Ok(section_entry(group.extent, number, group.symbols, at, above)),
-    }
-}
-
-// That of a row of the text.
+// The function symbol of a row of the text, given the least address above its own.
 #[tactic(auto, unfolding(crate::specs::MachoSymbols::entry_of, crate::specs::MachoSymbols::macho_size))]
 fn text_entry<'a>(
-    text: Extent,
-    symbols: SymbolBytes<'a>,
+    text: TextRows<'a>,
     at: RowAddress,
     above: Option<u64>,
 ) -> Result<Option<FunctionSymbol<'a>>, ParseError>
-    requires above { above ≡ least_above (addresses_of (row_addresses symbols.rows.now)) at.address }
-    requires row { at.index * 16 + 16 ≤ length symbols.rows.now }
-    requires end { text.address + text.size < 2 ^ 64 }
-    ensures { Gives refusal_of (option_map function_view)
-        (entry_of (text_at_end (extent_view text) (symbols_view symbols.entry)) (row_view at)) result }
+    requires above { above ≡ least_above (addresses_of (row_addresses text.symbols.rows.now)) at.address }
+    requires row { at.index * 16 + 16 ≤ length text.symbols.rows.now }
+    ensures { Gives refusal_of (option_map function_view) (entry_of (located_view text.entry) (row_view at)) result }
 {
-    let row = symbol_at(symbols.rows, at.index * SYMBOL_LENGTH).unwrap();
+    let row = symbol_at(text.symbols.rows, at.index * SYMBOL_LENGTH).unwrap();
     if !is_candidate(row) {
         return Ok(None);
     }
-    let size = size_up_to(above, text.address + text.size, at.address)?;
-    let name = parse_null_string(symbols.strings, row.name as usize);
+    let size = size_up_to(above, text.end, at.address)?;
+    let name = parse_null_string(text.symbols.strings, row.name as usize);
     Ok(sized_entry(at.address, size, name))
 }
 
@@ -343,29 +246,155 @@ fn sized_entry(address: u64, size: Option<u64>, name: Option<&str>) -> Option<Fu
     })
 }
 
-// That of a kept row of the section of this number.
-#[tactic(auto, unfolding(crate::specs::MachoSections::section_entry))]
-fn section_entry<'a>(
+// The function symbols of all sections, of which the first is number 1. Only a failed allocation is an error.
+fn functions_of_all<'a>(
+    alloc: Global,
+    sections: &[NumberedSection],
+    symbols: SymbolBytes<'a>,
+) -> Result<Vec<SectionFunction<'a>>, ParseError>
+    ensures { Answers HoldsSectionFunctions (λ _. sections.now ≢ [])
+        (Ok (entries_of_all (map numbered_view sections.now) (symbols_view symbols.entry))) result }
+{
+    let mut functions = Vec::new(alloc);
+    if sections.is_empty() {
+        return Ok(functions);
+    }
+    let kept = kept_by_section(alloc, sections, symbols)?;
+    let mut kept_rows = kept.rows;
+    for index in 0..MAX_SECT {
+        let at = usize::from(index);
+        if at < sections.len() {
+            let rows = mem::replace(&mut kept_rows[at], Vec::new(alloc));
+            let extent = sections[at].extent;
+            push_section(alloc, &mut functions, extent, index + 1, rows, &kept.names)?;
+        }
+    }
+    Ok(functions)
+}
+
+// The rows that are kept of each section, found in one walk over the symbol table.
+fn kept_by_section<'a>(
+    alloc: Global,
+    sections: &[NumberedSection],
+    symbols: SymbolBytes<'a>,
+) -> Result<Kept<'a>, AllocError>
+    ensures { IfOk result
+        (λ k. HoldsKept (map numbered_view sections.now) (symbols_view symbols.entry)
+        (length symbols.entry.rows.now / 16) 0 k.rows.items k.names.items) }
+{
+    let row_count = symbols.rows.len() / SYMBOL_LENGTH;
+    let mut rows = nothing_kept(alloc, sections.len())?;
+    let mut names = vec![in alloc; ""; row_count]?;
+    for k in 0..row_count {
+        let row = symbol_at(symbols.rows, k * SYMBOL_LENGTH).unwrap();
+        match kept_of(sections, symbols.strings, row) {
+            None => {}
+            Some((at, name)) => {
+                names[k] = name;
+                rows[at].push(RowAddress {
+                    address: row.value,
+                    index: k,
+                })?;
+            }
+        }
+    }
+    Ok(Kept { rows, names })
+}
+
+// No rows so far, for each of as many sections.
+fn nothing_kept(alloc: Global, count: usize) -> Result<Vec<Vec<RowAddress>>, AllocError>
+    ensures { IfOk result (λ v. (length v.items ≡ count) × All (λ rows. rows.items ≡ []) v.items) }
+{
+    let mut kept = Vec::new(alloc);
+    for _index in 0..count {
+        kept.push(Vec::new(alloc))?;
+    }
+    Ok(kept)
+}
+
+// The index of the section that a row is kept of, and the row's name: a function of a section that holds instructions.
+fn kept_of<'a>(
+    sections: &[NumberedSection],
+    strings: &'a [u8],
+    row: SymbolRow,
+) -> Option<(usize, &'a str)>
+    ensures { let name = λ (i : ℕ). named_in strings.entry.now (i + 1) (slice_get (map numbered_view sections.now) i)
+        (symbol_view row) in MatchOption result
+        ((i : ℕ) → name i ≡ None)
+        (λ found. (found.0 < length sections.now) × (name found.0 ≡ Some found.1.now)
+        × ((i : ℕ) → i ≢ found.0 → name i ≡ None)) }
+{
+    if row.section == 0 {
+        return None;
+    }
+    let index = usize::from(row.section) - 1;
+    if index >= sections.len() {
+        return None;
+    }
+    let section = &sections[index];
+    if !section.has_instructions {
+        return None;
+    }
+    match function_name(strings, section.extent, row.section, row) {
+        None => None,
+        Some(name) => Some((index, name)),
+    }
+}
+
+// Adds the function symbols of the kept rows of a section; `names` has their names by the rows' numbers.
+fn push_section<'a>(
+    alloc: Global,
+    functions: &mut Vec<SectionFunction<'a>>,
     section: Extent,
     number: u8,
-    symbols: SymbolBytes<'a>,
-    at: RowAddress,
-    above: Option<u64>,
-) -> Option<FunctionSymbol<'a>>
-    requires above { above
-        ≡ least_above (addresses_of (kept_rows (symbols_view symbols) (extent_view section) number)) at.address }
-    requires row { at.index * 16 + 16 ≤ length symbols.rows.now }
-    requires inside { (section.address ≤ at.address) × (at.address < section.address + section.size) }
-    ensures { option_map function_view result
-        ≡ section_entry (symbols_view symbols.entry) (extent_view section) number (row_view at) }
+    rows: Vec<RowAddress>,
+    names: &[&'a str],
+) -> Result<(), AllocError>
+    requires { All (IsInside (extent_view section) (length names.now)) rows.items }
+    ensures { let in_order = arranged (rows_view rows.items) in IfOk result
+        (λ _. map section_function_view functions.new.items
+        ≡ map section_function_view functions.old.items ++ map (function_in (extent_view section) number
+        (map (λ t. t.now) names.now) in_order) in_order) }
 {
-    let row = symbol_at(symbols.rows, at.index * SYMBOL_LENGTH).unwrap();
-    let name = function_name(symbols.strings, section, number, row)?;
-    Some(FunctionSymbol {
-        name,
-        address: at.address,
-        size: size_in(section, above, at.address),
-    })
+    let arranged = arrange(alloc, rows)?;
+    push_kept(
+        functions,
+        section,
+        number,
+        &arranged.rows,
+        names,
+        &arranged.above,
+    )
+}
+
+// Adds the function symbols of arranged rows of a section, given the least address above each.
+fn push_kept<'a>(
+    functions: &mut Vec<SectionFunction<'a>>,
+    section: Extent,
+    number: u8,
+    rows: &[RowAddress],
+    names: &[&'a str],
+    above: &[Option<u64>],
+) -> Result<(), AllocError>
+    requires inside { All (IsInside (extent_view section) (length names.now)) rows.now }
+    requires above { above.now ≡ map (λ r. least_above (addresses_of (rows_view rows.now)) r.address) rows.now }
+    ensures { IfOk result
+        (λ _. map section_function_view functions.new.items
+        ≡ map section_function_view functions.old.items ++ map (function_in (extent_view section) number
+        (map (λ t. t.now) names.now) (rows_view rows.now)) (rows_view rows.now)) }
+{
+    for at in 0..rows.len() {
+        let row = rows[at];
+        functions.push(SectionFunction {
+            section: u32::from(number),
+            function: FunctionSymbol {
+                name: names[row.index],
+                address: row.address,
+                size: size_in(section, above[at], row.address),
+            },
+        })?;
+    }
+    Ok(())
 }
 
 // The bytes from an address in the section to the address above or, where there is none, to the section's end.

@@ -140,7 +140,7 @@ fn push_sections(starts: &mut Vec<usize>, file: &[u8], body: usize) -> Result<()
         (λ e. ((segment file.now body).refusal ≡ Some (refusal_of e))
         ⊎ ((refusal_of e ≡ out_of_memory) × (starts_in file.now body ≢ []))) }
 {
-    if !holds_sections(file, body) {
+    if !none_truncated(file, body) {
         return Err(ParseError::UnexpectedEof);
     }
     let count: u32 = number_at(file, body + 56, ByteOrder::LittleEndian)?;
@@ -150,7 +150,7 @@ fn push_sections(starts: &mut Vec<usize>, file: &[u8], body: usize) -> Result<()
 }
 
 // Whether no section of a segment command is truncated.
-fn holds_sections(bytes: &[u8], body: usize) -> bool
+fn none_truncated(bytes: &[u8], body: usize) -> bool
     requires { body ≤ length bytes.now }
     ensures { result ≡ (nat_le (body + segment_read) (length bytes.now) && nat_le (section_count bytes.now body)
         (whole_headers bytes.now body)) }

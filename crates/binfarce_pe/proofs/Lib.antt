@@ -1,4 +1,4 @@
-pub mod Numbered
+pub mod Searches
 pub mod Walks
 pub mod Rows
 pub mod Strictly

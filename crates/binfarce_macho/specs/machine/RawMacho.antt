@@ -1,5 +1,8 @@
 -- Views of the values that `macho` reads, for private clauses.
-use Rattle.std.specs.Prelude.{◌≡◌, ℕ, ◌+◌, ◌-◌, ◌*◌, ◌/◌, ◌<◌, ◌≤◌, ◌^◌, ◌++◌, Bool, List, length, min, nat_eq, nat_le, not, is_some, Option, Some, None, Result, Ok, Err, if◌then◌else◌}
+use Rattle.std.specs.Prelude.{◌≡◌, ℕ, ◌+◌, ◌-◌, ◌/◌, ◌<◌, ◌≤◌, ◌++◌, List, [], length, map, get_or, slice_get, min, nat_le, Option, Some, None, Result, Ok, Err, if◌then◌else◌}
+use Rattle.std.specs.Borrow.{Bor}
+use Rattle.std.specs.Global.{Vec}
+use Rattle.std.specs.Option.{option_map}
 use Rattle.std.specs.List.{range_with_len, filter_map}
 use Rattle.binfarce_macho.specs.declared.commands.Command.{Command}
 use Rattle.binfarce_macho.specs.declared.commands.Damage.{Damage}
@@ -8,20 +11,17 @@ use Rattle.binfarce_macho.specs.declared.commands.MachoCommandsIterator.{MachoCo
 use Rattle.binfarce_macho.specs.declared.sections.Segment.{Segment}
 use Rattle.binfarce_macho.specs.declared.sections.Left.{Left}
 use Rattle.binfarce_macho.specs.declared.symbols.SymbolRow.{SymbolRow}
-use Rattle.binfarce_macho.specs.declared.functions.Group.{Group}
-use Rattle.binfarce_macho.specs.declared.functions.Rule.{Rule}
-use Rattle.binfarce_macho.specs.declared.functions.Rule.TheVariants.{Text, Section}
+use Rattle.binfarce_macho.specs.declared.functions.TextRows.{TextRows}
 use Rattle.binfarce_bytes.specs.declared.sizes.RowAddress as code
-use Rattle.binfarce_bytes.specs.Entries.{Entry}
 use Rattle.binfarce_bytes.specs.Refusal.{◌>>=◌, Refusal, malformed_input, unexpected_eof}
+use Rattle.binfarce_bytes.specs.RowViews.{rows_view}
 use Rattle.binfarce_bytes.specs.SectionEntries.{SectionEntry, in_section}
-use Rattle.binfarce_bytes.specs.Sizes.{RowAddress, arranged}
+use Rattle.binfarce_bytes.specs.Sizes.{RowAddress, addresses_of}
 use Rattle.binfarce_bytes.specs.Walk.{Walk, ended, and_then, YieldsNext}
 use Rattle.binfarce_macho.specs.Macho as macho
-use Rattle.binfarce_macho.specs.MachoSections.{function_name, kept_row, section_entry}
-use Rattle.binfarce_macho.specs.MachoSelection.{extent_view, symbols_view}
+use Rattle.binfarce_macho.specs.MachoSections.{NumberedSection, function_name, size_in}
 use Rattle.binfarce_macho.specs.MachoSymbols as symbols
-use Rattle.binfarce_macho.specs.MachoSymbols.{Extent, Symbols, Located, symbol_length, address_of, entry_of, kept}
+use Rattle.binfarce_macho.specs.MachoSymbols.{Extent, Symbols, Located, symbol_length, entry_of, kept}
 
 abbrev pub command_view : Command → macho.Command
 command_view c = record { offset = c.offset; kind = c.kind; size = c.size }
@@ -72,61 +72,43 @@ IsWithin left = (left.segment.body ≤ length left.commands.bytes.now) × (left.
 abbrev pub symbol_view : SymbolRow → symbols.SymbolRow ℕ
 symbol_view s = record { name = s.name; kind = s.kind; section = s.section; value = s.value }
 
--- the number of the section whose rows are listed
-abbrev pub number_by : Rule → ℕ
-number_by Text = 1
-number_by (Section number) = number
+-- the symbols of a text; no entry depends on its size
+abbrev pub located_view : TextRows → Located
+located_view text = record { text_end = text.end; text_size = 0; strings = text.symbols.strings.now; rows = text.symbols.rows.now }
 
--- whether a row's address ends a size: that of any row with an address, or that of a row that is kept
-abbrev pub counts_by : Rule → Extent → Symbols → symbols.SymbolRow ℕ → Bool
-counts_by Text extent symbols row = not (nat_eq row.value 0)
-counts_by (Section number) extent symbols row = is_some (function_name symbols.strings extent number row)
+-- the entries with those of these rows of a text
+abbrev pub text_added : List SectionEntry → TextRows → List RowAddress → Result (List SectionEntry) Refusal
+text_added before text rows = kept (λ at. entry_of (located_view text) at) rows >>= λ entries. Ok (before ++ in_section 1 entries)
 
-abbrev pub counted : Group → symbols.SymbolRow ℕ → Bool
-counted group row = counts_by group.rule (extent_view group.extent) (symbols_view group.symbols) row
+-- the name of a row that is kept of the section of this number, where there is such a section and it holds instructions
+abbrev pub named_in : List ℕ → ℕ → Option NumberedSection → symbols.SymbolRow ℕ → Option (List ℕ)
+named_in strings number None row = None
+named_in strings number (Some section) row = if section.has_instructions then function_name strings section.extent number row else None
+
+-- that of row k, of the section of this index
+abbrev pub name_in : List NumberedSection → Symbols → ℕ → ℕ → Option (List ℕ)
+name_in sections table i k = named_in table.strings (i + 1) (slice_get sections i) (symbols.symbol_of table.rows k)
 
 -- the address and the number of such a row
-abbrev pub row_by : Rule → Extent → Symbols → ℕ → Option RowAddress
-row_by Text extent symbols k = address_of symbols.rows k
-row_by (Section number) extent symbols k = kept_row symbols extent number k
+abbrev pub row_in : List NumberedSection → Symbols → ℕ → ℕ → Option RowAddress
+row_in sections table i k = option_map (λ _. record { address = (symbols.symbol_of table.rows k).value; row = k }) (name_in sections table i k)
 
--- all of these, in table order
-abbrev pub group_rows : Group → List RowAddress
-group_rows group =
-    filter_map (λ k. row_by group.rule (extent_view group.extent) (symbols_view group.symbols) k) (range_with_len 0 (length group.symbols.rows.now / symbol_length))
+-- the rows that are held of the section of this index; none past the end
+abbrev pub rows_at : List (Vec code.RowAddress) → ℕ → List RowAddress
+rows_at held i = get_or (map (λ v. rows_view v.items) held) i []
 
--- the symbols of a text whose end is below 2^64
-abbrev pub text_at_end : Extent → Symbols → Located
-text_at_end text symbols = record { text_end = text.address + text.size; text_size = text.size; strings = symbols.strings; rows = symbols.rows }
+-- of the rows below n those are held that are kept of each section from this index on, with the name of each
+pub record HoldsKept (sections : List NumberedSection) (table : Symbols) (n from : ℕ) (held : List (Vec code.RowAddress)) (names : List (Bor (List ℕ))) : Type 0 where
+  pub long : length held ≡ length sections
+  pub each : (i : ℕ) → from ≤ i → i < length sections → rows_at held i ≡ filter_map (row_in sections table i) (range_with_len 0 n)
+  pub many : length names ≡ length table.rows / symbol_length
+  pub named : (i k : ℕ) (name : List ℕ) → k < n → name_in sections table i k ≡ Some name → get_or (map (λ t. t.now) names) k [] ≡ name
 
--- what is made of such a row
-abbrev pub entry_by : Rule → Extent → Symbols → RowAddress → Result (Option Entry) Refusal
-entry_by Text extent symbols at = entry_of (text_at_end extent symbols) at
-entry_by (Section number) extent symbols at = Ok (section_entry symbols extent number at)
+-- the row lies in the section, and its number is that of a name
+abbrev pub IsInside : Extent → ℕ → code.RowAddress → Type 0
+IsInside section names r = (r.index < names) × (section.address ≤ r.address) × (r.address < section.address + section.size)
 
-abbrev pub group_entry : Group → RowAddress → Result (Option Entry) Refusal
-group_entry group at = entry_by group.rule (extent_view group.extent) (symbols_view group.symbols) at
-
--- the entries with those of these rows
-abbrev pub rows_added : List SectionEntry → Group → List RowAddress → Result (List SectionEntry) Refusal
-rows_added before group rows = kept (λ at. group_entry group at) rows >>= λ entries. Ok (before ++ in_section (number_by group.rule) entries)
-
--- with those of a group
-abbrev pub group_added : List SectionEntry → Group → Result (List SectionEntry) Refusal
-group_added before group = rows_added before group (arranged (group_rows group))
-
--- the row is whole, and one of a section lies in it; a text's end is below 2^64
-abbrev pub LiesBy : Rule → Extent → ℕ → Type 0
-LiesBy Text extent address = extent.address + extent.size < 2 ^ 64
-LiesBy (Section number) extent address = (extent.address ≤ address) × (address < extent.address + extent.size)
-
-abbrev pub IsInside : Group → code.RowAddress → Type 0
-IsInside group r = (r.index * 16 + 16 ≤ length group.symbols.rows.now) × LiesBy group.rule (extent_view group.extent) r.address
-
--- such an end
-abbrev pub FitsBy : Rule → Extent → Type 0
-FitsBy Text extent = extent.address + extent.size < 2 ^ 64
-FitsBy (Section number) extent = Unit {0}
-
-abbrev pub Fits : Group → Type 0
-Fits group = FitsBy group.rule (extent_view group.extent)
+-- the entry of a row whose name has its number, in a section with this number and these kept rows
+abbrev pub function_in : Extent → ℕ → List (List ℕ) → List RowAddress → RowAddress → SectionEntry
+function_in section number names kept_rows r =
+    record { section = number; entry = record { name = get_or names r.row []; address = r.address; size = size_in section (addresses_of kept_rows) r.address } }

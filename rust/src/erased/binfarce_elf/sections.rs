@@ -177,6 +177,7 @@ impl<'a, C: Class> Iterator for Sections<'a, C> {
 }
 
 // The section of this index, where those before it were whole; `None` where there are no more.
+#[inline]
 fn section_left<C: Class>(
     table: Table<'_>,
     index: Half,
@@ -201,16 +202,12 @@ pub fn first_section<C: Class, F: Fn(Section<C>) -> bool>(
     table: Table<'_>,
     callback: F,
 ) -> Result<Option<Section<C>>, UnexpectedEof> {
-    let mut start = table.shoff;
-    if start >= table.data.len() {
-        return Err(UnexpectedEof {});
-    }
-    for index in 0..table.shnum {
-        let section = section_at(table.data, start, table.byte_order, index)?;
+    let mut index = 0;
+    while let Some(section) = section_left::<C>(table, index)? {
         if callback(section) {
             return Ok(Some(section));
         }
-        start += C::SECTION_LENGTH;
+        index += 1;
     }
     Ok(None)
 }

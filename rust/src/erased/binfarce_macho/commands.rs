@@ -20,12 +20,6 @@ pub(crate) enum Damage {
     Truncated,
 }
 
-impl From<UnexpectedEof> for Damage {
-    fn from(_: UnexpectedEof) -> Self {
-        Damage::Truncated
-    }
-}
-
 impl From<Damage> for ParseError {
     fn from(damage: Damage) -> Self {
         match damage {

@@ -15,6 +15,7 @@ use crate::erased::binfarce_bytes::functions::{FunctionSymbol, SectionFunction, 
 use crate::erased::binfarce_bytes::parser::parse_null_string;
 use crate::erased::binfarce_bytes::sizes::{RowAddress, arrange};
 use crate::shim::alloc::{AllocError, Global};
+use std::mem;
 
 // The bits of a row's type that make it an entry for a debugger, and those that say where the symbol is defined.
 const N_STAB: u8 = 0xE0;
@@ -24,19 +25,17 @@ const N_TYPE: u8 = 0x0E;
 // The symbol is defined in the row's section.
 const N_SECT: u8 = 0x0E;
 
-// Which rows of the symbol table are listed: those of the text, or those of the section of this number.
+// The symbols of a text that ends at this address.
 #[derive(Clone, Copy)]
-pub(crate) enum Rule {
-    Text,
-    Section(u8),
+pub(crate) struct TextRows<'a> {
+    pub(crate) end: u64,
+    pub(crate) symbols: SymbolBytes<'a>,
 }
 
-// Rows that are listed together: by which rule, where their section is in memory, and the symbols.
-#[derive(Clone, Copy)]
-pub(crate) struct Group<'a> {
-    pub(crate) rule: Rule,
-    pub(crate) extent: Extent,
-    pub(crate) symbols: SymbolBytes<'a>,
+// The rows that are kept of each section, in table order, and by a row's number the name of one that is kept.
+struct Kept<'a> {
+    rows: Vec<Vec<RowAddress>>,
+    names: Vec<&'a str>,
 }
 
 /// The function symbols of a selection of a file with this header, and the text's size in bytes, `None` for all
@@ -78,17 +77,9 @@ fn functions_of_text<'a>(
     text: Extent,
     symbols: SymbolBytes<'a>,
 ) -> Result<Vec<SectionFunction<'a>>, ParseError> {
-    text_end(text)?;
+    let end = text_end(text)?;
     let mut functions = Vec::new(alloc);
-    push_functions(
-        alloc,
-        &mut functions,
-        Group {
-            rule: Rule::Text,
-            extent: text,
-            symbols,
-        },
-    )?;
+    push_functions(alloc, &mut functions, TextRows { end, symbols })?;
     Ok(functions)
 }
 
@@ -99,64 +90,26 @@ fn text_end(text: Extent) -> Result<u64, ParseError> {
         .ok_or(ParseError::MalformedInput)
 }
 
-// The function symbols of all sections, of which the first is number 1. Only a failed allocation is an error.
-fn functions_of_all<'a>(
-    alloc: Global,
-    sections: &[NumberedSection],
-    symbols: SymbolBytes<'a>,
-) -> Result<Vec<SectionFunction<'a>>, ParseError> {
-    let mut functions = Vec::new(alloc);
-    for index in 0..MAX_SECT {
-        match sections.get(usize::from(index)) {
-            None => {}
-            Some(section) => push_section(alloc, &mut functions, section, index + 1, symbols)?,
-        }
-    }
-    Ok(functions)
-}
-
-// Adds the function symbols of the section of this number.
-fn push_section<'a>(
-    alloc: Global,
-    functions: &mut Vec<SectionFunction<'a>>,
-    section: &NumberedSection,
-    number: u8,
-    symbols: SymbolBytes<'a>,
-) -> Result<(), ParseError> {
-    if !section.has_instructions {
-        return Ok(());
-    }
-    push_functions(
-        alloc,
-        functions,
-        Group {
-            rule: Rule::Section(number),
-            extent: section.extent,
-            symbols,
-        },
-    )
-}
-
-// Adds the function symbols of the rows of a group.
+// Adds the function symbols of the text.
 fn push_functions<'a>(
     alloc: Global,
     functions: &mut Vec<SectionFunction<'a>>,
-    group: Group<'a>,
+    text: TextRows<'a>,
 ) -> Result<(), ParseError> {
-    let rows = rows_of(alloc, group)?;
+    let rows = rows_of(alloc, text.symbols)?;
     if rows.is_empty() {
         return Ok(());
     }
     let arranged = arrange(alloc, rows)?;
-    push_rows(functions, group, &arranged.rows, &arranged.above)
+    push_rows(functions, text, &arranged.rows, &arranged.above)
 }
 
-// The rows of a group whose addresses end a size, in table order.
-fn rows_of(alloc: Global, group: Group<'_>) -> Result<Vec<RowAddress>, AllocError> {
+// The rows of the symbol table whose addresses end a size in the text: those that have one, in table order.
+fn rows_of(alloc: Global, symbols: SymbolBytes<'_>) -> Result<Vec<RowAddress>, AllocError> {
     let mut rows = Vec::new(alloc);
-    for k in 0..group.symbols.rows.len() / SYMBOL_LENGTH {
-        let row = symbol_at(group.symbols.rows, k * SYMBOL_LENGTH).unwrap();
-        if ends_size(group, row) {
+    for k in 0..symbols.rows.len() / SYMBOL_LENGTH {
+        let row = symbol_at(symbols.rows, k * SYMBOL_LENGTH).unwrap();
+        if row.value != 0 {
             rows.push(RowAddress {
                 address: row.value,
                 index: k,
@@ -166,28 +119,17 @@ fn rows_of(alloc: Global, group: Group<'_>) -> Result<Vec<RowAddress>, AllocErro
     Ok(rows)
 }
 
-// Whether a row's address ends a size: in the text that of each row with an address, and in another section that of a
-// row that is kept.
-fn ends_size(group: Group<'_>, row: SymbolRow) -> bool {
-    match group.rule {
-        Rule::Text => row.value != 0,
-        Rule::Section(number) => {
-            function_name(group.symbols.strings, group.extent, number, row).is_some()
-        }
-    }
-}
-
-// Adds the function symbols of arranged rows, given the least address above each.
+// Adds the function symbols of arranged rows of the text, given the least address above each.
 fn push_rows<'a>(
     functions: &mut Vec<SectionFunction<'a>>,
-    group: Group<'a>,
+    text: TextRows<'a>,
     rows: &[RowAddress],
     above: &[Option<u64>],
 ) -> Result<(), ParseError> {
     for k in 0..rows.len() {
-        match entry_of(group, rows[k], above[k])? {
+        match text_entry(text, rows[k], above[k])? {
             None => {}
-            Some(function) => push_function(functions, number_of(group.rule), function)?,
+            Some(function) => push_function(functions, function)?,
         }
     }
     Ok(())
@@ -195,46 +137,27 @@ fn push_rows<'a>(
 
 fn push_function<'a>(
     functions: &mut Vec<SectionFunction<'a>>,
-    section: u32,
     function: FunctionSymbol<'a>,
 ) -> Result<(), AllocError> {
-    functions.push(SectionFunction { section, function })?;
+    functions.push(SectionFunction {
+        section: 1,
+        function,
+    })?;
     Ok(())
 }
 
-// The number of the section whose rows are listed.
-fn number_of(rule: Rule) -> u32 {
-    match rule {
-        Rule::Text => 1,
-        Rule::Section(number) => u32::from(number),
-    }
-}
-
-// The function symbol of a row of the group, given the least address above its own.
-fn entry_of<'a>(
-    group: Group<'a>,
-    at: RowAddress,
-    above: Option<u64>,
-) -> Result<Option<FunctionSymbol<'a>>, ParseError> {
-    match group.rule {
-        Rule::Text => text_entry(group.extent, group.symbols, at, above),
-        Rule::Section(number) => Ok(section_entry(group.extent, number, group.symbols, at, above)),
-    }
-}
-
-// That of a row of the text.
+// The function symbol of a row of the text, given the least address above its own.
 fn text_entry<'a>(
-    text: Extent,
-    symbols: SymbolBytes<'a>,
+    text: TextRows<'a>,
     at: RowAddress,
     above: Option<u64>,
 ) -> Result<Option<FunctionSymbol<'a>>, ParseError> {
-    let row = symbol_at(symbols.rows, at.index * SYMBOL_LENGTH).unwrap();
+    let row = symbol_at(text.symbols.rows, at.index * SYMBOL_LENGTH).unwrap();
     if !is_candidate(row) {
         return Ok(None);
     }
-    let size = size_up_to(above, text.address + text.size, at.address)?;
-    let name = parse_null_string(symbols.strings, row.name as usize);
+    let size = size_up_to(above, text.end, at.address)?;
+    let name = parse_null_string(text.symbols.strings, row.name as usize);
     Ok(sized_entry(at.address, size, name))
 }
 
@@ -268,21 +191,127 @@ fn sized_entry(address: u64, size: Option<u64>, name: Option<&str>) -> Option<Fu
     })
 }
 
-// That of a kept row of the section of this number.
-fn section_entry<'a>(
+// The function symbols of all sections, of which the first is number 1. Only a failed allocation is an error.
+fn functions_of_all<'a>(
+    alloc: Global,
+    sections: &[NumberedSection],
+    symbols: SymbolBytes<'a>,
+) -> Result<Vec<SectionFunction<'a>>, ParseError> {
+    let mut functions = Vec::new(alloc);
+    if sections.is_empty() {
+        return Ok(functions);
+    }
+    let kept = kept_by_section(alloc, sections, symbols)?;
+    let mut kept_rows = kept.rows;
+    for index in 0..MAX_SECT {
+        let at = usize::from(index);
+        if at < sections.len() {
+            let rows = mem::replace(&mut kept_rows[at], Vec::new(alloc));
+            let extent = sections[at].extent;
+            push_section(alloc, &mut functions, extent, index + 1, rows, &kept.names)?;
+        }
+    }
+    Ok(functions)
+}
+
+// The rows that are kept of each section, found in one walk over the symbol table.
+fn kept_by_section<'a>(
+    alloc: Global,
+    sections: &[NumberedSection],
+    symbols: SymbolBytes<'a>,
+) -> Result<Kept<'a>, AllocError> {
+    let row_count = symbols.rows.len() / SYMBOL_LENGTH;
+    let mut rows = nothing_kept(alloc, sections.len())?;
+    let mut names = Vec::filled(alloc, "", row_count)?;
+    for k in 0..row_count {
+        let row = symbol_at(symbols.rows, k * SYMBOL_LENGTH).unwrap();
+        match kept_of(sections, symbols.strings, row) {
+            None => {}
+            Some((at, name)) => {
+                names[k] = name;
+                rows[at].push(RowAddress {
+                    address: row.value,
+                    index: k,
+                })?;
+            }
+        }
+    }
+    Ok(Kept { rows, names })
+}
+
+// No rows so far, for each of as many sections.
+fn nothing_kept(alloc: Global, count: usize) -> Result<Vec<Vec<RowAddress>>, AllocError> {
+    let mut kept = Vec::new(alloc);
+    for _index in 0..count {
+        kept.push(Vec::new(alloc))?;
+    }
+    Ok(kept)
+}
+
+// The index of the section that a row is kept of, and the row's name: a function of a section that holds instructions.
+fn kept_of<'a>(
+    sections: &[NumberedSection],
+    strings: &'a [u8],
+    row: SymbolRow,
+) -> Option<(usize, &'a str)> {
+    if row.section == 0 {
+        return None;
+    }
+    let index = usize::from(row.section) - 1;
+    if index >= sections.len() {
+        return None;
+    }
+    let section = &sections[index];
+    if !section.has_instructions {
+        return None;
+    }
+    match function_name(strings, section.extent, row.section, row) {
+        None => None,
+        Some(name) => Some((index, name)),
+    }
+}
+
+// Adds the function symbols of the kept rows of a section; `names` has their names by the rows' numbers.
+fn push_section<'a>(
+    alloc: Global,
+    functions: &mut Vec<SectionFunction<'a>>,
     section: Extent,
     number: u8,
-    symbols: SymbolBytes<'a>,
-    at: RowAddress,
-    above: Option<u64>,
-) -> Option<FunctionSymbol<'a>> {
-    let row = symbol_at(symbols.rows, at.index * SYMBOL_LENGTH).unwrap();
-    let name = function_name(symbols.strings, section, number, row)?;
-    Some(FunctionSymbol {
-        name,
-        address: at.address,
-        size: size_in(section, above, at.address),
-    })
+    rows: Vec<RowAddress>,
+    names: &[&'a str],
+) -> Result<(), AllocError> {
+    let arranged = arrange(alloc, rows)?;
+    push_kept(
+        functions,
+        section,
+        number,
+        &arranged.rows,
+        names,
+        &arranged.above,
+    )
+}
+
+// Adds the function symbols of arranged rows of a section, given the least address above each.
+fn push_kept<'a>(
+    functions: &mut Vec<SectionFunction<'a>>,
+    section: Extent,
+    number: u8,
+    rows: &[RowAddress],
+    names: &[&'a str],
+    above: &[Option<u64>],
+) -> Result<(), AllocError> {
+    for at in 0..rows.len() {
+        let row = rows[at];
+        functions.push(SectionFunction {
+            section: u32::from(number),
+            function: FunctionSymbol {
+                name: names[row.index],
+                address: row.address,
+                size: size_in(section, above[at], row.address),
+            },
+        })?;
+    }
+    Ok(())
 }
 
 // The bytes from an address in the section to the address above or, where there is none, to the section's end.

@@ -100,7 +100,7 @@ fn section_starts(alloc: Global, file: &[u8], header: MachoHeader) -> Result<Vec
 
 // Adds the sections of a segment command, up to number 255; refused where one is truncated.
 fn push_sections(starts: &mut Vec<usize>, file: &[u8], body: usize) -> Result<(), ParseError> {
-    if !holds_sections(file, body) {
+    if !none_truncated(file, body) {
         return Err(ParseError::UnexpectedEof);
     }
     let count: u32 = number_at(file, body + 56, ByteOrder::LittleEndian)?;
@@ -110,7 +110,7 @@ fn push_sections(starts: &mut Vec<usize>, file: &[u8], body: usize) -> Result<()
 }
 
 // Whether no section of a segment command is truncated.
-fn holds_sections(bytes: &[u8], body: usize) -> bool {
+fn none_truncated(bytes: &[u8], body: usize) -> bool {
     match number_at::<u32>(bytes, body + 56, ByteOrder::LittleEndian) {
         Err(_) => false,
         Ok(count) => count as usize

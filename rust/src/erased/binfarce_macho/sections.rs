@@ -79,10 +79,15 @@ const NO_SEGMENT: Segment = Segment {
 /// All sections of a file with this header.
 pub fn sections_of(file: &[u8], header: MachoHeader) -> Sections<'_> {
     Sections {
-        left: Left {
-            commands: commands(file, header),
-            segment: NO_SEGMENT,
-        },
+        left: all_left(file, header),
+    }
+}
+
+// All sections of a file with this header, before the first.
+fn all_left(file: &[u8], header: MachoHeader) -> Left<'_> {
+    Left {
+        commands: commands(file, header),
+        segment: NO_SEGMENT,
     }
 }
 
@@ -181,13 +186,11 @@ fn first_section<'a, F: Fn(Section<'_>) -> bool>(
     header: MachoHeader,
     callback: F,
 ) -> Result<Option<Section<'a>>, Damage> {
-    for item in commands(file, header) {
-        let command = item?;
-        if command.kind == LC_SEGMENT_64 {
-            match first_in_segment(file, command.offset + 8, &callback)? {
-                None => {}
-                Some(section) => return Ok(Some(section)),
-            }
+    let mut left = all_left(file, header);
+    while let Some(item) = next_section(&mut left) {
+        let section = item?;
+        if callback(section) {
+            return Ok(Some(section));
         }
     }
     Ok(None)
@@ -203,28 +206,6 @@ pub fn section_with_name<'a>(
     Ok(first_section(file, header, |section| {
         section.segment_name == segment_name && section.section_name == section_name
     })?)
-}
-
-// The first section of a segment command that the callback accepts.
-fn first_in_segment<'a, F: Fn(Section<'_>) -> bool>(
-    bytes: &'a [u8],
-    body: usize,
-    callback: &F,
-) -> Result<Option<Section<'a>>, UnexpectedEof> {
-    let count: u32 = number_at(bytes, body + 56, ByteOrder::LittleEndian)?;
-    for index in 0..count {
-        let start = body + 64 + index as usize * SECTION_LENGTH;
-        let found = section_at(bytes, start)?;
-        match found {
-            None => {}
-            Some(section) => {
-                if callback(section) {
-                    return Ok(Some(section));
-                }
-            }
-        }
-    }
-    Ok(None)
 }
 
 // The section whose structure begins at `start`, where both its names are valid; refused where a field is truncated.

@@ -102,7 +102,10 @@ impl<'a> Iterator for Sections<'a> {
 
 // The first section from this index on, where the headers before it were whole, and the index after its own; `None`
 // where there are no more.
-fn section_left(table: Table<'_>, from: u16) -> Result<Option<(Section<'_>, u16)>, UnexpectedEof> {
+fn section_left<'a>(
+    table: Table<'a>,
+    from: u16,
+) -> Result<Option<(Section<'a>, u16)>, UnexpectedEof> {
     if table.offset >= table.bytes.len() {
         return Err(UnexpectedEof {});
     }
@@ -131,20 +134,12 @@ fn first_section<'a, F: Fn(Section<'a>) -> bool>(
     table: Table<'a>,
     callback: F,
 ) -> Result<Option<Section<'a>>, UnexpectedEof> {
-    let mut start = table.offset;
-    if start >= table.bytes.len() {
-        return Err(UnexpectedEof {});
-    }
-    for index in 0..table.count {
-        let found = section_at(table.bytes, start, index)?;
-        start += SECTION_LENGTH;
-        let section = match found {
-            None => continue,
-            Some(section) => section,
-        };
+    let mut next = 0;
+    while let Some((section, after)) = section_left(table, next)? {
         if is_accepted(&callback, section) {
             return Ok(Some(section));
         }
+        next = after;
     }
     Ok(None)
 }

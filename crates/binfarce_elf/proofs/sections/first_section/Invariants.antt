@@ -1,14 +1,17 @@
-use Rattle.std.proofs.Common.{◌≡◌, ◌+◌, ◌*◌, ◌≤◌, All, false}
-use Rattle.binfarce_bytes.specs.Walk.{Answered}
+use Rattle.std.proofs.Common.{◌≤◌, ◌-◌, Some}
+use Rattle.binfarce_elf.specs.Elf.{walk}
 use Rattle.binfarce_elf.specs.ElfViews.{section_view}
-use Rattle.binfarce_elf.specs.Elf.{whole_headers}
-use Rattle.binfarce_elf.specs.machine.RawElf.{table_view}
-use Rattle.binfarce_elf.proofs.Walks.{numbered_below}
+use Rattle.binfarce_elf.specs.machine.RawElf.{table_view, section_count, walk_from}
+use Rattle.binfarce_elf.proofs.Searches.{Reaches}
 use Rattle.binfarce_elf.proofs.sections.first_section.Given as goal
 
--- so far each header was whole, and the callback refused its section
-abbrev pub invariant-loop-index : goal.invariant-loop-index
-invariant-loop-index g l =
-    (l.start ≡ l.table.shoff + l.index * g.C.Class.table.section_length)
-    × (l.index ≤ whole_headers g.C.Class.table (table_view l.table))
-    × All (Answered (section_view g.C.Class.number_of) (goal.F-post g l.callback) false) (numbered_below g.C.Class.table (table_view l.table) l.index)
+-- the callback refused the sections before this index
+abbrev pub invariant-loop-callback : goal.invariant-loop-callback
+invariant-loop-callback g l =
+    let class = g.C.Class.table in
+    let t = table_view l.table in
+    (l.index ≤ section_count class t)
+    × Reaches (section_view g.C.Class.number_of) (goal.F-post g l.callback) (walk class t) (walk_from class t (Some l.index))
+
+abbrev pub decreases-loop-callback : goal.decreases-loop-callback
+decreases-loop-callback g l = section_count g.C.Class.table (table_view l.table) - l.index

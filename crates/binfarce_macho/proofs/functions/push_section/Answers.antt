@@ -1,25 +1,30 @@
-use Rattle.std.proofs.Common.{◌≢◌, ◌++◌, ◌∙◌, sym, ap, map, List, [], Ok}
-use Rattle.std.proofs.lemmas.List.{append-nil}
-use Rattle.binfarce_bytes.specs.SectionEntries.{in_section}
-use Rattle.binfarce_bytes.specs.Entries.{Entry}
-use Rattle.binfarce_bytes.specs.Sizes.{arranged}
+use Rattle.std.proofs.Common.{◌≡◌, length, sym, ap, subst, ◌∙◌, List, map, ◌++◌}
+use Rattle.std.specs.Prelude.{IfOk}
+use Rattle.std.proofs.lemmas.List.Elements.{All-same}
+use Rattle.std.proofs.lemmas.List.Sorted.{All-permutation}
+use Rattle.binfarce_bytes.specs.declared.sizes.RowAddress.{RowAddress}
+use Rattle.binfarce_bytes.specs.Sizes as sizes
+use Rattle.binfarce_bytes.specs.Sizes.{arranged, addresses_of, least_above}
+use Rattle.binfarce_bytes.specs.RowViews.{rows_view}
 use Rattle.binfarce_bytes.specs.SymbolViews.{section_function_view}
-use Rattle.binfarce_macho.specs.MachoSections.{kept_rows, section_entry, entries_of}
-use Rattle.binfarce_macho.specs.MachoSelection.{numbered_view, symbols_view}
-use Rattle.binfarce_macho.proofs.Groups.{listed, section_listed, section_silent, section_added}
+use Rattle.binfarce_macho.specs.MachoSelection.{extent_view}
+use Rattle.binfarce_macho.specs.machine.RawMacho.{function_in, IsInside}
 use Rattle.binfarce_macho.proofs.functions.push_section.Goals as goal
 
-pub returns-then-not-section : goal.returns-then-not-section
-returns-then-not-section c =
-    let old = map section_function_view c.args.functions.now.items in
-    sym (append-nil old) ∙ ap (λ (es : List Entry). old ++ in_section c.args.number es) (sym (section_silent c.args.number (symbols_view c.args.symbols) (numbered_view c.args.section.now) c.if-not-section.true))
+pub push_kept-requires-clause-inside : goal.push_kept-requires-clause-inside
+push_kept-requires-clause-inside c =
+    let P = IsInside (extent_view c.args.section) (length c.args.names.now) in
+    All-same P c.deref.result.now c.in_ok-arranged.arranged.rows.items c.deref.ensures.value
+    (All-permutation P c.args.rows.items c.in_ok-arranged.arranged.rows.items c.in_ok-arranged.ensures.same c.requires)
+
+pub push_kept-requires-clause-above : goal.push_kept-requires-clause-above
+push_kept-requires-clause-above c =
+    c.deref-2.ensures.value ∙ c.in_ok-arranged.ensures.above
+    ∙ ap (λ (rows : List RowAddress). map (λ r. least_above (addresses_of (rows_view rows)) r.address) rows) (sym c.deref.ensures.value)
 
 pub returns : goal.returns
 returns c =
-    let old = map section_function_view c.args.functions.now.items in
-    let symbols = symbols_view c.args.symbols in
-    let section = numbered_view c.args.section.now in
-    let number = c.args.number in
-    section_added (kept_rows symbols section.extent number ≢ []) (listed old number (λ at. Ok (section_entry symbols section.extent number at)) (arranged (kept_rows symbols section.extent number)))
-    (old ++ in_section number (entries_of symbols section number)) (map section_function_view c.push_functions.new.functions.items) c.push_functions.result
-    (section_listed old number symbols section c.if-not-section.false) c.push_functions.ensures
+    let before = map section_function_view c.args.functions.now.items in
+    let names = map (λ t. t.now) c.args.names.now in
+    let is : rows_view c.deref.result.now ≡ arranged (rows_view c.args.rows.items) = ap rows_view c.deref.ensures.value ∙ c.in_ok-arranged.ensures.arranged in
+    subst (λ (rows : List sizes.RowAddress). IfOk c.push_kept.result (λ x. map section_function_view c.push_kept.new.functions.items ≡ before ++ map (function_in (extent_view c.args.section) c.args.number names rows) rows)) is c.push_kept.ensures

@@ -1,11 +1,10 @@
-use Rattle.std.proofs.Common.{◌≡◌, All}
+use Rattle.std.proofs.Common.{◌≡◌, ◌+◌, ◌*◌, ◌≤◌, All, length}
 use Rattle.std.specs.List.{range_with_len, filter_map}
 use Rattle.binfarce_bytes.specs.RowViews.{rows_view}
-use Rattle.binfarce_macho.specs.MachoSelection.{extent_view, symbols_view}
-use Rattle.binfarce_macho.specs.machine.RawMacho.{row_by, IsInside}
+use Rattle.binfarce_macho.specs.MachoSymbols.{address_of}
 use Rattle.binfarce_macho.proofs.functions.rows_of.Given as goal
 
--- those of the rows so far, which lie where they should
+-- those of the rows so far
 abbrev pub invariant-loop-k : goal.invariant-loop-k
 invariant-loop-k l =
-    (rows_view l.rows.items ≡ filter_map (λ k. row_by l.group.rule (extent_view l.group.extent) (symbols_view l.group.symbols) k) (range_with_len 0 l.k)) × All (IsInside l.group) l.rows.items
+    (rows_view l.rows.items ≡ filter_map (address_of l.symbols.rows.now) (range_with_len 0 l.k)) × All (λ r. r.index * 16 + 16 ≤ length l.symbols.rows.now) l.rows.items

@@ -5,4 +5,4 @@ use Rattle.binfarce_bytes.proofs.Above.{above_less}
 use Rattle.binfarce_macho.proofs.functions.text_entry.Goals as goal
 
 pub size_up_to-requires : goal.size_up_to-requires
-size_up_to-requires c = λ n e. above_less (addresses_of (row_addresses c.args.symbols.rows.now)) c.args.at.address n (sym c.requires.above ∙ e)
+size_up_to-requires c = λ n e. above_less (addresses_of (row_addresses c.args.text.symbols.rows.now)) c.args.at.address n (sym c.requires.above ∙ e)

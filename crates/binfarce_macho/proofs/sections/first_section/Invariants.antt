@@ -1,12 +1,13 @@
-use Rattle.std.proofs.Common.{◌≡◌}
-use Rattle.binfarce_macho.specs.MachoViews.{section_view}
+use Rattle.std.proofs.Common.{length}
 use Rattle.binfarce_macho.specs.Macho.{walk}
-use Rattle.binfarce_macho.specs.machine.RawMacho.{commands_left}
-use Rattle.binfarce_macho.proofs.Walks.{Reaches, sections_left}
+use Rattle.binfarce_macho.specs.MachoViews.{section_view}
+use Rattle.binfarce_macho.specs.machine.RawMacho.{sections_left, IsWithin}
+use Rattle.binfarce_macho.proofs.Searches.{Reaches}
 use Rattle.binfarce_macho.proofs.sections.first_section.Given as goal
 
--- the callback refused the sections before those that the commands have left
+-- the callback refused the sections before those that are left
 abbrev pub invariant-loop-item : goal.invariant-loop-item
-invariant-loop-item g l =
-    (l.item-iterator.bytes.now ≡ l.file)
-    × Reaches section_view (goal.F-post g l.callback) (walk l.file) (sections_left l.file (commands_left l.item-iterator))
+invariant-loop-item g l = IsWithin l.left × Reaches section_view (goal.F-post g l.callback) (walk l.file) (sections_left l.left)
+
+abbrev pub decreases-loop-item : goal.decreases-loop-item
+decreases-loop-item g l = length (sections_left l.left).items

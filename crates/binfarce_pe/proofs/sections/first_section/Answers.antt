@@ -1,57 +1,50 @@
-use Rattle.std.proofs.Common.{◌≡◌, ◌<◌, ◌≤◌, length, Some, None, sym, ap, ◌∙◌, arith, refl}
-use Rattle.std.specs.Option.{option_map}
-use Rattle.binfarce_pe.specs.PeParts.{section_in, whole_in}
+use Rattle.std.proofs.Common.{Some, None, refl, arith}
+use Rattle.binfarce_bytes.specs.Refusal.{unexpected_eof}
+use Rattle.binfarce_pe.specs.PeParts.{headers_view, table_walk}
 use Rattle.binfarce_pe.specs.PeViews.{section_view}
-use Rattle.binfarce_pe.specs.PeParts.{headers_view}
-use Rattle.binfarce_pe.proofs.Numbered.{held_refused, held_none}
-use Rattle.binfarce_pe.proofs.Walks.{is_readable, is_truncated, outside, may_be_asked, accepted_at, truncated_at, none_left, refused_by, header_is}
+use Rattle.binfarce_pe.specs.machine.RawPe.{walk_from}
+use Rattle.binfarce_pe.proofs.Searches.{reaches_all, none_accepted, may_be_asked, accepted, reaches_next, refused_by, some_is, none_is}
+use Rattle.binfarce_pe.proofs.SectionsLeft.{all_left}
 use Rattle.binfarce_pe.proofs.sections.first_section.Goals as goal
 
-pub returns-then-start-table : goal.returns-then-start-table
-returns-then-start-table g c = outside (headers_view c.args.table) section_view _ (omega arith)
-
-pub returns-in_err-found : goal.returns-in_err-found
-returns-in_err-found g c =
+pub loop-callback-init : goal.loop-callback-init
+loop-callback-init g c =
     let table = headers_view c.args.table in
-    let index = c.loop-index.index in
-    let short : whole_in table ≤ index = is_truncated (length table.bytes) table.offset c.loop-index.start index c.loop-index.invariant.0 (omega (arith, c.in_err-found.ensures)) in
-    refused_by section_view _ _ c.from_residual.result c.from_residual.ensures.0
-    (truncated_at table section_view _ index (omega arith) c.loop-index.invariant.1 short c.loop-index.invariant.2)
+    (omega arith, reaches_all section_view (goal.F-post g c.args.callback) (table_walk table) (walk_from table (Some 0)) (all_left table))
 
-pub loop-index-preserved-in-None : goal.loop-index-preserved-in-None
-loop-index-preserved-in-None g c =
+pub returns-in_err-section : goal.returns-in_err-section
+returns-in_err-section g c =
     let table = headers_view c.args.table in
-    let index = c.loop-index.index in
-    let room : index < whole_in table = is_readable (length table.bytes) table.offset c.loop-index.start index c.loop-index.invariant.0 (omega (arith, c.in_ok-found.ensures.0)) in
-    let none : section_in table index ≡ None = header_is table c.loop-index.start index None c.loop-index.invariant.0 (sym (ap (option_map section_view) c.in-None.is) ∙ c.in_ok-found.ensures.1) in
-    (omega arith, omega arith, held_none (section_in table) section_view (goal.F-post g c.args.callback) index none c.loop-index.invariant.2)
+    refused_by unexpected_eof section_view _ _ c.from_residual.result c.from_residual.ensures.0
+    (none_accepted section_view (goal.F-post g c.args.callback) (table_walk table) (walk_from table (Some c.loop-callback.next)) c.loop-callback.invariant.1 (Some unexpected_eof) c.in_err-section.ensures)
 
 pub is_accepted-requires : goal.is_accepted-requires
 is_accepted-requires g c κs =
     let table = headers_view c.args.table in
-    let index = c.loop-index.index in
-    let room : index < whole_in table = is_readable (length table.bytes) table.offset c.loop-index.start index c.loop-index.invariant.0 (omega (arith, c.in_ok-found.ensures.0)) in
-    let is : section_in table index ≡ Some (section_view c.in-Some.section) = header_is table c.loop-index.start index (Some (section_view c.in-Some.section)) c.loop-index.invariant.0 (sym (ap (option_map section_view) c.in-Some.is) ∙ c.in_ok-found.ensures.1) in
-    ((refl, tt), may_be_asked table section_view _ index c.in-Some.section c.requires (omega arith) room is)
+    let found = some_is c.in_ok-section.field-0 (c.in-Some.section, c.in-Some.after) _ _ c.in-Some.is c.in_ok-section.ensures in (
+      (refl, tt),
+      may_be_asked section_view (goal.F-post g c.args.callback) (table_walk table) (walk_from table (Some c.loop-callback.next)) c.loop-callback.invariant.1
+          c.in-Some.section (walk_from table (Some c.in-Some.after)) found.1 _ c.requires,
+    )
 
 pub returns-then-is_accepted : goal.returns-then-is_accepted
 returns-then-is_accepted g c =
     let table = headers_view c.args.table in
-    let index = c.loop-index.index in
-    let room : index < whole_in table = is_readable (length table.bytes) table.offset c.loop-index.start index c.loop-index.invariant.0 (omega (arith, c.in_ok-found.ensures.0)) in
-    let is : section_in table index ≡ Some (section_view c.in-Some.section) = header_is table c.loop-index.start index (Some (section_view c.in-Some.section)) c.loop-index.invariant.0 (sym (ap (option_map section_view) c.in-Some.is) ∙ c.in_ok-found.ensures.1) in
-    accepted_at table section_view _ index c.in-Some.section (omega arith) room is c.if-is_accepted.ensures c.loop-index.invariant.2
+    let found = some_is c.in_ok-section.field-0 (c.in-Some.section, c.in-Some.after) _ _ c.in-Some.is c.in_ok-section.ensures in
+    accepted section_view (goal.F-post g c.args.callback) (table_walk table) (walk_from table (Some c.loop-callback.next)) c.loop-callback.invariant.1
+    c.in-Some.section (walk_from table (Some c.in-Some.after)) found.1 c.if-is_accepted.ensures
 
-pub loop-index-preserved : goal.loop-index-preserved
-loop-index-preserved g c =
+pub loop-callback-preserved : goal.loop-callback-preserved
+loop-callback-preserved g c =
     let table = headers_view c.args.table in
-    let index = c.loop-index.index in
-    let room : index < whole_in table = is_readable (length table.bytes) table.offset c.loop-index.start index c.loop-index.invariant.0 (omega (arith, c.in_ok-found.ensures.0)) in
-    let is : section_in table index ≡ Some (section_view c.in-Some.section) = header_is table c.loop-index.start index (Some (section_view c.in-Some.section)) c.loop-index.invariant.0 (sym (ap (option_map section_view) c.in-Some.is) ∙ c.in_ok-found.ensures.1) in
-    (omega arith, omega arith, held_refused (section_in table) section_view (goal.F-post g c.args.callback) index c.in-Some.section is c.if-is_accepted.ensures c.loop-index.invariant.2)
+    let found = some_is c.in_ok-section.field-0 (c.in-Some.section, c.in-Some.after) _ _ c.in-Some.is c.in_ok-section.ensures in (
+      found.0,
+      reaches_next section_view (goal.F-post g c.args.callback) (table_walk table) (walk_from table (Some c.loop-callback.next)) c.loop-callback.invariant.1
+          c.in-Some.section (walk_from table (Some c.in-Some.after)) found.1 c.if-is_accepted.ensures,
+    )
 
 pub returns : goal.returns
 returns g c =
     let table = headers_view c.args.table in
-    let done : c.loop-index.index ≡ table.count = omega arith in
-    none_left table section_view _ (omega arith) (omega arith) (rw (← done) c.loop-index.invariant.2)
+    none_accepted section_view (goal.F-post g c.args.callback) (table_walk table) (walk_from table (Some c.loop-callback.next)) c.loop-callback.invariant.1 None
+    (none_is c.in_ok-section.field-0 _ _ c.in_default.is c.in_ok-section.ensures)

@@ -11,3 +11,4 @@ pub mod Arrangement
 pub mod Above
 pub mod Sweeping
 pub mod Views
+pub mod Searches

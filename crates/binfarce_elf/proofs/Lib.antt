@@ -1,6 +1,5 @@
 pub mod Headers
 pub mod Walks
-pub mod Searches
 pub mod Names
 pub mod RowsLeft
 pub mod RowParts

@@ -1,6 +1,5 @@
 pub mod CommandWalks
 pub mod Walks
-pub mod Searches
 pub mod Kept
 pub mod MachoAnswers
 pub mod MachoLaws

@@ -1,4 +1,3 @@
-pub mod Searches
 pub mod Walks
 pub mod Rows
 pub mod Strictly

@@ -3,7 +3,7 @@ use Rattle.binfarce_bytes.specs.Refusal.{unexpected_eof}
 use Rattle.binfarce_elf.specs.Elf.{walk}
 use Rattle.binfarce_elf.specs.ElfViews.{section_view}
 use Rattle.binfarce_elf.specs.machine.RawElf.{table_view, walk_from}
-use Rattle.binfarce_elf.proofs.Searches.{reaches_all, none_accepted, may_be_asked, accepted, reaches_next, refused_by, some_is, none_is}
+use Rattle.binfarce_bytes.proofs.Searches.{reaches_all, none_accepted, may_be_asked, accepted, reaches_next, refused_by, some_is, none_is}
 use Rattle.binfarce_elf.proofs.SectionsLeft.{all_left}
 use Rattle.binfarce_elf.proofs.sections.first_section.Goals as goal
 

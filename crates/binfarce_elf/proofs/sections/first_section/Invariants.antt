@@ -2,7 +2,7 @@ use Rattle.std.proofs.Common.{◌≤◌, ◌-◌, Some}
 use Rattle.binfarce_elf.specs.Elf.{walk}
 use Rattle.binfarce_elf.specs.ElfViews.{section_view}
 use Rattle.binfarce_elf.specs.machine.RawElf.{table_view, section_count, walk_from}
-use Rattle.binfarce_elf.proofs.Searches.{Reaches}
+use Rattle.binfarce_bytes.proofs.Searches.{Reaches}
 use Rattle.binfarce_elf.proofs.sections.first_section.Given as goal
 
 -- the callback refused the sections before this index

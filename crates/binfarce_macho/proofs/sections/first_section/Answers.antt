@@ -4,7 +4,7 @@ use Rattle.binfarce_macho.specs.Macho.{Section, walk}
 use Rattle.binfarce_macho.specs.MachoViews.{section_view}
 use Rattle.binfarce_macho.specs.machine.RawMacho.{damage_refusal, sections_left}
 use Rattle.binfarce_macho.proofs.CommandWalks.{yields_ok, yields_err}
-use Rattle.binfarce_macho.proofs.Searches.{reaches_all, none_accepted, may_be_asked, accepted, reaches_next, refused_with}
+use Rattle.binfarce_bytes.proofs.Searches.{reaches_all, none_accepted, may_be_asked, accepted, reaches_next, refused_with}
 use Rattle.binfarce_macho.proofs.sections.first_section.Goals as goal
 
 pub loop-item-init : goal.loop-item-init

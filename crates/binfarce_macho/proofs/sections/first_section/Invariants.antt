@@ -2,7 +2,7 @@ use Rattle.std.proofs.Common.{length}
 use Rattle.binfarce_macho.specs.Macho.{walk}
 use Rattle.binfarce_macho.specs.MachoViews.{section_view}
 use Rattle.binfarce_macho.specs.machine.RawMacho.{sections_left, IsWithin}
-use Rattle.binfarce_macho.proofs.Searches.{Reaches}
+use Rattle.binfarce_bytes.proofs.Searches.{Reaches}
 use Rattle.binfarce_macho.proofs.sections.first_section.Given as goal
 
 -- the callback refused the sections before those that are left

@@ -3,7 +3,7 @@ use Rattle.binfarce_bytes.specs.Refusal.{unexpected_eof}
 use Rattle.binfarce_pe.specs.PeParts.{headers_view, table_walk}
 use Rattle.binfarce_pe.specs.PeViews.{section_view}
 use Rattle.binfarce_pe.specs.machine.RawPe.{walk_from}
-use Rattle.binfarce_pe.proofs.Searches.{reaches_all, none_accepted, may_be_asked, accepted, reaches_next, refused_by, some_is, none_is}
+use Rattle.binfarce_bytes.proofs.Searches.{reaches_all, none_accepted, may_be_asked, accepted, reaches_next, refused_by, some_is, none_is}
 use Rattle.binfarce_pe.proofs.SectionsLeft.{all_left}
 use Rattle.binfarce_pe.proofs.sections.first_section.Goals as goal
 

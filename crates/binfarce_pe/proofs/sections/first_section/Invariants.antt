@@ -2,7 +2,7 @@ use Rattle.std.proofs.Common.{◌≤◌, Some, length}
 use Rattle.binfarce_pe.specs.PeParts.{headers_view, table_walk}
 use Rattle.binfarce_pe.specs.PeViews.{section_view}
 use Rattle.binfarce_pe.specs.machine.RawPe.{header_count, walk_from}
-use Rattle.binfarce_pe.proofs.Searches.{Reaches}
+use Rattle.binfarce_bytes.proofs.Searches.{Reaches}
 use Rattle.binfarce_pe.proofs.sections.first_section.Given as goal
 
 -- the callback refused the sections before the next header

@@ -1,5 +1,5 @@
 -- A search by a callback, as a loop goes over a walk.
-use Rattle.std.proofs.Common.{◌≡◌, Bool, true, false, List, [], ◌∷◌, ◌++◌, All, Option, Result, Ok, Err, IsErr, None, Some, MatchOption, refl, sym, ap, subst, ◌∙◌, append_assoc, arith}
+use Rattle.std.proofs.Common.{◌≡◌, Bool, true, false, List, [], ◌∷◌, ◌++◌, All, Option, Result, Ok, Err, IsErr, IsErrAnd, None, Some, MatchOption, refl, sym, ap, subst, ◌∙◌, append_assoc, arith}
 use Rattle.std.specs.List.{Contains}
 use Rattle.std.proofs.lemmas.List.{append-nil}
 use Rattle.std.proofs.lemmas.List.Elements.{All-nil, All-same, All-push, All-contains, Contains-append_right}
@@ -52,6 +52,12 @@ pub refused_by : {T S E : Type 0} (why : Refusal) (seen : T → S) (post : T →
     → IsErr result → NoneAccepted seen post walk (Some why) → FirstAccepted (λ _. why) seen post walk result
 refused_by why seen post walk (Ok found) is_err none = absurd cc
 refused_by why seen post walk (Err e) is_err none = none
+
+-- a search that ends with a refusal
+pub refused_with : {T S E : Type 0} (why : E → Refusal) (seen : T → S) (post : T → Bool → Type 0) (walk : Walk S) (error : E) (result : Result (Option T) E)
+    → IsErrAnd result (λ e. e ≡ error) → NoneAccepted seen post walk (Some (why error)) → FirstAccepted why seen post walk result
+refused_with why seen post walk error (Ok found) is none = absurd is
+refused_with {E = E} why seen post walk error (Err e) is none = subst (λ (d : E). NoneAccepted seen post walk (Some (why d))) (sym is) none
 
 -- a match that is known
 pub some_is : {X : Type 0} (o : Option X) (x : X) (P : Type 0) (Q : X → Type 0) → o ≡ Some x → MatchOption o P Q → Q x

@@ -146,6 +146,7 @@ impl<'a> Iterator for Sections<'a> {
 
 // The first section from this index on, where the headers before it were whole, and the index after its own; `None`
 // where there are no more.
+#[inline]
 fn section_left<'a>(
     table: Table<'a>,
     from: u16,

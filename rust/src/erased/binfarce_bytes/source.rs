@@ -10,7 +10,7 @@ use crate::shim::io::{self, Error, ErrorKind};
 
 /// A source that is read at offsets.
 pub trait Source {
-    /// A log of the parts that it is asked for; `()` where none is kept.
+    /// A log of the parts that it was asked for; `()` where none is kept.
     type Log;
 
     /// Its length in bytes. An error where it can't be read at offsets.

@@ -283,7 +283,9 @@ for line, path in ((lost, missing), (f"binfarce: {of_sys}: {unknown}", of_sys)):
     ends(1, "", line, "binfarce", "diff", old, path)
     ends(1, "", line, "binfarce", "diff", path, old)
 
-# Stacks; JSON objects, as the lines have them, also of a name with characters that JSON escapes.
+# Stacks, also of a function whose name is its crate's alone; JSON objects, as the lines have them, also of a name with characters
+# that JSON escapes.
+ends(0, "foo 16\n", "", "binfarce", "map", "--folded", sample)
 stacks = ("a;f 16", "a;g 16", "std;h 4", "[unknown];c 2", "b;f;<u8> 4", "b;f;<u16> 5")
 assert sorted(printed(folder / "binfarce", "map", "--folded", old).splitlines()) == sorted(stacks), "other stacks"
 def objects(*words):

@@ -130,7 +130,8 @@ fn tables_in_memory_and_read_at_offsets() {
             let picture = written(|output| read.map_to("file", output));
             assert!(picture.starts_with("<svg ") && sums.rows.iter().all(|(name, _)| picture.contains(name)));
             let stacks = written(|output| read.stacks_to(output));
-            assert!(stacks.lines().count() == found.len() && stacks.lines().all(|line| line.contains(';')));
+            let sizes = stacks.lines().map(|line| line.rsplit(' ').next().unwrap().to_string());
+            assert!(sizes.eq(found.iter().map(|function| function.size.to_string())), "{stacks}");
             let shown = Shown { order: Some(Order::Size), first: Some(1), naming: Naming::Stored, has_total: false };
             let objects = written(|output| read.rows_to(&shown, figures::Form::Objects("a", ".text"), output));
             assert_eq!(objects.matches("{\"file\":\"a\"").count(), found.len().min(1));

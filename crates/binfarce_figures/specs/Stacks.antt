@@ -1,5 +1,5 @@
 -- Function symbols as stacks.
-use Rattle.std.specs.Prelude.{◌≡◌, ℕ, List, ◌∷◌, [], ◌++◌, codes, nat_eq, Option, if◌then◌else◌}
+use Rattle.std.specs.Prelude.{◌≡◌, ℕ, List, ◌∷◌, [], ◌++◌, ◌||◌, codes, bytes_eq, nat_eq, Option, if◌then◌else◌}
 use Rattle.std.specs.Fmt.{decimal}
 use Rattle.std.specs.List.{AllZip, concat, starts_with}
 use Rattle.binfarce.specs.SectionEntries.{SectionEntry}
@@ -10,13 +10,16 @@ use Rattle.binfarce_figures.specs.Generic.{rewritten}
 use Rattle.binfarce_figures.specs.Keys.{IsCrateOf, IsTrimmedOf}
 use Rattle.binfarce_figures.specs.Rows.{AreEntriesIn}
 
--- the crate before the parts of a name, unless these begin with it
-abbrev pub stack_of : (root parts : List ℕ) → List ℕ
-stack_of root parts = (if starts_with nat_eq parts root then [] else root) ++ parts
+-- a crate, and below it the parts of a name; the first part is left out where it is the crate, which it is if the parts are the crate alone, or the crate
+-- and `;` before others
+abbrev pub stack_of : (crate_name parts : List ℕ) → List ℕ
+stack_of crate_name parts =
+    let below = crate_name ++ codes ";" in
+    (if bytes_eq parts crate_name || starts_with nat_eq parts below then [] else below) ++ parts
 
 -- the stack of a function of this crate with this trimmed name
 abbrev pub stack : (crate_name trimmed : List ℕ) → List ℕ
-stack crate_name trimmed = stack_of (rewritten Stack crate_name ++ codes ";") (rewritten Stack trimmed)
+stack crate_name trimmed = stack_of (rewritten Stack crate_name) (rewritten Stack trimmed)
 
 -- `{stack} {size}`, and a line feed
 abbrev pub stack_line : (crate_name trimmed : List ℕ) → (size : ℕ) → List ℕ

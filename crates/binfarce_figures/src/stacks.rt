@@ -1,6 +1,6 @@
 //! Function symbols as stacks.
 
-ghost use Rattle.std.specs.Prelude.{◌≡◌, ◌++◌, ℕ, List, Option, map, IfOk, OnOk};
+ghost use Rattle.std.specs.Prelude.{◌≡◌, ◌++◌, ℕ, List, Option, codes, map, IfOk, OnOk};
 ghost use Rattle.std.specs.String.{string_bytes};
 ghost use Rattle.binfarce.specs.SymbolViews.{section_function_view};
 ghost use Rattle.binfarce.specs.declared.SymbolTable.{SymbolTable};
@@ -25,8 +25,9 @@ use std::alloc::{AllocError, Global};
 /// blank, and the size in bytes.
 ///
 /// A stack is the crate that a report counts the function symbol for, and the parts of the trimmed name, which `::`
-/// outside of brackets separates, with `;` between them; the first part is left out where it is the crate. A `;` in a
-/// name is shown as `:`. The lines are in the order of `list`, and are made before the first byte is written.
+/// outside of brackets separates, with `;` between them. The first part is left out where it is the crate: of a crate
+/// `foo` the function `foo::bar` is `foo;bar`, and `foo` is `foo`, as `foo;foo` is `foo::foo`. A `;` in a name is shown
+/// as `:`. The lines are in the order of `list`, and are made before the first byte is written.
 ///
 /// # Errors
 ///
@@ -79,19 +80,30 @@ fn push_line(
     demangler.push_trimmed(&mut trimmed, function.function.name)?;
     let mut root = String::new(alloc);
     push_rewritten(&mut root, Shape::Stack, crate_name.as_str())?;
-    root.push_str(";")?;
     let mut parts = String::new(alloc);
     push_rewritten(&mut parts, Shape::Stack, trimmed.as_str())?;
-    push_stack(text, root.as_str(), parts.as_str())?;
+    push_stack(text, root, parts.as_str())?;
     writeln!(text, " {}", function.function.size)
 }
 
-// Appends the crate and the parts of a name, unless these begin with the crate.
-fn push_stack(text: &mut String, root: &str, parts: &str) -> Result<(), AllocError>
-    ensures { OnOk result (string_bytes text.new ≡ string_bytes text.old ++ stack_of root.now parts.now) }
+// Appends the crate and the parts of a name, unless the first of these is the crate.
+fn push_stack(text: &mut String, root: String, parts: &str) -> Result<(), AllocError>
+    ensures { OnOk result (string_bytes text.new ≡ string_bytes text.old ++ stack_of (string_bytes root) parts.now) }
 {
-    if !parts.as_bytes().starts_with(root.as_bytes()) {
-        text.push_str(root)?;
+    let is_crate = parts == root.as_str();
+    let mut below = root;
+    below.push_str(";")?;
+    if !is_crate && !parts.as_bytes().starts_with(below.as_bytes()) {
+        text.push_str(below.as_str())?;
     }
     text.push_str(parts)
 }
+
+/// A function in a crate; one whose name is the crate's alone; one of another path that begins with the same letters;
+/// and one of no known crate.
+fn worked_stacks()
+    ensures below { stack_of (codes "foo") (codes "foo;bar") ≡ codes "foo;bar" }
+    ensures alone { stack_of (codes "foo") (codes "foo") ≡ codes "foo" }
+    ensures other { stack_of (codes "foo") (codes "foot;bar") ≡ codes "foo;foot;bar" }
+    ensures unknown { stack_of (codes "[unknown]") (codes "foo") ≡ codes "[unknown];foo" }
+{}

@@ -2,7 +2,7 @@
 
 use crate::Asking;
 use crate::sections::{push_shown, push_writes};
-use crate::sources::Noted;
+use crate::sources::Faulty;
 use crate::words::{known, numbers, push_number, push_runs, push_words, words_of};
 use binfarce_bytes::source::Source;
 use binfarce_sections::error::SectionError;
@@ -10,6 +10,7 @@ use binfarce_tables::{elf, macho, pe};
 use binfarce_tools::SymbolTable;
 use binfarce_tools::tables::{Selection, read as read_tables};
 use std::io::{self, ErrorKind, Write};
+use test_reading::recording::{LoggedPart, Recorded, read_recorded};
 use test_reading::{Asked, parts, whole, width_of};
 use test_samples::files::File;
 use test_samples::{first_bytes, patched};
@@ -21,10 +22,8 @@ pub(crate) enum Reading<'a> {
     Sections,
     // What is asked of whole files too.
     Asked(Asked<'a>),
-    // The function symbols of a section by a symbol table, of a file of any format.
-    Functions(SymbolTable, &'a str),
-    // Those of all sections.
-    AllFunctions(SymbolTable),
+    // The function symbols of a selection by a symbol table, of a file of any format.
+    Functions(SymbolTable, Selection<'a>),
 }
 
 /// The reading that is named.
@@ -36,19 +35,23 @@ pub(crate) fn reading_of(words: &str) -> io::Result<Reading<'_>> {
         "bytes" => Some(Reading::Asked(Asked::Bytes(name))),
         "functions" => Some(Reading::Asked(Asked::Functions(Some(name)))),
         "all" => Some(Reading::Asked(Asked::Functions(None))),
-        "symtab" => Some(Reading::Functions(SymbolTable::Symtab, name)),
-        "dynsym" => Some(Reading::Functions(SymbolTable::Dynsym, name)),
-        "all-symtab" => Some(Reading::AllFunctions(SymbolTable::Symtab)),
-        "all-dynsym" => Some(Reading::AllFunctions(SymbolTable::Dynsym)),
+        "symtab" => functions(SymbolTable::Symtab, Selection::Section(name)),
+        "dynsym" => functions(SymbolTable::Dynsym, Selection::Section(name)),
+        "all-symtab" => functions(SymbolTable::Symtab, Selection::All),
+        "all-dynsym" => functions(SymbolTable::Dynsym, Selection::All),
         _ => None,
     })
+}
+
+fn functions(which: SymbolTable, selection: Selection<'_>) -> Option<Reading<'_>> {
+    Some(Reading::Functions(which, selection))
 }
 
 /// Adds the answer to a question of a reading.
 pub(crate) fn answer(of: &Asking<'_>, verb: &str, text: &mut Vec<u8>) -> io::Result<()> {
     let reading = reading_of(of.words)?;
     match (verb, reading) {
-        ("calls", _) => push_calls(of, reading, text),
+        ("asked", _) => push_asked(of, reading, text),
         ("withheld", _) => push_withheld(of, reading, text),
         ("failing", _) => push_failing(of, reading, text),
         ("shorter", _) => push_shorter(of, reading, text),
@@ -62,66 +65,79 @@ pub(crate) fn answer(of: &Asking<'_>, verb: &str, text: &mut Vec<u8>) -> io::Res
     }
 }
 
-fn read<S: Source<Log = ()>>(
+fn read<S: Source>(
     of: &Asking<'_>,
     source: &S,
+    log: &mut S::Log,
     reading: Reading<'_>,
 ) -> Result<(), SectionError> {
     match reading {
-        Reading::Sections => read_sections(of, source)?,
-        Reading::Asked(asked) => return parts(of.alloc, of.kind, source, asked).ended,
-        Reading::Functions(which, name) => {
-            let _ = read_tables(of.alloc, source, &mut (), which, Selection::Section(name))?;
-        }
-        Reading::AllFunctions(which) => {
-            let _ = read_tables(of.alloc, source, &mut (), which, Selection::All)?;
+        Reading::Sections => read_sections(of, source, log)?,
+        Reading::Asked(asked) => return parts(of.alloc, of.kind, source, log, asked).ended,
+        Reading::Functions(which, selection) => {
+            let _ = read_tables(of.alloc, source, log, which, selection)?;
         }
     }
     Ok(())
 }
 
-fn read_sections<S: Source<Log = ()>>(of: &Asking<'_>, source: &S) -> Result<(), SectionError> {
+fn read_sections<S: Source>(
+    of: &Asking<'_>,
+    source: &S,
+    log: &mut S::Log,
+) -> Result<(), SectionError> {
     match of.kind {
         File::Elf(layout) => {
             let width = width_of(layout);
-            let _ = elf::read_sections(of.alloc, source, &mut (), width, layout.order())?;
+            let _ = elf::read_sections(of.alloc, source, log, width, layout.order())?;
         }
         File::Macho => {
-            let _ = macho::read_sections(of.alloc, source, &mut ())?;
+            let _ = macho::read_sections(of.alloc, source, log)?;
         }
         File::Pe => {
-            let _ = pe::read_sections(of.alloc, source, &mut ())?;
+            let _ = pe::read_sections(of.alloc, source, log)?;
         }
     }
     Ok(())
 }
 
 // How the reading of a source ends.
-fn ended(of: &Asking<'_>, source: &Noted<'_>, reading: Reading<'_>) -> io::Result<Vec<u8>> {
-    words_of(of.alloc, &read(of, source, reading), "read")
+fn ended(of: &Asking<'_>, source: &Faulty<'_>, reading: Reading<'_>) -> io::Result<Vec<u8>> {
+    words_of(of.alloc, &read(of, source, &mut (), reading), "read")
 }
 
-// How the reading ends, and the calls of the source.
-fn push_calls(of: &Asking<'_>, reading: Reading<'_>, text: &mut Vec<u8>) -> io::Result<()> {
-    let source = Noted::of(of.alloc, of.file);
-    text.extend_from_slice(&ended(of, &source, reading)?)?;
-    for call in &source.calls.into_inner() {
-        match call {
-            None => push_words(text, " length")?,
-            Some((offset, size)) => write!(text, " {offset}+{size}")?,
-        }
+// How the reading ends, and the parts that it asks for.
+fn push_asked(of: &Asking<'_>, reading: Reading<'_>, text: &mut Vec<u8>) -> io::Result<()> {
+    let (ended, log) = recorded(of, reading);
+    text.extend_from_slice(&words_of(of.alloc, &ended, "read")?)?;
+    for part in &log {
+        write!(text, " {}+{}", part.offset, part.size)?;
     }
     Ok(())
+}
+
+fn recorded(of: &Asking<'_>, reading: Reading<'_>) -> (Result<(), SectionError>, Vec<LoggedPart>) {
+    if let Reading::Functions(which, selection) = reading {
+        let (tables, log) = read_recorded(of.alloc, of.file, which, selection);
+        let ended = match tables {
+            Ok(_) => Ok(()),
+            Err(e) => Err(SectionError::from(e)),
+        };
+        return (ended, log);
+    }
+    let mut log = Vec::new(of.alloc);
+    let ended = read(of, &Recorded { file: of.file }, &mut log, reading);
+    (ended, log)
 }
 
 // How the reading ends if the source gives the parts of the question alone, and if it gives all of them but one.
 fn push_withheld(of: &Asking<'_>, reading: Reading<'_>, text: &mut Vec<u8>) -> io::Result<()> {
     let parts = numbers(of.alloc, of.parts, false)?;
     push_runs(of.alloc, text, parts.len().saturating_add(1), |i| {
-        let source = Noted {
+        let source = Faulty {
             given: Some(&parts),
             withheld: i.checked_sub(1),
-            ..Noted::of(of.alloc, of.file)
+            ..Faulty::of(of.file)
         };
         ended(of, &source, reading)
     })
@@ -137,18 +153,18 @@ const ERRORS: [ErrorKind; 5] = [
 
 // How many calls are made, and how the reading ends if the source fails from one of them on, each in turn.
 fn push_failing(of: &Asking<'_>, reading: Reading<'_>, text: &mut Vec<u8>) -> io::Result<()> {
-    let source = Noted::of(of.alloc, of.file);
-    let _ = read(of, &source, reading);
-    let count = source.calls.into_inner().len();
+    let source = Faulty::of(of.file);
+    let _ = read(of, &source, &mut (), reading);
+    let count = source.calls.into_inner();
     push_number(text, count as u64)?;
     push_words(text, "calls")?;
     for error in ERRORS {
         push_words(text, "; ")?;
         push_runs(of.alloc, text, count, |answered| {
-            let source = Noted {
+            let source = Faulty {
                 answered,
                 error,
-                ..Noted::of(of.alloc, of.file)
+                ..Faulty::of(of.file)
             };
             ended(of, &source, reading)
         })?;
@@ -159,9 +175,9 @@ fn push_failing(of: &Asking<'_>, reading: Reading<'_>, text: &mut Vec<u8>) -> io
 // How the reading ends if the file becomes shorter after its length was given: by how many bytes are left.
 fn push_shorter(of: &Asking<'_>, reading: Reading<'_>, text: &mut Vec<u8>) -> io::Result<()> {
     push_runs(of.alloc, text, of.file.len(), |count| {
-        let source = Noted {
+        let source = Faulty {
             bytes: first_bytes(of.file, count),
-            ..Noted::of(of.alloc, of.file)
+            ..Faulty::of(of.file)
         };
         ended(of, &source, reading)
     })
@@ -174,16 +190,17 @@ fn compared<S: Source<Log = ()>>(
     source: &S,
     asked: Asked<'_>,
 ) -> io::Result<Vec<u8>> {
-    let is_same = whole(of.alloc, of.kind, file, asked) == parts(of.alloc, of.kind, source, asked);
+    let is_same = whole(of.alloc, of.kind, file, asked)
+        == parts(of.alloc, of.kind, source, &mut (), asked);
     words_of(of.alloc, &Ok(()), if is_same { "same" } else { "other" })
 }
 
 // The answers where a file becomes longer after its length was given, which must be those of its bytes up to there.
 fn push_longer(of: &Asking<'_>, asked: Asked<'_>, text: &mut Vec<u8>) -> io::Result<()> {
     push_runs(of.alloc, text, of.file.len(), |count| {
-        let source = Noted {
+        let source = Faulty {
             length: count as u64,
-            ..Noted::of(of.alloc, of.file)
+            ..Faulty::of(of.file)
         };
         compared(of, first_bytes(of.file, count), &source, asked)
     })

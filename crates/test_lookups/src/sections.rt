@@ -31,7 +31,7 @@ pub(crate) fn push_shown(
         push_number(text, answer.text.len() as u64)?;
     }
     text.extend_from_slice(&words_of(of.alloc, &answer.ended, "")?)?;
-    if parts(of.alloc, of.kind, &of.file, asked) != answer {
+    if parts(of.alloc, of.kind, &of.file, &mut (), asked) != answer {
         push_words(text, " otherwise at offsets")?;
     }
     Ok(())

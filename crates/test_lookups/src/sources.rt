@@ -1,16 +1,15 @@
-//! A source that notes the calls that come to it.
+//! A source that counts its calls, and fails where a test says so.
 
 use binfarce_bytes::source::Source;
-use std::alloc::Global;
 use std::cell::RefCell;
 use std::io::{self, Error, ErrorKind};
 
 /// An offset and a size.
 pub(crate) type Part = (u64, u64);
 
-/// Bytes in memory, and the calls that came.
+/// Bytes in memory, and how many calls came.
 #[derive(Drop)]
-pub(crate) struct Noted<'a> {
+pub(crate) struct Faulty<'a> {
     pub(crate) bytes: &'a [u8],
     /// The length that it says it has.
     pub(crate) length: u64,
@@ -21,28 +20,27 @@ pub(crate) struct Noted<'a> {
     /// How many calls are answered before all fail, and how they fail.
     pub(crate) answered: usize,
     pub(crate) error: ErrorKind,
-    /// The parts that were asked for, in order; `None` is the length.
-    pub(crate) calls: RefCell<Vec<Option<Part>>>,
+    pub(crate) calls: RefCell<usize>,
 }
 
-impl<'a> Noted<'a> {
+impl<'a> Faulty<'a> {
     /// Gives all bytes.
-    pub(crate) fn of(alloc: Global, bytes: &'a [u8]) -> Noted<'a> {
-        Noted {
+    pub(crate) fn of(bytes: &'a [u8]) -> Faulty<'a> {
+        Faulty {
             bytes,
             length: bytes.len() as u64,
             given: None,
             withheld: None,
             answered: usize::MAX,
             error: ErrorKind::Other,
-            calls: RefCell::new(Vec::new(alloc)),
+            calls: RefCell::new(0),
         }
     }
 
-    fn note(&self, call: Option<Part>) -> io::Result<()> {
+    fn count_call(&self) -> io::Result<()> {
         if let Ok(mut calls) = self.calls.try_borrow_mut() {
-            calls.push(call)?;
-            if calls.len() <= self.answered {
+            *calls = calls.saturating_add(1);
+            if *calls <= self.answered {
                 return Ok(());
             }
         }
@@ -68,18 +66,17 @@ fn has(parts: &[Part], withheld: Option<usize>, at: u64) -> bool {
     false
 }
 
-impl<'a> Source for Noted<'a> {
+impl<'a> Source for Faulty<'a> {
     type Log = ();
 
     fn length(&self) -> io::Result<u64> {
-        self.note(None)?;
+        self.count_call()?;
         Ok(self.length)
     }
 
     fn fill_at(&self, log: &mut (), offset: u64, buf: &mut [u8]) -> io::Result<()> {
-        let size = buf.len() as u64;
-        self.note(Some((offset, size)))?;
-        for at in offset..offset.saturating_add(size) {
+        self.count_call()?;
+        for at in offset..offset.saturating_add(buf.len() as u64) {
             if !self.gives(at) {
                 return Err(Error::from(self.error));
             }

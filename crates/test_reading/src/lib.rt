@@ -3,6 +3,8 @@
 
 ghost use Rattle.std.specs.Iterator.{IsFinite};
 
+pub mod recording;
+
 use binfarce::{FunctionSymbol, SectionFunction, SymbolTable, elf32, elf64, macho, pe};
 use binfarce_bytes::ParseError;
 use binfarce_bytes::functions::Selection;
@@ -60,18 +62,21 @@ pub fn whole(alloc: Global, kind: File, file: &[u8], asked: Asked<'_>) -> Answer
     }
 }
 
-/// The answer to a source.
-pub fn parts<S: Source<Log = ()>>(
+/// The answer to a source, which logs what it is asked for.
+pub fn parts<S: Source>(
     alloc: Global,
     kind: File,
     source: &S,
+    log: &mut S::Log,
     asked: Asked<'_>,
 ) -> Answer {
     let mut out = Out::new(Vec::new(alloc));
     let ended = match asked {
-        Asked::Functions(name) => return answer_of(alloc, functions_of(alloc, kind, source, name)),
-        Asked::Lines => list_source(alloc, source, &mut (), Form::Lines, &mut out),
-        Asked::Bytes(name) => write_section_of(alloc, source, &mut (), name, &mut out),
+        Asked::Functions(name) => {
+            return answer_of(alloc, functions_of(alloc, kind, source, log, name));
+        }
+        Asked::Lines => list_source(alloc, source, log, Form::Lines, &mut out),
+        Asked::Bytes(name) => write_section_of(alloc, source, log, name, &mut out),
     };
     Answer {
         text: out.into_inner(),
@@ -117,10 +122,11 @@ fn functions(alloc: Global, kind: File, file: &[u8], name: Option<&str>) -> Text
     }
 }
 
-fn functions_of<S: Source<Log = ()>>(
+fn functions_of<S: Source>(
     alloc: Global,
     kind: File,
     source: &S,
+    log: &mut S::Log,
     name: Option<&str>,
 ) -> Text {
     let selection = selection_of(name);
@@ -128,18 +134,18 @@ fn functions_of<S: Source<Log = ()>>(
         File::Elf(layout) => {
             let width = width_of(layout);
             let order = layout.order();
-            let parts = tables::elf::read(alloc, source, &mut (), width, order, SYMTAB, selection)?;
+            let parts = tables::elf::read(alloc, source, log, width, order, SYMTAB, selection)?;
             let functions = parts.functions();
             let size = functions.section_size();
             Ok(text_of(alloc, functions, size)?)
         }
         File::Macho => {
-            let parts = tables::macho::read(alloc, source, &mut (), selection)?;
+            let parts = tables::macho::read(alloc, source, log, selection)?;
             let functions = parts.functions(alloc)?;
             Ok(text_of(alloc, functions.into_iter(), parts.section_size())?)
         }
         File::Pe => {
-            let parts = tables::pe::read(alloc, source, &mut (), selection)?;
+            let parts = tables::pe::read(alloc, source, log, selection)?;
             let functions = parts.functions(alloc)?;
             Ok(text_of(alloc, functions.into_iter(), parts.section_size())?)
         }

@@ -22,7 +22,7 @@ const ALL: Asked<'static> = Asked::Functions(None);
 
 fn is_same(alloc: Global, kind: File, file: &[u8], asked: Asked<'_>) -> Row {
     let wanted = whole(alloc, kind, file, asked);
-    let answer = parts(alloc, kind, &file, asked);
+    let answer = parts(alloc, kind, &file, &mut (), asked);
     if wanted.is_out_of_memory() || answer.is_out_of_memory() {
         Err(AllocError)
     } else {
@@ -58,7 +58,8 @@ pub(crate) fn is_read(rt: &HostRuntime) -> bool {
     let kind = File::Elf(Layout::Elf64Little);
     match fs::File::open(rt, SAMPLE) {
         Ok(file) => {
-            parts(rt.alloc(), kind, &file, TEXT) == whole(rt.alloc(), kind, kind.bytes(), TEXT)
+            parts(rt.alloc(), kind, &file, &mut (), TEXT)
+                == whole(rt.alloc(), kind, kind.bytes(), TEXT)
         }
         Err(_) => false,
     }

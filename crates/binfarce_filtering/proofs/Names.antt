@@ -55,17 +55,22 @@ name_read full first run readable rest len n to begins length readable_is is end
     ap (λ k. drop k (drop len run)) (sym is) ∙ drop-drop n len run ∙ ap (λ k. drop k run) (sym ends) in
     name_then first run len readable rest begins length readable_is (subst P (sym same) more)
 
--- where no name is, the rest stays
-nothing_read : (full : Bool) (run shown : List ℕ) → IsRead full false run shown → run ≡ [] → shown ≡ []
-nothing_read full run shown (no_more first) is = refl
-nothing_read full run shown (byte_then first b more rest other read) is = let none = ap length is in absurd (omega (arith, none))
-nothing_read full run shown (name_then first all n readable rest begins len readable_is read) is = absurd (false≢true (sym (ap (begins_name false) is) ∙ begins))
-nothing_read full run shown (rest_stays first all begins none) is = is
+-- nothing is shown of an empty run
+pub none_read : (full first : Bool) (run shown : List ℕ) → IsRead full first run shown → run ≡ [] → shown ≡ []
+none_read full first _ _ (no_more _) is = refl
+none_read full first _ _ (byte_then _ b run shown begins rest) is = absurd cc
+none_read full first _ _ (name_then _ run n readable shown begins len name rest) is = absurd (no_name first (sym (ap (begins_name first) is) ∙ begins))
+  where
+    no_name : (first : Bool) → begins_name first [] ≡ true → ⊥
+    no_name true begins = absurd cc
+    no_name false begins = absurd cc
+none_read full first _ _ (rest_stays _ run begins none) is = is
 
+-- where no name is, the rest stays
 pub rest_read : (full first : Bool) (run rest : List ℕ) → begins_name first run ≡ true → ((n : ℕ) → ¬ (IsNameLength run n)) → IsRead full false (drop (length run) run) rest → IsRead full first run (run ++ rest)
 rest_read full first run rest begins none read =
     let P : List ℕ → Type 0 = λ x. IsRead full first run x in
-    subst P (sym (ap (λ (x : List ℕ). run ++ x) (nothing_read full (drop (length run) run) rest read (drop_all (length run) run (omega arith))) ∙ append-nil run)) (rest_stays first run begins none)
+    subst P (sym (ap (λ (x : List ℕ). run ++ x) (none_read full false (drop (length run) run) rest read (drop_all (length run) run (omega arith))) ∙ append-nil run)) (rest_stays first run begins none)
 
 -- what was written after old is what is shown of a run before a position
 abbrev pub ReadsTo : Bool → List ℕ → ℕ → List ℕ → List ℕ → Type 0

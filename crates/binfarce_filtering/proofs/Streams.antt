@@ -5,28 +5,18 @@ use Rattle.std.proofs.lemmas.List.{take-append-drop, take_all}
 use Rattle.std.specs.Io.KnownBytes.{Appends}
 use Rattle.std.proofs.KnownBytes.{Appends-trans}
 use Rattle.binfarce_text.specs.Streams.{IsBeginningOf}
-use Rattle.binfarce_filtering.specs.Filter.{IsFiltered, IsRead, IsShownIf, begins_name, is_run, is_run_byte, is_too_long}
+use Rattle.binfarce_filtering.specs.Filter.{IsFiltered, IsShownIf, is_run, is_run_byte, is_too_long}
 use Rattle.binfarce_filtering.specs.Filter.IsFiltered.{nothing, other_then, run_then}
-use Rattle.binfarce_filtering.specs.Filter.IsRead.{byte_then, name_then, no_more, rest_stays}
 use Rattle.binfarce_filtering.specs.Continued.{Continues}
 use Rattle.binfarce_filtering.specs.FilterViews.{Holds}
 use Rattle.binfarce_filtering.specs.declared.filter.TextFilter.{TextFilter}
+use Rattle.binfarce_filtering.proofs.Names.{none_read}
 use Rattle.binfarce_filtering.proofs.Parts.{kept_so_far, none_is_short, too_long_is_shown, too_long_is_some, too_long_more, too_long_so_far}
 use Rattle.binfarce_filtering.proofs.Scans.{run_grows}
 use Rattle.binfarce_filtering.proofs.Runs.{filtered_same, one_byte, run_alone, run_and_byte}
 
 abbrev Begins : (full : Bool) (text shown : List ℕ) → Type 0
 Begins full text shown = IsBeginningOf (IsFiltered full) text shown
-
-none_read : (full first : Bool) (run shown : List ℕ) → IsRead full first run shown → run ≡ [] → shown ≡ []
-none_read full first _ _ (no_more _) is = refl
-none_read full first _ _ (byte_then _ b run shown begins rest) is = absurd cc
-none_read full first _ _ (name_then _ run n readable shown begins len name rest) is = absurd (no_name first (sym (ap (begins_name first) is) ∙ begins))
-  where
-    no_name : (first : Bool) → begins_name first [] ≡ true → ⊥
-    no_name true begins = absurd cc
-    no_name false begins = absurd cc
-none_read full first _ _ (rest_stays _ run begins none) is = is
 
 -- nothing replaces no text
 none_filtered : (full : Bool) (text filtered : List ℕ) → IsFiltered full text filtered → text ≡ [] → filtered ≡ []

@@ -1,4 +1,5 @@
 pub mod Filter
+pub mod Laws
 pub mod Continued
 pub mod FilterViews
 pub mod machine

@@ -2,4 +2,5 @@
 #![tactic(auto)]
 
 pub mod filter;
+pub mod laws;
 pub mod stream;

@@ -96,6 +96,9 @@ fn key_of(
         if is_std(key.as_str()) {
             return String::from_str(alloc, "[std]");
         }
+        if grouping.key == Key::Crate {
+            return Ok(key);
+        }
         key.clear();
     }
     match grouping.key {

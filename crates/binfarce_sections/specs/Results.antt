@@ -5,23 +5,25 @@ use Rattle.binfarce.specs.Refusal.{refusal_of, words}
 use Rattle.binfarce.specs.Walk.{Walk}
 use Rattle.binfarce_tables.specs.declared.error.ReadError as reading
 use Rattle.binfarce_tables.specs.declared.error.ReadError.TheVariants as read_errors
+use Rattle.binfarce_tools.specs.ListWords.{list_words}
 use Rattle.binfarce_tools.specs.Writing.{AppendsBeginning}
 use Rattle.binfarce_tools.specs.Json.{Style}
+use Rattle.binfarce_tools.specs.declared.list.ListError.TheVariants as listing
 use Rattle.binfarce_sections.specs.declared.error.SectionError.{SectionError}
 use Rattle.binfarce_sections.specs.declared.error.SectionError.TheVariants.{Unknown, Parse, NoSection, NoBytes, PastEnd, OutOfMemory, Write, Unreadable}
 use Rattle.binfarce_sections.specs.Lines.{section_lines}
 use Rattle.binfarce_sections.specs.Named.{Lack, unknown_format, refused, no_section, no_bytes, past_end}
 use Rattle.binfarce_sections.specs.Section.{Section}
 
--- the printed text
+-- the printed text; for the errors of `list`, its text
 abbrev pub section_words : SectionError → List ℕ
-section_words Unknown = codes "unknown file format"
+section_words Unknown = list_words listing.Unknown
 section_words (Parse e) = words (refusal_of e)
 section_words NoSection = codes "no section of this name"
 section_words NoBytes = codes "section has no bytes in the file"
 section_words PastEnd = codes "section reaches past the end of the file"
-section_words OutOfMemory = codes "out of memory"
-section_words Write = codes "write failed"
+section_words OutOfMemory = list_words listing.OutOfMemory
+section_words Write = list_words listing.Write
 section_words Unreadable = codes "cannot read file"
 
 -- the error of a call for an error of a reading

@@ -4,6 +4,7 @@ ghost use Rattle.std.specs.Prelude.{◌≡◌, Some};
 
 use binfarce::ParseError;
 use binfarce_tables::ReadError;
+use binfarce_tools::list::ListError;
 use std::alloc::AllocError;
 use std::error::Error;
 use std::fmt;
@@ -35,15 +36,16 @@ impl fmt::Display for SectionError {
 
     ghost output = { λ e. Some (section_words e) };
 
+    /// The errors of `list` have its text.
     fn fmt<W: fmt::Write>(&self, f: &mut fmt::Formatter<W>) -> fmt::Result {
         match self {
-            SectionError::Unknown => write!(f, "unknown file format"),
+            SectionError::Unknown => write!(f, "{}", ListError::Unknown),
             SectionError::Parse(e) => write!(f, "{e}"),
             SectionError::NoSection => write!(f, "no section of this name"),
             SectionError::NoBytes => write!(f, "section has no bytes in the file"),
             SectionError::PastEnd => write!(f, "section reaches past the end of the file"),
-            SectionError::OutOfMemory => write!(f, "out of memory"),
-            SectionError::Write => write!(f, "write failed"),
+            SectionError::OutOfMemory => write!(f, "{}", ListError::OutOfMemory),
+            SectionError::Write => write!(f, "{}", ListError::Write),
             SectionError::Unreadable => write!(f, "cannot read file"),
         }
     }

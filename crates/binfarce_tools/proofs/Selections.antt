@@ -141,6 +141,7 @@ module _ (which : SymbolTable) (file : List ℕ) where
   names_are variants.Unknown all are is =
       let e : Path (Option (Result SelectedSymbols Refusal)) None (Some (Ok all)) = sym (of_format which None file formats.Unknown are) ∙ is in absurd cc
   names_are (variants.Whole whole named) all are is = let never : None ≡ Some named.now = are.2 in absurd cc
+  names_are (variants.Made functions size) all are is = let never : None ≡ Some are.0 = are.2 in absurd cc
 
   shares_are : (section : Option (List ℕ)) (read : Tables) (seen : SelectedSymbols) → AreTablesOf which file section read → selected_answer which section file ≡ Some (Ok seen) → is_some section ≡ false → shares_addresses_of read ≡ seen.shares_addresses
   unfolding AreTablesOf selected_symbols
@@ -150,6 +151,7 @@ module _ (which : SymbolTable) (file : List ℕ) where
   shares_are section variants.Unknown seen are is all =
       let e : Path (Option (Result SelectedSymbols Refusal)) None (Some (Ok seen)) = sym (of_format which section file formats.Unknown are) ∙ is in absurd cc
   shares_are section (variants.Whole whole named) seen are is all = let never : true ≡ false = ap is_some (sym are.2) ∙ all in absurd cc
+  shares_are section (variants.Made functions size) seen are is all = let never : true ≡ false = ap is_some (sym are.2) ∙ all in absurd cc
 
   shares_none : (name : List ℕ) (read : Tables) (seen : SelectedSymbols) → AreTablesOf which file (Some name) read → selected_answer which (Some name) file ≡ Some (Ok seen) → shares_addresses_of read ≡ false
   unfolding AreTablesOf
@@ -158,6 +160,7 @@ module _ (which : SymbolTable) (file : List ℕ) where
   shares_none name (variants.Pe parts) seen are is = (sized_in which file (Some name) (pe.selected_view parts) are.1).1 refl
   shares_none name variants.Unknown seen are is = refl
   shares_none name (variants.Whole whole named) seen are is = refl
+  shares_none name (variants.Made functions size) seen are is = refl
 
 -- so is one of all sections
 pub listing_of_all : {Y E : Type 0} (which : SymbolTable) (file : List ℕ) (section : Option (List ℕ)) (listed : Listed) (tables : Tables) (functions : AllFunctions) (result : Result (String Y) E)

@@ -15,7 +15,7 @@ use Rattle.binfarce.specs.PeSelection as pe
 use Rattle.binfarce.specs.Refusal.{Refusal}
 use Rattle.binfarce.specs.SectionEntries.{SectionEntry, SelectedSymbols, as_listed}
 use Rattle.binfarce.specs.Symbol.{Listed, Answers}
-use Rattle.binfarce.specs.SymbolViews.{HoldsSelected}
+use Rattle.binfarce.specs.SymbolViews.{HoldsSelected, section_function_view}
 use Rattle.binfarce_tools.specs.declared.functions.Selected.{Selected}
 use Rattle.binfarce_tools.specs.declared.functions.Selected.TheVariants.{Section, All}
 use Rattle.binfarce_tools.specs.declared.list.ListError.{ListError}
@@ -25,6 +25,8 @@ use Rattle.binfarce_tools.specs.AllAnswer.{selected_symbols, selected_answer, on
 use Rattle.binfarce_tools.specs.Entries.{GetsAs, GetsIn, HoldsIn, IsSelection}
 use Rattle.binfarce_tools.specs.ListWords.{list_error_of}
 use Rattle.binfarce_tools.specs.Selection.{answer_in, MemoryIn}
+use Rattle.binfarce_tools.specs.Tables.{AreTablesOf}
+use Rattle.binfarce_tools.specs.declared.tables.Tables.TheVariants.{Made}
 use Rattle.binfarce_tools.proofs.Listings.{as_memory, parse}
 use Rattle.binfarce_tools.proofs.Reported.{Reported, is_reported}
 use Rattle.binfarce_tools.proofs.Selected.{in_is, sized_in, by_symtab, some_of, macho_needs, pe_has_section}
@@ -101,6 +103,16 @@ module _ (which : SymbolTable) (file : List ℕ) where
     where
       answered : selected_answer which section file ≡ None
       answered = of_format which section file formats.Unknown is
+
+-- what was made of a section's answer is that answer
+pub of_made : (which : SymbolTable) (file : List ℕ) (section : Option (List ℕ)) (functions : Vec SectionFunction) (size : ℕ) (entries : List SectionEntry) (value : Selected) → AreTablesOf which file section (Made functions size)
+    → map section_function_view functions.items ≡ entries → IsSelection entries (Some size) value → GetsIn which file section (Ok value)
+unfolding AreTablesOf
+of_made which file section functions size entries (All all) are same selection = absurd selection
+of_made which file section functions size entries (Section given n) are same selection =
+    let P : Option (List ℕ) → Option (Result Listed Refusal) → Type 0 = λ s a. GetsAs (HoldsIn which file s) (MemoryIn file s) a (Ok (Section given n)) in
+    let left = ap (map (λ e. e.entry)) (selection.0 ∙ sym same) ∙ are.4 in
+    subst (P section) (sym are.3) (subst (λ (s : Option (List ℕ)). P s (Some (Ok are.1))) (sym are.2) (left, selection.1 ∙ are.5))
 
 -- what a whole file gives is its own answer for its section by the symbol table
 pub of_whole : (which : SymbolTable) (file whole named : List ℕ) (section : Option (List ℕ)) (result : Result Selected ListError) → (which ≡ Symtab) × (file ≡ whole) × (section ≡ Some named)

@@ -13,6 +13,7 @@ use Rattle.binfarce_tools.specs.declared.functions.AllFunctions.{AllFunctions}
 use Rattle.binfarce_tools.specs.declared.functions.AllFunctions.TheVariants as variants
 use Rattle.binfarce_tools.specs.declared.functions.Arranged.{Arranged}
 use Rattle.binfarce_tools.specs.declared.functions.Functions.{Functions}
+use Rattle.binfarce_tools.specs.declared.functions.Lent.{Lent}
 use Rattle.binfarce_tools.specs.declared.functions.Selected.{Selected}
 use Rattle.binfarce_tools.specs.declared.functions.Selected.TheVariants.{Section, All}
 use Rattle.binfarce_tools.specs.declared.list.ListError.{ListError}
@@ -22,10 +23,15 @@ use Rattle.binfarce_tools.specs.declared.list.ListError.TheVariants.{Unknown, Pa
 abbrev pub arranged_left : Arranged → List SectionEntry
 arranged_left a = map section_function_view (drop a.next a.functions.items)
 
+-- those that a list which is lent has left
+abbrev pub lent_left : Lent → List SectionEntry
+lent_left l = map section_function_view (drop l.next l.functions.now)
+
 -- the entries that are left of a file's, with their sections
 abbrev pub all_left : AllFunctions → List SectionEntry
 all_left (variants.Elf functions) = elf.functions_left functions
 all_left (variants.Arranged functions) = arranged_left functions
+all_left (variants.Lent functions) = lent_left functions
 
 -- and without them
 abbrev pub functions_left : Functions → List Entry

@@ -1,9 +1,11 @@
 -- The tables of a file's function symbols, and the result of reading them.
-use Rattle.std.specs.Prelude.{◌≡◌, ℕ, Bool, false, List, Option, Some, None, Result, Ok, Err}
+use Rattle.std.specs.Prelude.{◌≡◌, ℕ, Bool, false, List, map, Option, Some, None, Result, Ok, Err}
 use Rattle.binfarce.specs.declared.Format.TheVariants as formats
 use Rattle.binfarce.specs.Format.{format_of}
 use Rattle.binfarce.specs.MachoSelection as macho_file
 use Rattle.binfarce.specs.Refusal.{Refusal, refusal_of}
+use Rattle.binfarce.specs.Symbol.{Listed}
+use Rattle.binfarce.specs.SymbolViews.{section_function_view}
 use Rattle.binfarce_tables.specs.ElfReading as elf
 use Rattle.binfarce_tables.specs.MachoReading as macho
 use Rattle.binfarce_tables.specs.PeReading as pe
@@ -14,10 +16,11 @@ use Rattle.binfarce.specs.declared.SymbolTable.TheVariants.{Symtab}
 use Rattle.binfarce_tools.specs.AllAnswer.{selected_answer}
 use Rattle.binfarce_tools.specs.Selection.{answer_in}
 use Rattle.binfarce_tools.specs.declared.tables.Tables.{Tables}
-use Rattle.binfarce_tools.specs.declared.tables.Tables.TheVariants.{Elf, Macho, Pe, Unknown, Whole}
+use Rattle.binfarce_tools.specs.declared.tables.Tables.TheVariants.{Elf, Macho, Pe, Unknown, Whole, Made}
 
 -- the tables are those of this file's answer for a selection by this symbol table: the parts of an ELF or PE file have its function symbols, those of a
--- Mach-O file what these are made of; for an unknown format there are none; and a whole file has its own answer for its section by the symbol table
+-- Mach-O file what these are made of; for an unknown format there are none; a whole file has its own answer for its section by the symbol table; and
+-- what was made has the entries and the size of a section's answer
 unfoldable pub AreTablesOf : SymbolTable → (file : List ℕ) → (section : Option (List ℕ)) → Tables → Type 0
 AreTablesOf which file section (Elf parts) = selected_answer which section file ≡ Some (Ok (elf.parts_view parts))
 AreTablesOf which file section (Macho parts) =
@@ -26,6 +29,9 @@ AreTablesOf which file section (Macho parts) =
 AreTablesOf which file section (Pe parts) = (format_of file ≡ formats.PE) × (selected_answer which section file ≡ Some (Ok (pe.selected_view parts)))
 AreTablesOf which file section Unknown = format_of file ≡ formats.Unknown
 AreTablesOf which file section (Whole whole named) = (which ≡ Symtab) × (file ≡ whole.now) × (section ≡ Some named.now)
+AreTablesOf which file section (Made functions size) =
+    (name : List ℕ) × (listed : Listed) × (section ≡ Some name) × (answer_in which file section ≡ Some (Ok listed))
+    × (map (λ e. e.entry) (map section_function_view functions.items) ≡ listed.entries) × (size ≡ listed.section_size)
 
 -- what a reading of a file with this answer gives: tables that are its own, or its refusal; or a read failed, which it may only where MayFail says so; or an allocation failed
 abbrev pub ReadsAs : {L T : Type 0} → (T → Type 0) → Type 0 → Option (Result L Refusal) → Result T ReadError → Type 0

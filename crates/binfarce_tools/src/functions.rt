@@ -10,7 +10,7 @@ ghost use Rattle.binfarce.specs.Symbol.{ListsSome, Answers};
 ghost use Rattle.binfarce.specs.SymbolViews.{section_function_view};
 ghost use Rattle.binfarce.specs.declared.SymbolTable.TheVariants.{Symtab};
 ghost use Rattle.binfarce_tools.specs.Answer.{file_answer, FileNeedsMemory};
-ghost use Rattle.binfarce_tools.specs.Entries.{all_left, arranged_left, functions_left, selected_left, size_of, HoldsLeft, IsSelection, Gets};
+ghost use Rattle.binfarce_tools.specs.Entries.{all_left, arranged_left, lent_left, functions_left, selected_left, size_of, HoldsLeft, IsSelection, Gets};
 
 use crate::list::ListError;
 use binfarce::{
@@ -52,12 +52,20 @@ impl<'a> Iterator for Functions<'a> {
 pub enum AllFunctions<'a> {
     Elf(symbols::Functions<'a>),
     Arranged(Arranged<'a>),
+    Lent(Lent<'a>),
 }
 
 /// The function symbols of a list with their sections, from an index on.
 #[derive(Drop)]
 pub struct Arranged<'a> {
     functions: Vec<SectionFunction<'a>>,
+    next: usize,
+}
+
+/// The same, of a list that is lent.
+#[derive(Drop)]
+pub struct Lent<'a> {
+    functions: &'a [SectionFunction<'a>],
     next: usize,
 }
 
@@ -76,6 +84,7 @@ impl<'a> Iterator for AllFunctions<'a> {
         match self {
             AllFunctions::Elf(functions) => functions.next(),
             AllFunctions::Arranged(functions) => functions.next(),
+            AllFunctions::Lent(functions) => functions.next(),
         }
     }
 }
@@ -84,6 +93,17 @@ impl<'a> Arranged<'a> {
     // The first of those that are left, which the others follow.
     fn next(&mut self) -> Option<SectionFunction<'a>>
         ensures { YieldsFirstBy section_function_view arranged_left self.old result self.new }
+    {
+        let function = *self.functions.get(self.next)?;
+        self.next += 1;
+        Some(function)
+    }
+}
+
+impl<'a> Lent<'a> {
+    // The first of those that are left, which the others follow.
+    fn next(&mut self) -> Option<SectionFunction<'a>>
+        ensures { YieldsFirstBy section_function_view lent_left self.old result self.new }
     {
         let function = *self.functions.get(self.next)?;
         self.next += 1;
@@ -207,6 +227,14 @@ pub(crate) fn from_list(functions: Vec<SectionFunction<'_>>) -> AllFunctions<'_>
     ensures { all_left result ≡ map section_function_view functions.entry.items }
 {
     AllFunctions::Arranged(Arranged { functions, next: 0 })
+}
+
+// Those of a list that is lent, as those of a section of this size.
+pub(crate) fn lent_section<'a>(functions: &'a [SectionFunction<'a>], size: u64) -> Selected<'a>
+    ensures { IsSelection (map section_function_view functions.entry.now) (Some size) result }
+{
+    let all = AllFunctions::Lent(Lent { functions, next: 0 });
+    Selected::Section(Functions { all }, size)
 }
 
 // The functions as those of a section, where they have its size.

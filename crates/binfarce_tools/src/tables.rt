@@ -18,16 +18,19 @@ ghost use Rattle.binfarce_tools.specs.Selection.{answer_in, share_in};
 ghost use Rattle.binfarce_tools.specs.declared.list.ListError.TheVariants.{Write};
 ghost use Rattle.binfarce_tools.specs.Tables.{AreTablesOf, ReadsTables, section_names, shares_addresses_of};
 
-use crate::functions::{AllFunctions, Selected, from_list, functions_of_file, selection};
+use crate::functions::{
+    AllFunctions, Selected, from_list, functions_of_file, lent_section, selection,
+};
 use crate::list::ListError;
-use binfarce::{Format, ParseError, SymbolTable};
+use binfarce::{Format, ParseError, SectionFunction, SymbolTable};
 pub use binfarce_bytes::functions::Selection;
 use binfarce_bytes::source::Source;
 use binfarce_tables::format::read_format;
 use binfarce_tables::{ReadError, Width, elf, macho, pe};
 use std::alloc::Global;
 
-/// The tables of a file for the function symbols of a selection: those that were read, or a whole file in memory.
+/// The tables of a file for the function symbols of a selection: those that were read, a whole file in memory, or what
+/// was made of either.
 #[derive(Drop)]
 pub enum Tables<'a> {
     /// The parts of an ELF file.
@@ -39,7 +42,15 @@ pub enum Tables<'a> {
     /// Nothing: the file's first bytes name no supported format.
     Unknown,
     /// All bytes of a file, and the section.
-    Whole { file: &'a [u8], section: &'a str },
+    Whole {
+        file: &'a [u8],
+        section: &'a str,
+    },
+    /// The function symbols of a section, which were made before, and its size.
+    Made {
+        functions: Vec<SectionFunction<'a>>,
+        size: u64,
+    },
 }
 
 impl<'a> Tables<'a> {
@@ -83,6 +94,7 @@ impl<'a> Tables<'a> {
                 let (functions, size) = functions_of_file(alloc, file, section)?;
                 Ok(Selected::Section(functions, size))
             }
+            Tables::Made { functions, size } => Ok(lent_section(functions, *size)),
         }
     }
 
@@ -156,8 +168,12 @@ pub fn read<S: Source>(
     read_tables(alloc, source, log, format, which, selection)
 }
 
-// The tables of a file of this format.
-fn read_tables<S: Source>(
+/// As `read`, of a file that has this format: its first 8 bytes aren't read for it.
+///
+/// # Errors
+///
+/// Those of `read`.
+pub fn read_tables<S: Source>(
     alloc: Global,
     source: &S,
     log: &mut S::Log,

@@ -4,6 +4,7 @@
 
 use crate::erased::binfarce::ParseError;
 use crate::erased::binfarce_tables::ReadError;
+use crate::erased::binfarce_tools::list::ListError;
 use crate::shim::alloc::AllocError;
 use std::error::Error;
 use std::fmt;
@@ -31,15 +32,16 @@ pub enum SectionError {
 }
 
 impl fmt::Display for SectionError {
+    /// The errors of `list` have its text.
     fn fmt(&self, f: &mut fmt::Formatter<'_>) -> fmt::Result {
         match self {
-            SectionError::Unknown => write!(f, "unknown file format"),
+            SectionError::Unknown => write!(f, "{}", ListError::Unknown),
             SectionError::Parse(e) => write!(f, "{e}"),
             SectionError::NoSection => write!(f, "no section of this name"),
             SectionError::NoBytes => write!(f, "section has no bytes in the file"),
             SectionError::PastEnd => write!(f, "section reaches past the end of the file"),
-            SectionError::OutOfMemory => write!(f, "out of memory"),
-            SectionError::Write => write!(f, "write failed"),
+            SectionError::OutOfMemory => write!(f, "{}", ListError::OutOfMemory),
+            SectionError::Write => write!(f, "{}", ListError::Write),
             SectionError::Unreadable => write!(f, "cannot read file"),
         }
     }

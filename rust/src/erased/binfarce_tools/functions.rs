@@ -33,11 +33,18 @@ impl<'a> Iterator for Functions<'a> {
 pub enum AllFunctions<'a> {
     Elf(symbols::Functions<'a>),
     Arranged(Arranged<'a>),
+    Lent(Lent<'a>),
 }
 
 /// The function symbols of a list with their sections, from an index on.
 pub struct Arranged<'a> {
     functions: Vec<SectionFunction<'a>>,
+    next: usize,
+}
+
+/// The same, of a list that is lent.
+pub struct Lent<'a> {
+    functions: &'a [SectionFunction<'a>],
     next: usize,
 }
 
@@ -48,11 +55,21 @@ impl<'a> Iterator for AllFunctions<'a> {
         match self {
             AllFunctions::Elf(functions) => functions.next(),
             AllFunctions::Arranged(functions) => functions.next(),
+            AllFunctions::Lent(functions) => functions.next(),
         }
     }
 }
 
 impl<'a> Arranged<'a> {
+    // The first of those that are left, which the others follow.
+    fn next(&mut self) -> Option<SectionFunction<'a>> {
+        let function = *self.functions.get(self.next)?;
+        self.next += 1;
+        Some(function)
+    }
+}
+
+impl<'a> Lent<'a> {
     // The first of those that are left, which the others follow.
     fn next(&mut self) -> Option<SectionFunction<'a>> {
         let function = *self.functions.get(self.next)?;
@@ -154,6 +171,12 @@ fn listed(functions: Vec<SectionFunction<'_>>, size: Option<u64>) -> (Functions<
 // All functions of a list.
 pub(crate) fn from_list(functions: Vec<SectionFunction<'_>>) -> AllFunctions<'_> {
     AllFunctions::Arranged(Arranged { functions, next: 0 })
+}
+
+// Those of a list that is lent, as those of a section of this size.
+pub(crate) fn lent_section<'a>(functions: &'a [SectionFunction<'a>], size: u64) -> Selected<'a> {
+    let all = AllFunctions::Lent(Lent { functions, next: 0 });
+    Selected::Section(Functions { all }, size)
 }
 
 // The functions as those of a section, where they have its size.

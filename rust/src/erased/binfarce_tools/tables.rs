@@ -2,18 +2,20 @@
 
 //! The tables of a file's function symbols, read from a source.
 
+use crate::shim::Vec;
 use crate::erased::binfarce_tools::functions::{
-    AllFunctions, Selected, from_list, functions_of_file, selection,
+    AllFunctions, Selected, from_list, functions_of_file, lent_section, selection,
 };
 use crate::erased::binfarce_tools::list::ListError;
-use crate::erased::binfarce::{Format, ParseError, SymbolTable};
+use crate::erased::binfarce::{Format, ParseError, SectionFunction, SymbolTable};
 pub use crate::erased::binfarce_bytes::functions::Selection;
 use crate::erased::binfarce_bytes::source::Source;
 use crate::erased::binfarce_tables::format::read_format;
 use crate::erased::binfarce_tables::{ReadError, Width, elf, macho, pe};
 use crate::shim::alloc::Global;
 
-/// The tables of a file for the function symbols of a selection: those that were read, or a whole file in memory.
+/// The tables of a file for the function symbols of a selection: those that were read, a whole file in memory, or what
+/// was made of either.
 pub enum Tables<'a> {
     /// The parts of an ELF file.
     Elf(elf::Parts),
@@ -24,7 +26,15 @@ pub enum Tables<'a> {
     /// Nothing: the file's first bytes name no supported format.
     Unknown,
     /// All bytes of a file, and the section.
-    Whole { file: &'a [u8], section: &'a str },
+    Whole {
+        file: &'a [u8],
+        section: &'a str,
+    },
+    /// The function symbols of a section, which were made before, and its size.
+    Made {
+        functions: Vec<SectionFunction<'a>>,
+        size: u64,
+    },
 }
 
 impl<'a> Tables<'a> {
@@ -60,6 +70,7 @@ impl<'a> Tables<'a> {
                 let (functions, size) = functions_of_file(alloc, file, section)?;
                 Ok(Selected::Section(functions, size))
             }
+            Tables::Made { functions, size } => Ok(lent_section(functions, *size)),
         }
     }
 
@@ -114,8 +125,12 @@ pub fn read<S: Source>(
     read_tables(alloc, source, log, format, which, selection)
 }
 
-// The tables of a file of this format.
-fn read_tables<S: Source>(
+/// As `read`, of a file that has this format: its first 8 bytes aren't read for it.
+///
+/// # Errors
+///
+/// Those of `read`.
+pub fn read_tables<S: Source>(
     alloc: Global,
     source: &S,
     log: &mut S::Log,

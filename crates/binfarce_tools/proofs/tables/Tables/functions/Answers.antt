@@ -1,6 +1,7 @@
-use Rattle.std.proofs.Common.{Ok, subst, ◌∙◌, sym}
+use Rattle.std.proofs.Common.{Ok, map, ap, subst, ◌∙◌, sym}
 use Rattle.std.specs.Prelude.{◌≢◌, []}
 use Rattle.binfarce.specs.MachoSelection as macho_file
+use Rattle.binfarce.specs.SymbolViews.{section_function_view}
 use Rattle.binfarce_tables.specs.ElfReading as elf
 use Rattle.binfarce_tables.specs.MachoReading as macho
 use Rattle.binfarce_tables.specs.PeReading as pe
@@ -9,7 +10,7 @@ use Rattle.binfarce_tools.specs.declared.tables.Tables.{Tables}
 use Rattle.binfarce_tools.proofs.Reported.{reported_symbols_of}
 use Rattle.binfarce_tools.proofs.Selected.{macho_made}
 use Rattle.binfarce_tools.proofs.Selections.{none_in, one_in}
-use Rattle.binfarce_tools.proofs.TablesGive.{given, given_of, not_given, same_selection, macho_memory, pe_memory, of_unknown, of_whole}
+use Rattle.binfarce_tools.proofs.TablesGive.{given, given_of, not_given, same_selection, macho_memory, of_made, pe_memory, of_unknown, of_whole}
 use Rattle.binfarce_tools.proofs.tables.Tables.functions.Goals as goal
 
 pub returns-in-Unknown-clause-gets : goal.returns-in-Unknown-clause-gets
@@ -67,3 +68,8 @@ returns-in_err-functions-in-Whole-clause-gets c = λ which file section are.
     let is = subst (λ (t : Tables). AreTablesOf which file section t) c.in-Whole.is are in
     let e = c.in_err-functions-in-Whole.field-0.0 in
     of_whole which file c.in-Whole.file.now c.in-Whole.section.now section _ is (none_in _ c.in-Whole.file.now c.in-Whole.section.now e c.from_residual-in_err-functions-in-Whole.result c.in_err-functions-in-Whole.ensures c.from_residual-in_err-functions-in-Whole.ensures.1)
+
+pub returns-in-Made-clause-gets : goal.returns-in-Made-clause-gets
+returns-in-Made-clause-gets c = λ which file section are.
+    let is = subst (λ (t : Tables). AreTablesOf which file section t) c.in-Made.is are in
+    of_made which file section c.in-Made.functions c.in-Made.size _ _ is (ap (map section_function_view) (sym c.deref.ensures.value)) c.lent_section.ensures

@@ -15,7 +15,7 @@ trap '[ -z "$beside" ] || kill -- "-$beside" 2>/dev/null || true; rm -rf "$scrat
 fail() { echo "test.sh: failed: $*"; exit 1; }
 
 echo "commit $(git rev-parse HEAD 2>/dev/null)"
-for part in bench/count.py tests/static tests/compare_erased.py "tools/erase --check"; do
+for part in bench/count.py tests/static tests/compare_erased.py tests/forms.py "tools/erase --check"; do
     $part || fail "$part"
 done
 # In a copy `rt fmt` must change nothing, and say nothing of a wrong body that can't be applied.
@@ -25,7 +25,8 @@ diff -r --exclude=out crates "$scratch/crates" >>"$scratch/layout" || true
 [ ! -s "$scratch/layout" ] || { cat "$scratch/layout"; fail "the layout or a wrong body"; }
 
 # The plain crate, with overflow checks as a build for tests has them, and the programs and libraries as users get them.
-setsid sh -exc 'tests/lints.sh; cargo test --offline --workspace; examples/run.sh; tests/install.sh; tests/unproved.sh' >"$scratch/plain" 2>&1 &
+setsid sh -exc 'tests/lints.sh; cargo test --offline --workspace; examples/run.sh; tests/install.sh; tests/unproved.sh
+    tests/forms.py --kit' >"$scratch/plain" 2>&1 &
 beside=$!
 { rt ci || true; } 2>&1 | tee "$scratch/gate" | sed '$d'
 last=$(tail -n 1 "$scratch/gate")

@@ -114,6 +114,8 @@ pub mod elf32;
 pub mod elf64;
 #[doc(hidden)]
 #[allow(clippy::all, rustdoc::private_intra_doc_links)]
+// Of a method that a type has twice, Rust may take another one than the proved sources.
+#[deny(clippy::same_name_method)]
 // As for `if_let_rescope` in Cargo.toml. In std for 32 bits `io::Error` counts too, whose order of drops doesn't matter.
 #[cfg_attr(target_pointer_width = "64", deny(tail_expr_drop_order))]
 #[rustfmt::skip]

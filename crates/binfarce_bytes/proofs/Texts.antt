@@ -63,6 +63,10 @@ occurs_to_nul bytes start n text at e =
       not_empty = λ empty. absurd (omega (arith, t.1, ap length (sym t.0 ∙ empty)));
     }
 
+not_empty : (text : List ℕ) → text ≢ [] → 0 < length text
+not_empty [] ne = absurd (ne refl)
+not_empty (b ∷ text) ne = omega arith
+
 -- the text at an offset is the one that is found
 pub only_text : (bytes : List ℕ) (start : ℕ) (text : List ℕ) → IsTextAt bytes start text → text_at bytes start ≡ Some text
 unfolding text_at
@@ -78,15 +82,11 @@ only_text bytes start text h =
     let first : position_or_len is_nul xs ≡ n = position_or_len_is is_nul xs n 1 (omega arith) before (λ _. eq-eqb (get_or xs n 1) 0 at_end) in
     let at : nul_at xs ≡ Some n = rw (first, lt-ltb n (length xs) long) refl in
     let taken_is : take n xs ≡ text = ap (take n) whole ∙ take_at text (0 ∷ rest) n refl in
-    let some : 0 < n = positive text h.not_empty in
+    let some : 0 < n = not_empty text h.not_empty in
     ap (option_and_then (λ (k : ℕ). text_of (take k xs))) at ∙ text_of_is xs n some (omega arith) ∙ utf8_is (take n xs) (subst IsUtf8 (sym taken_is) h.utf8) ∙ ap (λ (t : List ℕ). Some t) taken_is
   where
     nothing : (k : ℕ) → k - k ≡ 0
     nothing k = omega arith
-
-    positive : (t : List ℕ) → t ≢ [] → 0 < length t
-    positive [] ne = absurd (ne refl)
-    positive (b ∷ t) ne = omega arith
 
 -- what is found is there
 pub found_text : (bytes : List ℕ) (start : ℕ) (text : List ℕ) → text_at bytes start ≡ Some text → IsTextAt bytes start text
@@ -107,7 +107,7 @@ part_occurs file at size start text h =
     let n = length text in
     let rest = h.occurs.0 in
     let whole : drop start (take size (drop at file)) ≡ text ++ 0 ∷ rest = h.occurs.1 in
-    let some : 0 < n = positive text h.not_empty in
+    let some : 0 < n = not_empty text h.not_empty in
     let long : start + n < size = omega (arith, ap length whole, length-append text (0 ∷ rest), length-drop start (take size (drop at file)), length-take size (drop at file)) in
     let xs = drop at file in
     let m = size - start in
@@ -116,7 +116,3 @@ part_occurs file at size start text h =
     ∙ sym (take-take n m (drop start xs) (omega arith))
     ∙ ap (take n) (sym (drop-take start m xs) ∙ ap (λ (k : ℕ). drop start (take k xs)) split ∙ whole)
     ∙ take_at text (0 ∷ rest) n refl
-  where
-    positive : (t : List ℕ) → t ≢ [] → 0 < length t
-    positive [] ne = absurd (ne refl)
-    positive (b ∷ t) ne = omega arith

@@ -1,3 +1,4 @@
 pub mod PeSizes
 mod PeListed
 pub mod Made
+mod Searches

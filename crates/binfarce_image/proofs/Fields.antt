@@ -9,7 +9,7 @@ use Rattle.binfarce.specs.Number.{number, bytes_at}
 use Rattle.binfarce_image.specs.machine.Views.{fits, all_fit}
 use Rattle.binfarce_image.specs.Structure.{number_bytes, written_at, put, filled}
 use Rattle.binfarce_image.proofs.Bytes.{length-number_bytes}
-use Rattle.binfarce_image.proofs.Lengths.{length-put, length-filled}
+use Rattle.binfarce_image.proofs.Lengths.{within, length-put, length-filled}
 use Rattle.binfarce_image.proofs.NumbersBack.{number_back}
 
 -- what was written is there
@@ -61,9 +61,6 @@ put_last f (x ∷ numbers) = cond (is_field f x.0 && untouched f numbers) (Some 
 abbrev pub held : ByteOrder → List ℕ → Field → ℕ
 held order bytes f = number order (bytes_at bytes f.offset f.width)
 
-lies_in : (len : ℕ) (f : Field) → fits len f ≡ true → f.offset + f.width ≤ len
-lies_in len f inside = leb-true (f.offset + f.width) len (and_parts (leb (f.offset + f.width) len) (leb f.width 8) inside).0
-
 length_put : (order : ByteOrder) (bytes : List ℕ) (x : Field × ℕ) (len : ℕ) → length bytes ≡ len → fits len x.0 ≡ true → length (put order bytes x) ≡ len
 length_put order bytes x len long inside = length-put order bytes x.0 x.1 (ap (λ (n : ℕ). fits n x.0) long ∙ inside) ∙ long
 
@@ -72,7 +69,7 @@ put_apart : (order : ByteOrder) (bytes : List ℕ) (f : Field) (x : Field × ℕ
 unfolding put
 put_apart order bytes f x len long inside apart =
     let others = number_bytes order x.0.width x.1 in
-    let end : x.0.offset + x.0.width ≤ len = lies_in len x.0 inside in
+    let end : x.0.offset + x.0.width ≤ len = within len x.0 inside in
     let starts : x.0.offset ≤ length bytes = omega arith in
     ap (number order) (elim (or_cases (leb (f.offset + f.width) x.0.offset) (leb (x.0.offset + x.0.width) f.offset) apart) [
       | inl low ↦ before bytes others x.0.offset f.offset f.width starts (leb-true (f.offset + f.width) x.0.offset low)
@@ -92,7 +89,7 @@ put_there : (order : ByteOrder) (bytes : List ℕ) (f : Field) (x : Field × ℕ
     → held order (put order bytes x) f ≡ x.1
 unfolding put
 put_there order bytes f x len long inside same small =
-    let end : x.0.offset + x.0.width ≤ len = lies_in len x.0 inside in
+    let end : x.0.offset + x.0.width ≤ len = within len x.0 inside in
     let p = and_parts (eqb f.offset x.0.offset) (eqb f.width x.0.width) same in
     let at : f.offset ≡ x.0.offset = eqb-true f.offset x.0.offset p.0 in
     let wide : f.width ≡ x.0.width = eqb-true f.width x.0.width p.1 in
@@ -128,7 +125,7 @@ put_back order len f n (x ∷ numbers) bytes long inside small last =
 value_in : (order : ByteOrder) (front bytes behind : List ℕ) (f : Field) (start len : ℕ) → length front ≡ start → length bytes ≡ len → fits len f ≡ true
     → value_at order (front ++ (bytes ++ behind)) start f ≡ held order bytes f
 value_in order front bytes behind f start len at long inside =
-    let end : f.offset + f.width ≤ len = lies_in len f inside in
+    let end : f.offset + f.width ≤ len = within len f inside in
     let file = front ++ (bytes ++ behind) in
     let there : drop (start + f.offset) file ≡ drop f.offset (bytes ++ behind) = sym (drop-drop f.offset start file) ∙ ap (drop f.offset) (drop_at front (bytes ++ behind) start at) in
     let cut : take f.width (drop f.offset (bytes ++ behind)) ≡ take f.width (drop f.offset bytes) =

@@ -1,5 +1,6 @@
 -- How long structures and files are, and where bodies end.
 use Rattle.std.proofs.Common.{◌≡◌, ℕ, zero, suc, ◌+◌, ◌-◌, ◌*◌, ◌≤◌, Bool, true, false, ◌&&◌, min, List, [], ◌∷◌, ◌++◌, length, take, replicate, refl, sym, ap, ◌∙◌, arith}
+use Rattle.std.proofs.lemmas.Bool.{and_parts}
 use Rattle.std.proofs.lemmas.Bool.Decides.{nat_tests}
 use Rattle.std.proofs.lemmas.List.{length-append, length-take, length-drop, length-replicate}
 use Rattle.std.proofs.Math.Nat.{suc-mul, mul-suc}
@@ -18,11 +19,7 @@ use Rattle.binfarce_image.specs.Image.{class_of, order_of, body_length, bodies_e
 use Rattle.binfarce_image.specs.machine.Views.{fits, all_fit}
 use Rattle.binfarce_image.proofs.Bytes.{length-number_bytes}
 
-pub both : (a b : Bool) → a && b ≡ true → (a ≡ true) × (b ≡ true)
-both true b h = (refl, h)
-both false b h = cc
-
-within : (n : ℕ) (f : Field) → fits n f ≡ true → f.offset + f.width ≤ n
+pub within : (n : ℕ) (f : Field) → fits n f ≡ true → f.offset + f.width ≤ n
 within n f h = grind (arith, nat_tests)
 
 -- a number that is put into a field of a structure leaves its length
@@ -37,7 +34,7 @@ length-put order bs f n h =
 pub length-filled : (order : ByteOrder) (bs : List ℕ) (numbers : List (Field × ℕ)) → all_fit (length bs) numbers ≡ true → length (filled order bs numbers) ≡ length bs
 length-filled order bs [] h = refl
 length-filled order bs (number ∷ numbers) h =
-    let first = both _ (all_fit (length bs) numbers) h in
+    let first = and_parts _ (all_fit (length bs) numbers) h in
     let same : length (put order bs number) ≡ length bs = length-put order bs number.0 number.1 first.0 in
     length-filled order (put order bs number) numbers (ap (λ n. all_fit n numbers) same ∙ first.1) ∙ same
 

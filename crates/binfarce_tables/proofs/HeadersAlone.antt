@@ -1,5 +1,6 @@
 -- The walk over the section headers alone, and where the symbols are by what is found there.
 use Rattle.std.proofs.Common.{◌≡◌, ℕ, zero, suc, ◌+◌, ◌*◌, ◌-◌, ◌/◌, ◌<◌, ◌≤◌, Bool, true, false, cond, ltb, leb, ◌&&◌, List, ◌∷◌, length, take, drop, map, min, Some, None, refl, ap, ap₂, ◌∙◌, arith, inl, inr, length-drop}
+use Rattle.std.proofs.Math.Bool.{and-false}
 use Rattle.std.proofs.Math.Nat.{div-mul-le_self}
 use Rattle.std.proofs.lemmas.Bool.{cases_lt, lt-ltb, lt-leb, le-leb}
 use Rattle.std.proofs.lemmas.List.{drop-take, drop-drop, take-take, length-take-le}
@@ -141,15 +142,11 @@ headers_long class table =
     fits (min table.shnum whole) whole class.section_length (length table.file - table.shoff) (omega arith) (div-mul-le_self (length table.file - table.shoff) class.section_length) in
     length-take-le (min table.shnum whole * class.section_length) (drop table.shoff table.file) (rw room inside)
 
-and_false : (b : Bool) → (b && false) ≡ false
-and_false true = refl
-and_false false = refl
-
 -- the refusal of a walk over as many headers as are whole
 refusal_same : (count whole alone len start size : ℕ) → start < size → alone ≡ min count whole → (0 < alone → 0 < len) → 0 < count
     → cond (ltb 0 len && leb count alone) None (Some unexpected_eof) ≡ cond (ltb start size && leb count whole) None (Some unexpected_eof)
 refusal_same count whole alone len start size inside least some any = elim (cases_lt whole count) [
-  | inl cut ↦ rw (lt-leb count alone (omega (arith, least)), lt-leb count whole cut, and_false (ltb 0 len), and_false (ltb start size)) refl
+  | inl cut ↦ rw (lt-leb count alone (omega (arith, least)), lt-leb count whole cut, and-false (ltb 0 len), and-false (ltb start size)) refl
   | inr room ↦ rw (lt-ltb 0 len (some (omega (arith, least))), le-leb count alone (omega (arith, least)), lt-ltb start size inside, le-leb count whole room) refl
 ]
 

@@ -25,11 +25,6 @@ total_is (e ∷ entries) (s ∷ shares) are =
     ∙ ap (λ (n : ℕ). e.size + n) (total_is entries shares are.1)
     ∙ sym (sum_by-cons (λ (e : Entry). e.size) e entries)
 
--- what holds of a call that succeeds
-pub on_ok : {T E : Type 0} (P Q : Type 0) (r : Result T E) → (P → Q) → OnOk r P → OnOk r Q
-on_ok P Q (Ok x) f h = f h
-on_ok P Q (Err e) f h = tt
-
 -- a sum that was found
 pub checked : (sum total : ℕ) (found : Option ℕ) → SomeIff found (sum < 2 ^ 64) sum → found ≡ Some total → (sum < 2 ^ 64) × (total ≡ sum)
 checked sum total found is e = let P : Option ℕ → Type 0 = λ o. SomeIff o (sum < 2 ^ 64) sum in subst P e is

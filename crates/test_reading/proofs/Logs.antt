@@ -1,7 +1,7 @@
 -- What a log of parts has, where a source was asked for some parts alone.
 use Rattle.std.proofs.Common.{◌≡◌, ℕ, Bool, true, false, List, [], ◌∷◌, ◌++◌, ◌&&◌, Option, ap, ap₂, refl, sym, subst}
 use Rattle.std.specs.Prelude.{Contains, slice_index_or, nat_eq, if◌then◌else◌}
-use Rattle.std.specs.List.{list_any, list_all}
+use Rattle.std.specs.List.{list_any}
 use Rattle.std.proofs.lemmas.Bool.{and_parts, eq-eqb, eqb-true}
 use Rattle.std.proofs.lemmas.List.Elements.{All-head}
 use Rattle.std.proofs.lemmas.List.Folds.{Any-from_list_any, list_any_at, list_all-append}

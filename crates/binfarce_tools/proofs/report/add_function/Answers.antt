@@ -1,6 +1,6 @@
 use Rattle.std.proofs.Common.{ap, ◌∙◌}
 use Rattle.binfarce_tools.specs.Report.{Share}
-use Rattle.binfarce_tools.proofs.CrateSums.{on_ok}
+use Rattle.binfarce_chart.proofs.Texts.{on_ok}
 use Rattle.binfarce_tools.proofs.report.add_function.Goals as goal
 
 pub returns : goal.returns

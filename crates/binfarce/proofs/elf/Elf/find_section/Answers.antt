@@ -1,13 +1,10 @@
-use Rattle.std.proofs.Common.{◌≡◌, Bool, Option, Some, Result, Ok, Err, ap, subst}
-use Rattle.std.specs.Result.{IsErrAnd}
+use Rattle.std.proofs.Common.{ap}
 use Rattle.binfarce_bytes.specs.Refusal.{Refusal, refusal_of, unexpected_eof}
-use Rattle.binfarce_bytes.specs.Walk.{Walk, NoneAccepted, FirstAccepted}
-use Rattle.binfarce_bytes.specs.declared.error.ParseError.{ParseError}
-use Rattle.binfarce_bytes.specs.declared.error.ParseError.TheVariants as errors
 use Rattle.binfarce_bytes.specs.declared.parser.UnexpectedEof.{UnexpectedEof}
 use Rattle.binfarce_elf.specs.Elf.{walk}
 use Rattle.binfarce_elf.specs.ElfViews.{section_view}
 use Rattle.binfarce_bytes.proofs.Firsts.{retold}
+use Rattle.binfarce.proofs.Searches.{refused}
 use Rattle.binfarce.proofs.elf.Elf.find_section.Goals as goal
 
 pub returns : goal.returns
@@ -18,8 +15,3 @@ returns g c =
 pub returns-in_err-first_section : goal.returns-in_err-first_section
 returns-in_err-first_section g c =
     refused (section_view g.C.Class.number_of) _ _ _ c.from_residual.result (ap (walk g.C.Class.table) c.section_table.ensures) c.from_residual.ensures.1 c.in_err-first_section.ensures
-  where
-    refused : {T S : Type 0} (seen : T → S) (post : T → Bool → Type 0) (sections same : Walk S) (r : Result (Option T) ParseError)
-        → sections ≡ same → IsErrAnd r (λ e. e ≡ errors.UnexpectedEof) → NoneAccepted seen post sections (Some unexpected_eof) → FirstAccepted refusal_of seen post same r
-    refused seen post sections same (Ok found) e is none = absurd is
-    refused {T} {S} seen post sections same (Err x) e is none = rw is (subst (λ (w : Walk S). NoneAccepted seen post w (Some unexpected_eof)) e none)

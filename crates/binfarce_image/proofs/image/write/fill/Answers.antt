@@ -1,9 +1,9 @@
 use Rattle.std.proofs.Common.{◌≡◌, ℕ, ◌+◌, ◌<◌, true, List, length, drop, get_or, sym, ap, ◌∙◌}
+use Rattle.std.proofs.lemmas.Bool.{and_parts}
 use Rattle.std.proofs.lemmas.List.{drop_more}
 use Rattle.binfarce_image.specs.Structure.{filled}
 use Rattle.binfarce_image.specs.declared.image.tables.Field.{Field}
 use Rattle.binfarce_image.specs.machine.Views.{field_view, fits, all_fit, numbers_view}
-use Rattle.binfarce_image.proofs.Lengths.{both}
 use Rattle.binfarce_image.proofs.image.write.fill.Goals as goal
 
 none : Field × ℕ
@@ -11,7 +11,7 @@ none = (record { 0 = 0; 1 = 0 }, 0)
 
 first_fits : (n : ℕ) (numbers : List (Field × ℕ)) (i : ℕ) → i < length numbers → all_fit n (numbers_view (drop i numbers)) ≡ true → (fits n (field_view (get_or numbers i none).0) ≡ true) × (all_fit n (numbers_view (drop (i + 1) numbers)) ≡ true)
 first_fits n numbers i h fit =
-    both _ (all_fit n (numbers_view (drop (i + 1) numbers))) (sym (ap (λ ns. all_fit n (numbers_view ns)) (drop_more numbers i none h)) ∙ fit)
+    and_parts _ (all_fit n (numbers_view (drop (i + 1) numbers))) (sym (ap (λ ns. all_fit n (numbers_view ns)) (drop_more numbers i none h)) ∙ fit)
 
 pub put-requires : goal.put-requires
 unfolding none

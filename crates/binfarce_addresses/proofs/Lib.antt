@@ -6,6 +6,7 @@ pub mod Trimmed
 pub mod Streams
 pub mod Answering
 pub mod Annotating
+pub mod Outputs
 pub mod Rows
 pub mod Kept
 pub mod Sweep

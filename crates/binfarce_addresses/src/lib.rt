@@ -5,6 +5,7 @@ pub mod address;
 pub mod annotate;
 pub mod at;
 mod digits;
+pub mod laws;
 pub mod lookup;
 mod names;
 pub mod ranges;

@@ -23,7 +23,8 @@ LACKS = [(r"\bghost (?=\w)", ";,"), (r"\b(?:requires|ensures) (?=(?:\w+ )?\{)", 
 EITHER = [(r"(?:pub (?:\( crate \) )?)?fn \w+ (?:< [^{(]*> )?\( [^{]*\) \{ (?:let _ = [^;]*; )*\}", ""),
           (r"\bpub (?:\( crate \) )?mod (\w+) ;", r"mod \1 ;"), (r", (?=[)\]}>])", "")]
 SOURCE = [
-    (r"\bimpl (?:< [^{;]*> )?Model for [^{]*\{ \}", ""), (r"(?:pub )?mod laws ;", ""), (r"\bcrate ::", "OWN ::"),
+    (r"\bimpl (?:< [^{;]*> )?Model for [^{]*\{ \}", ""), (r"(?:pub )?mod laws ;|# \[ cfg \( test \) \] mod tests ;", ""),
+    (r"\bcrate ::", "OWN ::"),
     (r"# \[ derive \( Drop \) \]", ""), (r"\+ Drop\b|: Drop\b", ""), (r"# \[ error \( \S+ \) \]", ""),
     *((rf"(# \[ derive \( [^)]*) , {it}\b", r"\1") for it in ("Error", "Drop")),
     (r'extern "C" fn', "fn"), (r"(?:\bpub )?\bfn main \(", "pub fn main ("),
@@ -91,7 +92,7 @@ for source in sorted(TOP.glob("crates/*/src/**/*.rt")):
     if erased in left:
         left.remove(erased)
         differences.append(difference(source, erased, own))
-    elif (FOLDER / f"{own}.rs").exists() and source.stem != "laws":
+    elif (FOLDER / f"{own}.rs").exists() and source.stem not in ("laws", "tests"):
         differences.append(f"{source} is missing in {FOLDER}")
 wrong = [*filter(None, differences), *(f"{path} is made of no source" for path in sorted(left))]
 print(*wrong, f"{len(differences)} files, {len(wrong)} differences", sep="\n")

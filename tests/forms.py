@@ -90,15 +90,17 @@ FORMS = {
                 'let _ = println!(rt; "{}", (&u16::try_from(1u8)).f());', "1", "impl A for Result<u16,TryFromIntError>"),
         Line("impl<X: Clone> A for X { fn f(&self) {} }", "impl<X:Clone>A for X"),
         Line("impl A for std::convert::Infallible {}", "std::convert"), Line("std::iter::once(1).f();", "std::iter"),
+        Line("use a::W as S; struct S; trait A {} impl A for S {}", "impl A for S"), Line("pub use a::W as V;", "pub use a::W as V;"),
         Line("impl Drop for S {}", "impl Drop for S"), Line("impl std::ops::Deref for S {}", "impl std::ops::Deref for S")],
     "A type has no two functions of one name, unless two traits have them under the same bounds. A bound can hold in one language alone, "
     "and then the other function would be called.": [
         Program("use std::io;\n\n#[derive(Drop)]\nstruct W<X: Drop>(X);\n\n" + TWO.format("impl<X: Copy + Drop> W<X>", "impl<X: Drop> A for W<X>"),
-                'let _ = println!(rt; "{}", W(io::Error::from(io::ErrorKind::Other)).f());', "1", "fn f"),
+                'let _ = println!(rt; "{}", W(io::Error::from(io::ErrorKind::Other)).f());', "1", "f"),
+        Line("struct S; trait T { fn map(&self); } impl Iterator for S { fn next(&mut self) {} } impl T for S { fn map(&self) {} }", "T"),
         Line("fn f<T: Index<u8>>(w: W<T::Output>) { w.f(); }", "Index"), Line("fn f<T: Deref>(w: W<T::Target>) { w.f(); }", "Deref")],
     "A trait's functions have no body. In one `Self` may have no size, and Rust passes over the impls for types that have one.": [
         Program(PAIR + "\ntrait B {\n    fn g(&self) -> u8 {\n        let w = W(self);\n        w.f()\n    }\n}\n\nimpl B for u8 {}\n",
-                'let _ = println!(rt; "{}", 3u8.g());', "1", "fn f"),
+                'let _ = println!(rt; "{}", 3u8.g());', "1", "f"),
         Line("trait B { fn g(&self) -> u8 { let w = W(self); w.f() } }", "trait B"),
         Line("trait B { fn g(&mut self) -> u8 { let w: W<&mut Self> = W(self); w.f() } }", "trait B"),
         Line("trait T { fn f(w: W<&Self>) { w.f(); } }", "trait T")],

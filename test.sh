@@ -6,7 +6,7 @@ set -eu
 cd "$(dirname "$0")"
 [ $# -eq 0 ] || { echo "usage: ./test.sh" >&2; exit 2; }
 
-tools="rt python3 cargo cargo-fmt cargo-clippy gcc g++ nm readelf strip valgrind pkg-config groff tar setsid"
+tools="rt python3 cargo cargo-fmt cargo-clippy rustc gcc g++ nm readelf strip valgrind pkg-config groff tar setsid"
 missing=$(for tool in $tools; do command -v "$tool" >/dev/null || echo "$tool"; done)
 [ -z "$missing" ] || { echo "test.sh: these tools are missing:" $missing; exit 1; }
 

@@ -1,7 +1,7 @@
 #!/usr/bin/env python3
-"""tests/forms.py [--kit]: what makes tools/erase sound. Each rule says what would go wrong without it, and has programs: what the kit
-prints for one, and what the eraser says as it refuses it, or None where Cargo's build must print the same. Others are lines of a
-function that can't be run. With --kit each program is run by `rt try`, unproved, and must print what is said here. Else status 1.
+"""tests/forms.py [--kit]: what makes tools/erase sound. Each rule of FORMS says what would go wrong without it, and has programs: what
+the kit prints, and what the eraser names as it refuses the program, or None where the plain build must print the same. Other rows are
+lines that can't be run. With --kit each program is run by `rt try`, unproved, and must print what its row says. Else status 1.
 """
 import collections
 import pathlib
@@ -12,7 +12,7 @@ import tempfile
 
 TOP = pathlib.Path(__file__).resolve().parent.parent
 Program = collections.namedtuple("Program", "items body prints refused")
-Line = collections.namedtuple("Line", "text refused")
+Line = collections.namedtuple("Line", "text refused file", defaults=["main.rt"])
 
 TWO = """trait A {{
     fn f(&self) -> u8;
@@ -70,7 +70,9 @@ impl S {
     }
 }
 """
-SAYS = "fn says(count: &Cell<u8>) {}\n"
+SAYS, SAID = "fn says(count: &Cell<u8>) {}\n", """let count = Cell::new(0);
+    says(&count);
+    let _ = println!(rt; "{}", count.get());"""
 OTHER = "mod other {\n    use std::cell::Cell;\n\n    pub fn says(count: &Cell<u8>) {\n        count.set(1);\n    }\n}\n\n"
 ROOM = """use std::alloc::{AllocError, Global};
 
@@ -84,61 +86,67 @@ MAPPED = "let mut n = 0u8;\n    for (a, b) in [1u8, 2, 3].iter().map(|x| {\n    
     "        let _ = (a, b);\n    }"
 
 FORMS = {
-    "An impl is of a type of the sources, or of one that was looked at. A type of std can be another one in Rust, as the error of "
-    "`u16::try_from(1u8)`, and another impl would be found.": [
-        Program("use std::num::TryFromIntError;\n\n" + TWO.format("impl A for Result<u16, TryFromIntError>", "impl<E> A for &Result<u16, E>"),
+    "An impl is of a type of the sources, or of one that was looked at: else another impl may be found, since a type of std can be "
+    "another one in Rust, as the error of `u16::try_from(1u8)` is.": [
+        Program("use std::num::TryFromIntError;\n\n"
+                + TWO.format("impl A for Result<u16, TryFromIntError>", "impl<E> A for &Result<u16, E>"),
                 'let _ = println!(rt; "{}", (&u16::try_from(1u8)).f());', "1", "impl A for Result<u16,TryFromIntError>"),
         Line("impl<X: Clone> A for X { fn f(&self) {} }", "impl<X:Clone>A for X"),
         Line("impl A for std::convert::Infallible {}", "std::convert"), Line("std::iter::once(1).f();", "std::iter"),
+        Line("use a::W as S; struct S; trait A {} impl A for S {}", "impl A for S"), Line("pub use a::W as V;", "pub use a::W as V;"),
         Line("impl Drop for S {}", "impl Drop for S"), Line("impl std::ops::Deref for S {}", "impl std::ops::Deref for S")],
-    "A type has no two functions of one name, unless two traits have them under the same bounds. A bound can hold in one language alone, "
-    "and then the other function would be called.": [
-        Program("use std::io;\n\n#[derive(Drop)]\nstruct W<X: Drop>(X);\n\n" + TWO.format("impl<X: Copy + Drop> W<X>", "impl<X: Drop> A for W<X>"),
-                'let _ = println!(rt; "{}", W(io::Error::from(io::ErrorKind::Other)).f());', "1", "fn f"),
+    "A type has no two functions of one name, unless two traits have them under the same bounds: else another one may be called, since "
+    "a bound can hold in one language alone.": [
+        Program("use std::io;\n\n#[derive(Drop)]\nstruct W<X: Drop>(X);\n\n"
+                + TWO.format("impl<X: Copy + Drop> W<X>", "impl<X: Drop> A for W<X>"),
+                'let _ = println!(rt; "{}", W(io::Error::from(io::ErrorKind::Other)).f());', "1", "f"),
+        Line("struct S; trait T { fn map(&self); } impl Iterator for S { fn next(&mut self) {} } impl T for S { fn map(&self) {} }", "T"),
         Line("fn f<T: Index<u8>>(w: W<T::Output>) { w.f(); }", "Index"), Line("fn f<T: Deref>(w: W<T::Target>) { w.f(); }", "Deref")],
-    "A trait's functions have no body. In one `Self` may have no size, and Rust passes over the impls for types that have one.": [
+    "A trait's functions have no body: else another impl may be found in one, since there `Self` may have no size, and Rust passes over "
+    "the impls for types that have one.": [
         Program(PAIR + "\ntrait B {\n    fn g(&self) -> u8 {\n        let w = W(self);\n        w.f()\n    }\n}\n\nimpl B for u8 {}\n",
-                'let _ = println!(rt; "{}", 3u8.g());', "1", "fn f"),
+                'let _ = println!(rt; "{}", 3u8.g());', "1", "f"),
         Line("trait B { fn g(&self) -> u8 { let w = W(self); w.f() } }", "trait B"),
         Line("trait B { fn g(&mut self) -> u8 { let w: W<&mut Self> = W(self); w.f() } }", "trait B"),
         Line("trait T { fn f(w: W<&Self>) { w.f(); } }", "trait T")],
-    "A function that does nothing goes as a law only if its crate doesn't name it, and an import by `*` is refused. Else what the "
-    "function hides, or what an import of the shim hides, would take its place.": [
-        Program("use std::cell::Cell;\n\n" + SAYS, 'let count = Cell::new(0);\n    says(&count);\n    let _ = println!(rt; "{}", count.get());',
-                "0", None),
-        Program("use other::*;\nuse std::cell::Cell;\n\n" + OTHER + SAYS,
-                'let count = Cell::new(0);\n    says(&count);\n    let _ = println!(rt; "{}", count.get());', "0", "use other::*;")],
-    "No function has a name that the eraser rewrites, or that all types have. Its calls would become calls of the shim or of std.": [
-        Program(OWN, 'let count = S.collect(rt.alloc()).map_or(9, |it| it.len());\n    let _ = println!(rt; "{count}");', "1", "fn collect"),
+    "A function that does nothing goes as a law only if its crate doesn't name it, a module of laws has no impl, and nothing is imported "
+    "by `*`: else what is hidden by what goes, or by an import of the shim, may take its place.": [
+        Program("use std::cell::Cell;\n\n" + SAYS, SAID, "0", None), Line("impl S {}", "impl", "laws.rt"),
+        Program("use other::*;\nuse std::cell::Cell;\n\n" + OTHER + SAYS, SAID, "0", "use other::*;")],
+    "No function has a name that the eraser rewrites, or that all types have: else its calls would become calls of the shim or of std.": [
+        Program(OWN, 'let count = S.collect(rt.alloc()).map_or(9, |it| it.len());\n    let _ = println!(rt; "{count}");', "1",
+                "fn collect"),
         Program(SIGNED, 'let _ = println!(rt; "{}", S(1).cast_signed());', "-1", "fn cast_signed"),
         Line("fn into(self) -> u8 { 1 }", "fn into")],
-    "A closure that may be called more or less often only reads, and nothing it reads may keep count. The count would differ.": [
+    "A closure that may be called more or less often only reads, and nothing it reads may keep count: else the count may differ.": [
         Program(COUNT, 'let _ = println!(rt; "{}", sorted(rt.alloc()).unwrap_or(0));', "24",
                 ".sort_by_key(|x|{calls.set(calls.get().wrapping_add(1));*x})"),
         Program("", MAPPED.replace("{}", ".zip([1u8].iter())", 1) + '\n    let _ = println!(rt; "{n}");', "2", ".zip([1u8].iter())"),
         Program("", 'let n = [1u8, 2].iter().zip([3u8].iter()).count();\n    let _ = println!(rt; "{n}");', "1", None),
         Line("a.partition_point(|x| { n += 1; *x < 4 });", ".partition_point(|x|{n+=1;*x<4})"), Line("a.map(f).rev();", ".rev()")],
-    "Of std only what was looked at is called or named. Something else of the same name may be there in Rust, or nothing.": [
-        Line("a.max_by_key(|x| x.0);", "max_by_key"), Line("core::mem::take(&mut a);", "core::"), Line("let a: fmt::Alignment;", "Alignment"),
+    "Of std only KNOWN is called or named, which the sources call already, and its programs print the same: else Rust may have "
+    "something else of that name.": [
+        Line("a.max_by_key(|x| x.0);", "max_by_key"), Line("core::mem::take(&mut a);", "core::"), Line("fn r#f() {}", "r#"),
+        Line("let a: fmt::Alignment;", "Alignment"),
         Line("use std::mem::MaybeUninit;", "use std::mem::MaybeUninit;"), Line("std::thread::spawn(a);", "std::thread"),
         Line("std::sync::mpsc::channel();", "std::sync"), Line("size_of::<(u8, u32, u8)>()", "size_of"), Line("line!();", "line"),
         Line("stringify!(a + b);", "stringify"), Line("module_path!();", "module_path"), Line("#[from] A", "#[from]"),
         Line("macro_rules! m { ($s:stmt) => {} }", "macro_rules"), Line("a.binary_search(&1);", "binary_search"),
         Line("a.sort_unstable_by_key(|x| x.0);", "sort_unstable_by_key"), Line("a.is_alphanumeric();", "is_alphanumeric")],
-    "Numbers are whole, and a format asks for no precision and, but in tests, for no `{:?}`. Roundings differ, and so do the tables of "
-    "characters that `{:?}` shows.": [
+    "Numbers are whole, and a format asks for no precision and, but in tests, for no `{:?}`: else the text may differ, as roundings do, "
+    "and the tables of characters that `{:?}` shows.": [
         Program("", 'let _ = println!(rt; "{:.0}", 2.5f64);', "2", '"{:.0}"'), Line("let a = 2.5;", "2.5"), Line("let a = 1e5;", "1e5"),
         Program("", 'let _ = println!(rt; "{:?}", "\\u{1fae9}");', '"\U0001fae9"', '"{:?}"')],
-    "The room that memory has is only asked for in a sum of memory. The shim's grows otherwise.": [
+    "The room that memory has is only asked for in a sum of memory: else its number may differ, since the shim's grows otherwise.": [
         Program(ROOM, 'let _ = println!(rt; "{}", room(rt.alloc()).unwrap_or(0));', "8", "capacity")],
-    "What fails for want of memory is called by the shim's names alone. Of the others Rust's would end the process.": [
+    "What fails for want of memory is called by the shim's names alone: else Rust would end the process.": [
         Line("a.map(|x| x.clone());", "clone"), Line("a.to_vec();", "to_vec")],
-    "A range without an end is an index. Else Rust's overflows behind its type's last number, and Rattle's ends there.": [
+    "A range without an end is an index: else Rust's overflows at its type's last number, where Rattle's ends.": [
         Line("(250u8..).take(9);", "250u8.."), Line("for x in a(b).. {}", "(b).."), Line("f([9..]);", "9.."),
         Line("S { a, b: if c { 2 } else { 1 }, d: 1.. }", "1..")],
-    "What is written instead of a struct's field is no item of a list. Rust reads the item even if nothing of it is needed.": [
+    "What gives a struct its other fields is no item of a list: else Rust reads the item, also where no field is left.": [
         Line("S { a: 1, ..v[i] }", "{a:1,..v[i]}")],
-    "A word of clauses is one only where a clause can be, and what is taken for one is whole. Code would go with it.": [
+    "A word of clauses is one only where a clause can be, and each bracket is closed: else code would go with the clause.": [
         Line("let ghost = 1;", "ghost=1;"), Line("if requires { f() }", "requires{f()}"), Line("}", "}"),
         Line('#[derive(Debug, Drop, Error)]\npub enum E { #[error("bad {{0}}")] A(u8) }', '#[error("bad {{0}}")]')],
 }
@@ -161,7 +169,9 @@ def by_eraser(top, form):
     """What the eraser says, or what Cargo's build prints."""
     (folder := top / "crates/a/src").mkdir(parents=True, exist_ok=True)
     (top / "crates.txt").write_text("a:\nb: a\n")
-    (folder / "main.rt").write_text(source_of(form))
+    for it in folder.iterdir():
+        it.unlink()
+    (folder / getattr(form, "file", "main.rt")).write_text(source_of(form))
     erased = subprocess.run([top / "tools/erase"], capture_output=True, text=True)
     if erased.returncode:
         return erased.stderr
@@ -181,8 +191,8 @@ def faults(is_kit):
                 if is_kit and isinstance(form, Program) and (said := by_kit(top, form)) != form.prints:
                     yield f"{rule}\n{source_of(form)}prints by the kit: {said}"
                 said = None if is_kit else by_eraser(top, form)
-                if said and not (form.refused and f"`{form.refused}`" in said and said.startswith("crates/a/src/main.rt:")
-                                 or not form.refused and said == form.prints):
+                is_refused = said and f"`{form.refused}`" in said and said.startswith(f"crates/a/src/{getattr(form, 'file', 'main.rt')}:")
+                if said and not (is_refused if form.refused else said == form.prints):
                     yield f"{rule}\n{source_of(form)}isn't refused by `{form.refused}`: {said}"
 
 wrong = [*faults(sys.argv[1:] == ["--kit"])]

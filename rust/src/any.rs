@@ -9,7 +9,7 @@ use crate::erased::binfarce_tools::report::{self as reporting, ReportError};
 use crate::error::{Error, OutOfMemory, ParseError};
 use crate::shim::{self, alloc::Global};
 use crate::streams::Kept;
-use crate::{AllFunctions, FunctionSymbol, Section, string_of};
+use crate::{AllFunctions, FunctionSymbol, string_of};
 use std::cell::RefCell;
 use std::io::{self, ErrorKind, Read, Seek};
 
@@ -45,6 +45,34 @@ impl<'a> Iterator for Functions<'a> {
     }
 }
 
+/// A section of a file of any format: what [`sections`] returns. Its names are parts of the file.
+#[derive(Debug, Clone, Copy, PartialEq, Eq, Hash)]
+#[non_exhaustive]
+pub struct Section<'a> {
+    /// In a Mach-O file the name of its segment (`segname`), as `__TEXT`; elsewhere `None`.
+    pub segment: Option<&'a str>,
+    /// Its name as it is stored; `None` for an ELF section without one.
+    pub name: Option<&'a str>,
+    /// The address of its first byte in memory (`sh_addr`, `addr`); in a PE file counted from the image base
+    /// (`VirtualAddress`).
+    pub address: u64,
+    /// Where its bytes begin in the file (`sh_offset`, `offset`, `PointerToRawData`), as the file states it.
+    pub offset: u64,
+    /// Its size in bytes (`sh_size`, `size`), as the file states it. In a PE file, the smaller one of `VirtualSize` and
+    /// `SizeOfRawData`, or the other one where one is 0.
+    pub size: u64,
+    /// Whether it has bytes in the file: not in ELF where its type is `SHT_NOBITS`, not in Mach-O where its offset is
+    /// 0, and not in PE where `PointerToRawData` or `SizeOfRawData` is 0.
+    pub has_bytes: bool,
+}
+
+impl<'a> Section<'a> {
+    fn of(section: sections_of::Section<'a>) -> Self {
+        let sections_of::Section { segment, name, address, offset, size, has_bytes } = section;
+        Section { segment, name, address, offset, size, has_bytes }
+    }
+}
+
 /// Returns an iterator over the sections of a file, in file order. A section header is read when the iterator reaches it.
 ///
 /// # Errors
@@ -73,7 +101,7 @@ impl<'a> Iterator for Sections<'a> {
     type Item = Result<Section<'a>, ParseError>;
 
     fn next(&mut self) -> Option<Self::Item> {
-        Some(self.0.next()?.map_err(ParseError::from))
+        Some(self.0.next()?.map(Section::of).map_err(ParseError::from))
     }
 }
 

@@ -24,6 +24,17 @@ use std::fmt;
 
 pub use erased::{Kind, MAX_LEVELS, MAX_STEPS};
 
+/// `unknown`, `legacy` or `v0`.
+impl fmt::Display for Kind {
+    fn fmt(&self, f: &mut fmt::Formatter<'_>) -> fmt::Result {
+        f.pad(match self {
+            Kind::Unknown => "unknown",
+            Kind::Legacy => "legacy",
+            Kind::V0 => "v0",
+        })
+    }
+}
+
 /// A function symbol of a file, with its readable name.
 #[derive(Debug, Clone, PartialEq, Eq, Hash)]
 pub struct SymbolData {

@@ -273,7 +273,7 @@ macro_rules! reader {
             /// In this order: [`ParseError::UnexpectedEof`] where the section header table doesn't begin in the file or a
             /// section header is truncated; those of `functions` or `dynamic_functions` from the missing symbol table on.
             pub fn all_functions(&self, table: SymbolTable) -> Result<AllFunctions<'a>, ParseError> {
-                Ok(AllFunctions(self.bounded(self.0.all_functions(table)?)))
+                Ok(AllFunctions(self.bounded(self.0.all_functions(table.into_erased())?)))
             }
 
             /// The rows of a symbol table in the file, each of 16 bytes or more.

@@ -4,20 +4,22 @@ use crate::any::Functions;
 use crate::erased::binfarce::elf32;
 use crate::erased::binfarce_addresses::at::Places;
 use crate::erased::binfarce_addresses::lookup::Lookup;
+use crate::erased::binfarce_elf::symbol_table;
 use crate::erased::binfarce_figures::claims::claims_of;
 use crate::erased::binfarce_figures::sums::{keyed_in, sum_by, sums_of};
 use crate::erased::binfarce_figures::{diff::diff, rows::list_by, stacks::fold_tables};
 use crate::erased::binfarce_tables::ReadError;
 use crate::erased::binfarce_tools::functions::{self as functions_of, Selected};
+use crate::erased::binfarce_tools::json::Form;
 use crate::erased::binfarce_tools::list::list_tables;
 use crate::erased::binfarce_tools::map::map_tables;
 use crate::erased::binfarce_tools::report::{ReportError, report_tables};
 use crate::erased::binfarce_tools::tables;
 use crate::error::{Error, ParseError};
-use crate::figures::{Figures, Form, Grouping, Growth, Shown};
+use crate::figures::{Figures, Grouping, Growth, Layout, Shown};
 use crate::shim::{self, alloc::Global};
 use crate::streams::Kept;
-use crate::{FunctionSymbol, SectionFunction, SymbolTable};
+use crate::{FunctionSymbol, SectionFunction};
 use std::cell::RefCell;
 use std::io::{self, ErrorKind, Read, Seek, Write};
 
@@ -30,6 +32,25 @@ pub enum Selection<'a> {
     Section(&'a str),
     /// Those of all sections.
     All,
+}
+
+/// Which symbol table of an ELF file is read. Mach-O and PE files have only [`SymbolTable::Symtab`].
+#[derive(Debug, Clone, Copy, PartialEq, Eq, Hash)]
+#[non_exhaustive]
+pub enum SymbolTable {
+    /// The symbol table (`SHT_SYMTAB`), which a stripped file lacks.
+    Symtab,
+    /// The dynamic symbol table (`SHT_DYNSYM`), for the dynamic linker. A stripped file keeps it.
+    Dynsym,
+}
+
+impl SymbolTable {
+    pub(crate) fn into_erased(self) -> symbol_table::SymbolTable {
+        match self {
+            SymbolTable::Symtab => symbol_table::SymbolTable::Symtab,
+            SymbolTable::Dynsym => symbol_table::SymbolTable::Dynsym,
+        }
+    }
 }
 
 /// The tables of a file's function symbols, for a [`Selection`] and a [`SymbolTable`].
@@ -75,7 +96,7 @@ impl<'a> Tables<'a> {
     pub fn new(file: &'a [u8], selection: Selection<'a>, table: SymbolTable) -> Result<Self, Error> {
         Ok(Tables(match (selection, table) {
             (Selection::Section(section), SymbolTable::Symtab) => tables::Tables::whole(file, section),
-            _ => tables::read(Global, &file, &mut (), table, selection.into())?,
+            _ => tables::read(Global, &file, &mut (), table.into_erased(), selection.into())?,
         }))
     }
 
@@ -164,8 +185,8 @@ impl<'a> Tables<'a> {
     /// # Errors
     ///
     /// Those of [`Tables::list_to`].
-    pub fn rows_to<W: Write>(&self, shown: &Shown, form: Form<'_>, output: W) -> io::Result<()> {
-        write_to(output, |sink| Ok(list_by(Global, &self.0, shown, form, sink)?))
+    pub fn rows_to<W: Write>(&self, shown: &Shown, layout: Layout<'_>, output: W) -> io::Result<()> {
+        write_to(output, |sink| Ok(list_by(Global, &self.0, &shown.into_erased(), layout.into_erased(), sink)?))
     }
 
     /// Writes sums by a key, the greatest first, as lines or as JSON objects. A byte of several function symbols counts once.
@@ -177,20 +198,19 @@ impl<'a> Tables<'a> {
     /// # Examples
     ///
     /// ```
-    /// use binfarce::figures::{Figures, Form, Grouping, Key};
+    /// use binfarce::figures::{Figures, Key, Layout};
     /// use binfarce::{Selection, SymbolTable, Tables};
     ///
     /// # let path = concat!(env!("CARGO_MANIFEST_DIR"), "/samples/elf64-little.bin");
     /// let file = std::fs::read(path)?;
     /// let tables = Tables::new(&file, Selection::Section(".text"), SymbolTable::Symtab)?;
-    /// let grouping = Grouping { key: Key::Function, joins_std: false };
     /// let mut text = Vec::new();
-    /// tables.figures_to(&Figures { grouping, first: None, has_percent: true }, Form::Lines, &mut text)?;
+    /// tables.figures_to(&Figures::by(Key::Function).with_percent(), Layout::Lines, &mut text)?;
     /// assert_eq!(text, b"        16  50.00% foo\nsum 16\ntext 32\n");
     /// # Ok::<(), Box<dyn std::error::Error>>(())
     /// ```
-    pub fn figures_to<W: Write>(&self, figures: &Figures, form: Form<'_>, output: W) -> io::Result<()> {
-        write_to(output, |sink| sum_by(Global, &self.0, figures, form, sink))
+    pub fn figures_to<W: Write>(&self, figures: &Figures, layout: Layout<'_>, output: W) -> io::Result<()> {
+        write_to(output, |sink| sum_by(Global, &self.0, &figures.into_erased(), layout.into_erased(), sink))
     }
 
     /// Writes how the sums of [`Tables::figures_to`] differ from those of an older file, the greatest change first, and returns
@@ -199,11 +219,18 @@ impl<'a> Tables<'a> {
     /// # Errors
     ///
     /// Those of [`Tables::report_to`], first for the older file.
-    pub fn changes_to<W>(&self, old: &Tables<'_>, figures: &Figures, form: Form<'_>, output: W) -> io::Result<Growth>
+    pub fn changes_to<W>(
+        &self,
+        old: &Tables<'_>,
+        figures: &Figures,
+        layout: Layout<'_>,
+        output: W,
+    ) -> io::Result<Growth>
     where
         W: Write,
     {
-        write_to(output, |sink| diff(Global, &old.0, &self.0, figures, form, sink))
+        let (figures, form) = (figures.into_erased(), layout.into_erased());
+        write_to(output, |sink| Ok(Growth::of(diff(Global, &old.0, &self.0, &figures, form, sink)?)))
     }
 
     /// Writes a line for each function symbol, as tools for flame graphs read it: its crate and the parts of its name, with `;`
@@ -216,8 +243,8 @@ impl<'a> Tables<'a> {
         write_to(output, |sink| Ok(fold_tables(Global, &self.0, sink)?))
     }
 
-    /// Returns the sums of [`Tables::figures_to`]: how many bytes each crate, function, generic function or section takes. A byte
-    /// of several function symbols counts once.
+    /// Returns the sums of [`Tables::figures_to`] by a [`Key`](crate::figures::Key) or a [`Grouping`]: how many bytes each crate,
+    /// function, generic function or section takes. A byte of several function symbols counts once.
     ///
     /// # Errors
     ///
@@ -226,19 +253,19 @@ impl<'a> Tables<'a> {
     /// # Examples
     ///
     /// ```
-    /// use binfarce::figures::{Grouping, Key};
+    /// use binfarce::figures::Key;
     /// use binfarce::{Selection, SymbolTable, Tables};
     ///
     /// # let path = concat!(env!("CARGO_MANIFEST_DIR"), "/samples/elf64-little.bin");
     /// let file = std::fs::read(path)?;
     /// let tables = Tables::new(&file, Selection::Section(".text"), SymbolTable::Symtab)?;
-    /// let sums = tables.sums_by_key(Grouping { key: Key::Crate, joins_std: false })?;
+    /// let sums = tables.sums_by_key(Key::Crate)?;
     /// assert_eq!(sums.rows, [("foo".to_string(), 16)]);
     /// assert_eq!((sums.total, sums.section_size), (16, 32));
     /// # Ok::<(), Box<dyn std::error::Error>>(())
     /// ```
-    pub fn sums_by_key(&self, grouping: Grouping) -> Result<Sums<String>, Error> {
-        let (keyed, section_size) = keyed_in(Global, &self.0, grouping)?;
+    pub fn sums_by_key(&self, grouping: impl Into<Grouping>) -> Result<Sums<String>, Error> {
+        let (keyed, section_size) = keyed_in(Global, &self.0, grouping.into().into_erased())?;
         let sums = sums_of(Global, &claims_of(Global, &keyed)?, false)?;
         let mut rows = shim::Vec::new(Global);
         for (name, size) in sums.crates {
@@ -344,7 +371,7 @@ impl Tables<'static> {
     /// That of `file`; otherwise that of [`Tables::new`], as an [`io::Error`].
     pub fn read<R: Read + Seek>(file: R, selection: Selection<'_>, table: SymbolTable) -> io::Result<Self> {
         let file = RefCell::new(Kept::new(file));
-        let tables = tables::read(Global, &file, &mut (), table, selection.into());
+        let tables = tables::read(Global, &file, &mut (), table.into_erased(), selection.into());
         match tables {
             Ok(tables) => Ok(Tables(tables)),
             Err(ReadError::Unreadable) => Err(file.into_inner().into_error(ErrorKind::UnexpectedEof)),

@@ -30,6 +30,8 @@
 //! # }
 //! ```
 
+// As in Cargo.toml, which says it to Cargo from 1.74 on.
+#![forbid(unsafe_code)]
 #![warn(missing_docs)]
 
 #[cfg(not(any(target_pointer_width = "64", target_pointer_width = "32")))]

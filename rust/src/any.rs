@@ -1,5 +1,6 @@
 //! Files of any format that is read: the file's first bytes name the format.
 
+use crate::erased::binfarce_bytes::{format, functions as lookup};
 use crate::erased::binfarce_sections::bytes as bytes_of;
 use crate::erased::binfarce_sections::error::SectionError;
 use crate::erased::binfarce_sections::sections as sections_of;
@@ -9,9 +10,45 @@ use crate::erased::binfarce_tools::report::{self as reporting, ReportError};
 use crate::error::{Error, OutOfMemory, ParseError};
 use crate::shim::{self, alloc::Global};
 use crate::streams::Kept;
-use crate::{AllFunctions, FunctionSymbol, string_of};
+use crate::{AllFunctions, Format, FunctionSymbol, string_of};
 use std::cell::RefCell;
 use std::io::{self, ErrorKind, Read, Seek};
+
+/// Returns the format that a file's first 8 bytes name; a shorter file has none. The readers themselves don't check magic numbers.
+///
+/// # Examples
+///
+/// ```
+/// use binfarce::{ByteOrder, Format, detect_format};
+///
+/// # let path = concat!(env!("CARGO_MANIFEST_DIR"), "/samples/elf64-little.bin");
+/// let file = std::fs::read(path)?;
+/// assert_eq!(detect_format(&file), Format::Elf64 { byte_order: ByteOrder::LittleEndian });
+/// assert_eq!(detect_format(b"#!/bin/sh"), Format::Unknown);
+/// # Ok::<(), std::io::Error>(())
+/// ```
+pub fn detect_format(file: &[u8]) -> Format {
+    format::detect_format(file)
+}
+
+/// Returns the function symbol at an address: of those in the list whose range holds it the one of greatest address, and of several
+/// the first. `None` where no range holds it.
+///
+/// A range begins at the symbol's address and has its size in bytes; a symbol of size 0 holds its own address alone. The whole list
+/// is searched and nothing is allocated; for many addresses there is [`Symbolizer`](crate::Symbolizer).
+///
+/// # Examples
+///
+/// ```
+/// use binfarce::{FunctionSymbol, symbol_at};
+///
+/// let functions = [("outer", 0x10, 32), ("inner", 0x18, 8)].map(|(name, address, size)| FunctionSymbol { name, address, size });
+/// let names = [0x17, 0x18, 0x20, 0x30].map(|address| symbol_at(&functions, address).map(|function| function.name));
+/// assert_eq!(names, [Some("outer"), Some("inner"), Some("outer"), None]);
+/// ```
+pub fn symbol_at<'a>(functions: &[FunctionSymbol<'a>], address: u64) -> Option<FunctionSymbol<'a>> {
+    lookup::symbol_at(functions, address)
+}
 
 /// Returns an iterator over the function symbols of a file, and the size of their section in bytes.
 ///
@@ -22,6 +59,17 @@ use std::io::{self, ErrorKind, Read, Seek};
 ///
 /// [`Error::UnknownFormat`]; [`Error::Parse`] where the reader of the file's format refuses it; [`Error::OutOfMemory`] where
 /// an allocation failed.
+///
+/// # Examples
+///
+/// ```
+/// # let path = concat!(env!("CARGO_MANIFEST_DIR"), "/samples/macho.bin");
+/// let file = std::fs::read(path)?;
+/// let (functions, text_size) = binfarce::functions(&file, ".text")?;
+/// let sizes = functions.map(|function| (function.name, function.size)).collect::<Vec<_>>();
+/// assert_eq!((sizes, text_size), (vec![("a", 64), ("b", 64), ("c", 192)], 256));
+/// # Ok::<(), Box<dyn std::error::Error>>(())
+/// ```
 pub fn functions<'a>(file: &'a [u8], section: &str) -> Result<(Functions<'a>, u64), Error> {
     let (functions, size) = functions_of::functions_of_file(Global, file, section)?;
     Ok((Functions(AllFunctions::new(functions.all)?), size))

@@ -35,6 +35,15 @@ pub use crate::erased::binfarce_figures::order::Order;
 pub use crate::erased::binfarce_figures::rows::Naming;
 
 /// What a listing shows. By default it is the text of [`Tables::list_to`](crate::Tables::list_to).
+///
+/// # Examples
+///
+/// ```
+/// use binfarce::figures::{Naming, Order, Shown};
+///
+/// let shown = Shown::new().with_order(Order::Size).with_first(10);
+/// assert_eq!((shown.order, shown.first, shown.naming), (Some(Order::Size), Some(10), Naming::Trimmed));
+/// ```
 #[derive(Debug, Clone, Copy, PartialEq, Eq, Hash)]
 #[non_exhaustive]
 pub struct Shown {
@@ -135,6 +144,15 @@ impl From<Key> for Grouping {
 }
 
 /// Which sums are written.
+///
+/// # Examples
+///
+/// ```
+/// use binfarce::figures::{Figures, Key};
+///
+/// let figures = Figures::by(Key::Generic).with_first(10).with_percent();
+/// assert_eq!((figures.grouping.key, figures.first, figures.has_percent), (Key::Generic, Some(10), true));
+/// ```
 #[derive(Debug, Clone, Copy, PartialEq, Eq, Hash)]
 #[non_exhaustive]
 pub struct Figures {

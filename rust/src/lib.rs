@@ -124,10 +124,13 @@ mod tables;
 #[cfg(test)]
 mod tests;
 
-pub use any::{Functions, Section, Sections, functions, list, read_section, report, section_bytes, sections};
+pub use any::{
+    Functions, Section, Sections, detect_format, functions, list, read_section, report, section_bytes, sections,
+    symbol_at,
+};
 pub use erased::binfarce_bytes::ByteOrder;
-pub use erased::binfarce_bytes::format::{Format, detect_format};
-pub use erased::binfarce_bytes::functions::{FunctionSymbol, SectionFunction, symbol_at};
+pub use erased::binfarce_bytes::format::Format;
+pub use erased::binfarce_bytes::functions::{FunctionSymbol, SectionFunction};
 pub use error::{Error, OutOfMemory, ParseError, UnexpectedEof};
 pub use filter::{Form, filter, filter_stream};
 pub use tables::{AllFunctions, Selection, Sums, SymbolTable, Symbolizer, Tables};

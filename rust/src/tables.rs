@@ -93,6 +93,19 @@ impl<'a> Tables<'a> {
     /// [`Error::Parse`] where the reader of the file's format refuses it; [`ParseError::SectionIsMissing`] for
     /// [`SymbolTable::Dynsym`] of a Mach-O or PE file; [`Error::OutOfMemory`] where an allocation failed. Other refusals come
     /// from the calls that need the function symbols.
+    ///
+    /// # Examples
+    ///
+    /// ```
+    /// use binfarce::{Selection, SymbolTable, Tables};
+    ///
+    /// # let path = concat!(env!("CARGO_MANIFEST_DIR"), "/samples/elf64-little.bin");
+    /// let file = std::fs::read(path)?;
+    /// let tables = Tables::new(&file, Selection::Section(".text"), SymbolTable::Symtab)?;
+    /// assert_eq!(tables.functions()?.count(), 1);
+    /// assert!(Tables::new(&file, Selection::All, SymbolTable::Dynsym).is_err());
+    /// # Ok::<(), Box<dyn std::error::Error>>(())
+    /// ```
     pub fn new(file: &'a [u8], selection: Selection<'a>, table: SymbolTable) -> Result<Self, Error> {
         Ok(Tables(match (selection, table) {
             (Selection::Section(section), SymbolTable::Symtab) => tables::Tables::whole(file, section),
@@ -107,6 +120,18 @@ impl<'a> Tables<'a> {
     ///
     /// [`Error::UnknownFormat`]; [`Error::Parse`] where the reader of the file's format refuses it; [`Error::OutOfMemory`]
     /// where an allocation failed.
+    ///
+    /// # Examples
+    ///
+    /// ```
+    /// use binfarce::{Selection, SymbolTable, Tables};
+    ///
+    /// # let path = concat!(env!("CARGO_MANIFEST_DIR"), "/samples/elf64-little.bin");
+    /// let file = std::fs::read(path)?;
+    /// let tables = Tables::new(&file, Selection::All, SymbolTable::Symtab)?;
+    /// assert_eq!(tables.functions()?.map(|function| function.name).collect::<Vec<_>>(), ["_ZN3foo3barE", "bad"]);
+    /// # Ok::<(), Box<dyn std::error::Error>>(())
+    /// ```
     pub fn functions(&self) -> Result<Functions<'_>, Error> {
         Ok(Functions(AllFunctions::new(self.0.functions(Global)?.into_list().0.all)?))
     }
@@ -140,12 +165,36 @@ impl<'a> Tables<'a> {
 
     /// Returns the name of the section of this number. `None` where there is none, where it has no valid name, and where the
     /// tables are of one section.
+    ///
+    /// # Examples
+    ///
+    /// ```
+    /// use binfarce::{Selection, SymbolTable, Tables};
+    ///
+    /// # let path = concat!(env!("CARGO_MANIFEST_DIR"), "/samples/macho.bin");
+    /// let file = std::fs::read(path)?;
+    /// let tables = Tables::new(&file, Selection::All, SymbolTable::Symtab)?;
+    /// assert_eq!((tables.section_name(1), tables.section_name(2)), (Some("__TEXT,__text"), None));
+    /// # Ok::<(), Box<dyn std::error::Error>>(())
+    /// ```
     pub fn section_name(&self, number: u32) -> Option<&str> {
         self.0.section_name(number)
     }
 
     /// Returns whether the selected sections share addresses, so that an address may be that of symbols in several: all
     /// sections of an object file do.
+    ///
+    /// # Examples
+    ///
+    /// ```
+    /// use binfarce::{Selection, SymbolTable, Tables};
+    ///
+    /// # let path = concat!(env!("CARGO_MANIFEST_DIR"), "/samples/macho.bin");
+    /// let file = std::fs::read(path)?;
+    /// let tables = Tables::new(&file, Selection::All, SymbolTable::Symtab)?;
+    /// assert!(!tables.shares_addresses());
+    /// # Ok::<(), Box<dyn std::error::Error>>(())
+    /// ```
     pub fn shares_addresses(&self) -> bool {
         self.0.shares_addresses()
     }
@@ -157,6 +206,20 @@ impl<'a> Tables<'a> {
     ///
     /// That of `output`; [`ErrorKind::WriteZero`] where it takes no more bytes; otherwise that of [`Tables::functions`], as an
     /// [`io::Error`]: then nothing is written.
+    ///
+    /// # Examples
+    ///
+    /// ```
+    /// use binfarce::{Selection, SymbolTable, Tables};
+    ///
+    /// # let path = concat!(env!("CARGO_MANIFEST_DIR"), "/samples/elf64-little.bin");
+    /// let file = std::fs::read(path)?;
+    /// let tables = Tables::new(&file, Selection::All, SymbolTable::Symtab)?;
+    /// let mut text = Vec::new();
+    /// tables.list_to(&mut text)?;
+    /// assert_eq!(text, b"0000000000001000         16 .text foo\n0000000000001010         16 .symtab bad\n");
+    /// # Ok::<(), Box<dyn std::error::Error>>(())
+    /// ```
     pub fn list_to<W: Write>(&self, output: W) -> io::Result<()> {
         write_to(output, |sink| Ok(list_tables(Global, &self.0, sink)?))
     }
@@ -166,6 +229,20 @@ impl<'a> Tables<'a> {
     /// # Errors
     ///
     /// Those of [`Tables::list_to`]; [`Error::TooLarge`], as an [`io::Error`], where the sum of all sizes is 2^64 or more.
+    ///
+    /// # Examples
+    ///
+    /// ```
+    /// use binfarce::{Selection, SymbolTable, Tables};
+    ///
+    /// # let path = concat!(env!("CARGO_MANIFEST_DIR"), "/samples/elf64-little.bin");
+    /// let file = std::fs::read(path)?;
+    /// let tables = Tables::new(&file, Selection::All, SymbolTable::Symtab)?;
+    /// let mut text = Vec::new();
+    /// tables.report_to(&mut text)?;
+    /// assert_eq!(text, b"        16 [unknown]\n        16 foo\nsum 32\n");
+    /// # Ok::<(), Box<dyn std::error::Error>>(())
+    /// ```
     pub fn report_to<W: Write>(&self, output: W) -> io::Result<()> {
         write_to(output, |sink| report_tables(Global, &self.0, sink))
     }
@@ -176,6 +253,20 @@ impl<'a> Tables<'a> {
     /// # Errors
     ///
     /// Those of [`Tables::report_to`].
+    ///
+    /// # Examples
+    ///
+    /// ```
+    /// use binfarce::{Selection, SymbolTable, Tables};
+    ///
+    /// # let path = concat!(env!("CARGO_MANIFEST_DIR"), "/samples/elf64-little.bin");
+    /// let file = std::fs::read(path)?;
+    /// let tables = Tables::new(&file, Selection::All, SymbolTable::Symtab)?;
+    /// let mut picture = Vec::new();
+    /// tables.map_to("a file", &mut picture)?;
+    /// assert!(picture.starts_with(b"<svg "));
+    /// # Ok::<(), Box<dyn std::error::Error>>(())
+    /// ```
     pub fn map_to<W: Write>(&self, title: &str, output: W) -> io::Result<()> {
         write_to(output, |sink| map_tables(Global, title, &self.0, sink))
     }
@@ -185,6 +276,22 @@ impl<'a> Tables<'a> {
     /// # Errors
     ///
     /// Those of [`Tables::list_to`].
+    ///
+    /// # Examples
+    ///
+    /// ```
+    /// use binfarce::figures::{Layout, Order, Shown};
+    /// use binfarce::{Selection, SymbolTable, Tables};
+    ///
+    /// # let path = concat!(env!("CARGO_MANIFEST_DIR"), "/samples/elf64-little.bin");
+    /// let file = std::fs::read(path)?;
+    /// let tables = Tables::new(&file, Selection::All, SymbolTable::Symtab)?;
+    /// let shown = Shown::new().with_order(Order::Name);
+    /// let mut text = Vec::new();
+    /// tables.rows_to(&shown, Layout::Lines, &mut text)?;
+    /// assert_eq!(text, b"0000000000001010         16 .symtab bad\n0000000000001000         16 .text foo\n");
+    /// # Ok::<(), Box<dyn std::error::Error>>(())
+    /// ```
     pub fn rows_to<W: Write>(&self, shown: &Shown, layout: Layout<'_>, output: W) -> io::Result<()> {
         write_to(output, |sink| Ok(list_by(Global, &self.0, &shown.into_erased(), layout.into_erased(), sink)?))
     }
@@ -219,6 +326,23 @@ impl<'a> Tables<'a> {
     /// # Errors
     ///
     /// Those of [`Tables::report_to`], first for the older file.
+    ///
+    /// # Examples
+    ///
+    /// ```
+    /// use binfarce::figures::{Figures, Key, Layout};
+    /// use binfarce::{Selection, SymbolTable, Tables};
+    ///
+    /// # let path = concat!(env!("CARGO_MANIFEST_DIR"), "/samples/elf64-little.bin");
+    /// let file = std::fs::read(path)?;
+    /// let tables = Tables::new(&file, Selection::All, SymbolTable::Symtab)?;
+    /// let old = Tables::new(&file, Selection::Section(".text"), SymbolTable::Symtab)?;
+    /// let mut text = Vec::new();
+    /// let growth = tables.changes_to(&old, &Figures::by(Key::Crate), Layout::Lines, &mut text)?;
+    /// assert_eq!((growth.old, growth.new), (16, 32));
+    /// assert!(text.starts_with(b"         0         16         +16 [unknown]\n"));
+    /// # Ok::<(), Box<dyn std::error::Error>>(())
+    /// ```
     pub fn changes_to<W>(
         &self,
         old: &Tables<'_>,
@@ -239,6 +363,20 @@ impl<'a> Tables<'a> {
     /// # Errors
     ///
     /// Those of [`Tables::list_to`].
+    ///
+    /// # Examples
+    ///
+    /// ```
+    /// use binfarce::{Selection, SymbolTable, Tables};
+    ///
+    /// # let path = concat!(env!("CARGO_MANIFEST_DIR"), "/samples/elf64-little.bin");
+    /// let file = std::fs::read(path)?;
+    /// let tables = Tables::new(&file, Selection::All, SymbolTable::Symtab)?;
+    /// let mut text = Vec::new();
+    /// tables.stacks_to(&mut text)?;
+    /// assert_eq!(text, b"foo;foo 16\n[unknown];bad 16\n");
+    /// # Ok::<(), Box<dyn std::error::Error>>(())
+    /// ```
     pub fn stacks_to<W: Write>(&self, output: W) -> io::Result<()> {
         write_to(output, |sink| Ok(fold_tables(Global, &self.0, sink)?))
     }
@@ -369,6 +507,17 @@ impl Tables<'static> {
     /// # Errors
     ///
     /// That of `file`; otherwise that of [`Tables::new`], as an [`io::Error`].
+    ///
+    /// # Examples
+    ///
+    /// ```
+    /// use binfarce::{Selection, SymbolTable, Tables};
+    ///
+    /// # let path = concat!(env!("CARGO_MANIFEST_DIR"), "/samples/elf64-little.bin");
+    /// let tables = Tables::read(std::fs::File::open(path)?, Selection::All, SymbolTable::Symtab)?;
+    /// assert_eq!(tables.functions()?.count(), 2);
+    /// # Ok::<(), Box<dyn std::error::Error>>(())
+    /// ```
     pub fn read<R: Read + Seek>(file: R, selection: Selection<'_>, table: SymbolTable) -> io::Result<Self> {
         let file = RefCell::new(Kept::new(file));
         let tables = tables::read(Global, &file, &mut (), table.into_erased(), selection.into());
@@ -448,12 +597,40 @@ impl<'a> Symbolizer<'a> {
 
     /// Returns the function symbol at an address, and the offset into it. Of several that hold the address it is the one of
     /// greatest address, and of several there the first. `None` where none holds it, and for an address below the base.
+    ///
+    /// # Examples
+    ///
+    /// ```
+    /// use binfarce::{Selection, SymbolTable, Symbolizer, Tables};
+    ///
+    /// # let path = concat!(env!("CARGO_MANIFEST_DIR"), "/samples/elf64-little.bin");
+    /// let file = std::fs::read(path)?;
+    /// let tables = Tables::new(&file, Selection::All, SymbolTable::Symtab)?;
+    /// let symbolizer = Symbolizer::new(&tables)?;
+    /// assert_eq!(symbolizer.find(0x1014).map(|(function, offset)| (function.name, offset)), Some(("bad", 4)));
+    /// assert_eq!(symbolizer.find(0x2000), None);
+    /// # Ok::<(), Box<dyn std::error::Error>>(())
+    /// ```
     pub fn find(&self, address: u64) -> Option<(FunctionSymbol<'a>, u64)> {
         self.look_up(address, false)
     }
 
     /// Returns the function symbol whose call has this return address, and the offset of the return address into it: the
     /// symbol at the address before, since a call that doesn't return may be the last instruction of its function.
+    ///
+    /// # Examples
+    ///
+    /// ```
+    /// use binfarce::{Selection, SymbolTable, Symbolizer, Tables};
+    ///
+    /// # let path = concat!(env!("CARGO_MANIFEST_DIR"), "/samples/elf64-little.bin");
+    /// let file = std::fs::read(path)?;
+    /// let tables = Tables::new(&file, Selection::All, SymbolTable::Symtab)?;
+    /// let symbolizer = Symbolizer::new(&tables)?;
+    /// // `foo` ends at 0x1010, and its last instruction may be the call.
+    /// assert_eq!(symbolizer.find_return(0x1010).map(|(function, _)| function.name), Some("_ZN3foo3barE"));
+    /// # Ok::<(), Box<dyn std::error::Error>>(())
+    /// ```
     pub fn find_return(&self, address: u64) -> Option<(FunctionSymbol<'a>, u64)> {
         self.look_up(address, true)
     }

@@ -39,6 +39,24 @@ fn the_readme_leads_into_the_package() {
     assert_eq!(links, 0, "a link leads out of the package");
 }
 
+/// Of the public functions those that people call first have an example, which `cargo test --doc` runs.
+#[test]
+fn functions_have_examples() {
+    let (mut all, mut shown) = (0, 0);
+    for file in ["any", "demangle", "elf", "error", "figures", "filter", "macho", "pe", "tables"] {
+        let (source, mut has_example) = (read(&format!("src/{file}.rs")), false);
+        for line in source.lines().map(str::trim) {
+            if line.starts_with("pub fn ") {
+                all += 1;
+                shown += usize::from(has_example);
+            }
+            has_example =
+                line.starts_with("/// ```") || has_example && (line.starts_with("///") || line.starts_with("#["));
+        }
+    }
+    assert!(shown >= 60, "{shown} of {all}");
+}
+
 /// Cargo ignores `[lints]` before 1.74.
 #[test]
 fn unsafe_code_is_forbidden_in_the_sources() {

@@ -1,7 +1,7 @@
 //! bloat FILE [N]: prints how many bytes the functions of a program take, by crate and by generic function, the N greatest of
 //! each, by default 20.
 
-use binfarce::figures::{Grouping, Key};
+use binfarce::figures::Key;
 use binfarce::{Selection, SymbolTable, Tables};
 use std::{cmp::Reverse, env, error::Error, fs::File};
 
@@ -11,7 +11,7 @@ fn main() -> Result<(), Box<dyn Error>> {
     let most = words.next().map_or(Ok(20), |n| n.parse())?;
     let tables = Tables::read(File::open(path)?, Selection::All, SymbolTable::Symtab)?;
     for (what, key) in [("crate", Key::Crate), ("function", Key::Generic)] {
-        let mut sums = tables.sums_by_key(Grouping { key, joins_std: false })?;
+        let mut sums = tables.sums_by_key(key)?;
         println!("{} bytes of functions by {what}:", sums.total);
         sums.rows.sort_by_key(|row| Reverse(row.1));
         for (name, size) in sums.rows.iter().take(most) {

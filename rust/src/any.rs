@@ -1,5 +1,6 @@
 //! Files of any format that is read: the file's first bytes name the format.
 
+use crate::erased::binfarce_bytes::{format, functions as lookup};
 use crate::erased::binfarce_sections::bytes as bytes_of;
 use crate::erased::binfarce_sections::error::SectionError;
 use crate::erased::binfarce_sections::sections as sections_of;
@@ -9,9 +10,45 @@ use crate::erased::binfarce_tools::report::{self as reporting, ReportError};
 use crate::error::{Error, OutOfMemory, ParseError};
 use crate::shim::{self, alloc::Global};
 use crate::streams::Kept;
-use crate::{AllFunctions, FunctionSymbol, Section, string_of};
+use crate::{AllFunctions, Format, FunctionSymbol, string_of};
 use std::cell::RefCell;
 use std::io::{self, ErrorKind, Read, Seek};
+
+/// Returns the format that a file's first 8 bytes name; a shorter file has none. The readers themselves don't check magic numbers.
+///
+/// # Examples
+///
+/// ```
+/// use binfarce::{ByteOrder, Format, detect_format};
+///
+/// # let path = concat!(env!("CARGO_MANIFEST_DIR"), "/samples/elf64-little.bin");
+/// let file = std::fs::read(path)?;
+/// assert_eq!(detect_format(&file), Format::Elf64 { byte_order: ByteOrder::LittleEndian });
+/// assert_eq!(detect_format(b"#!/bin/sh"), Format::Unknown);
+/// # Ok::<(), std::io::Error>(())
+/// ```
+pub fn detect_format(file: &[u8]) -> Format {
+    format::detect_format(file)
+}
+
+/// Returns the function symbol at an address: of those in the list whose range holds it the one of greatest address, and of several
+/// the first. `None` where no range holds it.
+///
+/// A range begins at the symbol's address and has its size in bytes; a symbol of size 0 holds its own address alone. The whole list
+/// is searched and nothing is allocated; for many addresses there is [`Symbolizer`](crate::Symbolizer).
+///
+/// # Examples
+///
+/// ```
+/// use binfarce::{FunctionSymbol, symbol_at};
+///
+/// let functions = [("outer", 0x10, 32), ("inner", 0x18, 8)].map(|(name, address, size)| FunctionSymbol { name, address, size });
+/// let names = [0x17, 0x18, 0x20, 0x30].map(|address| symbol_at(&functions, address).map(|function| function.name));
+/// assert_eq!(names, [Some("outer"), Some("inner"), Some("outer"), None]);
+/// ```
+pub fn symbol_at<'a>(functions: &[FunctionSymbol<'a>], address: u64) -> Option<FunctionSymbol<'a>> {
+    lookup::symbol_at(functions, address)
+}
 
 /// Returns an iterator over the function symbols of a file, and the size of their section in bytes.
 ///
@@ -22,6 +59,17 @@ use std::io::{self, ErrorKind, Read, Seek};
 ///
 /// [`Error::UnknownFormat`]; [`Error::Parse`] where the reader of the file's format refuses it; [`Error::OutOfMemory`] where
 /// an allocation failed.
+///
+/// # Examples
+///
+/// ```
+/// # let path = concat!(env!("CARGO_MANIFEST_DIR"), "/samples/macho.bin");
+/// let file = std::fs::read(path)?;
+/// let (functions, text_size) = binfarce::functions(&file, ".text")?;
+/// let sizes = functions.map(|function| (function.name, function.size)).collect::<Vec<_>>();
+/// assert_eq!((sizes, text_size), (vec![("a", 64), ("b", 64), ("c", 192)], 256));
+/// # Ok::<(), Box<dyn std::error::Error>>(())
+/// ```
 pub fn functions<'a>(file: &'a [u8], section: &str) -> Result<(Functions<'a>, u64), Error> {
     let (functions, size) = functions_of::functions_of_file(Global, file, section)?;
     Ok((Functions(AllFunctions::new(functions.all)?), size))
@@ -42,6 +90,34 @@ impl<'a> Iterator for Functions<'a> {
 
     fn size_hint(&self) -> (usize, Option<usize>) {
         self.0.size_hint()
+    }
+}
+
+/// A section of a file of any format: what [`sections`] returns. Its names are parts of the file.
+#[derive(Debug, Clone, Copy, PartialEq, Eq, Hash)]
+#[non_exhaustive]
+pub struct Section<'a> {
+    /// In a Mach-O file the name of its segment (`segname`), as `__TEXT`; elsewhere `None`.
+    pub segment: Option<&'a str>,
+    /// Its name as it is stored; `None` for an ELF section without one.
+    pub name: Option<&'a str>,
+    /// The address of its first byte in memory (`sh_addr`, `addr`); in a PE file counted from the image base
+    /// (`VirtualAddress`).
+    pub address: u64,
+    /// Where its bytes begin in the file (`sh_offset`, `offset`, `PointerToRawData`), as the file states it.
+    pub offset: u64,
+    /// Its size in bytes (`sh_size`, `size`), as the file states it. In a PE file, the smaller one of `VirtualSize` and
+    /// `SizeOfRawData`, or the other one where one is 0.
+    pub size: u64,
+    /// Whether it has bytes in the file: not in ELF where its type is `SHT_NOBITS`, not in Mach-O where its offset is
+    /// 0, and not in PE where `PointerToRawData` or `SizeOfRawData` is 0.
+    pub has_bytes: bool,
+}
+
+impl<'a> Section<'a> {
+    fn of(section: sections_of::Section<'a>) -> Self {
+        let sections_of::Section { segment, name, address, offset, size, has_bytes } = section;
+        Section { segment, name, address, offset, size, has_bytes }
     }
 }
 
@@ -73,7 +149,7 @@ impl<'a> Iterator for Sections<'a> {
     type Item = Result<Section<'a>, ParseError>;
 
     fn next(&mut self) -> Option<Self::Item> {
-        Some(self.0.next()?.map_err(ParseError::from))
+        Some(self.0.next()?.map(Section::of).map_err(ParseError::from))
     }
 }
 

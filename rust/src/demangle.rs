@@ -24,6 +24,17 @@ use std::fmt;
 
 pub use erased::{Kind, MAX_LEVELS, MAX_STEPS};
 
+/// `unknown`, `legacy` or `v0`.
+impl fmt::Display for Kind {
+    fn fmt(&self, f: &mut fmt::Formatter<'_>) -> fmt::Result {
+        f.pad(match self {
+            Kind::Unknown => "unknown",
+            Kind::Legacy => "legacy",
+            Kind::V0 => "v0",
+        })
+    }
+}
+
 /// A function symbol of a file, with its readable name.
 #[derive(Debug, Clone, PartialEq, Eq, Hash)]
 pub struct SymbolData {
@@ -61,6 +72,18 @@ impl SymbolName {
     ///
     /// Where an allocation fails, the program ends as it does where a `String` can't grow; [`SymbolName::try_demangle`]
     /// returns an error there.
+    ///
+    /// # Examples
+    ///
+    /// ```
+    /// use binfarce::demangle::{Kind, SymbolName};
+    ///
+    /// let name = SymbolName::demangle("_RNvC6_123foo3bar");
+    /// assert_eq!((&*name.complete, &*name.trimmed), ("123foo[0]::bar", "123foo::bar"));
+    /// assert_eq!((name.crate_name.as_deref(), name.kind), (Some("123foo"), Kind::V0));
+    /// // A name that isn't mangled is unchanged.
+    /// assert_eq!(SymbolName::demangle("main").trimmed, "main");
+    /// ```
     pub fn demangle(name: &str) -> Self {
         SymbolName::try_demangle(name).unwrap_or_else(|_| out_of_memory())
     }
@@ -70,6 +93,15 @@ impl SymbolName {
     /// # Errors
     ///
     /// [`OutOfMemory`] where an allocation failed.
+    ///
+    /// # Examples
+    ///
+    /// ```
+    /// use binfarce::demangle::SymbolName;
+    ///
+    /// assert_eq!(SymbolName::try_demangle("_RNvC1a1b")?.trimmed, "a::b");
+    /// # Ok::<(), binfarce::OutOfMemory>(())
+    /// ```
     pub fn try_demangle(name: &str) -> Result<Self, OutOfMemory> {
         Demangler::new().demangle(name)
     }
@@ -121,6 +153,16 @@ impl Demangler {
     /// # Errors
     ///
     /// [`OutOfMemory`] where an allocation failed.
+    ///
+    /// # Examples
+    ///
+    /// ```
+    /// use binfarce::demangle::Demangler;
+    ///
+    /// let mut demangler = Demangler::new();
+    /// let names = ["_RNvC1a1b", "_RNvC1a1c"].map(|name| demangler.demangle(name).map(|name| name.trimmed));
+    /// assert_eq!(names, [Ok("a::b".to_string()), Ok("a::c".to_string())]);
+    /// ```
     pub fn demangle(&mut self, name: &str) -> Result<SymbolName, OutOfMemory> {
         Ok(self.0.demangle(name)?.into())
     }
@@ -130,6 +172,17 @@ impl Demangler {
     /// # Errors
     ///
     /// [`OutOfMemory`] where an allocation failed. `text` is unchanged then.
+    ///
+    /// # Examples
+    ///
+    /// ```
+    /// use binfarce::demangle::Demangler;
+    ///
+    /// let (mut demangler, mut line) = (Demangler::new(), String::from("at "));
+    /// demangler.push_trimmed(&mut line, "_ZN3foo3bar17h05af221e174051e9E")?;
+    /// assert_eq!(line, "at foo::bar");
+    /// # Ok::<(), binfarce::OutOfMemory>(())
+    /// ```
     pub fn push_trimmed(&mut self, text: &mut String, name: &str) -> Result<(), OutOfMemory> {
         with_shim(text, |text| {
             // A legacy name is printed part by part, and its text is mostly no longer than the name. Of a v0 name all is
@@ -146,6 +199,17 @@ impl Demangler {
     /// # Errors
     ///
     /// [`OutOfMemory`] where an allocation failed. `text` is unchanged then.
+    ///
+    /// # Examples
+    ///
+    /// ```
+    /// use binfarce::demangle::Demangler;
+    ///
+    /// let (mut demangler, mut line) = (Demangler::new(), String::from("at "));
+    /// demangler.push_complete(&mut line, "_ZN3foo3bar17h05af221e174051e9E")?;
+    /// assert_eq!(line, "at foo::bar::h05af221e174051e9");
+    /// # Ok::<(), binfarce::OutOfMemory>(())
+    /// ```
     pub fn push_complete(&mut self, text: &mut String, name: &str) -> Result<(), OutOfMemory> {
         // Into an empty text it is printed itself.
         let mut complete = if text.is_empty() { std::mem::take(text) } else { String::new() }.into();
@@ -166,6 +230,17 @@ impl Demangler {
     /// # Errors
     ///
     /// [`OutOfMemory`] where an allocation failed. `text` is unchanged then.
+    ///
+    /// # Examples
+    ///
+    /// ```
+    /// use binfarce::demangle::Demangler;
+    ///
+    /// let (mut demangler, mut line) = (Demangler::new(), String::from("in "));
+    /// assert!(demangler.push_crate(&mut line, "_RNvC1a1b")? && !demangler.push_crate(&mut line, "main")?);
+    /// assert_eq!(line, "in a");
+    /// # Ok::<(), binfarce::OutOfMemory>(())
+    /// ```
     pub fn push_crate(&mut self, text: &mut String, name: &str) -> Result<bool, OutOfMemory> {
         with_shim(text, |text| erased::push_crate(Global, text, name))
     }
@@ -176,6 +251,17 @@ impl Demangler {
     /// # Errors
     ///
     /// [`OutOfMemory`] where an allocation failed.
+    ///
+    /// # Examples
+    ///
+    /// ```
+    /// use binfarce::demangle::Demangler;
+    ///
+    /// let mut demangler = Demangler::new();
+    /// assert_eq!(demangler.crate_of("_ZN3foo3bar17h05af221e174051e9E")?.as_deref(), Some("foo"));
+    /// assert_eq!(demangler.crate_of("main")?, None);
+    /// # Ok::<(), binfarce::OutOfMemory>(())
+    /// ```
     pub fn crate_of(&mut self, name: &str) -> Result<Option<String>, OutOfMemory> {
         Ok(self.0.crate_of(name)?.map(shim::String::into_std))
     }
@@ -244,12 +330,30 @@ impl fmt::Display for Demangle<'_> {
 impl<'a> Demangle<'a> {
     /// Returns how the name is mangled, decided without printing it: a v0 name beyond the limits is [`Kind::V0`] here. Nothing
     /// is allocated.
+    ///
+    /// # Examples
+    ///
+    /// ```
+    /// use binfarce::demangle::{Kind, demangle};
+    ///
+    /// let kinds = ["_RNvC1a1b", "_ZN3foo3barE", "main"].map(|name| demangle(name).kind());
+    /// assert_eq!(kinds, [Kind::V0, Kind::Legacy, Kind::Unknown]);
+    /// ```
     pub fn kind(&self) -> Kind {
         erased::demangle(self.0).kind()
     }
 
     /// Returns the name without the prefix of its mangling and without a suffix of LLVM (`.llvm.` and digits); all of a
     /// name that isn't mangled. Nothing is allocated.
+    ///
+    /// # Examples
+    ///
+    /// ```
+    /// use binfarce::demangle::demangle;
+    ///
+    /// assert_eq!(demangle("_ZN3foo3barE.llvm.123").part(), "3foo3barE");
+    /// assert_eq!(demangle("main").part(), "main");
+    /// ```
     pub fn part(&self) -> &'a str {
         erased::demangle(self.0).part()
     }

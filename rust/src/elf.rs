@@ -1,5 +1,20 @@
 //! The readers of both classes of ELF files: `elf32` and `elf64` differ in the width of addresses, offsets and sizes.
 
+/// The lines of an example that open a small file of a class.
+macro_rules! opened {
+    ($erased:ident) => {
+        concat!(
+            "use binfarce::{ByteOrder, ",
+            stringify!($erased),
+            "};\n\n# let path = concat!(env!(\"CARGO_MANIFEST_DIR\"), \"/samples/",
+            stringify!($erased),
+            "-little.bin\");\nlet file = std::fs::read(path)?;\nlet elf = ",
+            stringify!($erased),
+            "::parse(&file, ByteOrder::LittleEndian)?;"
+        )
+    };
+}
+
 /// Writes the items of a class: its file, its header, its width, and the length of its header in bytes.
 macro_rules! reader {
     ($erased:ident, $Elf:ident, $Header:ident, $Width:ident, $least:literal) => {
@@ -137,6 +152,14 @@ macro_rules! reader {
         ///
         /// # Errors
         ///
+        ///
+        /// # Examples
+        ///
+        /// ```
+        #[doc = crate::elf::opened!($erased)]
+        /// assert_eq!(elf.header().shnum, 5);
+        /// # Ok::<(), Box<dyn std::error::Error>>(())
+        /// ```
         #[doc = concat!("[`ParseError::UnexpectedEof`] for fewer than ", $least, " bytes.")]
         pub fn parse(data: &[u8], byte_order: ByteOrder) -> Result<$Elf<'_>, ParseError> {
             Ok($Elf(erased::parse(data, byte_order)?))
@@ -144,6 +167,15 @@ macro_rules! reader {
 
         impl<'a> $Elf<'a> {
             /// Returns the file header.
+            ///
+            /// # Examples
+            ///
+            /// ```
+            #[doc = crate::elf::opened!($erased)]
+            /// let header = elf.header();
+            /// assert_eq!((header.elf_type, header.version, header.shstrndx), (1, 1, 4));
+            /// # Ok::<(), Box<dyn std::error::Error>>(())
+            /// ```
             pub fn header(&self) -> $Header {
                 let header = self.0.header();
                 $Header {
@@ -164,6 +196,15 @@ macro_rules! reader {
             }
 
             /// Returns an iterator over the sections in file order. A section header is read when the iterator reaches it.
+            ///
+            /// # Examples
+            ///
+            /// ```
+            #[doc = crate::elf::opened!($erased)]
+            /// let sections = elf.sections().collect::<Result<Vec<_>, _>>()?;
+            /// assert_eq!(sections[1].name(&elf), Some(".text"));
+            /// # Ok::<(), Box<dyn std::error::Error>>(())
+            /// ```
             pub fn sections(&self) -> Sections<'a> {
                 // One for each header, or an error in place of one that is missing.
                 Sections(Bounded::new(self.0.sections(), usize::from(self.0.header().shnum) + 1))
@@ -175,6 +216,16 @@ macro_rules! reader {
             ///
             /// [`ParseError::UnexpectedEof`] where the section header table doesn't begin in the file, or a header is
             /// truncated. `callback` gets the sections before it first.
+            ///
+            /// # Examples
+            ///
+            /// ```
+            #[doc = crate::elf::opened!($erased)]
+            /// // The first symbol table (`SHT_SYMTAB`).
+            /// let table = elf.find_section(|section| section.section_type() == 2)?;
+            /// assert_eq!(table.and_then(|section| section.name(&elf)), Some(".symtab"));
+            /// # Ok::<(), Box<dyn std::error::Error>>(())
+            /// ```
             pub fn find_section<F: Fn(Section) -> bool>(&self, callback: F) -> Result<Option<Section>, ParseError> {
                 Ok(self.0.find_section(|section| callback(Section(section)))?.map(Section))
             }
@@ -184,6 +235,15 @@ macro_rules! reader {
             /// # Errors
             ///
             /// Those of `find_section`.
+            ///
+            /// # Examples
+            ///
+            /// ```
+            #[doc = crate::elf::opened!($erased)]
+            /// let text = elf.section_with_name(".text")?;
+            /// assert_eq!(text.map(|section| section.size()), Some(32));
+            /// # Ok::<(), Box<dyn std::error::Error>>(())
+            /// ```
             pub fn section_with_name(&self, name: &str) -> Result<Option<Section>, ParseError> {
                 Ok(self.0.section_with_name(name)?.map(Section))
             }
@@ -193,6 +253,15 @@ macro_rules! reader {
             /// # Errors
             ///
             /// Those of `find_section`.
+            ///
+            /// # Examples
+            ///
+            /// ```
+            #[doc = crate::elf::opened!($erased)]
+            /// let first = elf.section_with_index(1)?;
+            /// assert_eq!(first.and_then(|section| section.name(&elf)), Some(".text"));
+            /// # Ok::<(), Box<dyn std::error::Error>>(())
+            /// ```
             pub fn section_with_index(&self, index: u32) -> Result<Option<Section>, ParseError> {
                 Ok(self.0.section_with_index(index)?.map(Section))
             }
@@ -204,6 +273,15 @@ macro_rules! reader {
             ///
             /// [`ParseError::MalformedInput`] where their end passes 64 bits, [`ParseError::UnexpectedEof`] where it
             /// passes the end of the file.
+            ///
+            /// # Examples
+            ///
+            /// ```
+            #[doc = crate::elf::opened!($erased)]
+            /// let text = elf.section_with_name(".text")?.ok_or("no text section")?;
+            /// assert_eq!(elf.section_bytes(&text)?, &file[text.range()?]);
+            /// # Ok::<(), Box<dyn std::error::Error>>(())
+            /// ```
             pub fn section_bytes(&self, section: &Section) -> Result<&'a [u8], ParseError> {
                 Ok(self.0.section_bytes(&section.0)?)
             }
@@ -217,6 +295,15 @@ macro_rules! reader {
             /// # Errors
             ///
             /// Those of `functions`.
+            ///
+            /// # Examples
+            ///
+            /// ```
+            #[doc = crate::elf::opened!($erased)]
+            /// let (symbols, text_size) = elf.symbols(".text")?;
+            /// assert_eq!((symbols[0].name.trimmed.as_str(), symbols[0].address, text_size), ("foo", 0x1000, 32));
+            /// # Ok::<(), Box<dyn std::error::Error>>(())
+            /// ```
             pub fn symbols(&self, section_name: &str) -> Result<(Vec<SymbolData>, u64), ParseError> {
                 Ok(symbols_of(self.0.symbols(Global, section_name)?).unwrap_or_else(|_| out_of_memory()))
             }
@@ -240,6 +327,15 @@ macro_rules! reader {
             /// [`ParseError::UnexpectedSectionType`]; [`ParseError::MalformedInput`] where the end of the string table or
             /// of the symbol table passes 64 bits; [`ParseError::UnexpectedEof`] where it passes the end of the file, or
             /// the last symbol is truncated.
+            ///
+            /// # Examples
+            ///
+            /// ```
+            #[doc = crate::elf::opened!($erased)]
+            /// let (mut functions, _text_size) = elf.functions(".text")?;
+            /// assert_eq!(functions.next().map(|function| function.name), Some("_ZN3foo3barE"));
+            /// # Ok::<(), Box<dyn std::error::Error>>(())
+            /// ```
             pub fn functions(&self, section_name: &str) -> Result<(Functions<'a>, u64), ParseError> {
                 let (functions, size) = self.0.functions(section_name)?;
                 Ok((Functions(self.bounded(functions)), size))
@@ -272,8 +368,17 @@ macro_rules! reader {
             ///
             /// In this order: [`ParseError::UnexpectedEof`] where the section header table doesn't begin in the file or a
             /// section header is truncated; those of `functions` or `dynamic_functions` from the missing symbol table on.
+            ///
+            /// # Examples
+            ///
+            /// ```
+            #[doc = crate::elf::opened!($erased)]
+            /// let functions = elf.all_functions(binfarce::SymbolTable::Symtab)?;
+            /// assert_eq!(functions.map(|it| (it.section, it.function.name)).collect::<Vec<_>>(), [(1, "_ZN3foo3barE"), (2, "bad")]);
+            /// # Ok::<(), Box<dyn std::error::Error>>(())
+            /// ```
             pub fn all_functions(&self, table: SymbolTable) -> Result<AllFunctions<'a>, ParseError> {
-                Ok(AllFunctions(self.bounded(self.0.all_functions(table)?)))
+                Ok(AllFunctions(self.bounded(self.0.all_functions(table.into_erased())?)))
             }
 
             /// The rows of a symbol table in the file, each of 16 bytes or more.
@@ -337,4 +442,4 @@ macro_rules! reader {
     };
 }
 
-pub(crate) use reader;
+pub(crate) use {opened, reader};

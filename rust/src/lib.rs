@@ -2,8 +2,8 @@
 //! Rust symbols.
 //!
 //! The public paths and signatures of the Rust crate `binfarce` are here, but for its module `ar`, and more. The code below
-//! them, in the module `erased`, is plain Rust made from the proved sources in `crates/` by erasing their contracts: those sources are proved for
-//! every byte string, and this crate is safe Rust without dependencies.
+//! them is plain Rust made from sources in Rattle by erasing their contracts: those sources are proved for every byte string,
+//! and this crate is safe Rust without dependencies.
 //!
 //! - Names: [`demangle`], and [`filter()`] and [`filter_stream`] for those in a text.
 //! - A file in memory, of any format: [`functions`], [`sections`], [`section_bytes`]; of one format: [`elf32`], [`elf64`],
@@ -30,6 +30,8 @@
 //! # }
 //! ```
 
+// As in Cargo.toml, which says it to Cargo from 1.74 on.
+#![forbid(unsafe_code)]
 #![warn(missing_docs)]
 
 #[cfg(not(any(target_pointer_width = "64", target_pointer_width = "32")))]
@@ -83,20 +85,10 @@ macro_rules! of_values {
 of_values! {
     FunctionSymbol<'_>: |it| (it.name, it.address, it.size);
     SectionFunction<'_>: |it| (it.section, it.function);
-    Section<'_>: |it| (it.segment, it.name, it.address, it.offset, it.size, it.has_bytes);
     else
-    SymbolTable: |it| std::mem::discriminant(it);
-    figures::Figures: |it| (it.grouping, it.first, it.has_percent);
-    figures::Form<'_>: |it| match *it {
-        figures::Form::Lines => None,
-        figures::Form::Objects(file, section) => Some((file, section)),
-    };
-    figures::Grouping: |it| (it.key, it.joins_std);
-    figures::Growth: |it| (it.old, it.new);
     figures::Key: |it| std::mem::discriminant(it);
     figures::Naming: |it| std::mem::discriminant(it);
     figures::Order: |it| std::mem::discriminant(it);
-    figures::Shown: |it| (it.order, it.first, it.naming, it.has_total);
 }
 
 impl Clone for Format {
@@ -112,69 +104,86 @@ pub mod demangle;
 mod elf;
 pub mod elf32;
 pub mod elf64;
-#[doc(hidden)]
 #[allow(clippy::all, rustdoc::private_intra_doc_links)]
 // Of a method that a type has twice, Rust may take another one than the proved sources.
 #[deny(clippy::same_name_method)]
 // As for `if_let_rescope` in Cargo.toml. In std for 32 bits `io::Error` counts too, whose order of drops doesn't matter.
 #[cfg_attr(target_pointer_width = "64", deny(tail_expr_drop_order))]
 #[rustfmt::skip]
-pub mod erased;
+mod erased;
 mod error;
+pub mod figures;
 mod filter;
 pub mod macho;
 pub mod pe;
-#[doc(hidden)]
-pub mod shim;
+#[cfg(doctest)]
+mod refused;
+// Each program and library takes a part of it.
+#[allow(dead_code, unused_imports)]
+mod shim;
 mod streams;
 mod tables;
 #[cfg(test)]
 mod tests;
 
-/// Listings in an order, sums by a key, and how they differ between two files: what [`Tables::rows_to`], [`Tables::figures_to`] and
-/// [`Tables::changes_to`] take and return.
-///
-/// # Examples
-///
-/// The largest function with its stored name, and how much the crates grew:
-///
-/// ```
-/// use binfarce::figures::{Figures, Form, Grouping, Key, Naming, Order, Shown};
-/// use binfarce::{Selection, SymbolTable, Tables};
-///
-/// # let path = concat!(env!("CARGO_MANIFEST_DIR"), "/samples/elf64-little.bin");
-/// let file = std::fs::read(path)?;
-/// let tables = Tables::new(&file, Selection::Section(".text"), SymbolTable::Symtab)?;
-/// let shown = Shown { order: Some(Order::Size), first: Some(1), naming: Naming::Stored, has_total: false };
-/// let mut text = Vec::new();
-/// tables.rows_to(&shown, Form::Lines, &mut text)?;
-/// assert_eq!(text, b"0000000000001000         16 _ZN3foo3barE\n");
-///
-/// let figures = Figures { grouping: Grouping { key: Key::Crate, joins_std: true }, first: None, has_percent: false };
-/// let growth = tables.changes_to(&tables, &figures, Form::Lines, std::io::stdout())?;
-/// assert_eq!((growth.old, growth.new), (16, 16));
-/// # Ok::<(), Box<dyn std::error::Error>>(())
-/// ```
-pub mod figures {
-    pub use crate::erased::binfarce_figures::diff::Growth;
-    pub use crate::erased::binfarce_figures::key::{Grouping, Key};
-    pub use crate::erased::binfarce_figures::order::Order;
-    pub use crate::erased::binfarce_figures::rows::{Naming, Shown};
-    pub use crate::erased::binfarce_figures::sums::Figures;
-    pub use crate::erased::binfarce_tools::json::Form;
-}
-
-pub use any::{Functions, Sections, functions, list, read_section, report, section_bytes, sections};
+pub use any::{
+    Functions, Section, Sections, detect_format, functions, list, read_section, report, section_bytes, sections,
+    symbol_at,
+};
 pub use erased::binfarce_bytes::ByteOrder;
-pub use erased::binfarce_bytes::format::{Format, detect_format};
-pub use erased::binfarce_bytes::functions::{FunctionSymbol, SectionFunction, symbol_at};
-pub use erased::binfarce_elf::symbol_table::SymbolTable;
-pub use erased::binfarce_sections::sections::Section;
+pub use erased::binfarce_bytes::format::Format;
+pub use erased::binfarce_bytes::functions::{FunctionSymbol, SectionFunction};
 pub use error::{Error, OutOfMemory, ParseError, UnexpectedEof};
 pub use filter::{Form, filter, filter_stream};
-pub use tables::{AllFunctions, Selection, Sums, Symbolizer, Tables};
+pub use tables::{AllFunctions, Selection, Sums, SymbolTable, Symbolizer, Tables};
 
 use demangle::SymbolData;
+use std::fmt;
+
+/// What the programs of this package are.
+#[cfg(feature = "programs")]
+#[doc(hidden)]
+pub mod programs {
+    use crate::{erased, shim::HostRuntime};
+    use std::process::ExitCode;
+
+    pub fn binfarce() -> ExitCode {
+        erased::binfarce_command::main(HostRuntime::new())
+    }
+
+    pub fn binfarce_list() -> ExitCode {
+        erased::binfarce_list::main(HostRuntime::new())
+    }
+
+    pub fn binfarce_size() -> ExitCode {
+        erased::binfarce_size::main(HostRuntime::new())
+    }
+}
+
+/// What the library for C calls.
+#[cfg(feature = "c")]
+#[doc(hidden)]
+pub mod exports {
+    pub use crate::erased::binfarce_c::{
+        all_sections::*, buffer::*, functions::*, headers::*, names::*, sections::*, status::*, texts::*,
+    };
+    pub use crate::shim::alloc::Global;
+}
+
+/// `32-bit little-endian ELF` or the like, `Mach-O`, `PE`, or `unknown`.
+impl fmt::Display for Format {
+    fn fmt(&self, f: &mut fmt::Formatter<'_>) -> fmt::Result {
+        f.pad(match self {
+            Format::Elf32 { byte_order: ByteOrder::LittleEndian } => "32-bit little-endian ELF",
+            Format::Elf32 { byte_order: ByteOrder::BigEndian } => "32-bit big-endian ELF",
+            Format::Elf64 { byte_order: ByteOrder::LittleEndian } => "64-bit little-endian ELF",
+            Format::Elf64 { byte_order: ByteOrder::BigEndian } => "64-bit big-endian ELF",
+            Format::Macho => "Mach-O",
+            Format::PE => "PE",
+            Format::Unknown => "unknown",
+        })
+    }
+}
 
 /// The answer of an erased reader, with std's types.
 fn symbols_of(

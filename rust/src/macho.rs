@@ -103,6 +103,19 @@ impl fmt::Debug for Macho<'_> {
 /// # Errors
 ///
 /// [`ParseError::UnexpectedEof`] for fewer than 28 bytes.
+///
+/// # Examples
+///
+/// ```
+/// use binfarce::macho;
+///
+/// # let path = concat!(env!("CARGO_MANIFEST_DIR"), "/samples/macho.bin");
+/// let file = std::fs::read(path)?;
+/// let file = macho::parse(&file)?;
+/// assert_eq!(file.header().ncmds, 2);
+/// assert!(macho::parse(b"").is_err());
+/// # Ok::<(), Box<dyn std::error::Error>>(())
+/// ```
 pub fn parse(data: &[u8]) -> Result<Macho<'_>, ParseError> {
     Ok(Macho(erased::parse(data)?))
 }
@@ -123,6 +136,18 @@ impl<'a> Macho<'a> {
 
     /// Returns an iterator over the sections in file order. A section is read when the iterator reaches it. Sections
     /// whose names are empty or not UTF-8 are skipped.
+    ///
+    /// # Examples
+    ///
+    /// ```
+    /// use binfarce::macho;
+    ///
+    /// # let path = concat!(env!("CARGO_MANIFEST_DIR"), "/samples/macho.bin");
+    /// let file = std::fs::read(path)?;
+    /// let sections = macho::parse(&file)?.sections().collect::<Result<Vec<_>, _>>()?;
+    /// assert_eq!((sections[0].segment_name(), sections[0].name(), sections[0].size()), ("__TEXT", "__text", 256));
+    /// # Ok::<(), Box<dyn std::error::Error>>(())
+    /// ```
     pub fn sections(&self) -> Sections<'a> {
         Sections(self.0.sections())
     }
@@ -133,6 +158,18 @@ impl<'a> Macho<'a> {
     ///
     /// [`ParseError::UnexpectedEof`] where a segment command or a section is truncated, [`ParseError::MalformedInput`]
     /// where the size of a load command is below 8. `callback` gets the sections before it first.
+    ///
+    /// # Examples
+    ///
+    /// ```
+    /// use binfarce::macho;
+    ///
+    /// # let path = concat!(env!("CARGO_MANIFEST_DIR"), "/samples/macho.bin");
+    /// let file = std::fs::read(path)?;
+    /// let at = macho::parse(&file)?.find_section(|section| section.address() == 0x1000)?;
+    /// assert_eq!(at.map(|section| section.name()), Some("__text"));
+    /// # Ok::<(), Box<dyn std::error::Error>>(())
+    /// ```
     pub fn find_section<F: Fn(Section<'_>) -> bool>(&self, callback: F) -> Result<Option<Section<'a>>, ParseError> {
         Ok(self.0.find_section(|section| callback(Section(section)))?.map(Section))
     }
@@ -142,6 +179,18 @@ impl<'a> Macho<'a> {
     /// # Errors
     ///
     /// Those of [`Macho::find_section`].
+    ///
+    /// # Examples
+    ///
+    /// ```
+    /// use binfarce::macho;
+    ///
+    /// # let path = concat!(env!("CARGO_MANIFEST_DIR"), "/samples/macho.bin");
+    /// let file = std::fs::read(path)?;
+    /// let text = macho::parse(&file)?.section_with_name("__TEXT", "__text")?;
+    /// assert_eq!(text.map(|section| section.size()), Some(256));
+    /// # Ok::<(), Box<dyn std::error::Error>>(())
+    /// ```
     pub fn section_with_name(&self, segment_name: &str, section_name: &str) -> Result<Option<Section<'a>>, ParseError> {
         Ok(self.0.section_with_name(segment_name, section_name)?.map(Section))
     }
@@ -152,6 +201,19 @@ impl<'a> Macho<'a> {
     ///
     /// [`ParseError::MalformedInput`] where their end passes 64 bits, [`ParseError::UnexpectedEof`] where it passes the
     /// end of the file.
+    ///
+    /// # Examples
+    ///
+    /// ```
+    /// use binfarce::macho;
+    ///
+    /// # let path = concat!(env!("CARGO_MANIFEST_DIR"), "/samples/macho.bin");
+    /// let file = std::fs::read(path)?;
+    /// let program = macho::parse(&file)?;
+    /// let text = program.section_with_name("__TEXT", "__text")?.ok_or("no text section")?;
+    /// assert_eq!(program.section_bytes(&text)?, &file[text.range()?]);
+    /// # Ok::<(), Box<dyn std::error::Error>>(())
+    /// ```
     pub fn section_bytes(&self, section: &Section<'_>) -> Result<&'a [u8], ParseError> {
         Ok(self.0.section_bytes(&section.0)?)
     }
@@ -166,6 +228,18 @@ impl<'a> Macho<'a> {
     /// Those of [`Macho::find_section`]; [`ParseError::SymbolsSectionIsMissing`] without a section `__text` of `__TEXT`;
     /// [`ParseError::MalformedInput`] where that is empty, or its end passes 64 bits or lies before a symbol;
     /// [`ParseError::UnexpectedEof`] where the symbol table is truncated.
+    ///
+    /// # Examples
+    ///
+    /// ```
+    /// use binfarce::macho;
+    ///
+    /// # let path = concat!(env!("CARGO_MANIFEST_DIR"), "/samples/macho.bin");
+    /// let file = std::fs::read(path)?;
+    /// let (symbols, text_size) = macho::parse(&file)?.symbols()?;
+    /// assert_eq!((symbols[2].name.trimmed.as_str(), symbols[2].address, text_size), ("c", 0x1040, 256));
+    /// # Ok::<(), Box<dyn std::error::Error>>(())
+    /// ```
     pub fn symbols(&self) -> Result<(Vec<SymbolData>, u64), ParseError> {
         Ok(symbols_of(self.0.symbols(Global)?).unwrap_or_else(|_| out_of_memory()))
     }
@@ -184,6 +258,18 @@ impl<'a> Macho<'a> {
     /// # Errors
     ///
     /// Those of [`Macho::try_symbols`].
+    ///
+    /// # Examples
+    ///
+    /// ```
+    /// use binfarce::macho;
+    ///
+    /// # let path = concat!(env!("CARGO_MANIFEST_DIR"), "/samples/macho.bin");
+    /// let file = std::fs::read(path)?;
+    /// let (functions, _text_size) = macho::parse(&file)?.functions()?;
+    /// assert_eq!((functions[2].name, functions[2].size), ("c", 192));
+    /// # Ok::<(), Box<dyn std::error::Error>>(())
+    /// ```
     pub fn functions(&self) -> Result<(Vec<FunctionSymbol<'a>>, u64), Error> {
         let (functions, size) = self.0.functions(Global)?;
         Ok((functions.into_std(), size))
@@ -198,6 +284,18 @@ impl<'a> Macho<'a> {
     ///
     /// Those of [`Macho::find_section`]; [`ParseError::UnexpectedEof`] where the symbol table's command, the string table or the
     /// symbol table are truncated; [`Error::OutOfMemory`] where an allocation failed.
+    ///
+    /// # Examples
+    ///
+    /// ```
+    /// use binfarce::macho;
+    ///
+    /// # let path = concat!(env!("CARGO_MANIFEST_DIR"), "/samples/macho.bin");
+    /// let file = std::fs::read(path)?;
+    /// let functions = macho::parse(&file)?.all_functions()?;
+    /// assert!(functions.iter().all(|it| it.section == 1));
+    /// # Ok::<(), Box<dyn std::error::Error>>(())
+    /// ```
     pub fn all_functions(&self) -> Result<Vec<SectionFunction<'a>>, Error> {
         Ok(self.0.all_functions(Global)?.into_std())
     }

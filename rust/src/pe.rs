@@ -122,6 +122,19 @@ impl fmt::Debug for Pe<'_> {
 /// # Errors
 ///
 /// [`ParseError::UnexpectedEof`] for fewer than 64 bytes, and where the file header is truncated.
+///
+/// # Examples
+///
+/// ```
+/// use binfarce::pe;
+///
+/// # let path = concat!(env!("CARGO_MANIFEST_DIR"), "/samples/pe-image.bin");
+/// let file = std::fs::read(path)?;
+/// let file = pe::parse(&file)?;
+/// assert_eq!(file.header().machine, 0x8664);
+/// assert!(pe::parse(b"MZ").is_err());
+/// # Ok::<(), Box<dyn std::error::Error>>(())
+/// ```
 pub fn parse(data: &[u8]) -> Result<Pe<'_>, ParseError> {
     Ok(Pe(erased::parse(data)?))
 }
@@ -145,6 +158,18 @@ impl<'a> Pe<'a> {
 
     /// Returns an iterator over the sections in file order. A section header is read when the iterator reaches it.
     /// Sections whose names aren't UTF-8 are skipped.
+    ///
+    /// # Examples
+    ///
+    /// ```
+    /// use binfarce::pe;
+    ///
+    /// # let path = concat!(env!("CARGO_MANIFEST_DIR"), "/samples/pe-image.bin");
+    /// let file = std::fs::read(path)?;
+    /// let sections = pe::parse(&file)?.sections().collect::<Result<Vec<_>, _>>()?;
+    /// assert_eq!((sections[0].name(), sections[0].address()), (".text", 0x1000));
+    /// # Ok::<(), Box<dyn std::error::Error>>(())
+    /// ```
     pub fn sections(&self) -> Sections<'a> {
         // One for each header, or an error in place of one that is missing.
         Sections(Bounded::new(self.0.sections(), usize::from(self.header().number_of_sections) + 1))
@@ -156,6 +181,18 @@ impl<'a> Pe<'a> {
     ///
     /// [`ParseError::UnexpectedEof`] where the section table doesn't begin in the file, or a header is truncated.
     /// `callback` gets the sections before it first.
+    ///
+    /// # Examples
+    ///
+    /// ```
+    /// use binfarce::pe;
+    ///
+    /// # let path = concat!(env!("CARGO_MANIFEST_DIR"), "/samples/pe-image.bin");
+    /// let file = std::fs::read(path)?;
+    /// let at = pe::parse(&file)?.find_section(|section| section.address() == 0x1000)?;
+    /// assert_eq!(at.map(|section| section.name()), Some(".text"));
+    /// # Ok::<(), Box<dyn std::error::Error>>(())
+    /// ```
     pub fn find_section<F: Fn(Section<'_>) -> bool>(&self, callback: F) -> Result<Option<Section<'a>>, ParseError> {
         Ok(self.0.find_section(|section| callback(Section(section)))?.map(Section))
     }
@@ -165,6 +202,18 @@ impl<'a> Pe<'a> {
     /// # Errors
     ///
     /// Those of [`Pe::find_section`].
+    ///
+    /// # Examples
+    ///
+    /// ```
+    /// use binfarce::pe;
+    ///
+    /// # let path = concat!(env!("CARGO_MANIFEST_DIR"), "/samples/pe-image.bin");
+    /// let file = std::fs::read(path)?;
+    /// let text = pe::parse(&file)?.section_with_name(".text")?;
+    /// assert_eq!(text.map(|section| (section.virtual_size(), section.size())), Some((24, 512)));
+    /// # Ok::<(), Box<dyn std::error::Error>>(())
+    /// ```
     pub fn section_with_name(&self, name: &str) -> Result<Option<Section<'a>>, ParseError> {
         Ok(self.0.section_with_name(name)?.map(Section))
     }
@@ -174,6 +223,21 @@ impl<'a> Pe<'a> {
     /// # Errors
     ///
     /// [`ParseError::UnexpectedEof`] where they end past the file.
+    ///
+    /// # Examples
+    ///
+    /// ```
+    /// use binfarce::{ParseError, pe};
+    ///
+    /// # let path = concat!(env!("CARGO_MANIFEST_DIR"), "/samples/pe-image.bin");
+    /// let file = std::fs::read(path)?;
+    /// let program = pe::parse(&file)?;
+    /// let text = program.section_with_name(".text")?.ok_or("no text section")?;
+    /// // This small file ends within its section.
+    /// assert_eq!(text.range()?, 0..512);
+    /// assert_eq!(program.section_bytes(&text), Err(ParseError::UnexpectedEof));
+    /// # Ok::<(), Box<dyn std::error::Error>>(())
+    /// ```
     pub fn section_bytes(&self, section: &Section<'_>) -> Result<&'a [u8], ParseError> {
         Ok(self.0.section_bytes(&section.0)?)
     }
@@ -189,6 +253,18 @@ impl<'a> Pe<'a> {
     ///
     /// Those of [`Pe::find_section`]; [`ParseError::SymbolsSectionIsMissing`] without a section `.text`;
     /// [`ParseError::UnexpectedEof`] where the symbol table doesn't begin in the file or passes its end.
+    ///
+    /// # Examples
+    ///
+    /// ```
+    /// use binfarce::pe;
+    ///
+    /// # let path = concat!(env!("CARGO_MANIFEST_DIR"), "/samples/pe.bin");
+    /// let file = std::fs::read(path)?;
+    /// let (symbols, text_size) = pe::parse(&file)?.symbols()?;
+    /// assert_eq!((symbols[2].name.trimmed.as_str(), symbols[2].address, text_size), ("c", 0x40, 256));
+    /// # Ok::<(), Box<dyn std::error::Error>>(())
+    /// ```
     pub fn symbols(&self) -> Result<(Vec<SymbolData>, u64), ParseError> {
         Ok(symbols_of(self.0.symbols(Global)?).unwrap_or_else(|_| out_of_memory()))
     }
@@ -207,6 +283,18 @@ impl<'a> Pe<'a> {
     /// # Errors
     ///
     /// Those of [`Pe::try_symbols`].
+    ///
+    /// # Examples
+    ///
+    /// ```
+    /// use binfarce::pe;
+    ///
+    /// # let path = concat!(env!("CARGO_MANIFEST_DIR"), "/samples/pe.bin");
+    /// let file = std::fs::read(path)?;
+    /// let (functions, _text_size) = pe::parse(&file)?.functions()?;
+    /// assert_eq!((functions[2].name, functions[2].size), ("c", 192));
+    /// # Ok::<(), Box<dyn std::error::Error>>(())
+    /// ```
     pub fn functions(&self) -> Result<(Vec<FunctionSymbol<'a>>, u64), Error> {
         let (functions, size) = self.0.functions(Global)?;
         Ok((functions.into_std(), size))
@@ -222,6 +310,20 @@ impl<'a> Pe<'a> {
     ///
     /// [`ParseError::UnexpectedEof`] where the section table doesn't begin in the file or a header is truncated, and where the
     /// symbol table doesn't begin in the file or passes its end; [`Error::OutOfMemory`] where an allocation failed.
+    ///
+    /// # Examples
+    ///
+    /// ```
+    /// use binfarce::pe;
+    ///
+    /// # let path = concat!(env!("CARGO_MANIFEST_DIR"), "/samples/pe-image.bin");
+    /// let file = std::fs::read(path)?;
+    /// // In a section addresses are offsets, and among all sections virtual addresses.
+    /// let program = pe::parse(&file)?;
+    /// assert_eq!(program.functions()?.0[0].address, 0);
+    /// assert_eq!(program.all_functions()?[0].function.address, 0x1_4000_1000);
+    /// # Ok::<(), Box<dyn std::error::Error>>(())
+    /// ```
     pub fn all_functions(&self) -> Result<Vec<SectionFunction<'a>>, Error> {
         Ok(self.0.all_functions(Global)?.into_std())
     }

@@ -4,20 +4,22 @@ use crate::any::Functions;
 use crate::erased::binfarce::elf32;
 use crate::erased::binfarce_addresses::at::Places;
 use crate::erased::binfarce_addresses::lookup::Lookup;
+use crate::erased::binfarce_elf::symbol_table;
 use crate::erased::binfarce_figures::claims::claims_of;
 use crate::erased::binfarce_figures::sums::{keyed_in, sum_by, sums_of};
 use crate::erased::binfarce_figures::{diff::diff, rows::list_by, stacks::fold_tables};
 use crate::erased::binfarce_tables::ReadError;
 use crate::erased::binfarce_tools::functions::{self as functions_of, Selected};
+use crate::erased::binfarce_tools::json::Form;
 use crate::erased::binfarce_tools::list::list_tables;
 use crate::erased::binfarce_tools::map::map_tables;
 use crate::erased::binfarce_tools::report::{ReportError, report_tables};
 use crate::erased::binfarce_tools::tables;
 use crate::error::{Error, ParseError};
-use crate::figures::{Figures, Form, Grouping, Growth, Shown};
+use crate::figures::{Figures, Grouping, Growth, Layout, Shown};
 use crate::shim::{self, alloc::Global};
 use crate::streams::Kept;
-use crate::{FunctionSymbol, SectionFunction, SymbolTable};
+use crate::{FunctionSymbol, SectionFunction};
 use std::cell::RefCell;
 use std::io::{self, ErrorKind, Read, Seek, Write};
 
@@ -30,6 +32,25 @@ pub enum Selection<'a> {
     Section(&'a str),
     /// Those of all sections.
     All,
+}
+
+/// Which symbol table of an ELF file is read. Mach-O and PE files have only [`SymbolTable::Symtab`].
+#[derive(Debug, Clone, Copy, PartialEq, Eq, Hash)]
+#[non_exhaustive]
+pub enum SymbolTable {
+    /// The symbol table (`SHT_SYMTAB`), which a stripped file lacks.
+    Symtab,
+    /// The dynamic symbol table (`SHT_DYNSYM`), for the dynamic linker. A stripped file keeps it.
+    Dynsym,
+}
+
+impl SymbolTable {
+    pub(crate) fn into_erased(self) -> symbol_table::SymbolTable {
+        match self {
+            SymbolTable::Symtab => symbol_table::SymbolTable::Symtab,
+            SymbolTable::Dynsym => symbol_table::SymbolTable::Dynsym,
+        }
+    }
 }
 
 /// The tables of a file's function symbols, for a [`Selection`] and a [`SymbolTable`].
@@ -72,10 +93,23 @@ impl<'a> Tables<'a> {
     /// [`Error::Parse`] where the reader of the file's format refuses it; [`ParseError::SectionIsMissing`] for
     /// [`SymbolTable::Dynsym`] of a Mach-O or PE file; [`Error::OutOfMemory`] where an allocation failed. Other refusals come
     /// from the calls that need the function symbols.
+    ///
+    /// # Examples
+    ///
+    /// ```
+    /// use binfarce::{Selection, SymbolTable, Tables};
+    ///
+    /// # let path = concat!(env!("CARGO_MANIFEST_DIR"), "/samples/elf64-little.bin");
+    /// let file = std::fs::read(path)?;
+    /// let tables = Tables::new(&file, Selection::Section(".text"), SymbolTable::Symtab)?;
+    /// assert_eq!(tables.functions()?.count(), 1);
+    /// assert!(Tables::new(&file, Selection::All, SymbolTable::Dynsym).is_err());
+    /// # Ok::<(), Box<dyn std::error::Error>>(())
+    /// ```
     pub fn new(file: &'a [u8], selection: Selection<'a>, table: SymbolTable) -> Result<Self, Error> {
         Ok(Tables(match (selection, table) {
             (Selection::Section(section), SymbolTable::Symtab) => tables::Tables::whole(file, section),
-            _ => tables::read(Global, &file, &mut (), table, selection.into())?,
+            _ => tables::read(Global, &file, &mut (), table.into_erased(), selection.into())?,
         }))
     }
 
@@ -86,6 +120,18 @@ impl<'a> Tables<'a> {
     ///
     /// [`Error::UnknownFormat`]; [`Error::Parse`] where the reader of the file's format refuses it; [`Error::OutOfMemory`]
     /// where an allocation failed.
+    ///
+    /// # Examples
+    ///
+    /// ```
+    /// use binfarce::{Selection, SymbolTable, Tables};
+    ///
+    /// # let path = concat!(env!("CARGO_MANIFEST_DIR"), "/samples/elf64-little.bin");
+    /// let file = std::fs::read(path)?;
+    /// let tables = Tables::new(&file, Selection::All, SymbolTable::Symtab)?;
+    /// assert_eq!(tables.functions()?.map(|function| function.name).collect::<Vec<_>>(), ["_ZN3foo3barE", "bad"]);
+    /// # Ok::<(), Box<dyn std::error::Error>>(())
+    /// ```
     pub fn functions(&self) -> Result<Functions<'_>, Error> {
         Ok(Functions(AllFunctions::new(self.0.functions(Global)?.into_list().0.all)?))
     }
@@ -119,12 +165,36 @@ impl<'a> Tables<'a> {
 
     /// Returns the name of the section of this number. `None` where there is none, where it has no valid name, and where the
     /// tables are of one section.
+    ///
+    /// # Examples
+    ///
+    /// ```
+    /// use binfarce::{Selection, SymbolTable, Tables};
+    ///
+    /// # let path = concat!(env!("CARGO_MANIFEST_DIR"), "/samples/macho.bin");
+    /// let file = std::fs::read(path)?;
+    /// let tables = Tables::new(&file, Selection::All, SymbolTable::Symtab)?;
+    /// assert_eq!((tables.section_name(1), tables.section_name(2)), (Some("__TEXT,__text"), None));
+    /// # Ok::<(), Box<dyn std::error::Error>>(())
+    /// ```
     pub fn section_name(&self, number: u32) -> Option<&str> {
         self.0.section_name(number)
     }
 
     /// Returns whether the selected sections share addresses, so that an address may be that of symbols in several: all
     /// sections of an object file do.
+    ///
+    /// # Examples
+    ///
+    /// ```
+    /// use binfarce::{Selection, SymbolTable, Tables};
+    ///
+    /// # let path = concat!(env!("CARGO_MANIFEST_DIR"), "/samples/macho.bin");
+    /// let file = std::fs::read(path)?;
+    /// let tables = Tables::new(&file, Selection::All, SymbolTable::Symtab)?;
+    /// assert!(!tables.shares_addresses());
+    /// # Ok::<(), Box<dyn std::error::Error>>(())
+    /// ```
     pub fn shares_addresses(&self) -> bool {
         self.0.shares_addresses()
     }
@@ -136,6 +206,20 @@ impl<'a> Tables<'a> {
     ///
     /// That of `output`; [`ErrorKind::WriteZero`] where it takes no more bytes; otherwise that of [`Tables::functions`], as an
     /// [`io::Error`]: then nothing is written.
+    ///
+    /// # Examples
+    ///
+    /// ```
+    /// use binfarce::{Selection, SymbolTable, Tables};
+    ///
+    /// # let path = concat!(env!("CARGO_MANIFEST_DIR"), "/samples/elf64-little.bin");
+    /// let file = std::fs::read(path)?;
+    /// let tables = Tables::new(&file, Selection::All, SymbolTable::Symtab)?;
+    /// let mut text = Vec::new();
+    /// tables.list_to(&mut text)?;
+    /// assert_eq!(text, b"0000000000001000         16 .text foo\n0000000000001010         16 .symtab bad\n");
+    /// # Ok::<(), Box<dyn std::error::Error>>(())
+    /// ```
     pub fn list_to<W: Write>(&self, output: W) -> io::Result<()> {
         write_to(output, |sink| Ok(list_tables(Global, &self.0, sink)?))
     }
@@ -145,6 +229,20 @@ impl<'a> Tables<'a> {
     /// # Errors
     ///
     /// Those of [`Tables::list_to`]; [`Error::TooLarge`], as an [`io::Error`], where the sum of all sizes is 2^64 or more.
+    ///
+    /// # Examples
+    ///
+    /// ```
+    /// use binfarce::{Selection, SymbolTable, Tables};
+    ///
+    /// # let path = concat!(env!("CARGO_MANIFEST_DIR"), "/samples/elf64-little.bin");
+    /// let file = std::fs::read(path)?;
+    /// let tables = Tables::new(&file, Selection::All, SymbolTable::Symtab)?;
+    /// let mut text = Vec::new();
+    /// tables.report_to(&mut text)?;
+    /// assert_eq!(text, b"        16 [unknown]\n        16 foo\nsum 32\n");
+    /// # Ok::<(), Box<dyn std::error::Error>>(())
+    /// ```
     pub fn report_to<W: Write>(&self, output: W) -> io::Result<()> {
         write_to(output, |sink| report_tables(Global, &self.0, sink))
     }
@@ -155,6 +253,20 @@ impl<'a> Tables<'a> {
     /// # Errors
     ///
     /// Those of [`Tables::report_to`].
+    ///
+    /// # Examples
+    ///
+    /// ```
+    /// use binfarce::{Selection, SymbolTable, Tables};
+    ///
+    /// # let path = concat!(env!("CARGO_MANIFEST_DIR"), "/samples/elf64-little.bin");
+    /// let file = std::fs::read(path)?;
+    /// let tables = Tables::new(&file, Selection::All, SymbolTable::Symtab)?;
+    /// let mut picture = Vec::new();
+    /// tables.map_to("a file", &mut picture)?;
+    /// assert!(picture.starts_with(b"<svg "));
+    /// # Ok::<(), Box<dyn std::error::Error>>(())
+    /// ```
     pub fn map_to<W: Write>(&self, title: &str, output: W) -> io::Result<()> {
         write_to(output, |sink| map_tables(Global, title, &self.0, sink))
     }
@@ -164,8 +276,24 @@ impl<'a> Tables<'a> {
     /// # Errors
     ///
     /// Those of [`Tables::list_to`].
-    pub fn rows_to<W: Write>(&self, shown: &Shown, form: Form<'_>, output: W) -> io::Result<()> {
-        write_to(output, |sink| Ok(list_by(Global, &self.0, shown, form, sink)?))
+    ///
+    /// # Examples
+    ///
+    /// ```
+    /// use binfarce::figures::{Layout, Order, Shown};
+    /// use binfarce::{Selection, SymbolTable, Tables};
+    ///
+    /// # let path = concat!(env!("CARGO_MANIFEST_DIR"), "/samples/elf64-little.bin");
+    /// let file = std::fs::read(path)?;
+    /// let tables = Tables::new(&file, Selection::All, SymbolTable::Symtab)?;
+    /// let shown = Shown::new().with_order(Order::Name);
+    /// let mut text = Vec::new();
+    /// tables.rows_to(&shown, Layout::Lines, &mut text)?;
+    /// assert_eq!(text, b"0000000000001010         16 .symtab bad\n0000000000001000         16 .text foo\n");
+    /// # Ok::<(), Box<dyn std::error::Error>>(())
+    /// ```
+    pub fn rows_to<W: Write>(&self, shown: &Shown, layout: Layout<'_>, output: W) -> io::Result<()> {
+        write_to(output, |sink| Ok(list_by(Global, &self.0, &shown.into_erased(), layout.into_erased(), sink)?))
     }
 
     /// Writes sums by a key, the greatest first, as lines or as JSON objects. A byte of several function symbols counts once.
@@ -177,20 +305,19 @@ impl<'a> Tables<'a> {
     /// # Examples
     ///
     /// ```
-    /// use binfarce::figures::{Figures, Form, Grouping, Key};
+    /// use binfarce::figures::{Figures, Key, Layout};
     /// use binfarce::{Selection, SymbolTable, Tables};
     ///
     /// # let path = concat!(env!("CARGO_MANIFEST_DIR"), "/samples/elf64-little.bin");
     /// let file = std::fs::read(path)?;
     /// let tables = Tables::new(&file, Selection::Section(".text"), SymbolTable::Symtab)?;
-    /// let grouping = Grouping { key: Key::Function, joins_std: false };
     /// let mut text = Vec::new();
-    /// tables.figures_to(&Figures { grouping, first: None, has_percent: true }, Form::Lines, &mut text)?;
+    /// tables.figures_to(&Figures::by(Key::Function).with_percent(), Layout::Lines, &mut text)?;
     /// assert_eq!(text, b"        16  50.00% foo\nsum 16\ntext 32\n");
     /// # Ok::<(), Box<dyn std::error::Error>>(())
     /// ```
-    pub fn figures_to<W: Write>(&self, figures: &Figures, form: Form<'_>, output: W) -> io::Result<()> {
-        write_to(output, |sink| sum_by(Global, &self.0, figures, form, sink))
+    pub fn figures_to<W: Write>(&self, figures: &Figures, layout: Layout<'_>, output: W) -> io::Result<()> {
+        write_to(output, |sink| sum_by(Global, &self.0, &figures.into_erased(), layout.into_erased(), sink))
     }
 
     /// Writes how the sums of [`Tables::figures_to`] differ from those of an older file, the greatest change first, and returns
@@ -199,11 +326,35 @@ impl<'a> Tables<'a> {
     /// # Errors
     ///
     /// Those of [`Tables::report_to`], first for the older file.
-    pub fn changes_to<W>(&self, old: &Tables<'_>, figures: &Figures, form: Form<'_>, output: W) -> io::Result<Growth>
+    ///
+    /// # Examples
+    ///
+    /// ```
+    /// use binfarce::figures::{Figures, Key, Layout};
+    /// use binfarce::{Selection, SymbolTable, Tables};
+    ///
+    /// # let path = concat!(env!("CARGO_MANIFEST_DIR"), "/samples/elf64-little.bin");
+    /// let file = std::fs::read(path)?;
+    /// let tables = Tables::new(&file, Selection::All, SymbolTable::Symtab)?;
+    /// let old = Tables::new(&file, Selection::Section(".text"), SymbolTable::Symtab)?;
+    /// let mut text = Vec::new();
+    /// let growth = tables.changes_to(&old, &Figures::by(Key::Crate), Layout::Lines, &mut text)?;
+    /// assert_eq!((growth.old, growth.new), (16, 32));
+    /// assert!(text.starts_with(b"         0         16         +16 [unknown]\n"));
+    /// # Ok::<(), Box<dyn std::error::Error>>(())
+    /// ```
+    pub fn changes_to<W>(
+        &self,
+        old: &Tables<'_>,
+        figures: &Figures,
+        layout: Layout<'_>,
+        output: W,
+    ) -> io::Result<Growth>
     where
         W: Write,
     {
-        write_to(output, |sink| diff(Global, &old.0, &self.0, figures, form, sink))
+        let (figures, form) = (figures.into_erased(), layout.into_erased());
+        write_to(output, |sink| Ok(Growth::of(diff(Global, &old.0, &self.0, &figures, form, sink)?)))
     }
 
     /// Writes a line for each function symbol, as tools for flame graphs read it: its crate and the parts of its name, with `;`
@@ -212,12 +363,26 @@ impl<'a> Tables<'a> {
     /// # Errors
     ///
     /// Those of [`Tables::list_to`].
+    ///
+    /// # Examples
+    ///
+    /// ```
+    /// use binfarce::{Selection, SymbolTable, Tables};
+    ///
+    /// # let path = concat!(env!("CARGO_MANIFEST_DIR"), "/samples/elf64-little.bin");
+    /// let file = std::fs::read(path)?;
+    /// let tables = Tables::new(&file, Selection::All, SymbolTable::Symtab)?;
+    /// let mut text = Vec::new();
+    /// tables.stacks_to(&mut text)?;
+    /// assert_eq!(text, b"foo;foo 16\n[unknown];bad 16\n");
+    /// # Ok::<(), Box<dyn std::error::Error>>(())
+    /// ```
     pub fn stacks_to<W: Write>(&self, output: W) -> io::Result<()> {
         write_to(output, |sink| Ok(fold_tables(Global, &self.0, sink)?))
     }
 
-    /// Returns the sums of [`Tables::figures_to`]: how many bytes each crate, function, generic function or section takes. A byte
-    /// of several function symbols counts once.
+    /// Returns the sums of [`Tables::figures_to`] by a [`Key`](crate::figures::Key) or a [`Grouping`]: how many bytes each crate,
+    /// function, generic function or section takes. A byte of several function symbols counts once.
     ///
     /// # Errors
     ///
@@ -226,19 +391,19 @@ impl<'a> Tables<'a> {
     /// # Examples
     ///
     /// ```
-    /// use binfarce::figures::{Grouping, Key};
+    /// use binfarce::figures::Key;
     /// use binfarce::{Selection, SymbolTable, Tables};
     ///
     /// # let path = concat!(env!("CARGO_MANIFEST_DIR"), "/samples/elf64-little.bin");
     /// let file = std::fs::read(path)?;
     /// let tables = Tables::new(&file, Selection::Section(".text"), SymbolTable::Symtab)?;
-    /// let sums = tables.sums_by_key(Grouping { key: Key::Crate, joins_std: false })?;
+    /// let sums = tables.sums_by_key(Key::Crate)?;
     /// assert_eq!(sums.rows, [("foo".to_string(), 16)]);
     /// assert_eq!((sums.total, sums.section_size), (16, 32));
     /// # Ok::<(), Box<dyn std::error::Error>>(())
     /// ```
-    pub fn sums_by_key(&self, grouping: Grouping) -> Result<Sums<String>, Error> {
-        let (keyed, section_size) = keyed_in(Global, &self.0, grouping)?;
+    pub fn sums_by_key(&self, grouping: impl Into<Grouping>) -> Result<Sums<String>, Error> {
+        let (keyed, section_size) = keyed_in(Global, &self.0, grouping.into().into_erased())?;
         let sums = sums_of(Global, &claims_of(Global, &keyed)?, false)?;
         let mut rows = shim::Vec::new(Global);
         for (name, size) in sums.crates {
@@ -342,9 +507,20 @@ impl Tables<'static> {
     /// # Errors
     ///
     /// That of `file`; otherwise that of [`Tables::new`], as an [`io::Error`].
+    ///
+    /// # Examples
+    ///
+    /// ```
+    /// use binfarce::{Selection, SymbolTable, Tables};
+    ///
+    /// # let path = concat!(env!("CARGO_MANIFEST_DIR"), "/samples/elf64-little.bin");
+    /// let tables = Tables::read(std::fs::File::open(path)?, Selection::All, SymbolTable::Symtab)?;
+    /// assert_eq!(tables.functions()?.count(), 2);
+    /// # Ok::<(), Box<dyn std::error::Error>>(())
+    /// ```
     pub fn read<R: Read + Seek>(file: R, selection: Selection<'_>, table: SymbolTable) -> io::Result<Self> {
         let file = RefCell::new(Kept::new(file));
-        let tables = tables::read(Global, &file, &mut (), table, selection.into());
+        let tables = tables::read(Global, &file, &mut (), table.into_erased(), selection.into());
         match tables {
             Ok(tables) => Ok(Tables(tables)),
             Err(ReadError::Unreadable) => Err(file.into_inner().into_error(ErrorKind::UnexpectedEof)),
@@ -421,12 +597,40 @@ impl<'a> Symbolizer<'a> {
 
     /// Returns the function symbol at an address, and the offset into it. Of several that hold the address it is the one of
     /// greatest address, and of several there the first. `None` where none holds it, and for an address below the base.
+    ///
+    /// # Examples
+    ///
+    /// ```
+    /// use binfarce::{Selection, SymbolTable, Symbolizer, Tables};
+    ///
+    /// # let path = concat!(env!("CARGO_MANIFEST_DIR"), "/samples/elf64-little.bin");
+    /// let file = std::fs::read(path)?;
+    /// let tables = Tables::new(&file, Selection::All, SymbolTable::Symtab)?;
+    /// let symbolizer = Symbolizer::new(&tables)?;
+    /// assert_eq!(symbolizer.find(0x1014).map(|(function, offset)| (function.name, offset)), Some(("bad", 4)));
+    /// assert_eq!(symbolizer.find(0x2000), None);
+    /// # Ok::<(), Box<dyn std::error::Error>>(())
+    /// ```
     pub fn find(&self, address: u64) -> Option<(FunctionSymbol<'a>, u64)> {
         self.look_up(address, false)
     }
 
     /// Returns the function symbol whose call has this return address, and the offset of the return address into it: the
     /// symbol at the address before, since a call that doesn't return may be the last instruction of its function.
+    ///
+    /// # Examples
+    ///
+    /// ```
+    /// use binfarce::{Selection, SymbolTable, Symbolizer, Tables};
+    ///
+    /// # let path = concat!(env!("CARGO_MANIFEST_DIR"), "/samples/elf64-little.bin");
+    /// let file = std::fs::read(path)?;
+    /// let tables = Tables::new(&file, Selection::All, SymbolTable::Symtab)?;
+    /// let symbolizer = Symbolizer::new(&tables)?;
+    /// // `foo` ends at 0x1010, and its last instruction may be the call.
+    /// assert_eq!(symbolizer.find_return(0x1010).map(|(function, _)| function.name), Some("_ZN3foo3barE"));
+    /// # Ok::<(), Box<dyn std::error::Error>>(())
+    /// ```
     pub fn find_return(&self, address: u64) -> Option<(FunctionSymbol<'a>, u64)> {
         self.look_up(address, true)
     }

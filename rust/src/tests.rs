@@ -2,7 +2,7 @@
 //! `Debug` output is what the original prints of the samples.
 
 use crate::demangle::{Demangler, Kind, SymbolData, SymbolName, trimmed};
-use crate::figures::{self, Figures, Grouping, Key, Naming, Order, Shown};
+use crate::figures::{Figures, Grouping, Growth, Key, Layout, Naming, Order, Shown};
 use crate::shim::test::refusing;
 use crate::*;
 use std::collections::HashSet;
@@ -43,8 +43,6 @@ const FILES: [(&[u8], &str); 6] = [
     (MACHO, OF_MACHO),
     (PE, OF_PE),
 ];
-
-const BY_CRATE: Grouping = Grouping { key: Key::Crate, joins_std: false };
 
 /// A file's symbols as code written for the original asks for them.
 fn symbols(file: &[u8]) -> Result<(Vec<SymbolData>, u64), ParseError> {
@@ -111,10 +109,11 @@ fn tables_in_memory_and_read_at_offsets() {
             let text = written(|output| tables.list_to(output));
             assert_eq!(written(|output| read.list_to(output)), text);
             for key in [Key::Crate, Key::Function, Key::Generic, Key::Section] {
-                let figures = Figures { grouping: Grouping { key, joins_std: false }, first: None, has_percent: false };
+                let figures = Figures::by(key);
                 let sums = tables.sums_by_key(figures.grouping).unwrap();
                 assert_eq!(read.sums_by_key(figures.grouping).unwrap(), sums);
-                let objects = written(|output| read.figures_to(&figures, figures::Form::Objects("a", ""), output));
+                let objects =
+                    written(|output| read.figures_to(&figures, Layout::Objects { file: "a", section: "" }, output));
                 let row = |(name, size): &(String, u64)| format!("\"name\":\"{name}\",\"size\":{size},");
                 assert!(sums.rows.iter().all(|it| objects.contains(&row(it))), "{objects}");
                 assert_eq!(objects.lines().count(), sums.rows.len());
@@ -132,11 +131,12 @@ fn tables_in_memory_and_read_at_offsets() {
             let stacks = written(|output| read.stacks_to(output));
             let sizes = stacks.lines().map(|line| line.rsplit(' ').next().unwrap().to_string());
             assert!(sizes.eq(found.iter().map(|function| function.size.to_string())), "{stacks}");
-            let shown = Shown { order: Some(Order::Size), first: Some(1), naming: Naming::Stored, has_total: false };
-            let objects = written(|output| read.rows_to(&shown, figures::Form::Objects("a", ".text"), output));
+            let shown = Shown::new().with_order(Order::Size).with_first(1).with_naming(Naming::Stored).without_total();
+            let objects =
+                written(|output| read.rows_to(&shown, Layout::Objects { file: "a", section: ".text" }, output));
             assert_eq!(objects.matches("{\"file\":\"a\"").count(), found.len().min(1));
-            let by_crate = Figures { grouping: BY_CRATE, first: None, has_percent: false };
-            let total = read.changes_to(&tables, &by_crate, figures::Form::Lines, io::sink()).unwrap();
+            let by_crate = Figures::by(Key::Crate);
+            let total = read.changes_to(&tables, &by_crate, Layout::Lines, io::sink()).unwrap();
             assert_eq!(total.old, total.new);
             if selection == Selection::All {
                 assert_eq!(text.lines().count(), found.len());
@@ -177,7 +177,7 @@ fn tables_of_refused_files() {
     }
     let unknown = Tables::read(Cursor::new("#!/bin/sh"), Selection::All, SymbolTable::Symtab).unwrap();
     assert_eq!(unknown.functions().unwrap_err(), Error::UnknownFormat);
-    assert_eq!(unknown.sums_by_key(BY_CRATE).unwrap_err(), Error::UnknownFormat);
+    assert_eq!(unknown.sums_by_key(Key::Crate).unwrap_err(), Error::UnknownFormat);
     assert_eq!(unknown.list_to(io::sink()).unwrap_err().to_string(), "unknown file format");
     let truncated = Tables::read(Cursor::new(&PE[..90]), Selection::All, SymbolTable::Symtab).unwrap_err();
     assert_eq!((truncated.kind(), truncated.to_string().as_str()), (ErrorKind::InvalidData, "unexpected end of file"));
@@ -235,7 +235,7 @@ fn traits() {
     small::<(FunctionSymbol<'_>, SectionFunction<'_>, Section<'_>)>();
     small::<(elf32::Section, elf64::Section, macho::Section<'_>, pe::Section<'_>)>();
     small::<(elf32::Elf32Header, elf64::Elf64Header, macho::MachoHeader, pe::PeHeader)>();
-    small::<(Figures, figures::Form<'_>, figures::Growth, Grouping, Key, Naming, Order, Shown)>();
+    small::<(Figures, Layout<'_>, Growth, Grouping, Key, Naming, Order, Shown)>();
     small::<(ParseError, Error, UnexpectedEof, OutOfMemory)>();
     let _: [fn(); 4] = [error::<ParseError>, error::<Error>, error::<UnexpectedEof>, error::<OutOfMemory>];
     value::<(SymbolData, SymbolName, Sums<String>)>();
@@ -396,7 +396,7 @@ fn a_failed_allocation_is_an_error() {
         for selection in [Selection::Section(".text"), Selection::All] {
             let read = || Tables::read(Cursor::new(file), selection, SymbolTable::Symtab).map_err(refused);
             refuses_each(|| Symbolizer::new(&read()?).map(|_| ()));
-            refuses_each(|| read()?.sums_by_key(BY_CRATE));
+            refuses_each(|| read()?.sums_by_key(Key::Crate));
             refuses_each(|| read()?.sums_by(|function| Ok(function.size)));
             refuses_each(|| read()?.map_to("file", io::sink()).map_err(refused));
         }

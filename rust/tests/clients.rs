@@ -1,14 +1,44 @@
-//! The examples that are programs of their own: what they print. `cargo test` builds them.
+//! The examples that are programs of their own: what they print. `cargo test` builds them before, `cargo test --test clients`
+//! doesn't.
 
-use std::path::PathBuf;
+use std::ffi::OsStr;
+use std::path::{Path, PathBuf};
 use std::process::Command;
+use std::sync::Once;
 use std::{env, fs};
 
 const SAMPLES: &str = concat!(env!("CARGO_MANIFEST_DIR"), "/samples");
 
 fn example(name: &str) -> PathBuf {
+    static BUILT: Once = Once::new();
     let tests = env::current_exe().unwrap();
-    tests.ancestors().nth(2).unwrap().join("examples").join(name).with_extension(env::consts::EXE_EXTENSION)
+    let folder = tests.ancestors().nth(2).unwrap();
+    let path = folder.join("examples").join(name).with_extension(env::consts::EXE_EXTENSION);
+    if !path.exists() {
+        BUILT.call_once(|| build(folder));
+        assert!(path.exists(), "{} is missing, which `cargo build --examples` makes", path.display());
+    }
+    path
+}
+
+/// Builds the examples into the folder of a profile, which is `TARGET/PROFILE` or `TARGET/TRIPLE/PROFILE`.
+fn build(folder: &Path) {
+    let target = Path::new(env!("CARGO_TARGET_TMPDIR")).parent().unwrap();
+    let (profile, above) = (folder.file_name().unwrap(), folder.parent().unwrap());
+    let profile = if profile == "debug" { OsStr::new("dev") } else { profile };
+    let mut cargo = Command::new(env!("CARGO"));
+    cargo.args([
+        "build",
+        "--offline",
+        "--examples",
+        "--manifest-path",
+        concat!(env!("CARGO_MANIFEST_DIR"), "/Cargo.toml"),
+    ]);
+    cargo.arg("--profile").arg(profile).arg("--target-dir").arg(target);
+    if above != target {
+        cargo.arg("--target").arg(above.file_name().unwrap());
+    }
+    assert!(cargo.status().unwrap().success(), "{cargo:?}");
 }
 
 /// The status of an example, and what it prints.

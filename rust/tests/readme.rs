@@ -1,7 +1,7 @@
 //! What README.md shows: each line of its example in Rust, and each call of this crate in its table, is here and runs.
 
 use binfarce::demangle::{Demangler, Kind, SymbolName, demangle, trimmed};
-use binfarce::figures::{self, Figures, Grouping, Key, Naming, Shown};
+use binfarce::figures::{Figures, Key, Layout, Shown};
 use binfarce::*;
 use std::error::Error;
 use std::fs::File;
@@ -68,17 +68,16 @@ fn tables() -> Result<(), Box<dyn Error>> {
     let tables = read(File::open(SAMPLE)?)?;
     let found = Symbolizer::new(&tables)?.with_base(base).find(address);
     assert_eq!(found, Symbolizer::new(&tables)?.with_base(base).find_return(address));
-    let figures = Figures { grouping: Grouping { key: Key::Crate, joins_std: true }, first: None, has_percent: false };
-    let shown = Shown { order: None, first: None, naming: Naming::Trimmed, has_total: true };
+    let (figures, shown) = (Figures::by(Key::Crate).with_std_joined(), Shown::new());
     let (mut listed, mut rows, mut reported) = (Vec::new(), Vec::new(), Vec::new());
     tables.list_to(&mut listed)?;
-    tables.rows_to(&shown, figures::Form::Lines, &mut rows)?;
+    tables.rows_to(&shown, Layout::Lines, &mut rows)?;
     tables.report_to(&mut reported)?;
     let file = std::fs::read(SAMPLE)?;
     assert_eq!((&listed, &*rows), (&rows, list(&file, ".text")?.as_bytes()));
     assert_eq!(reported, report(&file, ".text")?.into_bytes());
-    tables.figures_to(&figures, figures::Form::Lines, io::sink())?;
-    tables.changes_to(&tables, &figures, figures::Form::Lines, io::sink())?;
+    tables.figures_to(&figures, Layout::Lines, io::sink())?;
+    tables.changes_to(&tables, &figures, Layout::Lines, io::sink())?;
     tables.map_to("title", io::sink())?;
     tables.stacks_to(io::sink())?;
     assert_eq!(tables.sums_by_key(figures.grouping)?.total, tables.sums_by(|function| Ok(function.address))?.total);

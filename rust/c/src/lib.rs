@@ -4,13 +4,8 @@
 //! into C: it ends the program.
 #![cfg_attr(rustfmt, rustfmt::skip)]
 
-use exports::*;
+use exported::exports::{self, *};
 use std::{mem, slice};
-
-mod exports {
-    pub use exported::erased::binfarce_c::{all_sections::*, buffer::*, functions::*, headers::*, names::*, sections::*, status::*, texts::*};
-    pub use exported::shim::alloc::Global;
-}
 
 /// The slice of `length` values at `start`. Where `length` is 0, `start` isn't used and may be null.
 ///

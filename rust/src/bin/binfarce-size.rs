@@ -1,5 +1,7 @@
+#![forbid(unsafe_code)]
+
 use std::process::ExitCode;
 
 fn main() -> ExitCode {
-    binfarce::erased::binfarce_size::main(binfarce::shim::HostRuntime::new())
+    binfarce::programs::binfarce_size()
 }

@@ -1,5 +1,7 @@
+#![forbid(unsafe_code)]
+
 use std::process::ExitCode;
 
 fn main() -> ExitCode {
-    binfarce::erased::binfarce_command::main(binfarce::shim::HostRuntime::new())
+    binfarce::programs::binfarce()
 }

@@ -1,8 +1,8 @@
 -- What is kept of rows up to a refusal, as a loop goes over them.
-use Rattle.std.proofs.Common.{◌≡◌, ◌≢◌, ℕ, suc, ◌+◌, ◌<◌, Bool, true, false, cond, nat_eq, List, [], ◌∷◌, ◌++◌, length, get_or, take, drop, map, Option, Some, None, Result, Ok, Err, refl, sym, ap, ◌∙◌, arith, drop-cons}
+use Rattle.std.proofs.Common.{◌≡◌, ◌≢◌, ℕ, suc, ◌+◌, ◌<◌, Bool, true, false, cond, not, nat_eq, List, [], ◌∷◌, ◌++◌, length, get_or, take, drop, map, Option, Some, None, Result, Ok, Err, refl, sym, ap, ◌∙◌, arith, drop-cons}
 use Rattle.std.specs.List.{range_with_len, filter_map, cons_option}
 use Rattle.std.proofs.lemmas.List.{append-nil, take_more, take-append-drop}
-use Rattle.std.proofs.lemmas.Bool.{eq-eqb, ne_eqb}
+use Rattle.std.proofs.lemmas.Bool.{not-true, not-false}
 use Rattle.binfarce_bytes.specs.Refusal.{◌>>=◌, Refusal}
 use Rattle.binfarce_macho.specs.MachoSymbols.{kept, symbol_of, address_of}
 use Rattle.binfarce_bytes.specs.Sizes.{RowAddress}
@@ -27,11 +27,11 @@ pub added_none : {X : Type 0} (f : ℕ → Option X) (k : ℕ) → f k ≡ None 
 added_none f k none = one_more f k ∙ rw none (append-nil (filter_map f (range_with_len 0 k)))
 
 -- the address of a row whose value was read
-pub address_some : (rows : List ℕ) (k v : ℕ) → v ≡ (symbol_of rows k).value → v ≢ 0 → address_of rows k ≡ Some (record { address = v; row = k })
-address_some rows k v e some = rw (← e, ne_eqb v 0 some) refl
+pub address_some : (rows : List ℕ) (k v : ℕ) → v ≡ (symbol_of rows k).value → not (nat_eq v 0) ≡ true → address_of rows k ≡ Some (record { address = v; row = k })
+address_some rows k v e some = rw (← e, not-true (nat_eq v 0) some) refl
 
-pub address_none : (rows : List ℕ) (k v : ℕ) → v ≡ (symbol_of rows k).value → v ≡ 0 → address_of rows k ≡ None
-address_none rows k v e none = rw (← e, eq-eqb v 0 none) refl
+pub address_none : (rows : List ℕ) (k v : ℕ) → v ≡ (symbol_of rows k).value → not (nat_eq v 0) ≡ false → address_of rows k ≡ None
+address_none rows k v e none = rw (← e, not-false (nat_eq v 0) none) refl
 
 -- the number of a row that is kept
 pub address_row : (rows : List ℕ) (k : ℕ) (x : RowAddress) → address_of rows k ≡ Some x → x.row ≡ k

@@ -1,6 +1,6 @@
 //! The function symbols of the selected sections.
 
-ghost use Rattle.std.specs.Prelude.{◌≡◌, ◌≢◌, ℕ, ◌+◌, ◌-◌, ◌*◌, ◌/◌, ◌<◌, ◌≤◌, ◌++◌, [], ◌∷◌, length, map, slice_get, All, None, Some, Ok, IfOk, OnErr, unwrap_or, MatchOption};
+ghost use Rattle.std.specs.Prelude.{◌≡◌, ◌≢◌, ℕ, ◌+◌, ◌-◌, ◌*◌, ◌/◌, ◌<◌, ◌≤◌, ◌++◌, [], ◌∷◌, length, map, nat_eq, not, slice_get, All, None, Some, Ok, IfOk, OnErr, unwrap_or, MatchOption};
 ghost use Rattle.std.specs.Option.{option_map};
 ghost use Rattle.binfarce_bytes.specs.Refusal.{Gives, refusal_of};
 ghost use Rattle.binfarce_bytes.specs.Entries.{Answers};
@@ -143,7 +143,7 @@ fn rows_of(alloc: Global, symbols: SymbolBytes<'_>) -> Result<Vec<RowAddress>, A
     let mut rows = Vec::new(alloc);
     for k in 0..symbols.rows.len() / SYMBOL_LENGTH {
         let row = symbol_at(symbols.rows, k * SYMBOL_LENGTH).unwrap();
-        if row.value != 0 {
+        if ends_size(row) {
             rows.push(RowAddress {
                 address: row.value,
                 index: k,
@@ -151,6 +151,13 @@ fn rows_of(alloc: Global, symbols: SymbolBytes<'_>) -> Result<Vec<RowAddress>, A
         }
     }
     Ok(rows)
+}
+
+// Whether a row's address ends a size in the text: whether it has one.
+fn ends_size(row: SymbolRow) -> bool
+    ensures { result ≡ not (nat_eq (symbol_view row).value 0) }
+{
+    row.value != 0
 }
 
 // Adds the function symbols of arranged rows of the text, given the least address above each.

@@ -109,7 +109,7 @@ fn rows_of(alloc: Global, symbols: SymbolBytes<'_>) -> Result<Vec<RowAddress>, A
     let mut rows = Vec::new(alloc);
     for k in 0..symbols.rows.len() / SYMBOL_LENGTH {
         let row = symbol_at(symbols.rows, k * SYMBOL_LENGTH).unwrap();
-        if row.value != 0 {
+        if ends_size(row) {
             rows.push(RowAddress {
                 address: row.value,
                 index: k,
@@ -117,6 +117,11 @@ fn rows_of(alloc: Global, symbols: SymbolBytes<'_>) -> Result<Vec<RowAddress>, A
         }
     }
     Ok(rows)
+}
+
+// Whether a row's address ends a size in the text: whether it has one.
+fn ends_size(row: SymbolRow) -> bool {
+    row.value != 0
 }
 
 // Adds the function symbols of arranged rows of the text, given the least address above each.

@@ -100,6 +100,7 @@ FORMS = {
         Program("use std::io;\n\n#[derive(Drop)]\nstruct W<X: Drop>(X);\n\n"
                 + TWO.format("impl<X: Copy + Drop> W<X>", "impl<X: Drop> A for W<X>"),
                 'let _ = println!(rt; "{}", W(io::Error::from(io::ErrorKind::Other)).f());', "1", "f"),
+        Line("struct W<X>(X); trait A {} trait B {} impl<X> A for W<X> where X: Copy { fn f() {} } impl<X> B for W<X> { fn f() {} }", "f"),
         Line("struct S; trait T { fn map(&self); } impl Iterator for S { fn next(&mut self) {} } impl T for S { fn map(&self) {} }", "T"),
         Line("fn f<T: Index<u8>>(w: W<T::Output>) { w.f(); }", "Index"), Line("fn f<T: Deref>(w: W<T::Target>) { w.f(); }", "Deref")],
     "A trait's functions have no body: else another impl may be found in one, since there `Self` may have no size, and Rust passes over "
@@ -123,7 +124,9 @@ FORMS = {
                 ".sort_by_key(|x|{calls.set(calls.get().wrapping_add(1));*x})"),
         Program("", MAPPED.replace("{}", ".zip([1u8].iter())", 1) + '\n    let _ = println!(rt; "{n}");', "2", ".zip([1u8].iter())"),
         Program("", 'let n = [1u8, 2].iter().zip([3u8].iter()).count();\n    let _ = println!(rt; "{n}");', "1", None),
-        Line("a.partition_point(|x| { n += 1; *x < 4 });", ".partition_point(|x|{n+=1;*x<4})"), Line("a.map(f).rev();", ".rev()")],
+        Line("a.partition_point(|x| { n += 1; *x < 4 });", ".partition_point(|x|{n+=1;*x<4})"), Line("a.map(f).rev();", ".rev()"),
+        Line("a.sort_by_key::<u8, _>(f);", ".sort_by_key::"), Line("Iterator::zip(a.map(f), b);", "::zip"),
+        Line("a.trim_matches(|c| { n += 1; c == b });", ".trim_matches(|c|{n+=1;c==b})")],
     "Of std only KNOWN is called or named, which the sources call already, and its programs print the same: else Rust may have "
     "something else of that name.": [
         Line("a.max_by_key(|x| x.0);", "max_by_key"), Line("core::mem::take(&mut a);", "core::"), Line("fn r#f() {}", "r#"),

@@ -82,6 +82,31 @@ fn room(alloc: Global) -> Result<usize, AllocError> {
     Ok(text.capacity())
 }
 """
+FORMATS = """let s = S;
+    let (n, z, c, b, w) = (-7i8, 0u8, 'é', true, "äö");
+    let _ = println!(rt; "[{c:>3}][{b:>6}][{w:>4}][{n:04}][{n:x}][{n:>5}][{z:02x}][{z:>3}][{:016x}][{s:>5}]", 255u64);"""
+SHOWN = """use std::fmt;
+
+#[derive(Clone, Copy)]
+struct S;
+
+impl fmt::Display for S {
+    fn fmt<W: fmt::Write>(&self, f: &mut fmt::Formatter<W>) -> fmt::Result {
+        write!(f, "ab")
+    }
+}
+"""
+TEXTS = """for line in "a\\r\\nb\\r\\n\\nc\\r".lines() {
+        let _ = println!(rt; "{}", line.len());
+    }
+    for word in "a\\u{85}b\\u{2003}c\\u{180e}d\\u{a0}e".split_whitespace() {
+        let _ = println!(rt; "{}", word.len());
+    }
+    let (a, b) = ("a=b=cd".split_once('=').map_or(0, |it| it.1.len()), "a=b=cd".rsplit_once('=').map_or(0, |it| it.1.len()));
+    let _ = println!(rt; "{a} {b} {} {}", "a\\u{3000} ".trim_end().len(), "xaxx".trim_matches('x').len());"""
+NUMBERS = """let (a, b) = ("+5".parse::<u8>().is_ok(), "-0".parse::<u8>().is_ok());
+    let (c, d) = (u8::from_str_radix("+f", 16).unwrap_or(99), u64::from_str_radix("", 16).is_err());
+    let _ = println!(rt; "{a} {b} {c} {d} {} {}", 5u8.wrapping_sub(6), 0x81u8.rotate_right(1));"""
 MAPPED = "let mut n = 0u8;\n    for (a, b) in [1u8, 2, 3].iter().map(|x| {\n        n = n.wrapping_add(1);\n        *x\n    }){} {\n" \
     "        let _ = (a, b);\n    }"
 
@@ -100,6 +125,8 @@ FORMS = {
         Program("use std::io;\n\n#[derive(Drop)]\nstruct W<X: Drop>(X);\n\n"
                 + TWO.format("impl<X: Copy + Drop> W<X>", "impl<X: Drop> A for W<X>"),
                 'let _ = println!(rt; "{}", W(io::Error::from(io::ErrorKind::Other)).f());', "1", "f"),
+        Line("struct W<X>(X); trait A {} trait B {} impl<X> A for W<X> where X: Copy { fn f() {} } impl<X> B for W<X> { fn f() {} }",
+             "f"),
         Line("struct S; trait T { fn map(&self); } impl Iterator for S { fn next(&mut self) {} } impl T for S { fn map(&self) {} }", "T"),
         Line("fn f<T: Index<u8>>(w: W<T::Output>) { w.f(); }", "Index"), Line("fn f<T: Deref>(w: W<T::Target>) { w.f(); }", "Deref")],
     "A trait's functions have no body: else another impl may be found in one, since there `Self` may have no size, and Rust passes over "
@@ -123,9 +150,15 @@ FORMS = {
                 ".sort_by_key(|x|{calls.set(calls.get().wrapping_add(1));*x})"),
         Program("", MAPPED.replace("{}", ".zip([1u8].iter())", 1) + '\n    let _ = println!(rt; "{n}");', "2", ".zip([1u8].iter())"),
         Program("", 'let n = [1u8, 2].iter().zip([3u8].iter()).count();\n    let _ = println!(rt; "{n}");', "1", None),
-        Line("a.partition_point(|x| { n += 1; *x < 4 });", ".partition_point(|x|{n+=1;*x<4})"), Line("a.map(f).rev();", ".rev()")],
+        Line("a.partition_point(|x| { n += 1; *x < 4 });", ".partition_point(|x|{n+=1;*x<4})"), Line("a.map(f).rev();", ".rev()"),
+        Line("a.sort_by_key::<u8, _>(f);", ".sort_by_key::"), Line("Iterator::zip(a.map(f), b);", "::zip"),
+        Line("a.trim_matches(|c| { n += 1; c == b });", ".trim_matches(|c|{n+=1;c==b})")],
     "Of std only KNOWN is called or named, which the sources call already, and its programs print the same: else Rust may have "
     "something else of that name.": [
+        Program(SHOWN, FORMATS,
+                "[  é][  true][  äö][-007][f9][   -7][00][  0][00000000000000ff][ab]", None),
+        Program("", TEXTS, "1\n1\n0\n2\n1\n1\n5\n1\n4 2 1 1", None),
+        Program("", NUMBERS, "true false 15 true 255 192", None),
         Line("a.max_by_key(|x| x.0);", "max_by_key"), Line("core::mem::take(&mut a);", "core::"), Line("fn r#f() {}", "r#"),
         Line("let a: fmt::Alignment;", "Alignment"),
         Line("use std::mem::MaybeUninit;", "use std::mem::MaybeUninit;"), Line("std::thread::spawn(a);", "std::thread"),

@@ -1,6 +1,6 @@
 //! The library for C and C++, which `binfarce.h` declares: each function calls the erased export of its name.
 //!
-//! All of this repository's unsafe code is here: it borrows a pointer and a length from C as a slice. A panic doesn't unwind
+//! All unsafe code of the libraries and programs is here: it borrows a pointer and a length from C as a slice. A panic doesn't unwind
 //! into C: it ends the program.
 #![cfg_attr(rustfmt, rustfmt::skip)]
 

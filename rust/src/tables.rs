@@ -203,7 +203,9 @@ impl<'a> Tables<'a> {
     where
         W: Write,
     {
-        write_to(output, |sink| diff(Global, &old.0, &self.0, figures, form, sink))
+        write_to(output, |sink| {
+            diff(Global, &old.0, &self.0, figures, form, sink).map_err(|e| e.error)
+        })
     }
 
     /// Writes a line for each function symbol, as tools for flame graphs read it: its crate and the parts of its name, with `;`

@@ -357,7 +357,7 @@ impl System<FileOrStdin> for Host<'_> {
         if path == "-" {
             return Ok(FileOrStdin::Standard(self.rt.stdin()));
         }
-        Ok(FileOrStdin::File(File::open(self.rt, path)?))
+        Ok(FileOrStdin::of_file(File::open(self.rt, path)?))
     }
 
     fn report(&mut self, path: &str, fault: Fault, reason: Option<Error>) {

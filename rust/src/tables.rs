@@ -354,7 +354,10 @@ impl<'a> Tables<'a> {
         W: Write,
     {
         let (figures, form) = (figures.into_erased(), layout.into_erased());
-        write_to(output, |sink| Ok(Growth::of(diff(Global, &old.0, &self.0, &figures, form, sink)?)))
+        write_to(output, |sink| {
+            let grown = diff(Global, &old.0, &self.0, &figures, form, sink).map_err(|e| e.error);
+            grown.map(Growth::of)
+        })
     }
 
     /// Writes a line for each function symbol, as tools for flame graphs read it: its crate and the parts of its name, with `;`

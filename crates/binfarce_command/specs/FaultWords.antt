@@ -4,7 +4,11 @@ use Rattle.std.specs.Fmt.{decimal}
 use Rattle.std.specs.List.{concat}
 use Rattle.std.specs.Str.{bytes_eq}
 use Rattle.binfarce_bytes.specs.Refusal.{Refusal, refusal_of, section_is_missing, symbols_section_is_missing, words}
+use Rattle.binfarce_sections.specs.Results.{section_words}
+use Rattle.binfarce_sections.specs.declared.error.SectionError.TheVariants as sections
 use Rattle.binfarce_tools.specs.Json.{object_start, text_member}
+use Rattle.binfarce_tools.specs.ReportWords.{report_words}
+use Rattle.binfarce_tools.specs.declared.report.ReportError.TheVariants as report
 use Rattle.binfarce_command.specs.declared.fault.Fault.{Fault}
 use Rattle.binfarce_command.specs.declared.fault.Fault.TheVariants.{Unreadable, Input, OutOfMemory, Write, Unknown, Parse, TooLarge, NoSection, NoBytes, PastEnd, SharedAddresses, Missing, Grown}
 
@@ -21,18 +25,18 @@ refused_words refusal = words refusal
 abbrev pub missing_words : ℕ → List ℕ
 missing_words count = if nat_eq count 1 then codes "1 line without an address" else decimal count ++ codes " lines without an address"
 
--- the printed text
+-- the printed text; for the errors of `report` and `section`, theirs
 abbrev pub fault_words : Fault → List ℕ
-fault_words Unreadable = codes "cannot read file"
+fault_words Unreadable = section_words sections.Unreadable
 fault_words Input = codes "read failed"
-fault_words OutOfMemory = codes "out of memory"
-fault_words Write = codes "write failed"
-fault_words Unknown = codes "unknown file format"
+fault_words OutOfMemory = report_words report.OutOfMemory
+fault_words Write = report_words report.Write
+fault_words Unknown = report_words report.Unknown
 fault_words (Parse e) = refused_words (refusal_of e)
-fault_words TooLarge = codes "sizes are too large"
-fault_words NoSection = codes "no section of this name"
-fault_words NoBytes = codes "section has no bytes in the file"
-fault_words PastEnd = codes "section reaches past the end of the file"
+fault_words TooLarge = report_words report.TooLarge
+fault_words NoSection = section_words sections.NoSection
+fault_words NoBytes = section_words sections.NoBytes
+fault_words PastEnd = section_words sections.PastEnd
 fault_words SharedAddresses = codes "its sections share addresses; --section=NAME takes one of them"
 fault_words (Grown by) = codes "the sum grew by " ++ (decimal by ++ codes " bytes")
 fault_words (Missing count) = missing_words count

@@ -53,11 +53,11 @@ impl fmt::Display for Fault {
 
     fn fmt<W: fmt::Write>(&self, f: &mut fmt::Formatter<W>) -> fmt::Result {
         match self {
-            Fault::Unreadable => write!(f, "cannot read file"),
+            Fault::Unreadable => write!(f, "{}", SectionError::Unreadable),
             Fault::Input => write!(f, "read failed"),
-            Fault::OutOfMemory => write!(f, "out of memory"),
-            Fault::Write => write!(f, "write failed"),
-            Fault::Unknown => write!(f, "unknown file format"),
+            Fault::OutOfMemory => write!(f, "{}", ReportError::OutOfMemory),
+            Fault::Write => write!(f, "{}", ReportError::Write),
+            Fault::Unknown => write!(f, "{}", ReportError::Unknown),
             Fault::Parse(ParseError::SectionIsMissing(".symtab")) => write!(
                 f,
                 "no symbol table (.symtab); --dynamic lists its dynamic symbols"
@@ -71,10 +71,10 @@ impl fmt::Display for Fault {
                 "no such section; binfarce section lists those of an ELF file; in others .text is the code"
             ),
             Fault::Parse(e) => write!(f, "{e}"),
-            Fault::TooLarge => write!(f, "sizes are too large"),
-            Fault::NoSection => write!(f, "no section of this name"),
-            Fault::NoBytes => write!(f, "section has no bytes in the file"),
-            Fault::PastEnd => write!(f, "section reaches past the end of the file"),
+            Fault::TooLarge => write!(f, "{}", ReportError::TooLarge),
+            Fault::NoSection => write!(f, "{}", SectionError::NoSection),
+            Fault::NoBytes => write!(f, "{}", SectionError::NoBytes),
+            Fault::PastEnd => write!(f, "{}", SectionError::PastEnd),
             Fault::SharedAddresses => write!(
                 f,
                 "its sections share addresses; --section=NAME takes one of them"

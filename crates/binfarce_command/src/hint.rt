@@ -1,22 +1,21 @@
 //! Hints on files: what a person may want to know beside the result. Standard output and the status don't depend on
 //! them.
 
-ghost use Rattle.std.specs.Prelude.{◌≡◌, ◌+◌, ◌<◌, ℕ, List, true, Some, IfSome, take};
+ghost use Rattle.std.specs.Prelude.{◌≡◌, ℕ, List, Some, IfSome, map, take};
 ghost use Rattle.std.specs.List.{sum_by};
 ghost use Rattle.binfarce.specs.Symbol.{Listed};
-ghost use Rattle.binfarce.specs.declared.SymbolTable.{SymbolTable};
-ghost use Rattle.binfarce_tools.specs.Entries.{HoldsLeft, functions_left};
-ghost use Rattle.binfarce_tools.specs.Tables.{AreTablesOf};
-ghost use Rattle.binfarce_command.specs.Hints.{IsHintOf, IsHintOn, named_by, others};
+ghost use Rattle.binfarce.specs.SymbolViews.{section_function_view};
+ghost use Rattle.binfarce_command.specs.Hints.{IsHintOf, named_by, others};
 
 use crate::fault::Fault;
 use binfarce_bytes::ParseError;
+use binfarce_bytes::functions::SectionFunction;
 use binfarce_bytes::source::Source;
 use binfarce_sections::bytes::write_section_of;
 use binfarce_tools::SymbolTable;
-use binfarce_tools::functions::{Functions, Selected};
+use binfarce_tools::functions::Selected;
 use binfarce_tools::list::Out;
-use binfarce_tools::tables::{Selection, Tables, read};
+use binfarce_tools::tables::{Selection, read};
 use std::alloc::Global;
 use std::fmt;
 
@@ -83,39 +82,29 @@ pub fn named_by(magic: &[u8]) -> Option<Hint>
     None
 }
 
-/// A hint on a section that is shown: it has no function symbol; or if sizes are summed, their sum exceeds its size.
-pub fn hint_of(alloc: Global, tables: &Tables<'_>, are_summed: bool) -> Option<Hint>
-    ensures { (which : SymbolTable) (file section : List ℕ) → AreTablesOf which file (Some section) tables.now
-        → IfSome result (IsHintOn which file section) }
+/// A hint on a section of this size with these function symbols, which is shown: it has none; or if sizes are summed,
+/// their sum exceeds its size.
+pub fn hint_on(functions: &[SectionFunction<'_>], size: u64, are_summed: bool) -> Option<Hint>
+    ensures { let entries = map (λ e. e.entry) (map section_function_view functions.now) in (listed : Listed)
+        → listed.entries ≡ entries → listed.section_size ≡ size → IfSome result (IsHintOf listed) }
 {
-    match tables.functions(alloc) {
-        Ok(Selected::Section(functions, size)) => hint_on(functions, size, are_summed),
-        _ => None,
-    }
-}
-
-// The hint on a section of this size with these function symbols.
-fn hint_on(mut functions: Functions<'_>, size: u64, are_summed: bool) -> Option<Hint>
-    ensures { (listed : Listed) → HoldsLeft listed (functions.entry, size) → IfSome result (IsHintOf listed) }
-{
-    let Some(first) = functions.next() else {
+    if functions.is_empty() {
         return Some(Hint::None);
-    };
-    if are_summed && exceeds(functions, first.size, size) {
+    }
+    if are_summed && sum_of(functions) > u128::from(size) {
         return Some(Hint::Overlap);
     }
     None
 }
 
-// Whether a size and those of function symbols add up to more than a limit.
-fn exceeds(functions: Functions<'_>, first: u64, limit: u64) -> bool
-    ensures { result ≡ true → limit < first + sum_by (λ f. f.size) (functions_left functions.entry) }
+// The sum of the sizes.
+fn sum_of(functions: &[SectionFunction<'_>]) -> u128
+    ensures { result ≡ sum_by (λ e. e.size) (map (λ e. e.entry) (map section_function_view functions.now)) }
 {
-    let mut total = first;
-    for function in functions {
-        total = total.saturating_add(function.size);
-    }
-    total > limit
+    functions
+        .iter()
+        .map(|it| u128::from(it.function.size))
+        .sum()
 }
 
 /// The hint, with the number of function symbols of all sections where the section has none.

@@ -19,16 +19,24 @@ const MAGIC_LENGTH: usize = 8;
 /// A file, or standard input.
 #[derive(Drop)]
 pub enum FileOrStdin {
-    /// A file.
-    File(File),
+    /// A file, and its length where it was given.
+    File(File, Option<u64>),
     /// Standard input.
     Standard(Stdin),
+}
+
+impl FileOrStdin {
+    /// The file, whose length is asked for once.
+    pub fn of_file(file: File) -> FileOrStdin {
+        let length = file.length().ok();
+        FileOrStdin::File(file, length)
+    }
 }
 
 impl Read for FileOrStdin {
     fn read(&mut self, buf: &mut [u8]) -> io::Result<usize> {
         match self {
-            FileOrStdin::File(file) => file.read(buf),
+            FileOrStdin::File(file, _) => file.read(buf),
             FileOrStdin::Standard(input) => input.read(buf),
         }
     }
@@ -40,14 +48,15 @@ impl Source for FileOrStdin {
     /// `Unsupported` for standard input.
     fn length(&self) -> io::Result<u64> {
         match self {
-            FileOrStdin::File(file) => file.length(),
+            FileOrStdin::File(_, Some(length)) => Ok(*length),
+            FileOrStdin::File(file, None) => file.length(),
             FileOrStdin::Standard(_) => Err(Error::from(ErrorKind::Unsupported)),
         }
     }
 
     fn fill_at(&self, log: &mut (), offset: u64, buf: &mut [u8]) -> io::Result<()> {
         match self {
-            FileOrStdin::File(file) => file.fill_at(log, offset, buf),
+            FileOrStdin::File(file, _) => file.fill_at(log, offset, buf),
             FileOrStdin::Standard(_) => Err(Error::from(ErrorKind::Unsupported)),
         }
     }

@@ -25,14 +25,14 @@ use crate::report::{ended, judged, message_of, push_refusal, refuse, report};
 use crate::section::write_or_list;
 use crate::show::{Kind, Request, Symbols, tables_of};
 use binfarce_addresses::Lookup;
-use binfarce_figures::diff::diff;
+use binfarce_figures::diff::{DiffError, diff};
 use binfarce_figures::key::{Grouping, Key};
 use binfarce_figures::rows::{Naming, Shown};
 use binfarce_figures::sums::Figures;
 use binfarce_filtering::stream::{StreamError, filter_stream};
 use binfarce_tools::SymbolTable::{Dynsym, Symtab};
 use binfarce_tools::json::Form;
-use binfarce_tools::report::{ReportError, sums_of_tables};
+use binfarce_tools::report::ReportError;
 use binfarce_tools::tables::{Selection, Tables};
 use binfarce_words::words::Flag::{
     self, All, Annotate, Base, By, Dynamic, FailAbove, First, Folded, Full, Json, NoTotal, Percent,
@@ -191,11 +191,15 @@ impl<W: Write> Work<'_, '_, W> {
         let form = form_of(given, paths.1);
         match diff(alloc, &old, &new, &figures_of(given), form, self.out) {
             Ok(growth) => judged(growth, given.count(FailAbove)),
-            Err(ReportError::Write) => Err(Fault::Write),
-            Err(e) => {
-                let is_old = sums_of_tables(alloc, &old).is_err();
-                let path = if is_old { paths.0 } else { paths.1 };
-                self.host.report(path, Fault::from(e), None);
+            Err(
+                DiffError {
+                    error: ReportError::Write,
+                    ..
+                },
+            ) => Err(Fault::Write),
+            Err(DiffError { error, is_of_old }) => {
+                let path = if is_of_old { paths.0 } else { paths.1 };
+                self.host.report(path, Fault::from(error), None);
                 Ok(false)
             }
         }
@@ -351,7 +355,7 @@ impl System<FileOrStdin> for Host<'_> {
         if path == "-" {
             return Ok(FileOrStdin::Standard(self.rt.stdin()));
         }
-        Ok(FileOrStdin::File(File::open(self.rt, path)?))
+        Ok(FileOrStdin::of_file(File::open(self.rt, path)?))
     }
 
     fn report(&mut self, path: &str, fault: Fault, reason: Option<Error>) {

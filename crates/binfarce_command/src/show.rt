@@ -1,6 +1,6 @@
 //! Shows the function symbols of a file: as a listing, as sums by crate, or as a picture.
 
-ghost use Rattle.std.specs.Prelude.{◌≡◌, ◌≢◌, ℕ, List, Option, true, Some, Err};
+ghost use Rattle.std.specs.Prelude.{◌≡◌, ◌≢◌, ℕ, List, Option, true, Some, Err, IfOk, IfSome};
 ghost use Rattle.binfarce_bytes.specs.Selection.{section_of};
 ghost use Rattle.binfarce_tools.specs.Json.{style_of};
 ghost use Rattle.binfarce_tools.specs.Selection.{answer_in, MemoryIn};
@@ -8,13 +8,15 @@ ghost use Rattle.binfarce_tools.specs.Tables.{AreTablesOf, ReadsAs};
 ghost use Rattle.binfarce_tools.specs.declared.SymbolTable.{SymbolTable};
 ghost use Rattle.binfarce_tools.specs.Writing.{EndsAs, Takes, Fails, Leaves};
 ghost use Rattle.binfarce_command.specs.Faults.{outcome_of};
+ghost use Rattle.binfarce_command.specs.Hints.{IsHintOn};
 ghost use Rattle.binfarce_command.specs.Show.{AreTablesFor, Fits, IsTextOf, MayEnd, TakesText, answer_for, is_taken, style_for};
 ghost use Rattle.binfarce_command.specs.declared.fault.Fault.TheVariants.{Input};
 
 use crate::fault::Fault;
-use crate::hint::{Hint, hint_of};
+use crate::hint::{Hint, hint_on};
 use binfarce_bytes::ParseError;
 use binfarce_bytes::format::Format;
+use binfarce_bytes::functions::SectionFunction;
 use binfarce_bytes::source::Source;
 use binfarce_figures::rows::{Shown, list_by};
 use binfarce_figures::stacks::fold_tables;
@@ -26,7 +28,7 @@ use binfarce_tools::json::Form;
 use binfarce_tools::list::{Sink, list_tables};
 use binfarce_tools::map::map_tables;
 use binfarce_tools::report::report_tables;
-use binfarce_tools::tables::{Selection, Tables, read};
+use binfarce_tools::tables::{Selection, Tables, read_tables};
 use std::alloc::Global;
 
 /// How function symbols are shown.
@@ -81,19 +83,29 @@ pub fn tables_of<S: Source<Log = ()>>(
         (S.may_fail source.now ≡ true) (answer_for symbols.now file) result }
 {
     let format = read_format(alloc, source, &mut ())?;
-    if !is_taken(format, symbols.selection) {
+    if !is_taken(&format, symbols.selection) {
         return Err(ReadError::Refused(ParseError::SymbolsSectionIsMissing));
     }
-    read(alloc, source, &mut (), symbols.which, symbols.selection)
+    read_tables(
+        alloc,
+        source,
+        &mut (),
+        format,
+        symbols.which,
+        symbols.selection,
+    )
 }
 
 // Whether a file of this format has what is selected: a Mach-O or PE file has the section `.text` alone.
-fn is_taken(format: Format, selection: Selection<'_>) -> bool
-    ensures { result ≡ is_taken (section_of selection.entry) format }
+fn is_taken(format: &Format, selection: Selection<'_>) -> bool
+    ensures { result ≡ is_taken (section_of selection.entry) format.now }
 {
-    match (format, selection) {
-        (Format::Macho | Format::PE, Selection::Section(name)) => name == ".text",
-        _ => true,
+    match selection {
+        Selection::Section(name) => match format {
+            Format::Macho | Format::PE => name == ".text",
+            _ => true,
+        },
+        Selection::All => true,
     }
 }
 
@@ -132,8 +144,43 @@ pub fn show<S: Source<Log = ()>, K: Sink>(
     ensures leaves { Leaves out.old out.new (outcome_of result) }
 {
     let tables = tables_of(alloc, source, &asked.symbols)?;
-    *hint = hint_of(alloc, &tables, asked.kind == Kind::Sums);
-    show_tables(alloc, asked.kind, path, form_for(asked, path), &tables, out)
+    let form = form_for(asked, path);
+    match asked.symbols.selection {
+        Selection::Section(_) => show_section(alloc, asked.kind, path, form, &tables, hint, out),
+        Selection::All => show_tables(alloc, asked.kind, path, form, &tables, out),
+    }
+}
+
+// Shows the function symbols of a section, which are made once, and sets `hint` to the hint on them, if any.
+fn show_section<K: Sink>(
+    alloc: Global,
+    kind: Kind,
+    path: &str,
+    form: Form<'_>,
+    tables: &Tables<'_>,
+    hint: &mut Option<Hint>,
+    out: &mut K,
+) -> Result<(), Fault>
+    ensures outcome { (which : SymbolTable) (file name : List ℕ) → AreTablesOf which file (Some name) tables.now
+        → EndsAs (Fits kind) (MemoryIn file (Some name)) (answer_in which file (Some name)) (outcome_of result) }
+    ensures takes { (which : SymbolTable) (file name : List ℕ) → AreTablesOf which file (Some name) tables.now
+        → Takes (IsTextOf kind path.now (style_of form.entry) which file (Some name))
+        (answer_in which file (Some name)) (K.taken out.old) (K.taken out.new) (outcome_of result) }
+    ensures hint { (which : SymbolTable) (file name : List ℕ) → AreTablesOf which file (Some name) tables.now
+        → IfOk result (λ _. IfSome hint.new (IsHintOn which file name)) }
+    ensures of_file { result ≢ Err Input }
+    ensures fails { Fails (K.has_failed out.old) (K.has_failed out.new) (outcome_of result) }
+    ensures leaves { Leaves out.old out.new (outcome_of result) }
+{
+    let (functions, size) = tables.functions(alloc)?.into_list();
+    let list: Vec<SectionFunction<'_>> = functions.all.collect(alloc)?;
+    let size = size.unwrap_or(0);
+    *hint = hint_on(&list, size, kind == Kind::Sums);
+    let made = Tables::Made {
+        functions: list,
+        size,
+    };
+    show_tables(alloc, kind, path, form, &made, out)
 }
 
 // Shows the function symbols of these tables.

@@ -1,5 +1,6 @@
 -- What is taken of the text of how two files differ.
-use Rattle.std.proofs.Common.{◌≡◌, ℕ, List, Option, Some, Result, Ok, Err, String, string_bytes, sym, ap, subst, ◌∙◌}
+use Rattle.std.proofs.Common.{◌≡◌, ℕ, Bool, true, List, Option, Some, Result, Ok, Err, String, string_bytes, sym, ap, subst, ◌∙◌}
+use Rattle.std.specs.Prelude.{IfErr}
 use Rattle.std.specs.Global.{Global}
 use Rattle.std.specs.Result.{IsErrAnd}
 use Rattle.binfarce.specs.Refusal.{Refusal}
@@ -7,13 +8,14 @@ use Rattle.binfarce.specs.Symbol.{Listed}
 use Rattle.binfarce_tools.specs.ReportWords.{outcome_of}
 use Rattle.binfarce_tools.specs.Writing.{Outcome, Takes, WritesMade}
 use Rattle.binfarce_tools.specs.declared.report.ReportError.{ReportError}
+use Rattle.binfarce_figures.specs.declared.diff.DiffError.{DiffError}
 use Rattle.binfarce_figures.specs.declared.diff.Growth.{Growth}
 use Rattle.binfarce_figures.specs.declared.key.Grouping.{Grouping}
 use Rattle.binfarce_figures.specs.declared.key.Keyed.{Keyed}
 use Rattle.binfarce_figures.specs.declared.order.Row.{Row}
 use Rattle.binfarce_figures.specs.declared.sums.Figures.{Figures}
 use Rattle.binfarce_tools.specs.Json.{Style}
-use Rattle.binfarce_figures.specs.Changes.{Asked, AreChangesBy, AreClaimsIn, IsGrowthBy, answer_for, both, ended}
+use Rattle.binfarce_figures.specs.Changes.{Asked, AreChangesBy, AreClaimsIn, EndsFor, IsGrowthBy, IsOf, IsWhose, answer_for, both, ended, other_error}
 use Rattle.binfarce_figures.specs.Figures.{AreClaimsOf}
 use Rattle.binfarce_figures.specs.Keys.{section_keys}
 use Rattle.binfarce_figures.specs.machine.Compared.{IsTextWith}
@@ -58,6 +60,17 @@ module _ (shown : Figures) (style : Style) (old new : Asked) (old_names new_name
         (a, b, claims_in shown.grouping old old_names old_keyed old_size a was was_claimed, claims_in shown.grouping new new_names new_keyed new_size b is is_claimed, sums)
 
 -- a result that passes an error on ends as it
-pub passed_on : (result : Result Growth ReportError) (e : ReportError) → IsErrAnd result (λ f. f ≡ e) → outcome_of (Err e) ≡ outcome_of (ended result)
+pub passed_on : (result : Result Growth DiffError) (e : ReportError) → IsErrAnd result (λ f. f ≡ other_error e) → outcome_of (Err e) ≡ outcome_of (ended result)
 passed_on (Ok growth) e is = absurd is
-passed_on (Err f) e is = ap (λ (x : ReportError). outcome_of (Err x)) (sym is)
+passed_on (Err f) e is = ap (λ (x : DiffError). outcome_of (Err x.error)) (sym is)
+
+-- where the old file could be summed, an error isn't its own
+pub of_other : (before : Asked) (grouping : Grouping) (names : ℕ → Option (List ℕ)) (keyed : List Keyed) (size : Option ℕ) (result : Result Growth DiffError) (e : ReportError) → AreKeyedFor grouping before names keyed size
+    → IsErrAnd result (λ f. f ≡ other_error e) → IfErr result (IsWhose before)
+of_other before grouping names keyed size (Ok growth) e got is = absurd is
+of_other before grouping names keyed size (Err f) e (entries, (listed, answer, fits, are, size_is), with) is = subst (λ (d : DiffError). IsWhose before d) (sym is) (listed, answer, fits)
+
+-- and where it couldn't, the error is
+pub of_old : (before : Asked) (result : Result Growth DiffError) (e : DiffError) → EndsFor before (outcome_of (Err e.error)) → e.is_of_old ≡ true → IsErrAnd result (λ f. f ≡ e) → IfErr result (IsWhose before)
+of_old before (Ok growth) e ends old is = absurd is
+of_old before (Err f) e ends old is = subst (λ (d : DiffError). IsWhose before d) (sym is) (subst (λ (b : Bool). IsOf before b e.error) (sym old) ends)

@@ -8,11 +8,13 @@ use Rattle.binfarce.specs.declared.SymbolTable.{SymbolTable}
 use Rattle.binfarce_tools.specs.Json.{Style, number_member}
 use Rattle.binfarce_tools.specs.Listing.{pad_left, size_text}
 use Rattle.binfarce_tools.specs.Report.{Share, AreCratesOf, ReportFits, sum_of, total}
+use Rattle.binfarce_tools.specs.ReportWords.{outcome_of}
 use Rattle.binfarce_tools.specs.Selection.{answer_in, MemoryIn}
 use Rattle.binfarce_tools.specs.Tables.{AreTablesOf}
 use Rattle.binfarce_tools.specs.Writing.{Outcome, EndsAs, no_memory, too_large}
 use Rattle.binfarce_tools.specs.declared.report.ReportError.{ReportError}
 use Rattle.binfarce_tools.specs.declared.tables.Tables.{Tables}
+use Rattle.binfarce_figures.specs.declared.diff.DiffError.{DiffError}
 use Rattle.binfarce_figures.specs.declared.diff.Growth.{Growth}
 use Rattle.binfarce_figures.specs.declared.key.Grouping.{Grouping}
 use Rattle.binfarce_figures.specs.declared.order.Row.{Row}
@@ -126,7 +128,19 @@ abbrev pub IsGrowthBy : Grouping → (old new : Asked) → Listed × Listed → 
 IsGrowthBy grouping old new listed growth =
     (before : List Row) × (after : List Row) × AreClaimsIn grouping old listed.0 before × AreClaimsIn grouping new listed.1 after × IsGrowthOf (shares_of before) (shares_of after) growth
 
--- a result without its value
-abbrev pub ended : Result Growth ReportError → Result (Unit {0}) ReportError
+-- a result without its value, and without whose the error is
+abbrev pub ended : Result Growth DiffError → Result (Unit {0}) ReportError
 ended (Ok growth) = Ok tt
-ended (Err e) = Err e
+ended (Err e) = Err e.error
+
+-- an error that isn't the old file's
+abbrev pub other_error : ReportError → DiffError
+other_error e = record { error = e; is_of_old = false }
+
+-- the error is the old file's where that file can't be summed; and where it isn't, that file can be
+abbrev pub IsOf : Asked → (is_of_old : Bool) → ReportError → Type 0
+IsOf before true e = EndsFor before (outcome_of (Err e))
+IsOf before false e = (listed : Listed) × (answer_for before ≡ Some (Ok listed)) × ReportFits listed
+
+abbrev pub IsWhose : (before : Asked) → DiffError → Type 0
+IsWhose before e = IsOf before e.is_of_old e.error

@@ -1,19 +1,22 @@
 //! How the sums of two files differ.
 
-ghost use Rattle.std.specs.Prelude.{◌≡◌, ◌<◌, ◌^◌, Some, Ok, IfOk};
+ghost use Rattle.std.specs.Prelude.{◌≡◌, ◌≢◌, ◌<◌, ◌^◌, true, Some, Ok, Err, IfOk, IfErr, MatchResult};
 ghost use Rattle.std.specs.List.{sum_by};
 ghost use Rattle.std.specs.String.{string_bytes};
 ghost use Rattle.binfarce.specs.Symbol.{Listed};
 ghost use Rattle.binfarce_tools.specs.Json.{style_of};
 ghost use Rattle.binfarce_tools.specs.Report.{total};
 ghost use Rattle.binfarce_tools.specs.ReportWords.{outcome_of};
+ghost use Rattle.binfarce_tools.specs.Tables.{section_names};
 ghost use Rattle.binfarce_tools.specs.Writing.{Takes, Fails, Leaves};
-ghost use Rattle.binfarce_figures.specs.Changes.{AreChangesBy, AreTablesFor, Asked, EndsForBoth, IsGrowthBy, answer_for, both, ended};
+ghost use Rattle.binfarce_tools.specs.declared.report.ReportError.TheVariants.{Write};
+ghost use Rattle.binfarce_figures.specs.Changes.{AreChangesBy, AreTablesFor, Asked, EndsFor, EndsForBoth, IsGrowthBy, IsWhose, answer_for, both, ended};
 ghost use Rattle.binfarce_figures.specs.machine.Compared.{IsTextWith};
+ghost use Rattle.binfarce_figures.specs.machine.Got.{AreKeyedIn};
 
 use crate::claims::claims_of;
 use crate::figures::{Columns, Figure, Layout};
-use crate::key::Keyed;
+use crate::key::{Grouping, Keyed};
 use crate::order::Row;
 use crate::sums::{Figures, keyed_in, sums_of};
 use binfarce_tools::json::Form;
@@ -21,6 +24,8 @@ use binfarce_tools::list::Sink;
 use binfarce_tools::report::{ReportError, write_made};
 use binfarce_tools::tables::Tables;
 use std::alloc::{AllocError, Global};
+use std::error::Error;
+use std::fmt;
 
 /// The sums of all sizes of two files, each byte counted once.
 #[derive(Debug, Clone, Copy, PartialEq)]
@@ -29,6 +34,53 @@ pub struct Growth {
     pub old: u64,
     /// The new file's sum.
     pub new: u64,
+}
+
+/// Why two files were not compared.
+#[derive(Debug, PartialEq, Drop)]
+pub struct DiffError {
+    /// The reason, as `sum_by` gives it.
+    pub error: ReportError,
+    /// Whether the old file can't be summed for this reason.
+    pub is_of_old: bool,
+}
+
+impl fmt::Display for DiffError {
+    ghost use Rattle.std.specs.Prelude.{Some};
+    ghost use Rattle.binfarce_tools.specs.ReportWords.{report_words};
+
+    ghost output = { λ e. Some (report_words e.error) };
+
+    fn fmt<W: fmt::Write>(&self, f: &mut fmt::Formatter<W>) -> fmt::Result {
+        write!(f, "{}", self.error)
+    }
+}
+
+impl Error for DiffError {}
+
+impl From<ReportError> for DiffError {
+    ghost use Rattle.binfarce_figures.specs.Changes.{other_error};
+
+    ghost from_gives = { λ e d. d ≡ other_error e };
+
+    /// An error that isn't the old file's.
+    fn from(error: ReportError) -> Self {
+        DiffError {
+            error,
+            is_of_old: false,
+        }
+    }
+}
+
+impl From<AllocError> for DiffError {
+    ghost use Rattle.binfarce_tools.specs.declared.report.ReportError.TheVariants.{OutOfMemory};
+    ghost use Rattle.binfarce_figures.specs.Changes.{other_error};
+
+    ghost from_gives = { λ _ d. d ≡ other_error OutOfMemory };
+
+    fn from(_: AllocError) -> Self {
+        DiffError::from(ReportError::OutOfMemory)
+    }
 }
 
 /// Writes a line for each key whose sums in two files differ, the greatest difference first, those of one difference in
@@ -42,7 +94,7 @@ pub struct Growth {
 ///
 /// # Errors
 ///
-/// Those of `sum_by`, first for the old file.
+/// Those of `sum_by`, first for the old file, with whether it is that file's.
 pub fn diff<S: Sink>(
     alloc: Global,
     old: &Tables<'_>,
@@ -50,7 +102,7 @@ pub fn diff<S: Sink>(
     figures: &Figures,
     form: Form<'_>,
     out: &mut S,
-) -> Result<Growth, ReportError>
+) -> Result<Growth, DiffError>
     ensures outcome { (before after : Asked) → AreTablesFor before old.now → AreTablesFor after new.now
         → EndsForBoth before after (outcome_of (ended result)) }
     ensures takes { (before after : Asked) → AreTablesFor before old.now → AreTablesFor after new.now
@@ -61,14 +113,36 @@ pub fn diff<S: Sink>(
         → AreTablesFor before old.now → AreTablesFor after new.now
         → both (answer_for before) (answer_for after) ≡ Some (Ok listed)
         → IfOk result (λ g. IsGrowthBy figures.now.grouping before after listed g) }
+    ensures whose { (before : Asked) → AreTablesFor before old.now → IfErr result (IsWhose before) }
     ensures fails { Fails (S.has_failed out.old) (S.has_failed out.new) (outcome_of (ended result)) }
     ensures leaves { Leaves out.old out.new (outcome_of (ended result)) }
 {
-    let (old_keyed, _) = keyed_in(alloc, old, figures.grouping)?;
+    let (old_keyed, _) = old_keyed_in(alloc, old, figures.grouping)?;
     let (new_keyed, _) = keyed_in(alloc, new, figures.grouping)?;
     let (text, growth) = text_of(alloc, figures, form, &old_keyed, &new_keyed)?;
     write_made(out, Ok(text))?;
     Ok(growth)
+}
+
+// What `keyed_in` gives of the old file.
+fn old_keyed_in(
+    alloc: Global,
+    old: &Tables<'_>,
+    grouping: Grouping,
+) -> Result<(Vec<Keyed>, Option<u64>), DiffError>
+    ensures got { (before : Asked) → AreTablesFor before old.now → MatchResult result
+        (λ r. AreKeyedIn grouping before.which before.file before.section (section_names old.now) r.0.items r.1)
+        (λ e. EndsFor before (outcome_of (Err e.error))) }
+    ensures fits { MatchResult result (λ r. sum_by (λ k. k.size) r.0.items < 2 ^ 64)
+        (λ e. (e.is_of_old ≡ true) × (e.error ≢ Write)) }
+{
+    match keyed_in(alloc, old, grouping) {
+        Ok(keyed) => Ok(keyed),
+        Err(error) => Err(DiffError {
+            error,
+            is_of_old: true,
+        }),
+    }
 }
 
 // The whole text, and the sums of all sizes.

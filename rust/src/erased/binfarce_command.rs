@@ -29,14 +29,14 @@ use crate::erased::binfarce_command::report::{
 use crate::erased::binfarce_command::section::write_or_list;
 use crate::erased::binfarce_command::show::{Kind, Request, Symbols, tables_of};
 use crate::erased::binfarce_addresses::Lookup;
-use crate::erased::binfarce_figures::diff::diff;
+use crate::erased::binfarce_figures::diff::{DiffError, diff};
 use crate::erased::binfarce_figures::key::{Grouping, Key};
 use crate::erased::binfarce_figures::rows::{Naming, Shown};
 use crate::erased::binfarce_figures::sums::Figures;
 use crate::erased::binfarce_filtering::stream::{StreamError, filter_stream};
 use crate::erased::binfarce_tools::SymbolTable::{Dynsym, Symtab};
 use crate::erased::binfarce_tools::json::Form;
-use crate::erased::binfarce_tools::report::{ReportError, sums_of_tables};
+use crate::erased::binfarce_tools::report::ReportError;
 use crate::erased::binfarce_tools::tables::{Selection, Tables};
 use crate::erased::binfarce_words::words::Flag::{
     self, All, Annotate, Base, By, Dynamic, FailAbove, First, Folded, Full, Json, NoTotal, Percent,
@@ -194,11 +194,15 @@ impl<W: Write> Work<'_, '_, W> {
         let form = form_of(given, paths.1);
         match diff(alloc, &old, &new, &figures_of(given), form, self.out) {
             Ok(growth) => judged(growth, given.count(FailAbove)),
-            Err(ReportError::Write) => Err(Fault::Write),
-            Err(e) => {
-                let is_old = sums_of_tables(alloc, &old).is_err();
-                let path = if is_old { paths.0 } else { paths.1 };
-                self.host.report(path, Fault::from(e), None);
+            Err(
+                DiffError {
+                    error: ReportError::Write,
+                    ..
+                },
+            ) => Err(Fault::Write),
+            Err(DiffError { error, is_of_old }) => {
+                let path = if is_of_old { paths.0 } else { paths.1 };
+                self.host.report(path, Fault::from(error), None);
                 Ok(false)
             }
         }
@@ -353,7 +357,7 @@ impl System<FileOrStdin> for Host<'_> {
         if path == "-" {
             return Ok(FileOrStdin::Standard(self.rt.stdin()));
         }
-        Ok(FileOrStdin::File(File::open(self.rt, path)?))
+        Ok(FileOrStdin::of_file(File::open(self.rt, path)?))
     }
 
     fn report(&mut self, path: &str, fault: Fault, reason: Option<Error>) {

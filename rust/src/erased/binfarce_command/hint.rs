@@ -6,12 +6,13 @@
 use crate::shim::{String, Vec};
 use crate::erased::binfarce_command::fault::Fault;
 use crate::erased::binfarce_bytes::ParseError;
+use crate::erased::binfarce_bytes::functions::SectionFunction;
 use crate::erased::binfarce_bytes::source::Source;
 use crate::erased::binfarce_sections::bytes::write_section_of;
 use crate::erased::binfarce_tools::SymbolTable;
-use crate::erased::binfarce_tools::functions::{Functions, Selected};
+use crate::erased::binfarce_tools::functions::Selected;
 use crate::erased::binfarce_tools::list::Out;
-use crate::erased::binfarce_tools::tables::{Selection, Tables, read};
+use crate::erased::binfarce_tools::tables::{Selection, read};
 use crate::shim::alloc::Global;
 use std::fmt;
 
@@ -72,32 +73,24 @@ pub fn named_by(magic: &[u8]) -> Option<Hint> {
     None
 }
 
-/// A hint on a section that is shown: it has no function symbol; or if sizes are summed, their sum exceeds its size.
-pub fn hint_of(alloc: Global, tables: &Tables<'_>, are_summed: bool) -> Option<Hint> {
-    match tables.functions(alloc) {
-        Ok(Selected::Section(functions, size)) => hint_on(functions, size, are_summed),
-        _ => None,
-    }
-}
-
-// The hint on a section of this size with these function symbols.
-fn hint_on(mut functions: Functions<'_>, size: u64, are_summed: bool) -> Option<Hint> {
-    let Some(first) = functions.next() else {
+/// A hint on a section of this size with these function symbols, which is shown: it has none; or if sizes are summed,
+/// their sum exceeds its size.
+pub fn hint_on(functions: &[SectionFunction<'_>], size: u64, are_summed: bool) -> Option<Hint> {
+    if functions.is_empty() {
         return Some(Hint::None);
-    };
-    if are_summed && exceeds(functions, first.size, size) {
+    }
+    if are_summed && sum_of(functions) > u128::from(size) {
         return Some(Hint::Overlap);
     }
     None
 }
 
-// Whether a size and those of function symbols add up to more than a limit.
-fn exceeds(functions: Functions<'_>, first: u64, limit: u64) -> bool {
-    let mut total = first;
-    for function in functions {
-        total = total.saturating_add(function.size);
-    }
-    total > limit
+// The sum of the sizes.
+fn sum_of(functions: &[SectionFunction<'_>]) -> u128 {
+    functions
+        .iter()
+        .map(|it| u128::from(it.function.size))
+        .sum()
 }
 
 /// The hint, with the number of function symbols of all sections where the section has none.

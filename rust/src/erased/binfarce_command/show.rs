@@ -2,10 +2,12 @@
 
 //! Shows the function symbols of a file: as a listing, as sums by crate, or as a picture.
 
+use crate::shim::{CollectIn, Vec};
 use crate::erased::binfarce_command::fault::Fault;
-use crate::erased::binfarce_command::hint::{Hint, hint_of};
+use crate::erased::binfarce_command::hint::{Hint, hint_on};
 use crate::erased::binfarce_bytes::ParseError;
 use crate::erased::binfarce_bytes::format::Format;
+use crate::erased::binfarce_bytes::functions::SectionFunction;
 use crate::erased::binfarce_bytes::source::Source;
 use crate::erased::binfarce_figures::rows::{Shown, list_by};
 use crate::erased::binfarce_figures::stacks::fold_tables;
@@ -17,7 +19,7 @@ use crate::erased::binfarce_tools::json::Form;
 use crate::erased::binfarce_tools::list::{Sink, list_tables};
 use crate::erased::binfarce_tools::map::map_tables;
 use crate::erased::binfarce_tools::report::report_tables;
-use crate::erased::binfarce_tools::tables::{Selection, Tables, read};
+use crate::erased::binfarce_tools::tables::{Selection, Tables, read_tables};
 use crate::shim::alloc::Global;
 
 /// How function symbols are shown.
@@ -69,17 +71,27 @@ pub fn tables_of<S: Source<Log = ()>>(
     symbols: &Symbols<'_>,
 ) -> Result<Tables<'static>, ReadError> {
     let format = read_format(alloc, source, &mut ())?;
-    if !is_taken(format, symbols.selection) {
+    if !is_taken(&format, symbols.selection) {
         return Err(ReadError::Refused(ParseError::SymbolsSectionIsMissing));
     }
-    read(alloc, source, &mut (), symbols.which, symbols.selection)
+    read_tables(
+        alloc,
+        source,
+        &mut (),
+        format,
+        symbols.which,
+        symbols.selection,
+    )
 }
 
 // Whether a file of this format has what is selected: a Mach-O or PE file has the section `.text` alone.
-fn is_taken(format: Format, selection: Selection<'_>) -> bool {
-    match (format, selection) {
-        (Format::Macho | Format::PE, Selection::Section(name)) => name == ".text",
-        _ => true,
+fn is_taken(format: &Format, selection: Selection<'_>) -> bool {
+    match selection {
+        Selection::Section(name) => match format {
+            Format::Macho | Format::PE => name == ".text",
+            _ => true,
+        },
+        Selection::All => true,
     }
 }
 
@@ -108,8 +120,32 @@ pub fn show<S: Source<Log = ()>, K: Sink>(
     out: &mut K,
 ) -> Result<(), Fault> {
     let tables = tables_of(alloc, source, &asked.symbols)?;
-    *hint = hint_of(alloc, &tables, asked.kind == Kind::Sums);
-    show_tables(alloc, asked.kind, path, form_for(asked, path), &tables, out)
+    let form = form_for(asked, path);
+    match asked.symbols.selection {
+        Selection::Section(_) => show_section(alloc, asked.kind, path, form, &tables, hint, out),
+        Selection::All => show_tables(alloc, asked.kind, path, form, &tables, out),
+    }
+}
+
+// Shows the function symbols of a section, which are made once, and sets `hint` to the hint on them, if any.
+fn show_section<K: Sink>(
+    alloc: Global,
+    kind: Kind,
+    path: &str,
+    form: Form<'_>,
+    tables: &Tables<'_>,
+    hint: &mut Option<Hint>,
+    out: &mut K,
+) -> Result<(), Fault> {
+    let (functions, size) = tables.functions(alloc)?.into_list();
+    let list: Vec<SectionFunction<'_>> = functions.all.collect_in(alloc)?;
+    let size = size.unwrap_or(0);
+    *hint = hint_on(&list, size, kind == Kind::Sums);
+    let made = Tables::Made {
+        functions: list,
+        size,
+    };
+    show_tables(alloc, kind, path, form, &made, out)
 }
 
 // Shows the function symbols of these tables.

@@ -2,10 +2,10 @@
 
 //! How the sums of two files differ.
 
-use crate::shim::String;
+use crate::shim::{String, Vec};
 use crate::erased::binfarce_figures::claims::claims_of;
 use crate::erased::binfarce_figures::figures::{Columns, Figure, Layout};
-use crate::erased::binfarce_figures::key::Keyed;
+use crate::erased::binfarce_figures::key::{Grouping, Keyed};
 use crate::erased::binfarce_figures::order::Row;
 use crate::erased::binfarce_figures::sums::{Figures, keyed_in, sums_of};
 use crate::erased::binfarce_tools::json::Form;
@@ -13,6 +13,8 @@ use crate::erased::binfarce_tools::list::Sink;
 use crate::erased::binfarce_tools::report::{ReportError, write_made};
 use crate::erased::binfarce_tools::tables::Tables;
 use crate::shim::alloc::{AllocError, Global};
+use std::error::Error;
+use std::fmt;
 
 /// The sums of all sizes of two files, each byte counted once.
 #[derive(Debug, Clone, Copy, PartialEq)]
@@ -21,6 +23,39 @@ pub struct Growth {
     pub old: u64,
     /// The new file's sum.
     pub new: u64,
+}
+
+/// Why two files were not compared.
+#[derive(Debug, PartialEq)]
+pub struct DiffError {
+    /// The reason, as `sum_by` gives it.
+    pub error: ReportError,
+    /// Whether the old file can't be summed for this reason.
+    pub is_of_old: bool,
+}
+
+impl fmt::Display for DiffError {
+    fn fmt(&self, f: &mut fmt::Formatter<'_>) -> fmt::Result {
+        write!(f, "{}", self.error)
+    }
+}
+
+impl Error for DiffError {}
+
+impl From<ReportError> for DiffError {
+    /// An error that isn't the old file's.
+    fn from(error: ReportError) -> Self {
+        DiffError {
+            error,
+            is_of_old: false,
+        }
+    }
+}
+
+impl From<AllocError> for DiffError {
+    fn from(_: AllocError) -> Self {
+        DiffError::from(ReportError::OutOfMemory)
+    }
 }
 
 /// Writes a line for each key whose sums in two files differ, the greatest difference first, those of one difference in
@@ -34,7 +69,7 @@ pub struct Growth {
 ///
 /// # Errors
 ///
-/// Those of `sum_by`, first for the old file.
+/// Those of `sum_by`, first for the old file, with whether it is that file's.
 pub fn diff<S: Sink>(
     alloc: Global,
     old: &Tables<'_>,
@@ -42,12 +77,27 @@ pub fn diff<S: Sink>(
     figures: &Figures,
     form: Form<'_>,
     out: &mut S,
-) -> Result<Growth, ReportError> {
-    let (old_keyed, _) = keyed_in(alloc, old, figures.grouping)?;
+) -> Result<Growth, DiffError> {
+    let (old_keyed, _) = old_keyed_in(alloc, old, figures.grouping)?;
     let (new_keyed, _) = keyed_in(alloc, new, figures.grouping)?;
     let (text, growth) = text_of(alloc, figures, form, &old_keyed, &new_keyed)?;
     write_made(out, Ok(text))?;
     Ok(growth)
+}
+
+// What `keyed_in` gives of the old file.
+fn old_keyed_in(
+    alloc: Global,
+    old: &Tables<'_>,
+    grouping: Grouping,
+) -> Result<(Vec<Keyed>, Option<u64>), DiffError> {
+    match keyed_in(alloc, old, grouping) {
+        Ok(keyed) => Ok(keyed),
+        Err(error) => Err(DiffError {
+            error,
+            is_of_old: true,
+        }),
+    }
 }
 
 // The whole text, and the sums of all sizes.

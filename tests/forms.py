@@ -151,6 +151,7 @@ FORMS = {
         Program("", MAPPED.replace("{}", ".zip([1u8].iter())", 1) + '\n    let _ = println!(rt; "{n}");', "2", ".zip([1u8].iter())"),
         Program("", 'let n = [1u8, 2].iter().zip([3u8].iter()).count();\n    let _ = println!(rt; "{n}");', "1", None),
         Line("a.partition_point(|x| { n += 1; *x < 4 });", ".partition_point(|x|{n+=1;*x<4})"), Line("a.map(f).rev();", ".rev()"),
+        Line("a.iter().zip(b.map(|x| { n += 1; x }));", ".zip(b.map(|x|{n+=1;x}))"),
         Line("a.sort_by_key::<u8, _>(f);", ".sort_by_key::"), Line("Iterator::zip(a.map(f), b);", "::zip"),
         Line("a.trim_matches(|c| { n += 1; c == b });", ".trim_matches(|c|{n+=1;c==b})")],
     "Of std only KNOWN is called or named, which the sources call already, and its programs print the same: else Rust may have "
@@ -168,7 +169,8 @@ FORMS = {
         Line("a.sort_unstable_by_key(|x| x.0);", "sort_unstable_by_key"), Line("a.is_alphanumeric();", "is_alphanumeric")],
     "Numbers are whole, and a format asks for no precision and, but in tests, for no `{:?}`: else the text may differ, as roundings do, "
     "and the tables of characters that `{:?}` shows.": [
-        Program("", 'let _ = println!(rt; "{:.0}", 2.5f64);', "2", '"{:.0}"'), Line("let a = 2.5;", "2.5"), Line("let a = 1e5;", "1e5"),
+        Program("", 'let _ = println!(rt; "{:.0}", 2.5f64);', "2", '"{:.0}"'), Line("let a = 2.5;", "2.5"),
+        Line('write!(f, r"{:.0}", x);', 'r"{:.0}"'), Line("let a = 1e5;", "1e5"),
         Program("", 'let _ = println!(rt; "{:?}", "\\u{1fae9}");', '"\U0001fae9"', '"{:?}"')],
     "The room that memory has is only asked for in a sum of memory: else its number may differ, since the shim's grows otherwise.": [
         Program(ROOM, 'let _ = println!(rt; "{}", room(rt.alloc()).unwrap_or(0));', "8", "capacity")],

@@ -120,13 +120,14 @@ FORMS = {
         Line("impl A for std::convert::Infallible {}", "std::convert"), Line("std::iter::once(1).f();", "std::iter"),
         Line("use a::W as S; struct S; trait A {} impl A for S {}", "impl A for S"), Line("pub use a::W as V;", "pub use a::W as V;"),
         Line("impl Drop for S {}", "impl Drop for S"), Line("impl std::ops::Deref for S {}", "impl std::ops::Deref for S")],
-    "A type has no two functions of one name, unless two traits have them under the same bounds: else another one may be called, since "
-    "a bound can hold in one language alone.": [
+    "A type has no two functions or constants of one name, unless two traits have them under the same bounds: else another one may be "
+    "called, since a bound can hold in one language alone.": [
         Program("use std::io;\n\n#[derive(Drop)]\nstruct W<X: Drop>(X);\n\n"
                 + TWO.format("impl<X: Copy + Drop> W<X>", "impl<X: Drop> A for W<X>"),
                 'let _ = println!(rt; "{}", W(io::Error::from(io::ErrorKind::Other)).f());', "1", "f"),
         Line("struct W<X>(X); trait A {} trait B {} impl<X> A for W<X> where X: Copy { fn f() {} } impl<X> B for W<X> { fn f() {} }",
              "f"),
+        Line("struct W<X>(X); trait A {} impl<X: Copy> W<X> { const N: u8 = 1; } impl<X> A for W<X> { const N: u8 = 2; }", "N"),
         Line("struct S; trait T { fn map(&self); } impl Iterator for S { fn next(&mut self) {} } impl T for S { fn map(&self) {} }", "T"),
         Line("fn f<T: Index<u8>>(w: W<T::Output>) { w.f(); }", "Index"), Line("fn f<T: Deref>(w: W<T::Target>) { w.f(); }", "Deref")],
     "A trait's functions have no body: else another impl may be found in one, since there `Self` may have no size, and Rust passes over "

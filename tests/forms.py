@@ -120,13 +120,14 @@ FORMS = {
         Line("impl A for std::convert::Infallible {}", "std::convert"), Line("std::iter::once(1).f();", "std::iter"),
         Line("use a::W as S; struct S; trait A {} impl A for S {}", "impl A for S"), Line("pub use a::W as V;", "pub use a::W as V;"),
         Line("impl Drop for S {}", "impl Drop for S"), Line("impl std::ops::Deref for S {}", "impl std::ops::Deref for S")],
-    "A type has no two functions of one name, unless two traits have them under the same bounds: else another one may be called, since "
-    "a bound can hold in one language alone.": [
+    "A type has no two functions or constants of one name, unless two traits have them under the same bounds: else another one may be "
+    "called, since a bound can hold in one language alone.": [
         Program("use std::io;\n\n#[derive(Drop)]\nstruct W<X: Drop>(X);\n\n"
                 + TWO.format("impl<X: Copy + Drop> W<X>", "impl<X: Drop> A for W<X>"),
                 'let _ = println!(rt; "{}", W(io::Error::from(io::ErrorKind::Other)).f());', "1", "f"),
         Line("struct W<X>(X); trait A {} trait B {} impl<X> A for W<X> where X: Copy { fn f() {} } impl<X> B for W<X> { fn f() {} }",
              "f"),
+        Line("struct W<X>(X); trait A {} impl<X: Copy> W<X> { const N: u8 = 1; } impl<X> A for W<X> { const N: u8 = 2; }", "N"),
         Line("struct S; trait T { fn map(&self); } impl Iterator for S { fn next(&mut self) {} } impl T for S { fn map(&self) {} }", "T"),
         Line("fn f<T: Index<u8>>(w: W<T::Output>) { w.f(); }", "Index"), Line("fn f<T: Deref>(w: W<T::Target>) { w.f(); }", "Deref")],
     "A trait's functions have no body: else another impl may be found in one, since there `Self` may have no size, and Rust passes over "
@@ -151,6 +152,7 @@ FORMS = {
         Program("", MAPPED.replace("{}", ".zip([1u8].iter())", 1) + '\n    let _ = println!(rt; "{n}");', "2", ".zip([1u8].iter())"),
         Program("", 'let n = [1u8, 2].iter().zip([3u8].iter()).count();\n    let _ = println!(rt; "{n}");', "1", None),
         Line("a.partition_point(|x| { n += 1; *x < 4 });", ".partition_point(|x|{n+=1;*x<4})"), Line("a.map(f).rev();", ".rev()"),
+        Line("a.iter().zip(b.map(|x| { n += 1; x }));", ".zip(b.map(|x|{n+=1;x}))"),
         Line("a.sort_by_key::<u8, _>(f);", ".sort_by_key::"), Line("Iterator::zip(a.map(f), b);", "::zip"),
         Line("a.trim_matches(|c| { n += 1; c == b });", ".trim_matches(|c|{n+=1;c==b})")],
     "Of std only KNOWN is called or named, which the sources call already, and its programs print the same: else Rust may have "
@@ -168,7 +170,8 @@ FORMS = {
         Line("a.sort_unstable_by_key(|x| x.0);", "sort_unstable_by_key"), Line("a.is_alphanumeric();", "is_alphanumeric")],
     "Numbers are whole, and a format asks for no precision and, but in tests, for no `{:?}`: else the text may differ, as roundings do, "
     "and the tables of characters that `{:?}` shows.": [
-        Program("", 'let _ = println!(rt; "{:.0}", 2.5f64);', "2", '"{:.0}"'), Line("let a = 2.5;", "2.5"), Line("let a = 1e5;", "1e5"),
+        Program("", 'let _ = println!(rt; "{:.0}", 2.5f64);', "2", '"{:.0}"'), Line("let a = 2.5;", "2.5"),
+        Line('write!(f, r"{:.0}", x);', 'r"{:.0}"'), Line("let a = 1e5;", "1e5"),
         Program("", 'let _ = println!(rt; "{:?}", "\\u{1fae9}");', '"\U0001fae9"', '"{:?}"')],
     "The room that memory has is only asked for in a sum of memory: else its number may differ, since the shim's grows otherwise.": [
         Program(ROOM, 'let _ = println!(rt; "{}", room(rt.alloc()).unwrap_or(0));', "8", "capacity")],

@@ -1,8 +1,9 @@
 //! Panics, and prints the functions of its own backtrace: it subtracts from each address where `/proc/self/maps` has the
 //! program's file, and looks it up in that file. It runs on Linux.
 
-use binfarce::{Selection, SymbolTable, Symbolizer, Tables, demangle};
+use binfarce::{Format, Selection, SymbolTable, Symbolizer, Tables, demangle, detect_format, elf64};
 use std::backtrace::Backtrace;
+use std::io::{Read, Seek};
 use std::{env, error::Error, fs, panic};
 
 mod inner {
@@ -24,6 +25,14 @@ fn base(maps: &str, path: &str) -> Option<u64> {
     })
 }
 
+/// Whether a program runs at the addresses that its file has (`ET_EXEC`), wherever its first byte is.
+fn is_fixed(mut file: impl Read + Seek) -> Result<bool, Box<dyn Error>> {
+    let mut start = [0; 64];
+    file.read_exact(&mut start)?;
+    let Format::Elf64 { byte_order } = detect_format(&start) else { return Err("not a 64-bit ELF file".into()) };
+    Ok(elf64::parse(&start, byte_order)?.header().elf_type == 2)
+}
+
 /// The return addresses in a backtrace's text, a line ` 3: 0x55d0c7b5d4a1 - NAME` each, which inlined functions repeat.
 fn addresses(trace: &str) -> Vec<u64> {
     let address = |line: &str| {
@@ -38,7 +47,10 @@ fn addresses(trace: &str) -> Vec<u64> {
 fn print_backtrace() -> Result<(), Box<dyn Error>> {
     let path = env::current_exe()?;
     let maps = fs::read_to_string("/proc/self/maps")?;
-    let base = base(&maps, &path.to_string_lossy()).ok_or("the maps don't have this program")?;
+    let base = match is_fixed(fs::File::open(&path)?)? {
+        true => 0,
+        false => base(&maps, &path.to_string_lossy()).ok_or("the maps don't have this program")?,
+    };
     let tables = Tables::read(fs::File::open(path)?, Selection::All, SymbolTable::Symtab)?;
     let symbolizer = Symbolizer::new(&tables)?.with_base(base);
     for address in addresses(&format!("{:#}", Backtrace::force_capture())) {

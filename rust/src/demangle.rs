@@ -311,19 +311,34 @@ pub fn trimmed(name: &str) -> Result<String, OutOfMemory> {
     Ok(text)
 }
 
+/// How many bytes of text [`Demangle`] prints at most of a name: 2^20.
+pub const MAX_PRINTED: usize = 1 << 20;
+
 /// A name that may be mangled, to be printed: the answer of [`demangle`].
 ///
-/// `{}` prints its [complete](SymbolName::complete) text, and `{:#}` its [trimmed](SymbolName::trimmed) one. Where an allocation
-/// fails, the program ends as it does where a `String` can't grow.
+/// `{}` prints its [complete](SymbolName::complete) text, and `{:#}` its [trimmed](SymbolName::trimmed) one, into any
+/// [`fmt::Write`]. The text is made before the first byte is written, in memory that is bounded by [`MAX_PRINTED`]. The name is
+/// printed as it is stored where its text has more bytes than that, and where an allocation fails: so a panic hook can print a
+/// name where memory has run out, and the program doesn't end. [`SymbolName::try_demangle`] and [`trimmed()`] return an error there.
+///
+/// # Examples
+///
+/// ```
+/// use std::fmt::Write;
+///
+/// let mut line = String::new();
+/// write!(line, "at {:#}", binfarce::demangle::demangle("_RNvC1a1b"))?;
+/// assert_eq!(line, "at a::b");
+/// # Ok::<(), std::fmt::Error>(())
+/// ```
 #[derive(Debug, Clone, Copy, PartialEq, Eq, Hash)]
 pub struct Demangle<'a>(&'a str);
 
 impl fmt::Display for Demangle<'_> {
     fn fmt(&self, f: &mut fmt::Formatter<'_>) -> fmt::Result {
-        let push = if f.alternate() { Demangler::push_trimmed } else { Demangler::push_complete };
-        let mut text = String::new();
-        push(&mut Demangler::new(), &mut text, self.0).unwrap_or_else(|_| out_of_memory());
-        f.pad(&text)
+        let mut text = shim::String::new(Global);
+        let printed = erased::Demangler::new(Global).short_text(&mut text, self.0, !f.alternate(), MAX_PRINTED + 1);
+        f.pad(if printed.is_ok() { &text } else { self.0 })
     }
 }
 

@@ -4,6 +4,7 @@ use crate::any::Functions;
 use crate::erased::binfarce::elf32;
 use crate::erased::binfarce_addresses::at::Places;
 use crate::erased::binfarce_addresses::lookup::Lookup;
+use crate::erased::binfarce_addresses::ranges::{AddressRange, Ranges};
 use crate::erased::binfarce_elf::symbol_table;
 use crate::erased::binfarce_figures::claims::claims_of;
 use crate::erased::binfarce_figures::sums::{keyed_in, sum_by, sums_of};
@@ -15,7 +16,7 @@ use crate::erased::binfarce_tools::list::list_tables;
 use crate::erased::binfarce_tools::map::map_tables;
 use crate::erased::binfarce_tools::report::{ReportError, report_tables};
 use crate::erased::binfarce_tools::tables;
-use crate::error::{Error, ParseError};
+use crate::error::{Error, OutOfMemory, ParseError};
 use crate::figures::{Figures, Grouping, Growth, Layout, Shown};
 use crate::shim::{self, alloc::Global};
 use crate::streams::Kept;
@@ -558,7 +559,8 @@ pub struct Sums<K> {
     pub section_size: u64,
 }
 
-/// Finds the function symbol at an address by a binary search.
+/// Finds the function symbol at an address by a binary search. It borrows the tables, or [owns](Symbolizer::into_owned) all that
+/// it needs of them; it is `Send` and `Sync`, and a lookup allocates nothing.
 ///
 /// # Examples
 ///
@@ -578,8 +580,21 @@ pub struct Sums<K> {
 /// # Ok::<(), Box<dyn std::error::Error>>(())
 /// ```
 pub struct Symbolizer<'a> {
-    places: Places<'a>,
+    functions: Arranged<'a>,
     base: u64,
+}
+
+/// Function symbols, arranged for lookups by address.
+enum Arranged<'a> {
+    Borrowed(Places<'a>),
+    Owned { names: shim::String, rows: shim::Vec<OwnedRow>, ranges: Ranges },
+}
+
+/// A function symbol, and where its name ends in the text of all names; it begins where that of the row before ends.
+struct OwnedRow {
+    end: usize,
+    address: u64,
+    size: u64,
 }
 
 impl<'a> Symbolizer<'a> {
@@ -589,13 +604,59 @@ impl<'a> Symbolizer<'a> {
     ///
     /// Those of [`Tables::functions`].
     pub fn new(tables: &'a Tables<'_>) -> Result<Self, Error> {
-        Ok(Symbolizer { places: Places::of_tables(Global, &tables.0)?, base: 0 })
+        Ok(Symbolizer { functions: Arranged::Borrowed(Places::of_tables(Global, &tables.0)?), base: 0 })
     }
 
     /// Sets the base, which is subtracted from each address: where the address 0 of the file is in memory.
     #[must_use]
     pub fn with_base(self, base: u64) -> Self {
         Symbolizer { base, ..self }
+    }
+
+    /// Copies what it needs of the tables, so that they needn't be kept: their names, addresses and sizes.
+    ///
+    /// # Errors
+    ///
+    /// [`OutOfMemory`] where an allocation failed.
+    ///
+    /// # Examples
+    ///
+    /// A symbolizer for all threads, which a panic hook may ask:
+    ///
+    /// ```
+    /// use binfarce::{Error, Selection, SymbolTable, Symbolizer, Tables};
+    /// use std::sync::OnceLock;
+    ///
+    /// static FUNCTIONS: OnceLock<Symbolizer<'static>> = OnceLock::new();
+    ///
+    /// fn symbolizer(file: &[u8]) -> Result<Symbolizer<'static>, Error> {
+    ///     let tables = Tables::new(file, Selection::All, SymbolTable::Symtab)?;
+    ///     Ok(Symbolizer::new(&tables)?.into_owned()?)
+    /// }
+    ///
+    /// # let path = concat!(env!("CARGO_MANIFEST_DIR"), "/samples/elf64-little.bin");
+    /// let functions = symbolizer(&std::fs::read(path)?)?;
+    /// let functions = FUNCTIONS.get_or_init(|| functions);
+    /// assert_eq!(functions.find(0x1014).map(|(function, offset)| (function.name, offset)), Some(("bad", 4)));
+    /// # Ok::<(), Box<dyn std::error::Error>>(())
+    /// ```
+    pub fn into_owned(self) -> Result<Symbolizer<'static>, OutOfMemory> {
+        let functions = match self.functions {
+            Arranged::Owned { names, rows, ranges } => Arranged::Owned { names, rows, ranges },
+            Arranged::Borrowed(places) => {
+                let functions = &places.functions;
+                let mut names = shim::String::with_capacity(Global, functions.iter().map(|it| it.name.len()).sum())?;
+                let mut rows = shim::Vec::with_capacity(Global, functions.len())?;
+                let mut ranges = shim::Vec::with_capacity(Global, functions.len())?;
+                for FunctionSymbol { name, address, size } in functions.iter().copied() {
+                    names.push_str(name)?;
+                    rows.push(OwnedRow { end: names.len(), address, size })?;
+                    ranges.push(AddressRange { address, size })?;
+                }
+                Arranged::Owned { names, rows, ranges: Ranges::new(Global, &ranges)? }
+            }
+        };
+        Ok(Symbolizer { functions, base: self.base })
     }
 
     /// Returns the function symbol at an address, and the offset into it. Of several that hold the address it is the one of
@@ -614,7 +675,7 @@ impl<'a> Symbolizer<'a> {
     /// assert_eq!(symbolizer.find(0x2000), None);
     /// # Ok::<(), Box<dyn std::error::Error>>(())
     /// ```
-    pub fn find(&self, address: u64) -> Option<(FunctionSymbol<'a>, u64)> {
+    pub fn find(&self, address: u64) -> Option<(FunctionSymbol<'_>, u64)> {
         self.look_up(address, false)
     }
 
@@ -634,12 +695,23 @@ impl<'a> Symbolizer<'a> {
     /// assert_eq!(symbolizer.find_return(0x1010).map(|(function, _)| function.name), Some("_ZN3foo3barE"));
     /// # Ok::<(), Box<dyn std::error::Error>>(())
     /// ```
-    pub fn find_return(&self, address: u64) -> Option<(FunctionSymbol<'a>, u64)> {
+    pub fn find_return(&self, address: u64) -> Option<(FunctionSymbol<'_>, u64)> {
         self.look_up(address, true)
     }
 
-    fn look_up(&self, address: u64, is_return: bool) -> Option<(FunctionSymbol<'a>, u64)> {
-        self.places.find(Lookup { base: self.base, is_return, form: Form::Lines }, address)
+    fn look_up(&self, address: u64, is_return: bool) -> Option<(FunctionSymbol<'_>, u64)> {
+        let lookup = Lookup { base: self.base, is_return, form: Form::Lines };
+        match &self.functions {
+            Arranged::Borrowed(places) => places.find(lookup, address),
+            Arranged::Owned { names, rows, ranges } => {
+                // As `Places::find` does it.
+                let place = ranges.find(lookup.in_file(address)?)?;
+                let start = if place == 0 { 0 } else { rows[place - 1].end };
+                let OwnedRow { end, address: first, size } = rows[place];
+                let function = FunctionSymbol { name: &names[start..end], address: first, size };
+                Some((function, lookup.offset_in(address, first)))
+            }
+        }
     }
 }
 

@@ -161,10 +161,22 @@ fn tables_in_memory_and_read_at_offsets() {
                 assert_eq!(symbolizer.find_return(0x10_0001 + address), of_call);
             }
             assert_eq!((symbolizer.find(0xf_ffff), symbolizer.find_return(0x10_0000)), (None, None));
+            let owned = owned_symbolizer(file, selection).with_base(0x10_0000).into_owned().unwrap();
+            for address in 0xf_ffff..0x10_1200 {
+                assert_eq!(owned.find(address), symbolizer.find(address));
+                assert_eq!(owned.find_return(address), symbolizer.find_return(address));
+            }
         }
         assert_eq!(read_section(Cursor::new(file), ".dep-v0").unwrap_err().to_string(), "no section of this name");
     }
     assert_eq!(read_section(Cursor::new(ELF32_BIG), ".text").unwrap(), section_bytes(ELF32_BIG, ".text").unwrap());
+}
+
+/// A symbolizer of tables that are gone.
+fn owned_symbolizer(file: &[u8], selection: Selection<'_>) -> Symbolizer<'static> {
+    let tables = Tables::read(Cursor::new(file), selection, SymbolTable::Symtab).unwrap();
+    let owned = Symbolizer::new(&tables).unwrap().into_owned();
+    owned.unwrap()
 }
 
 #[test]
@@ -241,6 +253,8 @@ fn traits() {
     value::<(SymbolData, SymbolName, Sums<String>)>();
     reader::<(elf32::Elf32<'_>, elf64::Elf64<'_>, macho::Macho<'_>, pe::Pe<'_>)>();
     shown::<(Tables<'_>, Symbolizer<'_>, Demangler)>();
+    fn shared<T: Send + Sync + 'static>() {}
+    shared::<(Tables<'static>, Symbolizer<'static>)>();
     let _: [fn(); 3] = [items::<Functions<'_>>, items::<Sections<'_>>, items::<AllFunctions<'_>>];
     let _: [fn(); 3] = [items::<elf32::Functions<'_>>, items::<elf32::Sections<'_>>, items::<elf32::AllFunctions<'_>>];
     let _: [fn(); 3] = [items::<elf64::Functions<'_>>, items::<elf64::Sections<'_>>, items::<elf64::AllFunctions<'_>>];
@@ -283,6 +297,71 @@ fn a_recognized_name_is_printed() {
     assert_eq!(legacy.to_string(), "foo::bar::h05af221e174051e9");
     assert_eq!(format!("{legacy:#}|{legacy:#10}|{:<6}|", demangle::demangle("main")), "foo::bar|foo::bar  |main  |");
     assert_eq!(format!("{0} {0:#}", demangle::demangle("_RNvC6_123foo3bar")), "123foo[0]::bar 123foo::bar");
+}
+
+/// A line of at most 64 bytes, in no memory of its own.
+struct Line([u8; 64], usize);
+
+impl std::fmt::Write for Line {
+    fn write_str(&mut self, text: &str) -> std::fmt::Result {
+        let room = self.0.get_mut(self.1..self.1 + text.len()).ok_or(std::fmt::Error)?;
+        room.copy_from_slice(text.as_bytes());
+        self.1 += text.len();
+        Ok(())
+    }
+}
+
+#[test]
+fn a_name_is_printed_as_it_is_stored_where_memory_has_run_out() {
+    for name in ["_ZN3foo3bar17h05af221e174051e9E", "_RNvC6_123foo3bar", "main"] {
+        let read = SymbolName::demangle(name);
+        for (is_trimmed, wanted) in [(false, &*read.complete), (true, &*read.trimmed)] {
+            for number in 1.. {
+                let mut line = Line([0; 64], 0);
+                let (printed, was_refused) = refusing(number, || {
+                    use std::fmt::Write;
+                    let name = demangle::demangle(name);
+                    if is_trimmed { write!(line, "{name:#}") } else { write!(line, "{name}") }
+                });
+                assert_eq!(printed, Ok(()));
+                let line = std::str::from_utf8(&line.0[..line.1]).unwrap();
+                assert_eq!(line, if was_refused { name } else { wanted });
+                if !was_refused {
+                    assert!(number > 1, "nothing was allocated");
+                    break;
+                }
+            }
+        }
+        let mut short = Line([0; 64], 60);
+        assert!(
+            name.len() < 5
+                || std::fmt::Write::write_fmt(&mut short, format_args!("{}", demangle::demangle(name))).is_err()
+        );
+    }
+}
+
+#[test]
+fn a_text_past_the_bound_is_not_printed() {
+    let legacy = |len: usize| format!("_ZN{len}{}3fooE", "a".repeat(len));
+    let long = legacy(demangle::MAX_PRINTED);
+    assert_eq!(format!("{:#}", demangle::demangle(&long)).len(), demangle::MAX_PRINTED);
+    assert_eq!(demangle::demangle(&long).to_string(), long);
+    let longer = legacy(demangle::MAX_PRINTED + 1);
+    assert_eq!(format!("{:#}", demangle::demangle(&longer)), longer);
+    // A tuple of the tuple before twice, ten times.
+    let (mut v0, mut at) = (format!("_RIC1aNtC1a2000{}", "b".repeat(2000)), 4);
+    for _ in 0..10 {
+        let next = v0.len() - 2;
+        let digits = |n: usize| {
+            let digit = |n: usize| char::from(b"0123456789abcdefghijklmnopqrstuvwxyzABCDEFGHIJKLMNOPQRSTUVWXYZ"[n]);
+            [n / 3844, n / 62 % 62, n % 62].map(digit).into_iter().collect::<String>()
+        };
+        v0 += &format!("TB{0}_B{0}_E", digits(at - 1));
+        at = next;
+    }
+    v0.push('E');
+    assert!(trimmed(&v0).unwrap().len() > demangle::MAX_PRINTED);
+    assert_eq!(demangle::demangle(&v0).to_string(), v0);
 }
 
 #[test]
@@ -395,7 +474,7 @@ fn a_failed_allocation_is_an_error() {
     for (file, _) in FILES {
         for selection in [Selection::Section(".text"), Selection::All] {
             let read = || Tables::read(Cursor::new(file), selection, SymbolTable::Symtab).map_err(refused);
-            refuses_each(|| Symbolizer::new(&read()?).map(|_| ()));
+            refuses_each(|| Symbolizer::new(&read()?).and_then(|it| Ok(it.into_owned()?)));
             refuses_each(|| read()?.sums_by_key(Key::Crate));
             refuses_each(|| read()?.sums_by(|function| Ok(function.size)));
             refuses_each(|| read()?.map_to("file", io::sink()).map_err(refused));

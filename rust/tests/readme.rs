@@ -66,8 +66,11 @@ fn tables() -> Result<(), Box<dyn Error>> {
     assert_eq!(Tables::new(&file, Selection::All, SymbolTable::Symtab)?.functions()?.count(), 2);
     assert!(Tables::new(&file, Selection::All, SymbolTable::Dynsym).is_err());
     let tables = read(File::open(SAMPLE)?)?;
-    let found = Symbolizer::new(&tables)?.with_base(base).find(address);
-    assert_eq!(found, Symbolizer::new(&tables)?.with_base(base).find_return(address));
+    let symbolizer = Symbolizer::new(&tables)?.with_base(base);
+    let found = symbolizer.find(address);
+    assert!(found.is_some() && found == symbolizer.find_return(address));
+    let owned = Symbolizer::new(&tables)?.with_base(base).into_owned()?;
+    assert_eq!(owned.find(address), found);
     let (figures, shown) = (Figures::by(Key::Crate).with_std_joined(), Shown::new());
     let (mut listed, mut rows, mut reported) = (Vec::new(), Vec::new(), Vec::new());
     tables.list_to(&mut listed)?;

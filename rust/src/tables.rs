@@ -18,11 +18,14 @@ use crate::erased::binfarce_tools::report::{ReportError, report_tables};
 use crate::erased::binfarce_tools::tables;
 use crate::error::{Error, OutOfMemory, ParseError};
 use crate::figures::{Figures, Grouping, Growth, Layout, Shown};
-use crate::shim::{self, alloc::Global};
+use crate::shim;
+use crate::shim::alloc::{AllocError, Global};
 use crate::streams::Kept;
 use crate::{FunctionSymbol, SectionFunction};
 use std::cell::RefCell;
+use std::cmp::Reverse;
 use std::io::{self, ErrorKind, Read, Seek, Write};
+use std::ops::Range;
 
 /// Which function symbols of a file are meant.
 #[derive(Debug, Clone, Copy, PartialEq, Eq, Hash)]
@@ -590,11 +593,36 @@ enum Arranged<'a> {
     Owned { names: shim::String, rows: shim::Vec<OwnedRow>, ranges: Ranges },
 }
 
-/// A function symbol, and where its name ends in the text of all names; it begins where that of the row before ends.
+/// A function symbol, and where its name is in the text of all names.
 struct OwnedRow {
-    end: usize,
+    name: Range<usize>,
     address: u64,
     size: u64,
+}
+
+/// Copies names. Those that end alike may share their bytes in a file, and do so in the copy: it has no byte twice, so it isn't
+/// larger than the file, whatever the number of symbols.
+fn copied(functions: &[FunctionSymbol<'_>]) -> Result<(shim::String, shim::Vec<OwnedRow>), AllocError> {
+    let mut order = shim::Vec::with_capacity(Global, functions.len())?;
+    let mut rows = shim::Vec::with_capacity(Global, functions.len())?;
+    for (place, FunctionSymbol { name, address, size }) in functions.iter().copied().enumerate() {
+        order.push_reserved((name.as_ptr() as usize, Reverse(name.len()), place));
+        rows.push_reserved(OwnedRow { name: 0..0, address, size });
+    }
+    order.sort_unstable();
+    let mut names = shim::String::new(Global);
+    // Where the name that was copied last ends in memory.
+    let mut last = 0;
+    for (start, Reverse(length), place) in order {
+        // Of a name that begins within the one before and doesn't end with it, all is copied.
+        if start + length > last {
+            names.push_str(functions[place].name)?;
+            last = start + length;
+        }
+        let first = names.len() - (last - start);
+        rows[place].name = first..first + length;
+    }
+    Ok((names, rows))
 }
 
 impl<'a> Symbolizer<'a> {
@@ -645,13 +673,10 @@ impl<'a> Symbolizer<'a> {
             Arranged::Owned { names, rows, ranges } => Arranged::Owned { names, rows, ranges },
             Arranged::Borrowed(places) => {
                 let functions = &places.functions;
-                let mut names = shim::String::with_capacity(Global, functions.iter().map(|it| it.name.len()).sum())?;
-                let mut rows = shim::Vec::with_capacity(Global, functions.len())?;
-                let mut ranges = shim::Vec::with_capacity(Global, functions.len())?;
-                for FunctionSymbol { name, address, size } in functions.iter().copied() {
-                    names.push_str(name)?;
-                    rows.push(OwnedRow { end: names.len(), address, size })?;
-                    ranges.push(AddressRange { address, size })?;
+                let (names, rows) = copied(functions)?;
+                let mut ranges = shim::Vec::with_capacity(Global, rows.len())?;
+                for OwnedRow { address, size, .. } in &rows {
+                    ranges.push_reserved(AddressRange { address: *address, size: *size });
                 }
                 Arranged::Owned { names, rows, ranges: Ranges::new(Global, &ranges)? }
             }
@@ -706,16 +731,31 @@ impl<'a> Symbolizer<'a> {
             Arranged::Owned { names, rows, ranges } => {
                 // As `Places::find` does it.
                 let place = ranges.find(lookup.in_file(address)?)?;
-                let start = if place == 0 { 0 } else { rows[place - 1].end };
-                let OwnedRow { end, address: first, size } = rows[place];
-                let function = FunctionSymbol { name: &names[start..end], address: first, size };
-                Some((function, lookup.offset_in(address, first)))
+                let OwnedRow { name, address: first, size } = &rows[place];
+                let function = FunctionSymbol { name: &names[name.clone()], address: *first, size: *size };
+                Some((function, lookup.offset_in(address, *first)))
             }
         }
     }
 }
 
 debug_by_name!(Tables, Symbolizer);
+
+#[test]
+fn names_are_copied_once() {
+    let text = "_ZN3foo3barE|main|é";
+    let names =
+        [&text[4..12], &text[..12], "apart", &text[13..17], &text[..12], &text[12..12], &text[18..], &text[11..12]];
+    let functions = names.map(|name| FunctionSymbol { name, address: 1, size: 2 });
+    let (all, rows) = copied(&functions).unwrap();
+    assert!(rows.iter().map(|row| &all[row.name.clone()]).eq(names));
+    assert_eq!(all.len(), "_ZN3foo3barE".len() + "apart".len() + "main".len() + "é".len());
+    // A name that overlaps and ends later, which no reader gives.
+    let names = [&text[..6], &text[4..12]];
+    let functions = names.map(|name| FunctionSymbol { name, address: 1, size: 2 });
+    let (all, rows) = copied(&functions).unwrap();
+    assert!(rows.iter().map(|row| &all[row.name.clone()]).eq(names));
+}
 
 #[doc(hidden)]
 impl From<ReadError> for Error {

@@ -12,11 +12,13 @@ binfarce_fuzz::fuzz_target!(|data| {
     let functions = tables.functions().unwrap().collect::<Vec<_>>();
     assert_eq!(functions.len(), rows.len());
     let symbolizer = Symbolizer::new(&tables).unwrap().with_base(base);
+    let owned = Symbolizer::new(&tables).unwrap().into_owned().unwrap().with_base(base);
     let edges = rows.iter().flat_map(|(_, address, size)| [*address, address + size, address + size / 2]);
     let edges = edges.chain([0, 1 << 16, u64::MAX >> 1]).flat_map(|it| [it.saturating_sub(1), it, it + 1]);
     for address in edges {
         let wanted = symbol_at(&functions, address).map(|function| (function, address - function.address));
         assert_eq!(symbolizer.find(base + address), wanted);
+        assert_eq!(owned.find(base + address), wanted);
         let of_call = wanted.map(|(function, offset)| (function, offset + 1));
         assert_eq!(symbolizer.find_return(base + address + 1), of_call);
     }

@@ -37,15 +37,15 @@ returns-in-Section-clause-takes g c = λ file is.
     subst (took (style_for asked c.args.path.now) section) (sym are.1)
     (subst (λ style. took style section (answer_in symbols.which file section)) c.form_for-form.ensures (subst shown (sym (ap section_of c.in-Section.is)) (c.show_section.ensures.takes symbols.which file _) are.0))
 
-pub returns-in-All-clause-outcome : goal.returns-in-All-clause-outcome
-returns-in-All-clause-outcome g c = λ file is.
+pub returns-clause-outcome : goal.returns-clause-outcome
+returns-clause-outcome g c = λ file is.
     let symbols = c.args.asked.now.symbols in
     let are = c.in_ok-tables.ensures file is in
     let ended : Option (Result Listed Refusal) → Type 0 = λ answer. EndsAs (Fits c.args.asked.now.kind) (MemoryFor symbols file) answer (outcome_of c.show_tables.result) in
     inr (inr (subst ended (sym are.1) (c.show_tables.ensures.outcome symbols.which file (section_of symbols.selection) are.0)))
 
-pub returns-in-All-clause-takes : goal.returns-in-All-clause-takes
-returns-in-All-clause-takes g c = λ file is.
+pub returns-clause-takes : goal.returns-clause-takes
+returns-clause-takes g c = λ file is.
     let asked = c.args.asked.now in
     let section = section_of asked.symbols.selection in
     let are = c.in_ok-tables.ensures file is in

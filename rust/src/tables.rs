@@ -381,7 +381,7 @@ impl<'a> Tables<'a> {
     /// let tables = Tables::new(&file, Selection::All, SymbolTable::Symtab)?;
     /// let mut text = Vec::new();
     /// tables.stacks_to(&mut text)?;
-    /// assert_eq!(text, b"foo;foo 16\n[unknown];bad 16\n");
+    /// assert_eq!(text, b"foo 16\n[unknown];bad 16\n");
     /// # Ok::<(), Box<dyn std::error::Error>>(())
     /// ```
     pub fn stacks_to<W: Write>(&self, output: W) -> io::Result<()> {

@@ -16,7 +16,7 @@ trap 'exit 130' INT TERM HUP
 # The groups, and more allocations than they make. What is called in the last four doesn't allocate, so of these the number is
 # that of the rows' files and one more.
 groups="listings 90 reports 136 symbols 80 names 116 kept 110 trimmed 72 crates 17 tuples 84 addresses 98 sections 131
-    readings 127 files 31 unfit_images 25 refusals 32 truncated 7 counts 22 without_allocation 1"
+    readings 130 files 31 unfit_images 25 refusals 32 truncated 7 counts 22 without_allocation 1"
 
 mkdir "$scratch/runs"
 echo $groups | xargs -n 2 | while read -r group most; do
@@ -25,7 +25,7 @@ done
 cp stdin "$scratch/runs/stored-1"
 sample=e-elf64-little.bin
 failed=$(sed -n 's/^const FAILED: usize = \([0-9]*\);/\1/p' src/main.rt)
-rt try --data "$sample=data/$sample" --steps 1 --seconds 20 --fail-alloc "$failed" --cases "$scratch/runs" >"$scratch/ended" 2>&1 &
+rt try --data "$sample=data/$sample" --steps 1 --seconds 60 --fail-alloc "$failed" --cases "$scratch/runs" >"$scratch/ended" 2>&1 &
 trying=$!
 wait "$trying" || true
 trying=

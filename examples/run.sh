@@ -1,7 +1,8 @@
 #!/bin/sh
 # examples/run.sh [ARCHIVE]: builds and runs the clients of the library, in C, in C++ and in Rust, and compares what they print with
 # what the program prints. Those in C and C++ also run under valgrind and with the address and undefined behaviour sanitizers.
-# ARCHIVE is the library, such as bindings/archive.sh makes; without it, it is the one of `cargo build --release`.
+# ARCHIVE is the library, such as bindings/archive.sh makes; without it, it is the one of `cargo build --release`. Last come the
+# scripts of examples/fleet.
 set -eu
 cd "$(dirname "$0")/.."
 work=$(mktemp -d)
@@ -88,4 +89,5 @@ printf %s '__attribute__((section(".dep-v0"), used)) static const char list[] = 
 for run in "symbols $work/symbols" "listing $work/symbols" "refused $sample" "sections $work/symbols" "hostile 500 100 $sample"; do
     valgrind --quiet --error-exitcode=9 --leak-check=full "$work"/$run >"$work/given" || fail "valgrind reports something of $run"
 done
+PATH="$(cd "$built" && pwd):$PATH" examples/fleet/test.sh || fail "the scripts for many files"
 echo "examples: all clients agree"

@@ -6,3 +6,7 @@ pub mod RowParts
 pub mod SectionsLeft
 pub mod Steps
 pub mod Numbered
+pub mod Keys
+pub mod Pushed
+pub mod Sized
+pub mod Selecting

@@ -4,7 +4,7 @@ use Rattle.std.proofs.Math.Path.{fun_ext}
 use Rattle.binfarce_bytes.specs.Refusal.{◌>>=◌, Refusal, symbols_section_is_missing, section_is_missing}
 use Rattle.binfarce_bytes.specs.Entries.{Listed}
 use Rattle.binfarce_elf.specs.Elf.{ElfClass, SectionTable, Section, walk, name_of}
-use Rattle.binfarce_elf.specs.ElfSymbols.{TableSections, Taken, NeededSections, TableRows, Selected, sought, is_named, section_data, string_table_kind, whole_rows, table_sections, taken, needed, rows_at, taken_from, elf_selected, listed_of, elf_answer}
+use Rattle.binfarce_elf.specs.ElfSymbols.{TableSections, Taken, NeededSections, TableRows, Selected, sought, is_named, section_data, string_table_kind, whole_rows, table_sections, taken, needed, rows_at, kind_of, selected_from, elf_selected, listed_of, elf_answer}
 use Rattle.binfarce_elf.specs.SymbolTables.{section_type, table_name, strings_name, has_indirect}
 use Rattle.binfarce_elf.specs.declared.symbol_table.SymbolTable.{SymbolTable}
 
@@ -67,7 +67,7 @@ module _ (which : SymbolTable) (class : ElfClass) (table : SectionTable) where
     with_table selected = table_sections which (walk class table) >>= λ sections. Ok (record { taken = selected; table = sections })
 
     abbrev selected_of : Taken → TableRows → Selected
-    selected_of selected found = record { entries = taken_from class table.order selected found; size = selected.size }
+    selected_of selected found = selected_from class table.order (walk class table) (kind_of class table) selected found
 
     abbrev of_needed : NeededSections → Result Selected Refusal
     of_needed sections = rows_at class table.file sections.table >>= λ found. Ok (selected_of sections.taken found)

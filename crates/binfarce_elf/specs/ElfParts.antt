@@ -8,8 +8,8 @@ use Rattle.binfarce_elf.specs.declared.parts.HeaderTable.{HeaderTable}
 use Rattle.binfarce_elf.specs.declared.parts.AnySections.{AnySections}
 use Rattle.binfarce_elf.specs.declared.parts.AnySections.TheVariants.{Narrow, Wide}
 use Rattle.binfarce_elf.specs.Elf.{ElfClass, SectionTable, Section, header_of}
-use Rattle.binfarce_elf.specs.ElfSymbols.{TableSections, NeededSections}
-use Rattle.binfarce_elf.specs.ElfViews.{section_view, taken_view}
+use Rattle.binfarce_elf.specs.ElfSymbols.{TableSections, NeededSections, file_kind}
+use Rattle.binfarce_elf.specs.ElfViews.{section_view, taken_view, kind_view}
 
 -- the section headers alone, as a table that begins at its first byte
 abbrev pub headers_alone : ByteOrder → List ℕ → ℕ → SectionTable
@@ -23,11 +23,11 @@ table_sections_view t = record { symbols = section_view (λ n. n) t.symbols; str
 abbrev pub needed_view : Needed → NeededSections
 needed_view n = record { taken = taken_view n.taken; table = table_sections_view n.table }
 
--- the header of a file states this place of its section headers, and its type
+-- the header of a file states this place of its section headers, its type and its machine, and this place of its program headers
 abbrev pub IsPlaceOf : ElfClass → ByteOrder → List ℕ → HeaderTable → Type 0
 IsPlaceOf class order file p =
     let header = header_of class order file in
-    (p.byte_order ≡ order) × (p.shoff ≡ header.shoff) × (p.shnum ≡ header.shnum) × (p.shstrndx ≡ header.shstrndx) × (p.elf_type ≡ header.elf_type)
+    (p.byte_order ≡ order) × (p.shoff ≡ header.shoff) × (p.shnum ≡ header.shnum) × (p.shstrndx ≡ header.shstrndx) × (kind_view p.kind ≡ file_kind header) × (p.phoff ≡ header.phoff) × (p.phnum ≡ header.phnum)
 
 -- the sections that an iterator has left
 abbrev pub sections_left : AnySections → Walk Section

@@ -1,7 +1,7 @@
--- The function symbols of one section of an ELF file, or of all its sections (System V gABI, "Symbol Table").
-use Rattle.std.specs.Prelude.{ℕ, ◌-◌, ◌*◌, ◌/◌, ◌%◌, Bool, true, false, ◌&&◌, ◌||◌, List, length, map, slice_get, Option, Some, None, is_none, Result, Ok, Err, nat_eq, nat_lt, not, if◌then◌else◌}
+-- The function symbols of one section of an ELF file, or of all its sections, with their addresses and sizes in memory (System V gABI, "Symbol Table").
+use Rattle.std.specs.Prelude.{ℕ, ◌+◌, ◌-◌, ◌*◌, ◌/◌, ◌%◌, ◌^◌, Bool, true, false, ◌&&◌, ◌||◌, List, ◌++◌, length, map, filter, drop, codes, min, slice_get, Option, Some, None, is_none, is_some, Result, Ok, Err, nat_eq, nat_lt, not, if◌then◌else◌}
 use Rattle.std.specs.Option.{option_map, option_and_then, unwrap_or}
-use Rattle.std.specs.List.{range_with_len, filter_map}
+use Rattle.std.specs.List.{range_with_len, filter_map, starts_with}
 use Rattle.std.specs.Str.{bytes_eq}
 use Rattle.binfarce_bytes.specs.declared.ByteOrder.{ByteOrder}
 use Rattle.binfarce_bytes.specs.Text.{text_at}
@@ -9,7 +9,8 @@ use Rattle.binfarce_bytes.specs.Refusal.{◌>>=◌, Refusal, required, symbols_s
 use Rattle.binfarce_bytes.specs.SectionEntries.{SectionEntry, SelectedSymbols, unless}
 use Rattle.binfarce_bytes.specs.Walk.{Walk, first}
 use Rattle.binfarce_bytes.specs.Field.{value_at}
-use Rattle.binfarce_elf.specs.Elf.{ElfClass, SectionTable, Section, SymbolRow, header_of, section_table, walk, names_bytes, name_among}
+use Rattle.binfarce_bytes.specs.Sizes.{least_above}
+use Rattle.binfarce_elf.specs.Elf.{ElfClass, Header, SectionTable, Section, SymbolRow, header_of, section_table, walk, names_bytes, name_among}
 use Rattle.binfarce_elf.specs.SymbolTables.{section_type, table_name, strings_name, has_indirect}
 use Rattle.binfarce_elf.specs.declared.symbol_table.SymbolTable.{SymbolTable}
 use Rattle.binfarce_bytes.specs.Entries.{Listed}
@@ -29,18 +30,26 @@ symbol_at class order rows start = record {
 abbrev pub is_function : Bool → SymbolRow ℕ → Bool
 is_function indirect row = nat_eq (row.info % 16) 2 || (indirect && nat_eq (row.info % 16) 10)
 
--- such a function of an accepted section, with a size and a name offset
+-- such a function of an accepted section, with a name offset
 abbrev pub is_function_of : Bool → (ℕ → Bool) → SymbolRow ℕ → Bool
-is_function_of indirect accepts row = accepts row.section && not (nat_eq row.size 0) && not (nat_eq row.name 0) && is_function indirect row
+is_function_of indirect accepts row = accepts row.section && not (nat_eq row.name 0) && is_function indirect row
 
 -- the name of such a function, where it is valid
 unfoldable pub function_name : List ℕ → Bool → (ℕ → Bool) → SymbolRow ℕ → Option (List ℕ)
 function_name strings indirect accepts row = if is_function_of indirect accepts row then text_at strings row.name else None
 
--- the row's entry, with the section that the row names, where it has one
+-- the row's entry of this address and size, with the section that the row names, where it has a name
+abbrev pub entry_with : List ℕ → Bool → (ℕ → Bool) → SymbolRow ℕ → ℕ → ℕ → Option SectionEntry
+entry_with strings indirect accepts row address size =
+    option_map (λ name. record { section = row.section; entry = record { name = name; address = address; size = size } }) (function_name strings indirect accepts row)
+
+-- of one section: with the row's own value and size, where that isn't 0
 abbrev pub entry_of : List ℕ → Bool → (ℕ → Bool) → SymbolRow ℕ → Option SectionEntry
-entry_of strings indirect accepts row =
-    option_map (λ name. record { section = row.section; entry = record { name = name; address = row.value; size = row.size } }) (function_name strings indirect accepts row)
+entry_of strings indirect accepts row = if nat_eq row.size 0 then None else entry_with strings indirect accepts row row.value row.size
+
+-- row k of a table
+abbrev pub row_of : ElfClass → ByteOrder → List ℕ → ℕ → SymbolRow ℕ
+row_of class order rows k = symbol_at class order rows (k * class.symbol_length)
 
 -- the entries of the rows numbered from k on, in table order
 abbrev pub entries_from : ElfClass → ByteOrder → List ℕ → Bool → (ℕ → Bool) → List ℕ → ℕ → List SectionEntry
@@ -81,6 +90,71 @@ table_sections which sections = do
   strings ← string_table_kind linked
   Ok (record { symbols = symbols; strings = strings })
 
+-- the bytes of a symbol table's strings, and of its rows
+pub record TableRows : Type 0 where
+  pub strings : List ℕ
+  pub rows : List ℕ
+
+-- what the file header says of addresses: the file's type and its machine
+pub record FileKind : Type 0 where
+  pub elf_type : ℕ
+  pub machine : ℕ
+
+abbrev pub file_kind : Header ℕ → FileKind
+file_kind header = record { elf_type = header.elf_type; machine = header.machine }
+
+abbrev pub kind_of : ElfClass → SectionTable → FileKind
+kind_of class table = file_kind (header_of class table.order table.file)
+
+-- bit 0 of a function's value is its instruction set and no part of its address: in files of EM_ARM (40) (ELF for the Arm Architecture, "Symbol values")
+abbrev pub has_modes : FileKind → Bool
+has_modes kind = nat_eq kind.machine 40
+
+-- a row's address in memory, or in an object in its section: its value; a function's without that bit
+abbrev pub address_of : Bool → SymbolRow ℕ → ℕ
+address_of has_modes row = if has_modes && is_function true row then row.value - row.value % 2 else row.value
+
+-- an address at which a function of a section may end
+pub record End : Type 0 where
+  pub section : ℕ
+  pub address : ℕ
+
+-- a section's end, at most the greatest address: `sh_addr` and `sh_size`; in an object (ET_REL, 1), where values count from the section, `sh_size`
+abbrev pub section_end : FileKind → Section → End
+section_end kind s = record { section = s.index; address = min (2 ^ 64 - 1) (if nat_eq kind.elf_type 1 then s.size else s.address + s.size) }
+
+-- a mapping symbol of Arm, AArch64 or RISC-V: local and of no type (STB_LOCAL, STT_NOTYPE), its name begins with $a, $d, $t or $x. It marks code or data
+-- within a function (ELF for the Arm Architecture, "Mapping symbols")
+abbrev pub is_mapping : List ℕ → SymbolRow ℕ → Bool
+is_mapping strings row =
+    let name = drop row.name strings in
+    nat_eq row.info 0 && (starts_with nat_eq name (codes "$a") || starts_with nat_eq name (codes "$d") || starts_with nat_eq name (codes "$t") || starts_with nat_eq name (codes "$x"))
+
+-- the address of a symbol of whatever other kind
+abbrev pub symbol_end : List ℕ → Bool → SymbolRow ℕ → Option End
+symbol_end strings has_modes row = if is_mapping strings row then None else Some (record { section = row.section; address = address_of has_modes row })
+
+abbrev pub row_count : ElfClass → List ℕ → ℕ
+row_count class rows = length rows / class.symbol_length
+
+-- the addresses of the first n symbols of a table
+abbrev pub symbol_ends : ElfClass → ByteOrder → Bool → TableRows → ℕ → List End
+symbol_ends class order has_modes found n = filter_map (λ k. symbol_end found.strings has_modes (row_of class order found.rows k)) (range_with_len 0 n)
+
+-- the ends of the sections, and the addresses of the symbols
+abbrev pub ends_of : ElfClass → ByteOrder → Walk Section → FileKind → TableRows → List End
+ends_of class order sections kind found = map (section_end kind) sections.items ++ symbol_ends class order (has_modes kind) found (row_count class found.rows)
+
+-- those in the section of this index
+abbrev pub addresses_in : List End → ℕ → List ℕ
+addresses_in ends section = map (λ e. e.address) (filter (λ e. nat_eq e.section section) ends)
+
+-- a row's size: the one that it states; where that is 0, up to the least end in its section above its address, and 0 where there is none
+unfoldable pub size_of : List End → Bool → SymbolRow ℕ → ℕ
+size_of ends has_modes row =
+    let address = address_of has_modes row in
+    if nat_eq row.size 0 then unwrap_or (option_map (λ e. e - address) (least_above (addresses_in ends row.section) address)) 0 else row.size
+
 -- the index of one of so many sections: above SHN_UNDEF (0), and below SHN_LORESERVE (0xff00)
 abbrev pub is_of_section : ℕ → ℕ → Bool
 is_of_section count index = nat_lt 0 index && nat_lt index 65280 && nat_lt index count
@@ -110,11 +184,6 @@ needed which sections names count section = do
   table ← table_sections which sections
   Ok (record { taken = selected; table = table })
 
--- the bytes of a symbol table's strings, and of its rows
-pub record TableRows : Type 0 where
-  pub strings : List ℕ
-  pub rows : List ℕ
-
 -- the refusals of these bytes in order; else the bytes
 unfoldable pub rows_at : ElfClass → List ℕ → TableSections → Result TableRows Refusal
 rows_at class file sections = do
@@ -123,21 +192,35 @@ rows_at class file sections = do
   rows ← whole_rows class bytes
   Ok (record { strings = strings; rows = rows })
 
--- the entries that a selection takes of all rows
-abbrev pub taken_from : ElfClass → ByteOrder → Taken → TableRows → List SectionEntry
-taken_from class order selected found = entries_from class order found.strings selected.indirect selected.accepts found.rows 0
+-- the entry that a selection takes of a row: of one section by the row's own value and size; of all sections by its address and this size in memory
+abbrev pub entry_taken : List ℕ → Taken → Bool → SymbolRow ℕ → ℕ → Option SectionEntry
+entry_taken strings taken has_modes row size =
+    if is_some taken.size then entry_of strings taken.indirect taken.accepts row
+    else entry_with strings taken.indirect taken.accepts row (address_of has_modes row) size
+
+-- by the ends of its section
+abbrev pub entry_sized : List ℕ → Taken → Bool → List End → SymbolRow ℕ → Option SectionEntry
+entry_sized strings taken has_modes ends row = entry_taken strings taken has_modes row (size_of ends has_modes row)
+
+-- the entries that a selection takes of all rows, of a file with these sections, type and machine
+abbrev pub taken_from : ElfClass → ByteOrder → Walk Section → FileKind → Taken → TableRows → List SectionEntry
+taken_from class order sections kind taken found =
+    filter_map (λ k. entry_sized found.strings taken (has_modes kind) (ends_of class order sections kind found) (row_of class order found.rows k)) (range_with_len 0 (row_count class found.rows))
 
 -- the entries that a selection takes, and the size of the one section
 pub record Selected : Type 0 where
   pub entries : List SectionEntry
   pub size : Option ℕ
 
+abbrev pub selected_from : ElfClass → ByteOrder → Walk Section → FileKind → Taken → TableRows → Selected
+selected_from class order sections kind taken found = record { entries = taken_from class order sections kind taken found; size = taken.size }
+
 -- the answer for a selection by this symbol table: the refusals in order, else the entries
 unfoldable pub elf_selected : SymbolTable → ElfClass → SectionTable → Option (List ℕ) → Result Selected Refusal
 elf_selected which class table section = do
   sections ← needed which (walk class table) (names_bytes class table) table.shnum section
   found ← rows_at class table.file sections.table
-  Ok (record { entries = taken_from class table.order sections.taken found; size = sections.taken.size })
+  Ok (selected_from class table.order (walk class table) (kind_of class table) sections.taken found)
 
 -- the entries of a section, and its size
 abbrev pub listed_of : Selected → Listed

@@ -4,4 +4,5 @@ pub mod SymbolTables
 pub mod ElfSymbols
 pub mod ElfViews
 pub mod ElfParts
+pub mod ElfSegments
 pub mod machine

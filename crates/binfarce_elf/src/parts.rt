@@ -1,35 +1,40 @@
 //! The section header table of a file of either class, and the sections found in it alone.
 
-ghost use Rattle.std.specs.Prelude.{◌≡◌, ◌+◌, ◌<◌, ◌≤◌, length, MatchResult};
+ghost use Rattle.std.specs.Prelude.{◌≡◌, ◌+◌, ◌<◌, ◌≤◌, length, IfOk, MatchResult};
 ghost use Rattle.std.specs.Option.{option_map};
 ghost use Rattle.binfarce_bytes.specs.Refusal.{Gives, refusal_of, unexpected_eof};
 ghost use Rattle.binfarce_bytes.specs.Selection.{section_of};
 ghost use Rattle.binfarce_elf.specs.Classes.{class_of};
 ghost use Rattle.binfarce_elf.specs.Elf.{walk, name_among, names_bytes, section_at, section_table};
 ghost use Rattle.binfarce_elf.specs.ElfParts.{IsPlaceOf, headers_alone, needed_view, sections_left};
-ghost use Rattle.binfarce_elf.specs.ElfSymbols.{is_named, name_of_index, needed};
-ghost use Rattle.binfarce_elf.specs.ElfViews.{section_view};
+ghost use Rattle.binfarce_elf.specs.ElfSymbols.{TableRows, has_modes, is_named, name_of_index, needed, taken_from};
+ghost use Rattle.binfarce_elf.specs.ElfViews.{kind_view, section_view, sized_from, taken_view};
 ghost use Rattle.binfarce_elf.specs.machine.RawElf.{table_view};
 
 use crate::class::{Class, Half, Width, Word};
+use crate::ends::{FileKind, keys_of, kind_of, sizes_of};
 use crate::header::parse_header;
 use crate::sections::{
     self, Section, Sections, Table, is_named, name_at, names_bytes, section_table, sections_of,
 };
 use crate::symbol_table::SymbolTable;
-use crate::symbols::{Needed, needed_of};
+use crate::symbols::{Needed, Rows, Taken, needed_of};
 use binfarce_bytes::functions::Selection;
 use binfarce_bytes::parser::UnexpectedEof;
 use binfarce_bytes::{ByteOrder, ParseError};
+use std::alloc::{AllocError, Global};
 
-/// The file header's fields for the section headers and the file's type, and the file's byte order.
+/// The file header's fields for the section headers, the file's type and machine, and its byte order.
 #[derive(Clone, Copy)]
 pub struct HeaderTable {
     pub byte_order: ByteOrder,
     pub shoff: u64,
     pub shnum: Half,
     pub shstrndx: Half,
-    pub elf_type: Half,
+    pub kind: FileKind,
+    /// Where the program headers begin, and their number.
+    pub phoff: u64,
+    pub phnum: Half,
 }
 
 /// These fields of the header of a file of this class. `UnexpectedEof` where the header is truncated.
@@ -56,7 +61,9 @@ fn place_of<C: Class>(file: &[u8], byte_order: ByteOrder) -> Result<HeaderTable,
         shoff: header.shoff.widened(),
         shnum: header.shnum,
         shstrndx: header.shstrndx,
-        elf_type: header.elf_type,
+        kind: kind_of(&header),
+        phoff: header.phoff.widened(),
+        phnum: header.phnum,
     })
 }
 
@@ -101,6 +108,42 @@ pub fn needed_in(
         Width::Bits32 => needed_of::<u32>(table, names, which, selection),
         Width::Bits64 => needed_of::<u64>(table, names, which, selection),
     }
+}
+
+/// The sizes in memory of all rows of a symbol table, for a selection of all sections: for one section none. The rows'
+/// names are in these strings. The only error is a failed allocation.
+pub fn sizes_in(
+    alloc: Global,
+    headers: &[u8],
+    width: Width,
+    place: HeaderTable,
+    taken: Taken,
+    rows: &[u8],
+    strings: &[u8],
+) -> Result<Vec<u64>, AllocError>
+    ensures { let found : TableRows = record { strings = strings.now; rows = rows.now } in IfOk result
+        (λ v. sized_from (class_of width) place.byte_order (taken_view taken) (has_modes (kind_view place.kind)) found
+        v.items 0 ≡ taken_from (class_of width) place.byte_order
+        (walk (class_of width) (headers_alone place.byte_order headers.now place.shnum)) (kind_view place.kind)
+        (taken_view taken) found) }
+{
+    if taken.size.is_some() {
+        return Ok(Vec::new(alloc));
+    }
+    let table = headers_alone(headers, place.byte_order, place.shnum);
+    let found = Rows { strings, rows };
+    let keys = match width {
+        Width::Bits32 => keys_of::<u32>(alloc, table, place.kind, found)?,
+        Width::Bits64 => keys_of::<u64>(alloc, table, place.kind, found)?,
+    };
+    sizes_of(
+        alloc,
+        &keys,
+        width,
+        place.byte_order,
+        place.kind.has_modes(),
+        rows,
+    )
 }
 
 /// An iterator over the sections of a file of either class, in file order, with values of the wider class's types.

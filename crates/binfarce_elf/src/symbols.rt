@@ -1,7 +1,11 @@
-//! The function symbols of one section, or of all sections.
+//! The function symbols of one section, or of all sections with their addresses and sizes in memory.
 
-ghost use Rattle.std.specs.Prelude.{◌≡◌, [], ◌∷◌, map, Some, None, MatchOption, MatchResult, nat_eq};
+ghost use Rattle.std.specs.Prelude.{◌≡◌, List, [], ◌∷◌, map, Some, None, IfOk, MatchOption, MatchResult, nat_eq, slice_index_or};
+ghost use Rattle.std.specs.Result.{IsOk};
+ghost use Rattle.binfarce_bytes.specs.Entries.{Answers};
 ghost use Rattle.std.specs.Option.{option_map};
+ghost use Rattle.std.specs.List.{range_with_len, filter_map};
+ghost use Rattle.std.specs.List.Sorted.{IsNonDecreasingBy};
 ghost use Rattle.binfarce_bytes.specs.Refusal.{Gives, refusal_of, unexpected_eof, symbols_section_is_missing, section_is_missing};
 ghost use Rattle.binfarce_bytes.specs.Walk.{first};
 ghost use Rattle.binfarce_bytes.specs.Selection.{section_of};
@@ -10,17 +14,19 @@ ghost use Rattle.binfarce_bytes.specs.Found.{entry_at};
 ghost use Rattle.binfarce_elf.specs.Classes.{class_of};
 ghost use Rattle.binfarce_elf.specs.Elf.{walk, name_among};
 ghost use Rattle.binfarce_elf.specs.ElfParts.{needed_view, table_sections_view};
-ghost use Rattle.binfarce_elf.specs.ElfSymbols.{is_named, sought, string_table_kind, whole_rows, table_sections, taken, needed, rows_at, taken_from, elf_selected, entry_of, is_function, function_name};
+ghost use Rattle.binfarce_elf.specs.ElfSymbols.{is_named, sought, string_table_kind, whole_rows, table_sections, taken, needed, rows_at, elf_selected, End, entry_sized, entry_taken, entry_with, is_function, function_name, kind_of, row_count, row_of};
 ghost use Rattle.binfarce_elf.specs.SymbolTables.{section_type, table_name, strings_name};
-ghost use Rattle.binfarce_elf.specs.ElfViews.{section_view, accepts, taken_view, functions_left, selected_view};
-ghost use Rattle.binfarce_elf.specs.machine.RawElf.{symbol_view, table_view, rows_view};
+ghost use Rattle.binfarce_elf.specs.ElfViews.{section_view, accepts, taken_view, kind_view, sized_from, functions_left, selected_view, HoldsAllFunctions};
+ghost use Rattle.binfarce_elf.specs.machine.RawElf.{symbol_view, table_view, rows_view, AreKeysOf};
 
 use crate::class::{Class, Half, SymbolRow, Width, Word, row_at};
+use crate::ends::{FileKind, address_of, keys_of, row_size};
 use crate::sections::{Section, Table, first_section, names_bytes, section_data, section_named};
 use crate::symbol_table::{STRING_TABLE, SymbolTable};
 use binfarce_bytes::functions::{FunctionSymbol, SectionFunction, Selection, found_with};
 use binfarce_bytes::parser::{UnexpectedEof, parse_null_string};
 use binfarce_bytes::{ByteOrder, ParseError};
+use std::alloc::{AllocError, Global};
 
 // The index of no section, and the first of the reserved indices.
 const SHN_UNDEF: Half = 0;
@@ -56,38 +62,107 @@ pub struct Needed {
 
 // The strings and the rows of a symbol table.
 #[derive(Clone, Copy)]
-struct Rows<'a> {
-    strings: &'a [u8],
-    rows: &'a [u8],
+pub(crate) struct Rows<'a> {
+    pub(crate) strings: &'a [u8],
+    pub(crate) rows: &'a [u8],
 }
 
-/// The function symbols of a selection, by this symbol table.
+/// The function symbols of the section with this name, by this symbol table. Nothing is allocated.
 #[tactic(auto, unfolding(crate::specs::ElfSymbols::elf_selected))]
-pub fn selected_functions<'a, C: Class>(
+pub fn section_functions<'a, C: Class>(
     table: Table<'a>,
     which: SymbolTable,
-    selection: Selection<'_>,
+    name: &str,
 ) -> Result<Functions<'a>, ParseError>
     ensures { Gives refusal_of selected_view
-        (elf_selected which C.table (table_view table.entry) (section_of selection.entry)) result }
+        (elf_selected which C.table (table_view table.entry) (Some name.now)) result }
 {
-    let width = C::width();
+    let selection = Selection::Section(name);
     let needed = needed_of::<C>(table, names_bytes::<C>(table), which, selection)?;
-    let Rows { strings, rows } = rows_at(table.data, width, needed.table)?;
-    Ok(functions_in(rows, strings, width, table.byte_order, needed.taken))
+    let Rows { strings, rows } = rows_at(table.data, C::width(), needed.table)?;
+    Ok(functions_in(
+        rows,
+        strings,
+        C::width(),
+        table.byte_order,
+        needed.taken,
+        false,
+        &[],
+    ))
+}
+
+/// The function symbols of all sections of a file of this kind, by this symbol table: a list in table order. Every
+/// refusal comes before the first allocation.
+#[tactic(auto, unfolding(crate::specs::ElfSymbols::elf_selected))]
+pub fn all_functions<'a, C: Class>(
+    alloc: Global,
+    table: Table<'a>,
+    kind: FileKind,
+    which: SymbolTable,
+) -> Result<Vec<SectionFunction<'a>>, ParseError>
+    requires { kind_view kind ≡ kind_of C.table (table_view table) }
+    ensures { Answers HoldsAllFunctions IsOk (elf_selected which C.table (table_view table.entry) None) result }
+{
+    let needed = needed_of::<C>(table, names_bytes::<C>(table), which, Selection::All)?;
+    let found = rows_at(table.data, C::width(), needed.table)?;
+    let has_modes = kind.has_modes();
+    let keys = keys_of::<C>(alloc, table, kind, found)?;
+    let width = C::width();
+    let functions = list_in(
+        alloc,
+        &keys,
+        width,
+        table.byte_order,
+        has_modes,
+        needed.taken,
+        found,
+    )?;
+    Ok(functions)
+}
+
+// The function symbols that a selection takes of these rows, by the keys of the ends of their sections.
+fn list_in<'a>(
+    alloc: Global,
+    keys: &[u128],
+    width: Width,
+    byte_order: ByteOrder,
+    has_modes: bool,
+    taken: Taken,
+    found: Rows<'a>,
+) -> Result<Vec<SectionFunction<'a>>, AllocError>
+    requires { IsNonDecreasingBy (λ k. k) keys.now }
+    ensures { (ends : List End) → AreKeysOf ends keys.now → let rows = found.entry.rows.now in IfOk result
+        (λ v. map section_function_view v.items ≡ filter_map
+        (λ k. entry_sized found.entry.strings.now (taken_view taken) has_modes ends
+        (row_of (class_of width) byte_order rows k)) (range_with_len 0 (row_count (class_of width) rows))) }
+{
+    let length = width.symbol_length();
+    let mut functions = Vec::new(alloc);
+    for k in 0..found.rows.len() / length {
+        let row = row_at(width, found.rows, k * length, byte_order).unwrap();
+        let size = row_size(keys, has_modes, row);
+        match function_of(found.strings, taken, has_modes, row, size) {
+            None => {}
+            Some(function) => functions.push(function)?,
+        }
+    }
+    Ok(functions)
 }
 
 /// The function symbols that a selection takes of the rows of a symbol table of this class, whose names are in these
-/// strings.
+/// strings. For all sections, `sizes` has the sizes of all rows in memory, and `has_modes` says whether bit 0 of a
+/// function's value is its instruction set.
 pub fn functions_in<'a>(
     rows: &'a [u8],
     strings: &'a [u8],
     width: Width,
     byte_order: ByteOrder,
     taken: Taken,
+    has_modes: bool,
+    sizes: &'a [u64],
 ) -> Functions<'a>
-    ensures entries { functions_left result ≡ taken_from (class_of width) byte_order (taken_view taken)
-        (record { strings = strings.entry.now; rows = rows.entry.now }) }
+    ensures entries { functions_left result ≡ sized_from (class_of width) byte_order (taken_view taken) has_modes
+        (record { strings = strings.entry.now; rows = rows.entry.now }) sizes.entry.now 0 }
     ensures size { (selected_view result).size ≡ taken.size }
 {
     Functions {
@@ -96,6 +171,8 @@ pub fn functions_in<'a>(
         width,
         byte_order,
         taken,
+        has_modes,
+        sizes,
         next: 0,
     }
 }
@@ -290,6 +367,8 @@ pub struct Functions<'a> {
     width: Width,
     byte_order: ByteOrder,
     taken: Taken,
+    has_modes: bool,
+    sizes: &'a [u64],
     next: usize,
 }
 
@@ -342,7 +421,8 @@ impl<'a> Functions<'a> {
         let length = width.symbol_length();
         for k in self.next..self.rows.len() / length {
             let row = row_at(width, self.rows, k * length, self.byte_order).unwrap();
-            match function_of(self.strings, self.taken, row) {
+            let size = size_at(self.sizes, k);
+            match function_of(self.strings, self.taken, self.has_modes, row, size) {
                 None => continue,
                 Some(function) => return Some((function, k + 1)),
             }
@@ -370,19 +450,52 @@ impl<'a> Iterator for Functions<'a> {
     }
 }
 
-// The function of a row with its section, where it is taken.
+// The size of row k among these; 0 where they have none.
 #[inline(always)]
-fn function_of(strings: &[u8], taken: Taken, row: SymbolRow) -> Option<SectionFunction<'_>>
+fn size_at(sizes: &[u64], k: usize) -> u64
+    ensures { result ≡ slice_index_or sizes.now k 0 }
+{
+    if k < sizes.len() { sizes[k] } else { 0 }
+}
+
+// The function of a row of this size in memory with its section, where it is taken.
+#[inline(always)]
+fn function_of(
+    strings: &[u8],
+    taken: Taken,
+    has_modes: bool,
+    row: SymbolRow,
+    size: u64,
+) -> Option<SectionFunction<'_>>
     ensures { option_map section_function_view result
-        ≡ entry_of strings.entry.now taken.indirect (accepts taken) (symbol_view row) }
+        ≡ entry_taken strings.entry.now (taken_view taken) has_modes (symbol_view row) size }
+{
+    match taken.size {
+        None => function_with(strings, taken, row, address_of(has_modes, row), size),
+        Some(_) if row.size == 0 => None,
+        Some(_) => function_with(strings, taken, row, row.value, row.size),
+    }
+}
+
+// The function of a row with its section, of this address and size.
+#[inline(always)]
+fn function_with(
+    strings: &[u8],
+    taken: Taken,
+    row: SymbolRow,
+    address: u64,
+    size: u64,
+) -> Option<SectionFunction<'_>>
+    ensures { option_map section_function_view result
+        ≡ entry_with strings.entry.now taken.indirect (accepts taken) (symbol_view row) address size }
 {
     let name = function_name(strings, taken, row)?;
     Some(SectionFunction {
         section: u32::from(row.section),
         function: FunctionSymbol {
             name,
-            address: row.value,
-            size: row.size,
+            address,
+            size,
         },
     })
 }
@@ -394,11 +507,7 @@ fn function_name(strings: &[u8], taken: Taken, row: SymbolRow) -> Option<&str>
     ensures { option_map (λ t. t.now) result
         ≡ function_name strings.entry.now taken.indirect (accepts taken) (symbol_view row) }
 {
-    if accepts(taken, row.section)
-        && row.size != 0
-        && row.name != 0
-        && is_function(taken.indirect, row)
-    {
+    if accepts(taken, row.section) && row.name != 0 && is_function(taken.indirect, row) {
         parse_null_string(strings, row.name as usize)
     } else {
         None
@@ -415,7 +524,7 @@ fn accepts(taken: Taken, index: Half) -> bool
 
 // Whether a row's type is that of a function; of an indirect one where these count.
 #[inline]
-fn is_function(indirect: bool, row: SymbolRow) -> bool
+pub(crate) fn is_function(indirect: bool, row: SymbolRow) -> bool
     ensures { result ≡ is_function indirect (symbol_view row) }
 {
     const STT_FUNC: u8 = 2;

@@ -1,0 +1,10 @@
+use Rattle.std.proofs.Common.{◌≡◌, List, map}
+use Rattle.std.specs.List.{range_with_len}
+use Rattle.binfarce_elf.specs.Classes.{class_of}
+use Rattle.binfarce_elf.specs.ElfSymbols.{End, row_of, size_of}
+use Rattle.binfarce_elf.specs.machine.RawElf.{AreKeysOf}
+use Rattle.binfarce_elf.proofs.ends.sizes_of.Given as goal
+
+-- those of the rows so far
+abbrev pub invariant-loop-k : goal.invariant-loop-k
+invariant-loop-k l = (ends : List End) → AreKeysOf ends l.keys → l.sizes.items ≡ map (λ k. size_of ends l.has_modes (row_of (class_of l.width) l.byte_order l.rows k)) (range_with_len 0 l.k)

@@ -1,10 +1,13 @@
--- The rows that are kept of each selected section, as one loop goes over all rows.
-use Rattle.std.proofs.Common.{◌≡◌, ◌≢◌, ◌⊎◌, ℕ, zero, suc, ◌+◌, ◌-◌, ◌<◌, ◌≤◌, Bool, true, false, List, [], ◌∷◌, ◌++◌, length, get_or, set, map, All, Bor, Some, None, inl, inr, refl, sym, ap, subst, ◌∙◌, arith, nat_eq, length-set, get_or-set_other}
+-- The rows that end sizes in each selected section, as one loop goes over all rows.
+use Rattle.std.specs.Borrow.{Bor}
+use Rattle.std.proofs.Common.{true, is_some, ◌≡◌, ◌≢◌, ◌⊎◌, ℕ, zero, suc, ◌+◌, ◌<◌, ◌≤◌, List, [], ◌∷◌, ◌++◌, length, get_or, set, map, All, Option, Some, None, inl, inr, refl, sym, ap, subst, ◌∙◌, arith, nat_eq, length-set, get_or-set_other}
+use Rattle.std.specs.Prelude.{if◌then◌else◌}
+use Rattle.std.specs.Option.{option_map}
 use Rattle.std.specs.List.{range_with_len, flat_map}
 use Rattle.std.proofs.lemmas.Bool.{cases_eq, cases_lt, ne_eqb, eq-eqb}
 use Rattle.std.proofs.lemmas.Grind.{get_or-set_at, flat_map-append}
 use Rattle.std.proofs.lemmas.List.{append-nil, length-map, get_or-map, get_or_past, map-append}
-use Rattle.std.proofs.lemmas.List.Elements.{All-nil, All-cons}
+use Rattle.std.proofs.lemmas.List.Elements.{All-nil, All-cons, All-append}
 use Rattle.std.proofs.lemmas.Slice.Zip.{AllZip-long}
 use Rattle.binfarce_bytes.specs.declared.sizes.RowAddress as code
 use Rattle.binfarce_bytes.specs.Entries.{Entry}
@@ -12,11 +15,11 @@ use Rattle.binfarce_bytes.specs.SectionEntries.{in_section}
 use Rattle.binfarce_bytes.specs.Sizes.{RowAddress, addresses_of}
 use Rattle.binfarce_bytes.specs.RowViews.{row_view, rows_view}
 use Rattle.binfarce_bytes.proofs.Rows.{range_more}
-use Rattle.binfarce_pe.specs.declared.functions.Kept.{Kept}
+use Rattle.binfarce_pe.specs.declared.functions.Held.{Held}
 use Rattle.binfarce_pe.specs.PeSelection.{Rules, moved, section_entries, entries_by}
-use Rattle.binfarce_pe.specs.PeSymbols.{SymbolTable, SymbolRow, record_count, symbol_of, name_of, function_name, kept_rows, entries_of}
-use Rattle.binfarce_pe.specs.machine.RawPe.{numbered, if_here, rows_at, names_at, IsNameOf, HoldsKept, HoldsRows, HoldsSections, AllOrNone, IsAdded, SomeKept}
-use Rattle.binfarce_pe.proofs.Rows.{after, HoldsUpTo, holds_none, goes_on, one_more_held, some_kept, holds_all, held_long, no_entries, some_entry}
+use Rattle.binfarce_pe.specs.PeSymbols.{SymbolTable, SectionRules, record_count, symbol_of, row_numbers, function_name, ending_rows, entries_of}
+use Rattle.binfarce_pe.specs.machine.RawPe.{numbered, names_view, rows_at, names_at, IsNameOf, HoldsThese, HoldsRows, HoldsSections, ending_name}
+use Rattle.binfarce_pe.proofs.Rows.{AreBefore, HoldsOf, IsLeftOut, holds_none, goes_on, one_more_held, holds_all, no_entries, some_entry}
 
 numbered_below : (n : ℕ) (addresses : List ℕ) (m : ℕ) → n + length addresses ≤ m → All (λ r. r.row < m) (numbered n addresses)
 numbered_below n [] m le = All-nil (λ r. r.row < m)
@@ -26,151 +29,114 @@ seen_below : (rows : List code.RowAddress) (m : ℕ) → All (λ r. r.row < m) (
 seen_below [] m all = All-nil (λ r. r.index < m)
 seen_below (r ∷ rows) m all = All-cons (λ r. r.index < m) r rows (all 0 (row_view r) (omega arith)) (seen_below rows m (λ k d lt. all (suc k) d (omega arith)))
 
--- each kept row has the number of a name
-pub held_named : (table : SymbolTable) (accepts : SymbolRow ℕ → Bool) (k : Kept) → HoldsRows table accepts k → All (λ r. r.index < length k.names.items) k.rows.items
-held_named table accepts k h =
-    let kept = kept_rows table accepts in
-    let names = map (λ t. t.now) k.names.items in
-    let long : 0 + length (addresses_of kept) ≤ length k.names.items = omega (arith, AllZip-long (IsNameOf table) kept names h.names_are, length-map kept (λ r. r.address), length-map k.names.items (λ t. t.now)) in
-    seen_below k.rows.items (length k.names.items)
-    (subst (λ (rs : List RowAddress). All (λ r. r.row < length k.names.items) rs) (sym h.rows_are) (numbered_below 0 (addresses_of kept) (length k.names.items) long))
-
--- a row that isn't accepted gives no function; one that is gives its name
-not_accepted : (table : SymbolTable) (accepts : SymbolRow ℕ → Bool) (k : ℕ) (row : SymbolRow ℕ) → accepts row ≡ false → None ≡ function_name table accepts k row
-unfolding function_name
-not_accepted table accepts k row is = rw is refl
-
-accepted : (table : SymbolTable) (accepts : SymbolRow ℕ → Bool) (k : ℕ) (row : SymbolRow ℕ) → accepts row ≡ true → name_of table k row ≡ function_name table accepts k row
-unfolding function_name
-accepted table accepts k row is = rw is refl
-
--- nor does one without a name
-nameless : (table : SymbolTable) (accepts : SymbolRow ℕ → Bool) (k : ℕ) (row : SymbolRow ℕ) → None ≡ name_of table k row → None ≡ function_name table accepts k row
-nameless table accepts k row none = by_test (accepts row) refl
-  where
-    by_test : (b : Bool) → accepts row ≡ b → None ≡ function_name table accepts k row
-    by_test true is = none ∙ accepted table accepts k row is
-    by_test false is = not_accepted table accepts k row is
+-- each row that is held has the number of a name
+pub held_named : (table : SymbolTable) (rules : SectionRules) (h : Held) → HoldsRows table rules h → All (λ r. r.index < length h.names.items) h.rows.items
+held_named table rules h is =
+    let these = ending_rows table rules in
+    let names = names_view h.names.items in
+    let long : 0 + length (addresses_of these) ≤ length h.names.items = omega (arith, AllZip-long (IsNameOf table rules.accepts) these names is.names_are, length-map these (λ r. r.address), length-map h.names.items (option_map (λ t. t.now))) in
+    seen_below h.rows.items (length h.names.items)
+    (subst (λ (rs : List RowAddress). All (λ r. r.row < length h.names.items) rs) (sym is.rows_are) (numbered_below 0 (addresses_of these) (length h.names.items) long))
 
 -- what is held at a position is what its place holds
-pub rows_are : (kept : List Kept) (i : ℕ) (d : Kept) → i < length kept → rows_at kept i ≡ rows_view (get_or kept i d).rows.items
-rows_are kept i d lt = get_or-map (λ k. rows_view k.rows.items) kept i d [] lt
+pub rows_are : (held : List Held) (i : ℕ) (d : Held) → i < length held → rows_at held i ≡ rows_view (get_or held i d).rows.items
+rows_are held i d lt = get_or-map (λ h. rows_view h.rows.items) held i d [] lt
 
-pub names_are : (kept : List Kept) (i : ℕ) (d : Kept) → i < length kept → names_at kept i ≡ map (λ t. t.now) (get_or kept i d).names.items
-names_are kept i d lt = get_or-map (λ k. map (λ t. t.now) k.names.items) kept i d [] lt
+pub names_are : (held : List Held) (i : ℕ) (d : Held) → i < length held → names_at held i ≡ names_view (get_or held i d).names.items
+names_are held i d lt = get_or-map (λ h. names_view h.names.items) held i d [] lt
 
--- and past the end nothing
-no_rows_past : (kept : List Kept) (i : ℕ) → length kept ≤ i → rows_at kept i ≡ []
-no_rows_past kept i le = get_or_past (map (λ k. rows_view k.rows.items) kept) i [] (omega (arith, length-map kept (λ k. rows_view k.rows.items)))
+-- of each selected section those of these rows that end sizes are held
+pub record HoldsEach (table : SymbolTable) (rules : Rules) (before : List ℕ) (held : List Held) : Type 0 where
+  pub long : length held ≡ rules.count
+  pub each : (i : ℕ) → i < rules.count → HoldsOf table (rules.section (rules.first + i)) before (rows_at held i) (names_at held i)
 
-no_names_past : (kept : List Kept) (i : ℕ) → length kept ≤ i → names_at kept i ≡ []
-no_names_past kept i le = get_or_past (map (λ k. map (λ t. t.now) k.names.items) kept) i [] (omega (arith, length-map kept (λ k. map (λ t. t.now) k.names.items)))
-
--- of each selected section some rows are held, and those from row k on are left; where there is a place for any, one is kept
-pub record HoldsEachUpTo (table : SymbolTable) (rules : Rules) (k : ℕ) (kept : List Kept) : Type 0 where
-  pub long : AllOrNone kept rules.count
-  pub some : 0 < length kept → SomeKept table rules
-  pub each : (i : ℕ) → i < rules.count → HoldsUpTo table (rules.accepts (rules.first + i)) k (rows_at kept i) (names_at kept i)
-
-pub each_holds_none : (table : SymbolTable) (rules : Rules) (kept : List Kept) → kept ≡ [] → HoldsEachUpTo table rules 0 kept
-each_holds_none table rules kept none = record {
-  long = inl none;
-  some = λ lt. absurd (omega (arith, ap length none));
-  each = λ i lt. rw (no_rows_past kept i (omega (arith, ap length none)), no_names_past kept i (omega (arith, ap length none))) (holds_none table (rules.accepts (rules.first + i)));
+pub each_holds_none : (table : SymbolTable) (rules : Rules) (held : List Held) (count : ℕ) → count ≡ rules.count → length held ≡ count → All (λ h. (h.rows.items ≡ []) × (h.names.items ≡ [])) held → HoldsEach table rules [] held
+each_holds_none table rules [] count is long all = record { long = long ∙ is; each = λ i lt. absurd (omega (arith, is, long)) }
+each_holds_none table rules (h ∷ others) count is long all = record {
+  long = long ∙ is;
+  each = λ i lt.
+      let below : i < length (h ∷ others) = omega (arith, is, long) in
+      let empty = all i h below in
+      let rows : rows_at (h ∷ others) i ≡ [] = rows_are (h ∷ others) i h below ∙ ap rows_view empty.0 in
+      let names : names_at (h ∷ others) i ≡ [] = names_are (h ∷ others) i h below ∙ ap names_view empty.1 in
+      rw (rows, names) (holds_none table (rules.section (rules.first + i)));
 }
 
-module _ (table : SymbolTable) (rules : Rules) (k next : ℕ) (row : SymbolRow ℕ) (kept : List Kept) (within : k < record_count table) (follows : next ≡ after table k) (is : row ≡ symbol_of table k) (h : HoldsEachUpTo table rules k kept) where
-  -- the row is kept of no section
-  each_goes_on : ((i : ℕ) → i < rules.count → None ≡ function_name table (rules.accepts (rules.first + i)) k row) → HoldsEachUpTo table rules next kept
-  each_goes_on none = record {
-    long = h.long;
-    some = h.some;
-    each = λ i lt. goes_on table (rules.accepts (rules.first + i)) k next row (rows_at kept i) (names_at kept i) within follows is (none i lt) (h.each i lt);
-  }
-
-  -- it is no function of these sections
-  pub each_passes_over : ((i : ℕ) → i < rules.count → rules.accepts (rules.first + i) row ≡ false) → HoldsEachUpTo table rules next kept
-  each_passes_over none = each_goes_on (λ i lt. not_accepted table (rules.accepts (rules.first + i)) k row (none i lt))
-
-  -- it has no name
-  pub each_leaves_out : None ≡ name_of table k row → HoldsEachUpTo table rules next kept
-  each_leaves_out none = each_goes_on (λ i lt. nameless table (rules.accepts (rules.first + i)) k row none)
-
-  -- it is a function of the section at this position alone, and has this name
-  module _ (at : ℕ) (name : List ℕ) (lt : at < rules.count) (here : (i : ℕ) → rules.accepts (rules.first + i) row ≡ nat_eq i at) (named : Some name ≡ name_of table k row) where
-    function : (i : ℕ) → i ≡ at → Some name ≡ function_name table (rules.accepts (rules.first + i)) k row
-    function i same = named ∙ accepted table (rules.accepts (rules.first + i)) k row (here i ∙ eq-eqb i at same)
-
-    pub each_has_some : SomeKept table rules
-    each_has_some = (at, lt, some_kept table (rules.accepts (rules.first + at)) k row name (rows_at kept at) (names_at kept at) within is (function at refl) (h.each at lt))
-
-    -- and is kept there
-    pub each_keeps : (new : List Kept) (address : ℕ) → address ≡ row.value → IsAdded kept new rules.count at address name → HoldsEachUpTo table rules next new
-    each_keeps new address value added = record {
-      long = inr added.long;
-      some = λ _. each_has_some;
-      each = λ i below. elim (cases_eq i at) [
-        | inl same ↦ rw (added.rows i below, added.names i below, eq-eqb i at same, value)
-            (one_more_held table (rules.accepts (rules.first + i)) k next row name (rows_at kept i) (names_at kept i) (length (names_at kept i)) within follows is (function i same) refl (h.each i below))
-        | inr other ↦ rw (added.rows i below, added.names i below, ne_eqb i at other, append-nil (rows_at kept i), append-nil (names_at kept i))
-            (goes_on table (rules.accepts (rules.first + i)) k next row (rows_at kept i) (names_at kept i) within follows is
-            (not_accepted table (rules.accepts (rules.first + i)) k row (here i ∙ ne_eqb i at other)) (h.each i below))
-      ];
-    }
-
--- past the last record all are held
-pub each_holds_all : (table : SymbolTable) (rules : Rules) (k : ℕ) (kept : List Kept) → record_count table ≤ k → HoldsEachUpTo table rules k kept → HoldsSections table rules 0 kept
-each_holds_all table rules k kept past h = record {
-  some = h.some;
-  each = λ i low lt. holds_all table (rules.accepts (rules.first + i)) k (rows_at kept i) (names_at kept i) past (h.each i lt);
+-- a row that ends no size in these sections adds nothing
+pub each_goes_on : (table : SymbolTable) (rules : Rules) (before : List ℕ) (k : ℕ) (held : List Held) → ((i : ℕ) → i < rules.count → ending_name table (rules.section (rules.first + i)) k (symbol_of table k) ≡ None) → HoldsEach table rules before held → HoldsEach table rules (before ++ k ∷ []) held
+each_goes_on table rules before k held none h = record {
+  long = h.long;
+  each = λ i lt. goes_on table (rules.section (rules.first + i)) before k (rows_at held i) (names_at held i) (none i lt) (h.each i lt);
 }
+
+-- one that ends sizes in the section at this position is held there, with its name where it is kept
+module _ (table : SymbolTable) (rules : Rules) (before : List ℕ) (k at : ℕ) (held : List Held) (old new : Held) (address : ℕ) (name : Option (Bor (List ℕ))) (lt : at < rules.count) (is : old ≡ get_or held at old) (value : address ≡ (symbol_of table k).value)
+    (added : new.rows.items ≡ old.rows.items ++ record { address = address; index = length old.names.items } ∷ []) (named : new.names.items ≡ old.names.items ++ name ∷ []) where
+  row_here : rows_view old.rows.items ≡ rows_at held at → length old.names.items ≡ length (names_at held at) → rows_view new.rows.items ≡ rows_at held at ++ record { address = (symbol_of table k).value; row = length (names_at held at) } ∷ []
+  row_here rows count =
+      ap rows_view added ∙ map-append row_view old.rows.items (record { address = address; index = length old.names.items } ∷ [])
+      ∙ rw (rows, count, value) refl
+
+  name_here : names_view old.names.items ≡ names_at held at → names_view new.names.items ≡ names_at held at ++ option_map (λ t. t.now) name ∷ []
+  name_here names =
+      ap names_view named ∙ map-append (option_map (λ t. t.now)) old.names.items (name ∷ []) ∙ rw names refl
+
+  pub each_adds : ((i : ℕ) → ending_name table (rules.section (rules.first + i)) k (symbol_of table k) ≡ (if nat_eq i at then Some (option_map (λ t. t.now) name) else None)) → HoldsEach table rules before held → HoldsEach table rules (before ++ k ∷ []) (set held at new)
+  each_adds here h =
+      let below : at < length held = omega (arith, lt, h.long) in
+      let rows : rows_view old.rows.items ≡ rows_at held at = ap (λ (h : Held). rows_view h.rows.items) is ∙ sym (rows_are held at old below) in
+      let names : names_view old.names.items ≡ names_at held at = ap (λ (h : Held). names_view h.names.items) is ∙ sym (names_are held at old below) in
+      let count : length old.names.items ≡ length (names_at held at) = sym (length-map old.names.items (option_map (λ t. t.now))) ∙ ap length names in
+      record {
+        long = length-set held at new ∙ h.long;
+        each = λ i less. by_place i less (cases_eq i at) (h.each i less) (omega (arith, less, h.long, length-set held at new)) (row_here rows count) (name_here names);
+      }
+    where
+      Holds : ℕ → List RowAddress → List (Option (List ℕ)) → Type 0
+      Holds i rows names = HoldsOf table (rules.section (rules.first + i)) (before ++ k ∷ []) rows names
+
+      by_place : (i : ℕ) → i < rules.count → (i ≡ at) ⊎ (i ≢ at) → HoldsOf table (rules.section (rules.first + i)) before (rows_at held i) (names_at held i) → i < length (set held at new)
+          → rows_view new.rows.items ≡ rows_at held at ++ record { address = (symbol_of table k).value; row = length (names_at held at) } ∷ [] → names_view new.names.items ≡ names_at held at ++ option_map (λ t. t.now) name ∷ []
+          → Holds i (rows_at (set held at new) i) (names_at (set held at new) i)
+      by_place i less (inl same) before_is inside rows names =
+          let placed : get_or (set held at new) i new ≡ new = get_or-set_at held at i new new same (omega (arith, lt, h.long)) in
+          let rows_now : rows_at (set held at new) i ≡ rows_at held i ++ record { address = (symbol_of table k).value; row = length (names_at held i) } ∷ [] =
+          rows_are (set held at new) i new inside ∙ ap (λ (h : Held). rows_view h.rows.items) placed ∙ rows ∙ ap (λ (j : ℕ). rows_at held j ++ record { address = (symbol_of table k).value; row = length (names_at held j) } ∷ []) (sym same) in
+          let names_now : names_at (set held at new) i ≡ names_at held i ++ option_map (λ t. t.now) name ∷ [] =
+          names_are (set held at new) i new inside ∙ ap (λ (h : Held). names_view h.names.items) placed ∙ names ∙ ap (λ (j : ℕ). names_at held j ++ option_map (λ t. t.now) name ∷ []) (sym same) in
+          rw (rows_now, names_now)
+          (one_more_held table (rules.section (rules.first + i)) before k (option_map (λ t. t.now) name) (rows_at held i) (names_at held i) (length (names_at held i)) (here i ∙ rw (eq-eqb i at same) refl) refl before_is)
+      by_place i less (inr other) before_is inside rows names =
+          let kept : get_or (set held at new) i new ≡ get_or held i new = get_or-set_other held at i new new other in
+          let rows_now : rows_at (set held at new) i ≡ rows_at held i = rows_are (set held at new) i new inside ∙ ap (λ (h : Held). rows_view h.rows.items) kept ∙ sym (rows_are held i new (omega (arith, less, h.long))) in
+          let names_now : names_at (set held at new) i ≡ names_at held i = names_are (set held at new) i new inside ∙ ap (λ (h : Held). names_view h.names.items) kept ∙ sym (names_are held i new (omega (arith, less, h.long))) in
+          rw (rows_now, names_now)
+          (goes_on table (rules.section (rules.first + i)) before k (rows_at held i) (names_at held i) (here i ∙ rw (ne_eqb i at other) refl) before_is)
+
+-- where these are all rows, all that end sizes are held
+pub each_holds_all : (table : SymbolTable) (rules : Rules) (before : List ℕ) (held : List Held) → row_numbers table ≡ before → HoldsEach table rules before held → HoldsSections table rules 0 held
+each_holds_all table rules before held all h i low lt = holds_all table (rules.section (rules.first + i)) before (rows_at held i) (names_at held i) all (h.each i lt)
 
 -- the rows of a place
-pub held_at : (table : SymbolTable) (rules : Rules) (kept : List Kept) (at : ℕ) (d : Kept) → at < length kept → length kept ≤ rules.count → HoldsSections table rules at kept → HoldsRows table (rules.accepts (rules.first + at)) (get_or kept at d)
-held_at table rules kept at d lt le h = rw (rows_are kept at d lt, names_are kept at d lt) at (h.each at (omega arith) (omega arith))
+pub held_at : (table : SymbolTable) (rules : Rules) (held : List Held) (at : ℕ) (d : Held) → at < length held → length held ≡ rules.count → HoldsSections table rules at held → HoldsRows table (rules.section (rules.first + at)) (get_or held at d)
+held_at table rules held at d lt long h = rw (rows_are held at d lt, names_are held at d lt) at (h at (omega arith) (omega arith))
 
 -- those that were taken aren't held any more
-pub others_held : (table : SymbolTable) (rules : Rules) (kept : List Kept) (at : ℕ) (nothing : Kept) → HoldsSections table rules at kept → HoldsSections table rules (at + 1) (set kept at nothing)
-others_held table rules kept at nothing h = record {
-  some = λ lt. h.some (omega (arith, length-set kept at nothing));
-  each = λ i low lt.
-      let accepts = rules.accepts (rules.first + i) in
-      subst (λ (rows : List RowAddress). HoldsKept table (kept_rows table accepts) rows (names_at (set kept at nothing) i)) (same (λ k. rows_view k.rows.items) i (omega arith))
-      (subst (λ (names : List (List ℕ)). HoldsKept table (kept_rows table accepts) (rows_at kept i) names) (same (λ k. map (λ t. t.now) k.names.items) i (omega arith)) (h.each i (omega arith) lt));
-}
+pub others_held : (table : SymbolTable) (rules : Rules) (held : List Held) (at : ℕ) (nothing : Held) → HoldsSections table rules at held → HoldsSections table rules (at + 1) (set held at nothing)
+others_held table rules held at nothing h i low lt =
+    let section = rules.section (rules.first + i) in
+    subst (λ (rows : List RowAddress). HoldsThese table section.accepts (ending_rows table section) rows (names_at (set held at nothing) i)) (same (λ h. rows_view h.rows.items) i (omega arith))
+    (subst (λ (names : List (Option (List ℕ))). HoldsThese table section.accepts (ending_rows table section) (rows_at held i) names) (same (λ h. names_view h.names.items) i (omega arith)) (h i (omega arith) lt))
   where
-    same : {X : Type 0} (f : Kept → List X) (i : ℕ) → at < i → get_or (map f kept) i [] ≡ get_or (map f (set kept at nothing)) i []
-    same f i lt = elim (cases_lt i (length kept)) [
-      | inl below ↦ get_or-map f kept i nothing [] below ∙ ap f (sym (get_or-set_other kept at i nothing nothing (λ e. absurd (omega arith)))) ∙ sym (get_or-map f (set kept at nothing) i nothing [] (omega (arith, length-set kept at nothing)))
-      | inr past ↦ get_or_past (map f kept) i [] (omega (arith, length-map kept f)) ∙ sym (get_or_past (map f (set kept at nothing)) i [] (omega (arith, length-map (set kept at nothing) f, length-set kept at nothing)))
+    same : {X : Type 0} (f : Held → List X) (i : ℕ) → at < i → get_or (map f held) i [] ≡ get_or (map f (set held at nothing)) i []
+    same f i lt = elim (cases_lt i (length held)) [
+      | inl below ↦ get_or-map f held i nothing [] below ∙ ap f (sym (get_or-set_other held at i nothing nothing (λ e. absurd (omega arith)))) ∙ sym (get_or-map f (set held at nothing) i nothing [] (omega (arith, length-set held at nothing)))
+      | inr past ↦ get_or_past (map f held) i [] (omega (arith, length-map held f)) ∙ sym (get_or_past (map f (set held at nothing)) i [] (omega (arith, length-map (set held at nothing) f, length-set held at nothing)))
     ]
 
 -- one section more is listed
 pub one_section_more : {A : Type 0} (f : ℕ → List A) (a n : ℕ) → flat_map f (range_with_len a (n + 1)) ≡ flat_map f (range_with_len a n) ++ f (a + n)
 one_section_more f a n = ap (flat_map f) (range_more a n) ∙ flat_map-append f (range_with_len a n) ((a + n) ∷ []) ∙ ap (λ (xs : List _). flat_map f (range_with_len a n) ++ xs) (append-nil (f (a + n)))
-
--- sections that list nothing may be left out
-rest_by : {A : Type 0} (f : ℕ → List A) (a n j : ℕ) → ((i : ℕ) → n ≤ i → i < n + j → f (a + i) ≡ []) → flat_map f (range_with_len a (n + j)) ≡ flat_map f (range_with_len a n)
-rest_by f a n zero none = ap (λ (m : ℕ). flat_map f (range_with_len a m)) (omega arith)
-rest_by f a n (suc j) none =
-    ap (λ (m : ℕ). flat_map f (range_with_len a m)) (omega arith) ∙ one_section_more f a (n + j)
-    ∙ ap (λ (xs : List _). flat_map f (range_with_len a (n + j)) ++ xs) (none (n + j) (omega arith) (omega arith)) ∙ append-nil (flat_map f (range_with_len a (n + j)))
-    ∙ rest_by f a n j (λ i low lt. none i low (omega arith))
-
-no_section_entries : (table : SymbolTable) (rules : Rules) (index : ℕ) → kept_rows table (rules.accepts index) ≡ [] → section_entries rules table index ≡ []
-no_section_entries table rules index none = ap (λ (es : List Entry). in_section (index + 1) (map (moved (rules.address index)) es)) (no_entries table (rules.accepts index) (rules.size index) none)
-
-nothing_kept : (table : SymbolTable) (kept rows : List RowAddress) (names : List (List ℕ)) → HoldsKept table kept rows names → rows ≡ [] → kept ≡ []
-nothing_kept table [] rows names h none = refl
-nothing_kept table (r ∷ kept) rows names h none = absurd (omega (arith, held_long table (r ∷ kept) rows names h, ap length none))
-
--- where all places are listed, all sections are
-pub all_listed : (table : SymbolTable) (rules : Rules) (kept : List Kept) (n : ℕ) → length kept ≤ n → n ≤ rules.count → HoldsSections table rules n kept
-    → flat_map (section_entries rules table) (range_with_len rules.first n) ≡ entries_by rules table
-all_listed table rules kept n long le h =
-    sym (ap (λ (m : ℕ). flat_map (section_entries rules table) (range_with_len rules.first m)) (omega arith)
-    ∙ rest_by (section_entries rules table) rules.first n (rules.count - n) (λ i low lt. no_section_entries table rules (rules.first + i)
-    (nothing_kept table (kept_rows table (rules.accepts (rules.first + i))) (rows_at kept i) (names_at kept i) (h.each i low (omega arith)) (no_rows_past kept i (omega arith)))))
 
 append_some : {A : Type 0} (xs ys : List A) → ys ≢ [] → xs ++ ys ≢ []
 append_some [] ys some none = some none
@@ -193,57 +159,38 @@ pub mapped_some : {A B : Type 0} (g : A → B) (xs : List A) → xs ≢ [] → m
 mapped_some g [] some none = some refl
 mapped_some g (x ∷ xs) some none = cc
 
--- where a row is kept of a section, there is an entry
-pub some_selected : (table : SymbolTable) (rules : Rules) → SomeKept table rules → entries_by rules table ≢ []
-some_selected table rules some =
-    let index = rules.first + some.0 in
-    let entries = map (moved (rules.address index)) (entries_of table (rules.accepts index) (rules.size index)) in
-    some_listed (section_entries rules table) rules.first rules.count some.0 some.1
-    (mapped_some (λ (e : Entry). record { section = index + 1; entry = e }) entries
-    (mapped_some (moved (rules.address index)) (entries_of table (rules.accepts index) (rules.size index)) (some_entry table (rules.accepts index) (rules.size index) some.2)))
+none_listed : {A : Type 0} (f : ℕ → List A) (a n : ℕ) → ((i : ℕ) → i < n → f (a + i) ≡ []) → flat_map f (range_with_len a n) ≡ []
+none_listed f a zero none = refl
+none_listed f a (suc n) none =
+    let here : f a ≡ [] = subst (λ (m : ℕ). f m ≡ []) (omega arith) (none 0 (omega arith)) in
+    rw here (none_listed f (a + 1) n (λ i lt. subst (λ (m : ℕ). f m ≡ []) (omega arith) (none (suc i) (omega arith))))
 
--- a row is added at a position, to what is held as before elsewhere
-pub row_added : (old mid : List Kept) (held new : Kept) (count at address : ℕ) (name : Bor (List ℕ)) → length mid ≡ count → at < count → held ≡ get_or mid at held
-    → ((i : ℕ) → i < count → (rows_at mid i ≡ rows_at old i) × (names_at mid i ≡ names_at old i))
-    → new.rows.items ≡ held.rows.items ++ record { address = address; index = length held.names.items } ∷ []
-    → new.names.items ≡ held.names.items ++ name ∷ []
-    → IsAdded old (set mid at new) count at address name.now
-row_added old mid held new count at address name long lt is same rows names =
-    let rows_here : rows_view held.rows.items ≡ rows_at old at = ap (λ (k : Kept). rows_view k.rows.items) is ∙ sym (rows_are mid at held (omega arith)) ∙ (same at lt).0 in
-    let names_here : map (λ t. t.now) held.names.items ≡ names_at old at = ap (λ (k : Kept). map (λ t. t.now) k.names.items) is ∙ sym (names_are mid at held (omega arith)) ∙ (same at lt).1 in
-    let count_here : length held.names.items ≡ length (names_at old at) = sym (length-map held.names.items (λ t. t.now)) ∙ ap length names_here in
-    record {
-      long = length-set mid at new ∙ long;
-      rows = λ i below. rows_are (set mid at new) i new (omega (arith, length-set mid at new)) ∙ rows_by i below (cases_eq i at) rows_here count_here;
-      names = λ i below. names_are (set mid at new) i new (omega (arith, length-set mid at new)) ∙ names_by i below (cases_eq i at) names_here;
-    }
+-- none of these rows is kept of a selected section
+abbrev pub NoneKept : SymbolTable → Rules → List ℕ → Type 0
+NoneKept table rules before = (i : ℕ) → i < rules.count → All (IsLeftOut table (rules.section (rules.first + i))) before
+
+pub none_more : (table : SymbolTable) (rules : Rules) (before : List ℕ) (k : ℕ) → ((i : ℕ) → i < rules.count → IsLeftOut table (rules.section (rules.first + i)) k) → NoneKept table rules before → NoneKept table rules (before ++ k ∷ [])
+none_more table rules before k out none i lt =
+    let P = IsLeftOut table (rules.section (rules.first + i)) in
+    All-append P before (k ∷ []) (none i lt) (All-cons P k [] (out i lt) (All-nil P))
+
+-- where none of all rows is kept there is no entry
+pub none_selected : (table : SymbolTable) (rules : Rules) (before : List ℕ) → row_numbers table ≡ before → NoneKept table rules before → entries_by rules table ≡ []
+none_selected table rules before all none =
+    none_listed (section_entries rules table) rules.first rules.count
+    (λ i lt. ap (λ (es : List Entry). in_section (rules.first + i + 1) (map (moved (rules.address (rules.first + i))) es))
+    (no_entries table (rules.section (rules.first + i)) (subst (λ (ks : List ℕ). All (IsLeftOut table (rules.section (rules.first + i))) ks) (sym all) (none i lt))))
+
+-- where one is kept there is an entry
+pub some_selected : (table : SymbolTable) (rules : Rules) (before : List ℕ) (k at : ℕ) → k < record_count table → AreBefore table k before → at < rules.count → is_some (function_name table (rules.section (rules.first + at)).accepts k (symbol_of table k)) ≡ true → entries_by rules table ≢ []
+some_selected table rules before k at within are lt kept = by_name (function_name table section.accepts k (symbol_of table k)) refl kept
   where
-    rows_by : (i : ℕ) → i < count → (i ≡ at) ⊎ (i ≢ at) → rows_view held.rows.items ≡ rows_at old at → length held.names.items ≡ length (names_at old at)
-        → rows_view (get_or (set mid at new) i new).rows.items ≡ rows_at old i ++ if_here i at (record { address = address; row = length (names_at old i) })
-    rows_by i below (inl here) rows_here count_here =
-        ap (λ (k : Kept). rows_view k.rows.items) (get_or-set_at mid at i new new here (omega (arith, long)))
-        ∙ ap rows_view rows ∙ map-append row_view held.rows.items (record { address = address; index = length held.names.items } ∷ [])
-        ∙ rw (eq-eqb i at here, here, rows_here, count_here) refl
-    rows_by i below (inr other) rows_here count_here =
-        ap (λ (k : Kept). rows_view k.rows.items) (get_or-set_other mid at i new new other)
-        ∙ sym (rows_are mid i new (omega (arith, long))) ∙ (same i below).0 ∙ rw (ne_eqb i at other) (sym (append-nil (rows_at old i)))
+    section : SectionRules
+    section = rules.section (rules.first + at)
 
-    names_by : (i : ℕ) → i < count → (i ≡ at) ⊎ (i ≢ at) → map (λ t. t.now) held.names.items ≡ names_at old at
-        → map (λ t. t.now) (get_or (set mid at new) i new).names.items ≡ names_at old i ++ if_here i at name.now
-    names_by i below (inl here) names_here =
-        ap (λ (k : Kept). map (λ t. t.now) k.names.items) (get_or-set_at mid at i new new here (omega (arith, long)))
-        ∙ ap (map (λ t. t.now)) names ∙ map-append (λ t. t.now) held.names.items (name ∷ [])
-        ∙ rw (eq-eqb i at here, here, names_here) refl
-    names_by i below (inr other) names_here =
-        ap (λ (k : Kept). map (λ t. t.now) k.names.items) (get_or-set_other mid at i new new other)
-        ∙ sym (names_are mid i new (omega (arith, long))) ∙ (same i below).1 ∙ rw (ne_eqb i at other) (sym (append-nil (names_at old i)))
-
--- nothing is held, whether there is no place or one for each
-pub none_held : (old mid : List Kept) (count : ℕ) → old ≡ [] → length mid ≡ count → All (λ k. (k.rows.items ≡ []) × (k.names.items ≡ [])) mid
-    → (i : ℕ) → i < count → (rows_at mid i ≡ rows_at old i) × (names_at mid i ≡ names_at old i)
-none_held old [] count none long all i lt = absurd (omega arith)
-none_held old (k ∷ mid) count none long all i lt =
-    let empty = all i k (omega arith) in (
-      rows_are (k ∷ mid) i k (omega arith) ∙ ap rows_view empty.0 ∙ sym (no_rows_past old i (omega (arith, ap length none))),
-      names_are (k ∷ mid) i k (omega arith) ∙ ap (map (λ t. t.now)) empty.1 ∙ sym (no_names_past old i (omega (arith, ap length none))),
-    )
+    by_name : (o : Option (List ℕ)) → function_name table section.accepts k (symbol_of table k) ≡ o → is_some o ≡ true → entries_by rules table ≢ []
+    by_name None is kept = absurd cc
+    by_name (Some name) is kept =
+        some_listed (section_entries rules table) rules.first rules.count at lt
+        (mapped_some (λ (e : Entry). record { section = rules.first + at + 1; entry = e }) (map (moved (rules.address (rules.first + at))) (entries_of table section))
+        (mapped_some (moved (rules.address (rules.first + at))) (entries_of table section) (some_entry table section before k name within are is)))

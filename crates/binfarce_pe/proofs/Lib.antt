@@ -5,3 +5,4 @@ pub mod Listing
 pub mod SectionsLeft
 pub mod EachSection
 pub mod Selected
+pub mod Elsewhere

@@ -1,32 +1,33 @@
--- Rows numbered in the order in which they are kept, once arranged: the entries that they give, and the sizes.
+-- Rows numbered in the order in which they are held, once arranged: the entries that they give, and the sizes.
+use Rattle.std.specs.Borrow.{Bor}
 use Rattle.std.proofs.Common.{◌≡◌, ℕ, zero, suc, ◌+◌, ◌-◌, ◌<◌, Bool, true, false, cond, List, [], ◌∷◌, ◌++◌, length, get_or, take, map, Option, Some, None, inl, inr, refl, sym, ap, subst, ◌∙◌, append_assoc, arith, nat_lt}
 use Rattle.std.specs.Prelude.{unwrap_or, if◌then◌else◌, filter, IfSome}
 use Rattle.std.specs.Option.{option_map}
 use Rattle.std.specs.List.{filter_map, cons_option, AllZip}
 use Rattle.std.proofs.lemmas.Bool.{lt-ltb, le-ltb, cases_lt}
-use Rattle.std.proofs.lemmas.List.{take_more, get_or-map, length-map, map-append}
-use Rattle.std.proofs.lemmas.Simd.{map-map}
+use Rattle.std.proofs.lemmas.List.{take_more, get_or-map, length-map, map-append, append-nil}
+use Rattle.std.proofs.lemmas.List.Elements.{filter_map-append}
 use Rattle.binfarce_bytes.specs.declared.sizes.RowAddress as code
 use Rattle.binfarce_bytes.specs.Sizes.{RowAddress, comes_before, put_in, arranged, addresses_of, least, least_of, least_above}
 use Rattle.binfarce_bytes.specs.Entries.{Entry}
-use Rattle.binfarce_bytes.specs.SectionEntries.{in_section}
-use Rattle.binfarce_pe.specs.PeSelection.{Rules, moved}
+use Rattle.binfarce_bytes.specs.SectionEntries.{SectionEntry, in_section}
+use Rattle.binfarce_pe.specs.PeSelection.{SelectedSections, the_text, all_sections, Rules, rules_of, memory_size, moved, section_entries}
 use Rattle.binfarce_bytes.specs.RowViews.{row_view, rows_view}
-use Rattle.binfarce_pe.specs.PeSymbols.{SymbolTable, SymbolRow, symbol_of, name_of, kept_rows, size_among, size_members, entry_of, entries_of}
-use Rattle.binfarce_pe.specs.machine.RawPe.{numbered, IsNameOf, HoldsKept, function_in}
+use Rattle.binfarce_pe.specs.PeSymbols.{SymbolTable, SymbolRow, SectionRules, symbol_of, function_name, ending_rows, size_among, entry_of, entries_of}
+use Rattle.binfarce_pe.specs.machine.RawPe.{numbered, names_view, IsNameOf, HoldsThese, function_in}
 use Rattle.binfarce_bytes.proofs.Above.{LeastAbove, arranged_above, least_above_is}
 use Rattle.binfarce_bytes.proofs.Arrangement.{Rising}
-use Rattle.binfarce_pe.proofs.Strictly.{kept_rise}
+use Rattle.binfarce_pe.proofs.Strictly.{ending_rise}
 
--- the entry of a row whose name has its number
-abbrev function_at : List (List ℕ) → List ℕ → RowAddress → Entry
-function_at names members r = record { name = get_or names r.row []; address = r.address; size = size_among members r.address }
+-- the entry of a row whose name has its number, by the addresses that end sizes
+abbrev function_at : (List ℕ → ℕ → ℕ) → List (Option (List ℕ)) → List ℕ → RowAddress → Option Entry
+function_at size names addresses r = option_map (λ (name : List ℕ). record { name = name; address = r.address; size = size addresses r.address }) (get_or names r.row None)
 
 -- what is read past the end
 none : RowAddress
 none = record { address = 0; row = 0 }
 
--- the row has its address, and its number among the kept ones
+-- the row has its address, and its number among the others
 abbrev IsNumbered : List RowAddress → RowAddress → RowAddress → Type 0
 IsNumbered kept r q = (r.row < length kept) × (get_or kept r.row none ≡ q) × (r.address ≡ q.address)
 
@@ -90,36 +91,37 @@ module _ (R : RowAddress → RowAddress → Type 0) (same_order : (x q y p : Row
   arranged_pairs (x ∷ xs) [] all = absurd all
   arranged_pairs (x ∷ xs) (y ∷ ys) all = put_in_pairs x y (arranged xs) (arranged ys) all.0 (arranged_pairs xs ys all.1)
 
--- rows arranged by their numbers among the kept have the same order as by their numbers in the table
+-- rows arranged by their numbers among these have the same order as by their numbers in the table
 abbrev pub arranged_numbers : List RowAddress → List RowAddress
 arranged_numbers kept = arranged (numbered 0 (addresses_of kept))
 
-arranged_rows_same : (table : SymbolTable) (accepts : SymbolRow ℕ → Bool) → AllZip (IsNumbered (kept_rows table accepts)) (arranged_numbers (kept_rows table accepts)) (arranged (kept_rows table accepts))
-arranged_rows_same table accepts =
-    let kept = kept_rows table accepts in
-    arranged_pairs (IsNumbered kept) (agree kept (kept_rise table accepts)) (numbered 0 (addresses_of kept)) kept (all_numbered kept)
+arranged_rows_same : (table : SymbolTable) (rules : SectionRules) → AllZip (IsNumbered (ending_rows table rules)) (arranged_numbers (ending_rows table rules)) (arranged (ending_rows table rules))
+arranged_rows_same table rules =
+    let these = ending_rows table rules in
+    arranged_pairs (IsNumbered these) (agree these (ending_rise table rules)) (numbered 0 (addresses_of these)) these (all_numbered these)
 
-name_at : (table : SymbolTable) (kept : List RowAddress) (names : List (List ℕ)) (k : ℕ) → AllZip (IsNameOf table) kept names → k < length kept → IsNameOf table (get_or kept k none) (get_or names k [])
-name_at table [] [] k all lt = absurd (omega arith)
-name_at table [] (n ∷ names) k all lt = absurd all
-name_at table (r ∷ kept) [] k all lt = absurd all
-name_at table (r ∷ kept) (n ∷ names) zero all lt = all.0
-name_at table (r ∷ kept) (n ∷ names) (suc k) all lt = name_at table kept names k all.1 (omega arith)
+name_at : (table : SymbolTable) (accepts : SymbolRow ℕ → Bool) (these : List RowAddress) (names : List (Option (List ℕ))) (k : ℕ) → AllZip (IsNameOf table accepts) these names → k < length these → IsNameOf table accepts (get_or these k none) (get_or names k None)
+name_at table accepts [] [] k all lt = absurd (omega arith)
+name_at table accepts [] (n ∷ names) k all lt = absurd all
+name_at table accepts (r ∷ these) [] k all lt = absurd all
+name_at table accepts (r ∷ these) (n ∷ names) zero all lt = all.0
+name_at table accepts (r ∷ these) (n ∷ names) (suc k) all lt = name_at table accepts these names k all.1 (omega arith)
 
-one_entry : (table : SymbolTable) (members : List ℕ) (names : List (List ℕ)) (r q : RowAddress) → IsNameOf table q (get_or names r.row []) → r.address ≡ q.address
-    → entry_of table members q ≡ Some (function_at names members r)
-one_entry table members names r q is same =
-    ap (option_map (λ (name : List ℕ). record { name = name; address = q.address; size = size_among members q.address })) is
-    ∙ ap (λ (a : ℕ). Some (record { name = get_or names r.row []; address = a; size = size_among members a })) (sym same)
+one_entry : (table : SymbolTable) (rules : SectionRules) (addresses : List ℕ) (names : List (Option (List ℕ))) (r q : RowAddress) → IsNameOf table rules.accepts q (get_or names r.row None) → r.address ≡ q.address
+    → entry_of table rules addresses q ≡ function_at rules.size names addresses r
+one_entry table rules addresses names r q is same =
+    ap (option_map (λ (name : List ℕ). record { name = name; address = q.address; size = rules.size addresses q.address })) is
+    ∙ ap (λ (a : ℕ). option_map (λ (name : List ℕ). record { name = name; address = a; size = rules.size addresses a }) (get_or names r.row None)) (sym same)
 
-entries_listed : (table : SymbolTable) (members : List ℕ) (kept : List RowAddress) (names : List (List ℕ)) → AllZip (IsNameOf table) kept names
-    → (xs ys : List RowAddress) → AllZip (IsNumbered kept) xs ys → map (function_at names members) xs ≡ filter_map (entry_of table members) ys
-entries_listed table members kept names named [] [] all = refl
-entries_listed table members kept names named [] (q ∷ ys) all = absurd all
-entries_listed table members kept names named (x ∷ xs) [] all = absurd all
-entries_listed table members kept names named (x ∷ xs) (q ∷ ys) all =
-    let is : IsNameOf table q (get_or names x.row []) = subst (λ (r : RowAddress). IsNameOf table r (get_or names x.row [])) all.0.1 (name_at table kept names x.row named all.0.0) in
-    rw (one_entry table members names x q is all.0.2) (ap (λ (es : List Entry). function_at names members x ∷ es) (entries_listed table members kept names named xs ys all.1))
+entries_listed : (table : SymbolTable) (rules : SectionRules) (addresses : List ℕ) (these : List RowAddress) (names : List (Option (List ℕ))) → AllZip (IsNameOf table rules.accepts) these names
+    → (xs ys : List RowAddress) → AllZip (IsNumbered these) xs ys → filter_map (function_at rules.size names addresses) xs ≡ filter_map (entry_of table rules addresses) ys
+entries_listed table rules addresses these names named [] [] all = refl
+entries_listed table rules addresses these names named [] (q ∷ ys) all = absurd all
+entries_listed table rules addresses these names named (x ∷ xs) [] all = absurd all
+entries_listed table rules addresses these names named (x ∷ xs) (q ∷ ys) all =
+    let is : IsNameOf table rules.accepts q (get_or names x.row None) = subst (λ (r : RowAddress). IsNameOf table rules.accepts r (get_or names x.row None)) all.0.1 (name_at table rules.accepts these names x.row named all.0.0) in
+    ap (cons_option (function_at rules.size names addresses x)) (entries_listed table rules addresses these names named xs ys all.1)
+    ∙ ap (λ (o : Option Entry). cons_option o (filter_map (entry_of table rules addresses) ys)) (sym (one_entry table rules addresses names x q is all.0.2))
 
 -- with the text's size among the members
 with_text : (t a : ℕ) (xs : List ℕ) → least_above (t ∷ xs) a ≡ (if nat_lt a t then Some (least_of t (least_above xs a)) else least_above xs a)
@@ -130,43 +132,71 @@ with_text t a xs = by_test (nat_lt a t)
     by_test true = refl
     by_test false = refl
 
-members_same : (t a : ℕ) (rows : List RowAddress) → least_above (size_members t (arranged rows)) a ≡ least_above (size_members t rows) a
-members_same t a rows =
-    with_text t a (addresses_of (arranged rows)) ∙ ap (λ (o : Option ℕ). if nat_lt a t then Some (least_of t o) else o) (arranged_above rows a) ∙ sym (with_text t a (addresses_of rows))
+-- the size that the least address above and the text's size give
+pub size_is : (t a : ℕ) (addresses : List ℕ) (above : Option ℕ) → above ≡ least_above addresses a
+    → unwrap_or (option_map (λ b. b - a) (if nat_lt a t then Some (least_of t above) else above)) 0 ≡ size_among (t ∷ addresses) a
+size_is t a addresses above e =
+    ap (λ (o : Option ℕ). unwrap_or (option_map (λ b. b - a) o) 0)
+    (ap (λ (o : Option ℕ). if nat_lt a t then Some (least_of t o) else o) e ∙ sym (with_text t a addresses))
 
 addresses_numbered : (n : ℕ) (addresses : List ℕ) → addresses_of (numbered n addresses) ≡ addresses
 addresses_numbered n [] = refl
 addresses_numbered n (a ∷ addresses) = ap (λ (bs : List ℕ). a ∷ bs) (addresses_numbered (n + 1) addresses)
 
-sizes_same : (t a : ℕ) (kept : List RowAddress) → least_above (size_members t (arranged_numbers kept)) a ≡ least_above (size_members t kept) a
-sizes_same t a kept = members_same t a (numbered 0 (addresses_of kept)) ∙ ap (λ (addresses : List ℕ). least_above (t ∷ addresses) a) (addresses_numbered 0 (addresses_of kept))
+above_same : (a : ℕ) (these : List RowAddress) → least_above (addresses_of (arranged_numbers these)) a ≡ least_above (addresses_of these) a
+above_same a these =
+    arranged_above (numbered 0 (addresses_of these)) a ∙ ap (λ (addresses : List ℕ). least_above addresses a) (addresses_numbered 0 (addresses_of these))
 
-entries_same : (table : SymbolTable) (members others : List ℕ) → ((a : ℕ) → least_above members a ≡ least_above others a) → (rows : List RowAddress)
-    → filter_map (entry_of table members) rows ≡ filter_map (entry_of table others) rows
-entries_same table members others same [] = refl
-entries_same table members others same (r ∷ rows) =
-    let first : entry_of table members r ≡ entry_of table others r =
-    ap (λ (o : Option ℕ). option_map (λ (name : List ℕ). record { name = name; address = r.address; size = unwrap_or (option_map (λ above. above - r.address) o) 0 }) (name_of table r.row (symbol_of table r.row))) (same r.address) in
-    ap (λ (o : Option Entry). cons_option o (filter_map (entry_of table members) rows)) first ∙ ap (cons_option (entry_of table others r)) (entries_same table members others same rows)
+-- a size that goes by the least address above
+abbrev GoesByAbove : (List ℕ → ℕ → ℕ) → Type 0
+GoesByAbove size = (a : ℕ) (xs ys : List ℕ) → least_above xs a ≡ least_above ys a → size xs a ≡ size ys a
+
+-- all sizes do
+goes_by_above : (chosen : SelectedSections) (index : ℕ) → GoesByAbove ((rules_of chosen).section index).size
+goes_by_above (the_text text) index a xs ys same =
+    sym (size_is text.size a xs (least_above ys a) (sym same)) ∙ size_is text.size a ys (least_above ys a) refl
+goes_by_above (all_sections base sections) index a xs ys same = ap (λ (o : Option ℕ). least_of (memory_size sections index) o - a) same
+
+entries_same : (table : SymbolTable) (rules : SectionRules) (xs ys : List ℕ) → GoesByAbove rules.size → ((a : ℕ) → least_above xs a ≡ least_above ys a) → (rows : List RowAddress)
+    → filter_map (entry_of table rules xs) rows ≡ filter_map (entry_of table rules ys) rows
+entries_same table rules xs ys goes same [] = refl
+entries_same table rules xs ys goes same (r ∷ rows) =
+    let first : entry_of table rules xs r ≡ entry_of table rules ys r =
+    ap (λ (n : ℕ). option_map (λ (name : List ℕ). record { name = name; address = r.address; size = n }) (function_name table rules.accepts r.row (symbol_of table r.row))) (goes r.address xs ys (same r.address)) in
+    ap (λ (o : Option Entry). cons_option o (filter_map (entry_of table rules xs) rows)) first ∙ ap (cons_option (entry_of table rules ys r)) (entries_same table rules xs ys goes same rows)
 
 -- what is listed of the arranged rows is the entries
-entries_are : (table : SymbolTable) (accepts : SymbolRow ℕ → Bool) (t : ℕ) (held in_order : List RowAddress) (names : List (List ℕ)) → HoldsKept table (kept_rows table accepts) held names → in_order ≡ arranged held
-    → map (function_at names (size_members t in_order)) in_order ≡ entries_of table accepts t
+entries_are : (table : SymbolTable) (rules : SectionRules) (held in_order : List RowAddress) (names : List (Option (List ℕ))) → GoesByAbove rules.size → HoldsThese table rules.accepts (ending_rows table rules) held names → in_order ≡ arranged held
+    → filter_map (function_at rules.size names (addresses_of in_order)) in_order ≡ entries_of table rules
 unfolding entries_of
-entries_are table accepts t held in_order names h are =
-    let kept = kept_rows table accepts in
-    ap (λ (rs : List RowAddress). map (function_at names (size_members t rs)) rs) (are ∙ ap arranged h.rows_are)
-    ∙ entries_listed table (size_members t (arranged_numbers kept)) kept names h.names_are (arranged_numbers kept) (arranged kept) (arranged_rows_same table accepts)
-    ∙ entries_same table (size_members t (arranged_numbers kept)) (size_members t kept) (λ a. sizes_same t a kept) (arranged kept)
+entries_are table rules held in_order names goes h are =
+    let these = ending_rows table rules in
+    ap (λ (rs : List RowAddress). filter_map (function_at rules.size names (addresses_of rs)) rs) (are ∙ ap arranged h.rows_are)
+    ∙ entries_listed table rules (addresses_of (arranged_numbers these)) these names h.names_are (arranged_numbers these) (arranged these) (arranged_rows_same table rules)
+    ∙ entries_same table rules (addresses_of (arranged_numbers these)) (addresses_of these) goes (λ a. above_same a these) (arranged these)
+
+in_a_section : (rules : Rules) (index : ℕ) (names : List (Option (List ℕ))) (addresses : List ℕ) (rows : List RowAddress)
+    → filter_map (function_in rules index names addresses) rows ≡ in_section (index + 1) (map (moved (rules.address index)) (filter_map (function_at (rules.section index).size names addresses) rows))
+in_a_section rules index names addresses [] = refl
+in_a_section rules index names addresses (r ∷ rows) = by_name (get_or names r.row None) (in_a_section rules index names addresses rows)
+  where
+    size : ℕ
+    size = (rules.section index).size addresses r.address
+
+    by_name : (o : Option (List ℕ)) → filter_map (function_in rules index names addresses) rows ≡ in_section (index + 1) (map (moved (rules.address index)) (filter_map (function_at (rules.section index).size names addresses) rows))
+        → cons_option (option_map (λ (name : List ℕ). record { section = index + 1; entry = record { name = name; address = rules.address index r.address; size = size } }) o) (filter_map (function_in rules index names addresses) rows)
+        ≡ in_section (index + 1) (map (moved (rules.address index)) (cons_option (option_map (λ (name : List ℕ). record { name = name; address = r.address; size = size }) o) (filter_map (function_at (rules.section index).size names addresses) rows)))
+    by_name None rest = rest
+    by_name (Some name) rest = ap (λ (es : List SectionEntry). record { section = index + 1; entry = record { name = name; address = rules.address index r.address; size = size } } ∷ es) rest
 
 -- in a section, at its addresses
-pub section_entries_are : (table : SymbolTable) (accepts : SymbolRow ℕ → Bool) (rules : Rules) (index : ℕ) (held in_order : List RowAddress) (names : List (List ℕ)) → HoldsKept table (kept_rows table accepts) held names → in_order ≡ arranged held
-    → map (function_in rules index names (size_members (rules.size index) in_order)) in_order ≡ in_section (index + 1) (map (moved (rules.address index)) (entries_of table accepts (rules.size index)))
-section_entries_are table accepts rules index held in_order names h are =
-    let listed = function_at names (size_members (rules.size index) in_order) in
-    sym (map-map (λ (e : Entry). record { section = index + 1; entry = e }) (λ (r : RowAddress). moved (rules.address index) (listed r)) in_order)
-    ∙ ap (in_section (index + 1)) (sym (map-map (moved (rules.address index)) listed in_order))
-    ∙ ap (λ (es : List Entry). in_section (index + 1) (map (moved (rules.address index)) es)) (entries_are table accepts (rules.size index) held in_order names h are)
+pub section_entries_are : (table : SymbolTable) (chosen : SelectedSections) (index : ℕ) (held in_order : List RowAddress) (names : List (Option (List ℕ))) → let rules = rules_of chosen in
+    HoldsThese table (rules.section index).accepts (ending_rows table (rules.section index)) held names → in_order ≡ arranged held
+    → filter_map (function_in rules index names (addresses_of in_order)) in_order ≡ section_entries rules table index
+section_entries_are table chosen index held in_order names h are =
+    let rules = rules_of chosen in
+    in_a_section rules index names (addresses_of in_order) in_order
+    ∙ ap (λ (es : List Entry). in_section (index + 1) (map (moved (rules.address index)) es)) (entries_are table (rules.section index) held in_order names (goes_by_above chosen index) h are)
 
 greater : (xs : List ℕ) (a : ℕ) (o : Option ℕ) → LeastAbove xs a o → IfSome o (λ b. a < b)
 greater xs a None is = tt
@@ -176,33 +206,48 @@ greater xs a (Some b) is = is.above
 pub above_greater : (xs : List ℕ) (a : ℕ) (o : Option ℕ) → o ≡ least_above xs a → IfSome o (λ b. a < b)
 above_greater xs a o e = greater xs a o (subst (LeastAbove xs a) (sym e) (least_above_is xs a))
 
--- the size that the least address above and the text's size give
-pub size_is : (t a : ℕ) (rows : List RowAddress) (above : Option ℕ) → above ≡ least_above (addresses_of rows) a
-    → unwrap_or (option_map (λ b. b - a) (if nat_lt a t then Some (least_of t above) else above)) 0 ≡ size_among (size_members t rows) a
-size_is t a rows above e =
-    ap (λ (o : Option ℕ). unwrap_or (option_map (λ b. b - a) o) 0)
-    (ap (λ (o : Option ℕ). if nat_lt a t then Some (least_of t o) else o) e ∙ sym (with_text t a (addresses_of rows)))
-
 -- what the walk found for the row at a position
 pub above_at : (rows : List code.RowAddress) (members : List ℕ) (above : List (Option ℕ)) (i : ℕ) (d : code.RowAddress) → i < length rows → above ≡ map (λ r. least_above members r.address) rows
     → get_or above i None ≡ least_above members (get_or rows i d).address
 above_at rows members above i d within is =
     ap (λ (xs : List (Option ℕ)). get_or xs i None) is ∙ get_or-map (λ (r : code.RowAddress). least_above members r.address) rows i d None within
 
--- a function of this name, address and size is the row's
-pub function_is : (rules : Rules) (index : ℕ) (names : List (List ℕ)) (members : List ℕ) (row : code.RowAddress) (name : List ℕ) (address size : ℕ) → name ≡ get_or names row.index [] → address ≡ rules.address index row.address → size ≡ size_among members row.address
-    → record { section = index + 1; entry = record { name = name; address = address; size = size } } ≡ function_in rules index names members (row_view row)
-function_is rules index names members row name address size is moved sized = rw (is, moved, sized) refl
-
--- one more is listed, after others
-pub one_more_listed : {F E : Type 0} (seen : F → E) (entry : RowAddress → E) (before : List E) (rows : List code.RowAddress) (i : ℕ) (d : code.RowAddress) (functions : List F) (f : F) → i < length rows
-    → map seen functions ≡ before ++ map entry (take i (rows_view rows)) → seen f ≡ entry (row_view (get_or rows i d)) → map seen (functions ++ f ∷ []) ≡ before ++ map entry (take (i + 1) (rows_view rows))
-one_more_listed {F} {E} seen entry before rows i d functions f within so_far is =
+-- one row more is seen, after others
+one_more : {E : Type 0} (entry : RowAddress → Option E) (rows : List code.RowAddress) (i : ℕ) (d : code.RowAddress) → i < length rows
+    → filter_map entry (take (i + 1) (rows_view rows)) ≡ filter_map entry (take i (rows_view rows)) ++ cons_option (entry (row_view (get_or rows i d))) []
+one_more {E} entry rows i d within =
     let here : get_or (rows_view rows) i (row_view d) ≡ row_view (get_or rows i d) = get_or-map row_view rows i d (row_view d) within in
+    ap (filter_map entry) (take_more (rows_view rows) i (row_view d) (omega (arith, length-map rows row_view)))
+    ∙ filter_map-append entry (take i (rows_view rows)) (get_or (rows_view rows) i (row_view d) ∷ [])
+    ∙ ap (λ (r : RowAddress). filter_map entry (take i (rows_view rows)) ++ cons_option (entry r) []) here
+
+-- one that has no name adds nothing
+pub nothing_listed : {F E : Type 0} (seen : F → E) (entry : RowAddress → Option E) (before : List E) (rows : List code.RowAddress) (i : ℕ) (d : code.RowAddress) (functions : List F) → i < length rows
+    → map seen functions ≡ before ++ filter_map entry (take i (rows_view rows)) → entry (row_view (get_or rows i d)) ≡ None → map seen functions ≡ before ++ filter_map entry (take (i + 1) (rows_view rows))
+nothing_listed {F} {E} seen entry before rows i d functions within so_far none =
+    so_far ∙ ap (λ (es : List E). before ++ es)
+    (sym (one_more entry rows i d within ∙ rw none (append-nil (filter_map entry (take i (rows_view rows))))))
+
+-- and one that has is listed
+pub one_more_listed : {F E : Type 0} (seen : F → E) (entry : RowAddress → Option E) (before : List E) (rows : List code.RowAddress) (i : ℕ) (d : code.RowAddress) (functions : List F) (f : F) → i < length rows
+    → map seen functions ≡ before ++ filter_map entry (take i (rows_view rows)) → entry (row_view (get_or rows i d)) ≡ Some (seen f) → map seen (functions ++ f ∷ []) ≡ before ++ filter_map entry (take (i + 1) (rows_view rows))
+one_more_listed {F} {E} seen entry before rows i d functions f within so_far is =
     map-append seen functions (f ∷ [])
     ∙ ap (λ (es : List E). es ++ seen f ∷ []) so_far
-    ∙ append_assoc before (map entry (take i (rows_view rows))) (seen f ∷ [])
+    ∙ append_assoc before (filter_map entry (take i (rows_view rows))) (seen f ∷ [])
     ∙ ap (λ (es : List E). before ++ es)
-    (ap (λ (e : E). map entry (take i (rows_view rows)) ++ e ∷ []) (is ∙ ap entry (sym here))
-    ∙ sym (map-append entry (take i (rows_view rows)) (get_or (rows_view rows) i (row_view d) ∷ []))
-    ∙ ap (map entry) (sym (take_more (rows_view rows) i (row_view d) (omega (arith, length-map rows row_view)))))
+    (sym (one_more entry rows i d within ∙ ap (λ (o : Option E). filter_map entry (take i (rows_view rows)) ++ cons_option o []) is))
+
+-- a row whose name isn't held has no entry
+pub nameless : (rules : Rules) (index : ℕ) (names : List (Option (Bor (List ℕ)))) (addresses : List ℕ) (row : code.RowAddress) (d : Option (Bor (List ℕ))) → row.index < length names → get_or names row.index d ≡ None → function_in rules index (names_view names) addresses (row_view row) ≡ None
+nameless rules index names addresses row d within none =
+    let is : get_or (names_view names) row.index None ≡ None = get_or-map (option_map (λ t. t.now)) names row.index d None within ∙ ap (option_map (λ t. t.now)) none in
+    rw is refl
+
+-- one whose name is held has that entry
+pub function_is : (rules : Rules) (index : ℕ) (names : List (Option (Bor (List ℕ)))) (addresses : List ℕ) (row : code.RowAddress) (d : Option (Bor (List ℕ))) (name : Bor (List ℕ)) (address size : ℕ) → row.index < length names → get_or names row.index d ≡ Some name
+    → address ≡ rules.address index row.address → size ≡ (rules.section index).size addresses row.address
+    → function_in rules index (names_view names) addresses (row_view row) ≡ Some (record { section = index + 1; entry = record { name = name.now; address = address; size = size } })
+function_is rules index names addresses row d name address size within some moved sized =
+    let is : get_or (names_view names) row.index None ≡ Some name.now = get_or-map (option_map (λ t. t.now)) names row.index d None within ∙ ap (option_map (λ t. t.now)) some in
+    rw (is, moved, sized) refl

@@ -1,15 +1,16 @@
--- The rows of a PE file's symbol table, as a loop goes over them, and what is kept of them.
-use Rattle.std.proofs.Common.{◌≡◌, ◌≢◌, ℕ, zero, suc, ◌+◌, ◌-◌, ◌<◌, ◌≤◌, Bool, true, false, cond, List, [], ◌∷◌, ◌++◌, length, All, Option, Some, None, refl, sym, ap, subst, ◌∙◌, append_assoc, arith, nat_lt, IsPermutation}
+-- The rows of a PE file's symbol table, as a loop goes over them, and which of them end sizes.
+use Rattle.std.proofs.Common.{◌≡◌, ◌≢◌, ℕ, zero, suc, ◌+◌, ◌-◌, ◌<◌, ◌≤◌, Bool, true, false, List, [], ◌∷◌, ◌++◌, length, All, Option, Some, None, refl, sym, ap, subst, ◌∙◌, append_assoc, arith, nat_lt}
+use Rattle.std.specs.Prelude.{if◌then◌else◌}
 use Rattle.std.specs.Option.{option_map}
 use Rattle.std.specs.List.{filter_map, cons_option, AllZip}
 use Rattle.std.proofs.lemmas.Bool.{le-ltb, lt-ltb, ltb-true, ltb-false}
 use Rattle.std.proofs.lemmas.List.{append-nil, length-map}
-use Rattle.std.proofs.lemmas.List.Elements.{All-nil, All-cons, All-head}
-use Rattle.std.proofs.lemmas.List.Sorted.{All-permutation, length_permutation}
+use Rattle.std.proofs.lemmas.List.Elements.{All-nil, All-cons, All-head, All-tail, filter_map-append}
+use Rattle.std.proofs.lemmas.List.Sorted.{All-permutation, IsPermutation-sym}
 use Rattle.std.proofs.lemmas.Slice.Zip.{AllZip-long}
 use Rattle.binfarce_bytes.specs.Sizes.{RowAddress, arranged, addresses_of}
-use Rattle.binfarce_pe.specs.PeSymbols.{SymbolTable, SymbolRow, record_count, symbol_of, rows_from, name_of, function_name, kept_row, kept_rows, size_among, size_members, entry_of, entries_in, entries_of}
-use Rattle.binfarce_pe.specs.machine.RawPe.{numbered, IsNameOf, HoldsKept}
+use Rattle.binfarce_pe.specs.PeSymbols.{SymbolTable, SectionRules, record_count, symbol_of, rows_from, row_numbers, function_name, ending_row, ending_rows, entry_of, entries_of}
+use Rattle.binfarce_pe.specs.machine.RawPe.{numbered, IsNameOf, HoldsThese, ending_name}
 use Rattle.binfarce_bytes.proofs.Arranging.{arranged_same}
 
 -- the number of the row after row k
@@ -39,44 +40,90 @@ rows_enough table (suc n) (suc m) k enough also = by_test (nat_lt k (record_coun
         let past : record_count table ≤ k = ltb-false k (record_count table) e in
         no_rows table (suc n) k past ∙ sym (no_rows table (suc m) k past)
 
--- what is kept from row k on
-abbrev pub kept_from : SymbolTable → (SymbolRow ℕ → Bool) → ℕ → List RowAddress
-kept_from table accepts k = filter_map (kept_row table accepts) (rows_from table (record_count table - k) k)
+-- the numbers of the rows from row k on
+abbrev pub rows_left : SymbolTable → ℕ → List ℕ
+rows_left table k = rows_from table (record_count table - k) k
 
-all_from_first : (table : SymbolTable) (accepts : SymbolRow ℕ → Bool) → kept_rows table accepts ≡ kept_from table accepts 0
-unfolding kept_rows
-all_from_first table accepts = ap (λ (n : ℕ). filter_map (kept_row table accepts) (rows_from table n 0)) (omega arith)
+pub all_left : (table : SymbolTable) → row_numbers table ≡ rows_left table 0
+all_left table = ap (λ (n : ℕ). rows_from table n 0) (omega arith)
 
-none_after : (table : SymbolTable) (accepts : SymbolRow ℕ → Bool) (k : ℕ) → record_count table ≤ k → kept_from table accepts k ≡ []
-none_after table accepts k past = ap (filter_map (kept_row table accepts)) (no_rows table (record_count table - k) k past)
+pub none_left : (table : SymbolTable) (k : ℕ) → record_count table ≤ k → rows_left table k ≡ []
+none_left table k past = no_rows table (record_count table - k) k past
 
-kept_step : (table : SymbolTable) (accepts : SymbolRow ℕ → Bool) (k : ℕ) → k < record_count table → kept_from table accepts k ≡ cons_option (kept_row table accepts k) (kept_from table accepts (after table k))
-kept_step table accepts k within =
+pub one_left : (table : SymbolTable) (k : ℕ) → k < record_count table → rows_left table k ≡ k ∷ rows_left table (after table k)
+one_left table k within =
     let one : rows_from table (record_count table - k) k ≡ k ∷ rows_from table (record_count table - k - 1) (after table k) =
     ap (λ (n : ℕ). rows_from table n k) (omega arith) ∙ one_row table (record_count table - k - 1) k within in
-    let rest : rows_from table (record_count table - k - 1) (after table k) ≡ rows_from table (record_count table - after table k) (after table k) =
+    let rest : rows_from table (record_count table - k - 1) (after table k) ≡ rows_left table (after table k) =
     rows_enough table (record_count table - k - 1) (record_count table - after table k) (after table k) (omega arith) (omega arith) in
-    ap (filter_map (kept_row table accepts)) (one ∙ ap (λ (ks : List ℕ). k ∷ ks) rest)
+    one ∙ ap (λ (ks : List ℕ). k ∷ ks) rest
 
--- of the kept rows some are held, and those from row k on are left
-pub record HoldsUpTo (table : SymbolTable) (accepts : SymbolRow ℕ → Bool) (k : ℕ) (rows : List RowAddress) (names : List (List ℕ)) : Type 0 where
-  pub so_far : List RowAddress
-  pub whole : kept_rows table accepts ≡ so_far ++ kept_from table accepts k
-  pub held : HoldsKept table so_far rows names
+-- these rows come before row k, and all others from it on
+abbrev pub AreBefore : SymbolTable → ℕ → List ℕ → Type 0
+AreBefore table k before = row_numbers table ≡ before ++ rows_left table k
 
-pub holds_none : (table : SymbolTable) (accepts : SymbolRow ℕ → Bool) → HoldsUpTo table accepts 0 [] []
-holds_none table accepts = record { so_far = []; whole = all_from_first table accepts; held = record { rows_are = refl; names_are = tt } }
+-- so does row k come before the next
+pub one_before : (table : SymbolTable) (k next : ℕ) (before : List ℕ) → k < record_count table → next ≡ after table k → AreBefore table k before → AreBefore table next (before ++ k ∷ [])
+one_before table k next before within follows are =
+    are ∙ ap (λ (ks : List ℕ). before ++ ks) (one_left table k within ∙ ap (λ (n : ℕ). k ∷ rows_left table n) (sym follows)) ∙ sym (append_assoc before (k ∷ []) (rows_left table next))
 
--- a row that isn't kept adds nothing
-pub goes_on : (table : SymbolTable) (accepts : SymbolRow ℕ → Bool) (k next : ℕ) (row : SymbolRow ℕ) (rows : List RowAddress) (names : List (List ℕ)) → k < record_count table → next ≡ after table k → row ≡ symbol_of table k → None ≡ function_name table accepts k row
-    → HoldsUpTo table accepts k rows names → HoldsUpTo table accepts next rows names
-goes_on table accepts k next row rows names within at is none h =
-    let left : kept_row table accepts k ≡ None = ap (λ (r : SymbolRow ℕ). option_map (λ (_ : List ℕ). record { address = r.value; row = k }) (function_name table accepts k r)) (sym is) ∙ ap (option_map (λ (_ : List ℕ). record { address = row.value; row = k })) (sym none) in
-    record {
-      so_far = h.so_far;
-      whole = h.whole ∙ ap (λ (xs : List RowAddress). h.so_far ++ xs) (kept_step table accepts k within ∙ rw left (ap (kept_from table accepts) (sym at)));
-      held = h.held;
-    }
+-- and past the last record all are
+pub all_before : (table : SymbolTable) (k : ℕ) (before : List ℕ) → record_count table ≤ k → AreBefore table k before → row_numbers table ≡ before
+all_before table k before past are = are ∙ rw (none_left table k past) (append-nil before)
+
+-- row k, with its address
+abbrev pub row_at : SymbolTable → ℕ → RowAddress
+row_at table k = record { address = (symbol_of table k).value; row = k }
+
+-- a row that ends no size
+pub not_ending : (table : SymbolTable) (rules : SectionRules) (k : ℕ) → ending_name table rules k (symbol_of table k) ≡ None → (ending_row table rules k ≡ None) × (function_name table rules.accepts k (symbol_of table k) ≡ None)
+not_ending table rules k e = by_test (rules.ends (symbol_of table k)) (function_name table rules.accepts k (symbol_of table k)) e
+  where
+    by_test : (b : Bool) (o : Option (List ℕ)) → (if b then Some o else option_map (λ (name : List ℕ). Some name) o) ≡ None → ((if b then Some (row_at table k) else option_map (λ _. row_at table k) o) ≡ None) × (o ≡ None)
+    by_test true o e = absurd cc
+    by_test false None e = (refl, refl)
+    by_test false (Some name) e = absurd cc
+
+-- one that ends sizes, with its name where it is kept
+pub ending : (table : SymbolTable) (rules : SectionRules) (k : ℕ) (name : Option (List ℕ)) → ending_name table rules k (symbol_of table k) ≡ Some name → (ending_row table rules k ≡ Some (row_at table k)) × (function_name table rules.accepts k (symbol_of table k) ≡ name)
+ending table rules k name e = by_test (rules.ends (symbol_of table k)) (function_name table rules.accepts k (symbol_of table k)) e
+  where
+    by_test : (b : Bool) (o : Option (List ℕ)) → (if b then Some o else option_map (λ (name : List ℕ). Some name) o) ≡ Some name → ((if b then Some (row_at table k) else option_map (λ _. row_at table k) o) ≡ Some (row_at table k)) × (o ≡ name)
+    by_test true o e = (refl, cc)
+    by_test false None e = absurd cc
+    by_test false (Some n) e = (refl, cc)
+
+-- a row that is kept ends sizes
+pub kept_ends : (table : SymbolTable) (rules : SectionRules) (k : ℕ) (name : List ℕ) → function_name table rules.accepts k (symbol_of table k) ≡ Some name → ending_row table rules k ≡ Some (row_at table k)
+kept_ends table rules k name e = by_test (rules.ends (symbol_of table k)) (function_name table rules.accepts k (symbol_of table k)) e
+  where
+    by_test : (b : Bool) (o : Option (List ℕ)) → o ≡ Some name → (if b then Some (row_at table k) else option_map (λ _. row_at table k) o) ≡ Some (row_at table k)
+    by_test true o e = refl
+    by_test false None e = absurd cc
+    by_test false (Some n) e = refl
+
+-- a row that ends sizes has its number
+pub row_number : (table : SymbolTable) (rules : SectionRules) (k : ℕ) (r : RowAddress) → ending_row table rules k ≡ Some r → r.row ≡ k
+row_number table rules k r e = by_test (rules.ends (symbol_of table k)) (function_name table rules.accepts k (symbol_of table k)) e
+  where
+    by_test : (b : Bool) (o : Option (List ℕ)) → (if b then Some (row_at table k) else option_map (λ _. row_at table k) o) ≡ Some r → r.row ≡ k
+    by_test true o e = let same : row_at table k ≡ r = cc in sym (ap (λ (s : RowAddress). s.row) same)
+    by_test false None e = absurd cc
+    by_test false (Some n) e = let same : row_at table k ≡ r = cc in sym (ap (λ (s : RowAddress). s.row) same)
+
+-- those of these rows that end sizes are held
+abbrev pub HoldsOf : SymbolTable → SectionRules → List ℕ → List RowAddress → List (Option (List ℕ)) → Type 0
+HoldsOf table rules before rows names = HoldsThese table rules.accepts (filter_map (ending_row table rules) before) rows names
+
+pub holds_none : (table : SymbolTable) (rules : SectionRules) → HoldsOf table rules [] [] []
+holds_none table rules = record { rows_are = refl; names_are = tt }
+
+-- a row that ends no size adds nothing
+pub goes_on : (table : SymbolTable) (rules : SectionRules) (before : List ℕ) (k : ℕ) (rows : List RowAddress) (names : List (Option (List ℕ))) → ending_name table rules k (symbol_of table k) ≡ None → HoldsOf table rules before rows names → HoldsOf table rules (before ++ k ∷ []) rows names
+goes_on table rules before k rows names none h =
+    let same : filter_map (ending_row table rules) (before ++ k ∷ []) ≡ filter_map (ending_row table rules) before =
+    filter_map-append (ending_row table rules) before (k ∷ []) ∙ rw (not_ending table rules k none).0 (append-nil (filter_map (ending_row table rules) before)) in
+    subst (λ (these : List RowAddress). HoldsThese table rules.accepts these rows names) (sym same) h
 
 all_zip_push : {A B : Type 0} (R : A → B → Type 0) (xs : List A) (ys : List B) (x : A) (y : B) → AllZip R xs ys → R x y → AllZip R (xs ++ x ∷ []) (ys ++ y ∷ [])
 all_zip_push R [] [] x y all r = (r, tt)
@@ -92,112 +139,86 @@ addresses_push : (xs : List RowAddress) (x : RowAddress) → addresses_of (xs ++
 addresses_push [] x = refl
 addresses_push (y ∷ xs) x = ap (λ (addresses : List ℕ). y.address ∷ addresses) (addresses_push xs x)
 
-named_too : (b : Bool) (o : Option (List ℕ)) (name : List ℕ) → cond b o None ≡ Some name → o ≡ Some name
-named_too true o name e = e
-named_too false o name e = absurd cc
+-- one that ends sizes is held after those so far
+pub one_more_held : (table : SymbolTable) (rules : SectionRules) (before : List ℕ) (k : ℕ) (name : Option (List ℕ)) (rows : List RowAddress) (names : List (Option (List ℕ))) (n : ℕ) → ending_name table rules k (symbol_of table k) ≡ Some name → n ≡ length names
+    → HoldsOf table rules before rows names → HoldsOf table rules (before ++ k ∷ []) (rows ++ record { address = (symbol_of table k).value; row = n } ∷ []) (names ++ name ∷ [])
+one_more_held table rules before k name rows names n some long h =
+    let these = filter_map (ending_row table rules) before in
+    let x = row_at table k in
+    let is = ending table rules k name some in
+    let more : filter_map (ending_row table rules) (before ++ k ∷ []) ≡ these ++ x ∷ [] =
+    filter_map-append (ending_row table rules) before (k ∷ []) ∙ rw is.0 refl in
+    let here : n ≡ 0 + length (addresses_of these) = omega (arith, AllZip-long (IsNameOf table rules.accepts) these names h.names_are, length-map these (λ r. r.address)) in
+    subst (λ (others : List RowAddress). HoldsThese table rules.accepts others (rows ++ record { address = x.address; row = n } ∷ []) (names ++ name ∷ [])) (sym more)
+    (record {
+      rows_are =
+          ap (λ (rs : List RowAddress). rs ++ record { address = x.address; row = n } ∷ []) h.rows_are
+          ∙ sym (numbered_push 0 x.address n (addresses_of these) here)
+          ∙ ap (numbered 0) (sym (addresses_push these x));
+      names_are = all_zip_push (IsNameOf table rules.accepts) these names x name h.names_are is.1;
+    })
 
-has_name : (table : SymbolTable) (accepts : SymbolRow ℕ → Bool) (k : ℕ) (name : List ℕ) → function_name table accepts k (symbol_of table k) ≡ Some name → name_of table k (symbol_of table k) ≡ Some name
-unfolding function_name
-has_name table accepts k name e = named_too (accepts (symbol_of table k)) (name_of table k (symbol_of table k)) name e
+-- where these are all rows, all that end sizes are held
+pub holds_all : (table : SymbolTable) (rules : SectionRules) (before : List ℕ) (rows : List RowAddress) (names : List (Option (List ℕ))) → row_numbers table ≡ before → HoldsOf table rules before rows names → HoldsThese table rules.accepts (ending_rows table rules) rows names
+unfolding ending_rows
+holds_all table rules before rows names all h = subst (λ (ks : List ℕ). HoldsOf table rules ks rows names) (sym all) h
 
--- one that is kept is held after those so far, with its name
-pub one_more_held : (table : SymbolTable) (accepts : SymbolRow ℕ → Bool) (k next : ℕ) (row : SymbolRow ℕ) (name : List ℕ) (rows : List RowAddress) (names : List (List ℕ)) (n : ℕ) → k < record_count table → next ≡ after table k → row ≡ symbol_of table k → Some name ≡ function_name table accepts k row
-    → n ≡ length names → HoldsUpTo table accepts k rows names → HoldsUpTo table accepts next (rows ++ record { address = row.value; row = n } ∷ []) (names ++ name ∷ [])
-one_more_held table accepts k next row name rows names n within at is some long h =
-    let x : RowAddress = record { address = (symbol_of table k).value; row = k } in
-    let function : function_name table accepts k (symbol_of table k) ≡ Some name = ap (function_name table accepts k) (sym is) ∙ sym some in
-    let kept : kept_row table accepts k ≡ Some x = ap (option_map (λ (_ : List ℕ). x)) function in
-    let here : n ≡ 0 + length (addresses_of h.so_far) = omega (arith, AllZip-long (IsNameOf table) h.so_far names h.held.names_are, length-map h.so_far (λ r. r.address)) in
-    record {
-      so_far = h.so_far ++ x ∷ [];
-      whole = h.whole ∙ ap (λ (xs : List RowAddress). h.so_far ++ xs) (kept_step table accepts k within ∙ rw kept (ap (λ (i : ℕ). x ∷ kept_from table accepts i) (sym at))) ∙ sym (append_assoc h.so_far (x ∷ []) (kept_from table accepts next));
-      held = record {
-        rows_are =
-            ap (λ (r : SymbolRow ℕ). rows ++ record { address = r.value; row = n } ∷ []) is
-            ∙ ap (λ (rs : List RowAddress). rs ++ record { address = x.address; row = n } ∷ []) h.held.rows_are
-            ∙ sym (numbered_push 0 x.address n (addresses_of h.so_far) here)
-            ∙ ap (numbered 0) (sym (addresses_push h.so_far x));
-        names_are = all_zip_push (IsNameOf table) h.so_far names x name h.held.names_are (has_name table accepts k name function);
-      };
-    }
+-- the row isn't kept
+abbrev pub IsLeftOut : SymbolTable → SectionRules → ℕ → Type 0
+IsLeftOut table rules k = function_name table rules.accepts k (symbol_of table k) ≡ None
 
-first_kept : (table : SymbolTable) (accepts : SymbolRow ℕ → Bool) (k : ℕ) (so_far all : List RowAddress) (x : RowAddress) → k < record_count table → kept_row table accepts k ≡ Some x
-    → all ≡ so_far ++ kept_from table accepts k → all ≢ []
-first_kept table accepts k [] all x within some e none = let there : kept_from table accepts k ≡ x ∷ kept_from table accepts (after table k) = kept_step table accepts k within ∙ rw some refl in cc
-first_kept table accepts k (y ∷ ys) all x within some e none = cc
-
--- then there is one
-pub some_kept : (table : SymbolTable) (accepts : SymbolRow ℕ → Bool) (k : ℕ) (row : SymbolRow ℕ) (name : List ℕ) (rows : List RowAddress) (names : List (List ℕ)) → k < record_count table → row ≡ symbol_of table k → Some name ≡ function_name table accepts k row
-    → HoldsUpTo table accepts k rows names → kept_rows table accepts ≢ []
-some_kept table accepts k row name rows names within is some h =
-    let x : RowAddress = record { address = (symbol_of table k).value; row = k } in
-    let kept : kept_row table accepts k ≡ Some x = ap (option_map (λ (_ : List ℕ). x)) (ap (function_name table accepts k) (sym is) ∙ sym some) in
-    first_kept table accepts k h.so_far (kept_rows table accepts) x within kept h.whole
-
--- past the last record all are held
-pub holds_all : (table : SymbolTable) (accepts : SymbolRow ℕ → Bool) (k : ℕ) (rows : List RowAddress) (names : List (List ℕ)) → record_count table ≤ k → HoldsUpTo table accepts k rows names → HoldsKept table (kept_rows table accepts) rows names
-holds_all table accepts k rows names past h =
-    let all : kept_rows table accepts ≡ h.so_far = h.whole ∙ rw (none_after table accepts k past) (append-nil h.so_far) in
-    subst (λ (kept : List RowAddress). HoldsKept table kept rows names) (sym all) h.held
-
--- without a kept row there is no entry
-pub no_entries : (table : SymbolTable) (accepts : SymbolRow ℕ → Bool) (t : ℕ) → kept_rows table accepts ≡ [] → entries_of table accepts t ≡ []
-unfolding entries_of arranged
-no_entries table accepts t none = ap (λ (rows : List RowAddress). entries_in table accepts t (arranged rows)) none
-
--- the name of a kept row can be read
-abbrev HasName : SymbolTable → RowAddress → Type 0
-HasName table r = (name : List ℕ) × IsNameOf table r name
-
-kept_has_name : (table : SymbolTable) (accepts : SymbolRow ℕ → Bool) (k : ℕ) (r : RowAddress) → kept_row table accepts k ≡ Some r → HasName table r
-kept_has_name table accepts k r e = by_name (function_name table accepts k (symbol_of table k)) refl e
+left_out : (table : SymbolTable) (rules : SectionRules) (ks : List ℕ) → All (IsLeftOut table rules) ks → All (λ r. IsLeftOut table rules r.row) (filter_map (ending_row table rules) ks)
+left_out table rules [] all = All-nil (λ r. IsLeftOut table rules r.row)
+left_out table rules (k ∷ ks) all = by_row (ending_row table rules k) refl (left_out table rules ks (All-tail (IsLeftOut table rules) k ks all))
   where
-    by_name : (o : Option (List ℕ)) → function_name table accepts k (symbol_of table k) ≡ o → option_map (λ _. record { address = (symbol_of table k).value; row = k }) o ≡ Some r → HasName table r
-    by_name None is e = absurd cc
-    by_name (Some name) is e =
-        let here : HasName table (record { address = (symbol_of table k).value; row = k }) = (name, has_name table accepts k name is) in
-        let same : record { address = (symbol_of table k).value; row = k } ≡ r = cc in
-        subst (HasName table) same here
-
-all_from : (table : SymbolTable) (accepts : SymbolRow ℕ → Bool) (n k : ℕ) → All (HasName table) (filter_map (kept_row table accepts) (rows_from table n k))
-unfolding rows_from
-all_from table accepts zero k = All-nil (HasName table)
-all_from table accepts (suc n) k = by_test (nat_lt k (record_count table)) (all_from table accepts n (after table k))
-  where
-    by_row : (o : Option RowAddress) → kept_row table accepts k ≡ o → All (HasName table) (filter_map (kept_row table accepts) (rows_from table n (after table k))) → All (HasName table) (cons_option o (filter_map (kept_row table accepts) (rows_from table n (after table k))))
+    by_row : (o : Option RowAddress) → ending_row table rules k ≡ o → All (λ r. IsLeftOut table rules r.row) (filter_map (ending_row table rules) ks) → All (λ r. IsLeftOut table rules r.row) (cons_option o (filter_map (ending_row table rules) ks))
     by_row None is rest = rest
-    by_row (Some r) is rest = All-cons (HasName table) r (filter_map (kept_row table accepts) (rows_from table n (after table k))) (kept_has_name table accepts k r is) rest
+    by_row (Some r) is rest =
+        All-cons (λ r. IsLeftOut table rules r.row) r (filter_map (ending_row table rules) ks)
+        (subst (IsLeftOut table rules) (sym (row_number table rules k r is)) (All-head (IsLeftOut table rules) k ks all)) rest
 
-    by_test : (b : Bool) → All (HasName table) (filter_map (kept_row table accepts) (rows_from table n (after table k))) → All (HasName table) (filter_map (kept_row table accepts) (cond b (k ∷ rows_from table n (after table k)) []))
-    by_test true rest = by_row (kept_row table accepts k) refl rest
-    by_test false rest = All-nil (HasName table)
+no_entry : (table : SymbolTable) (rules : SectionRules) (addresses : List ℕ) (rows : List RowAddress) → All (λ r. IsLeftOut table rules r.row) rows → filter_map (entry_of table rules addresses) rows ≡ []
+no_entry table rules addresses [] all = refl
+no_entry table rules addresses (r ∷ rows) all =
+    rw (All-head (λ r. IsLeftOut table rules r.row) r rows all) (no_entry table rules addresses rows (All-tail (λ r. IsLeftOut table rules r.row) r rows all))
 
-arranged_named : (table : SymbolTable) (accepts : SymbolRow ℕ → Bool) → All (HasName table) (arranged (kept_rows table accepts))
-unfolding kept_rows
-arranged_named table accepts = All-permutation (HasName table) (kept_rows table accepts) (arranged (kept_rows table accepts)) (arranged_same (kept_rows table accepts)) (all_from table accepts (record_count table) 0)
+-- where no row is kept there is no entry
+pub no_entries : (table : SymbolTable) (rules : SectionRules) → All (IsLeftOut table rules) (row_numbers table) → entries_of table rules ≡ []
+unfolding entries_of ending_rows
+no_entries table rules all =
+    no_entry table rules (addresses_of (ending_rows table rules)) (arranged (ending_rows table rules))
+    (All-permutation (λ r. IsLeftOut table rules r.row) (ending_rows table rules) (arranged (ending_rows table rules)) (arranged_same (ending_rows table rules)) (left_out table rules (row_numbers table) all))
 
-first_entry : (table : SymbolTable) (members : List ℕ) (rows : List RowAddress) → rows ≢ [] → All (HasName table) rows → filter_map (entry_of table members) rows ≢ []
-first_entry table members [] some all = absurd (some refl)
-first_entry table members (r ∷ rows) some all =
-    let is = All-head (HasName table) r rows all in
-    let begins : filter_map (entry_of table members) (r ∷ rows) ≡ record { name = is.0; address = r.address; size = size_among members r.address } ∷ filter_map (entry_of table members) rows =
-    ap (λ (o : Option (List ℕ)). cons_option (option_map (λ (name : List ℕ). record { name = name; address = r.address; size = size_among members r.address }) o) (filter_map (entry_of table members) rows)) is.1 in
-    λ empty. cc (sym begins ∙ empty)
+no_entry_of : (table : SymbolTable) (rules : SectionRules) (addresses : List ℕ) (rows : List RowAddress) → filter_map (entry_of table rules addresses) rows ≡ [] → All (λ r. IsLeftOut table rules r.row) rows
+no_entry_of table rules addresses [] none = All-nil (λ r. IsLeftOut table rules r.row)
+no_entry_of table rules addresses (r ∷ rows) none = by_name (function_name table rules.accepts r.row (symbol_of table r.row)) refl none (no_entry_of table rules addresses rows)
+  where
+    by_name : (o : Option (List ℕ)) → function_name table rules.accepts r.row (symbol_of table r.row) ≡ o
+        → cons_option (option_map (λ name. record { name = name; address = r.address; size = rules.size addresses r.address }) o) (filter_map (entry_of table rules addresses) rows) ≡ []
+        → (filter_map (entry_of table rules addresses) rows ≡ [] → All (λ r. IsLeftOut table rules r.row) rows)
+        → All (λ r. IsLeftOut table rules r.row) (r ∷ rows)
+    by_name None is none others = All-cons (λ r. IsLeftOut table rules r.row) r rows is (others none)
+    by_name (Some name) is none others = absurd cc
 
-not_nothing : (xs ys : List RowAddress) → IsPermutation xs ys → xs ≢ [] → ys ≢ []
-not_nothing [] ys same some none = some refl
-not_nothing (x ∷ xs) ys same some none = let long : length ys ≡ length (x ∷ xs) = length_permutation (x ∷ xs) ys same in absurd (omega (arith, ap length none))
+last_of : {A : Type 0} (P : A → Type 0) (xs : List A) (x : A) (ys : List A) → All P (xs ++ x ∷ ys) → P x
+last_of P [] x ys all = All-head P x ys all
+last_of P (y ∷ xs) x ys all = last_of P xs x ys (All-tail P y (xs ++ x ∷ ys) all)
 
--- with a kept row there is an entry
-pub some_entry : (table : SymbolTable) (accepts : SymbolRow ℕ → Bool) (t : ℕ) → kept_rows table accepts ≢ [] → entries_of table accepts t ≢ []
-unfolding entries_of
-some_entry table accepts t some =
-    first_entry table (size_members t (kept_rows table accepts)) (arranged (kept_rows table accepts)) (not_nothing (kept_rows table accepts) (arranged (kept_rows table accepts)) (arranged_same (kept_rows table accepts)) some) (arranged_named table accepts)
+-- where one is kept there is an entry
+pub some_entry : (table : SymbolTable) (rules : SectionRules) (before : List ℕ) (k : ℕ) (name : List ℕ) → k < record_count table → AreBefore table k before → function_name table rules.accepts k (symbol_of table k) ≡ Some name → entries_of table rules ≢ []
+unfolding entries_of ending_rows
+some_entry table rules before k name within are some none =
+    let these = ending_rows table rules in
+    let split : these ≡ filter_map (ending_row table rules) before ++ row_at table k ∷ filter_map (ending_row table rules) (rows_left table (after table k)) =
+    ap (filter_map (ending_row table rules)) (are ∙ ap (λ (ks : List ℕ). before ++ ks) (one_left table k within))
+    ∙ filter_map-append (ending_row table rules) before (k ∷ rows_left table (after table k))
+    ∙ rw (kept_ends table rules k name some) refl in
+    let all : All (λ r. IsLeftOut table rules r.row) these =
+    All-permutation (λ r. IsLeftOut table rules r.row) (arranged these) these (IsPermutation-sym these (arranged these) (arranged_same these)) (no_entry_of table rules (addresses_of these) (arranged these) none) in
+    let out : function_name table rules.accepts k (symbol_of table k) ≡ None =
+    last_of (λ r. IsLeftOut table rules r.row) (filter_map (ending_row table rules) before) (row_at table k) (filter_map (ending_row table rules) (rows_left table (after table k))) (subst (λ (rs : List RowAddress). All (λ r. IsLeftOut table rules r.row) rs) split all) in
+    cc (sym some ∙ out)
 
 numbered_long : (n : ℕ) (addresses : List ℕ) → length (numbered n addresses) ≡ length addresses
 numbered_long n [] = refl
 numbered_long n (a ∷ addresses) = ap suc (numbered_long (n + 1) addresses)
-
--- as many rows are held as are kept
-pub held_long : (table : SymbolTable) (kept rows : List RowAddress) (names : List (List ℕ)) → HoldsKept table kept rows names → length rows ≡ length kept
-held_long table kept rows names h = ap length h.rows_are ∙ numbered_long 0 (addresses_of kept) ∙ length-map kept (λ r. r.address)

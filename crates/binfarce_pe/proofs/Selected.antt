@@ -8,20 +8,20 @@ use Rattle.binfarce_bytes.specs.SectionEntries.{SelectedSymbols, in_section, unl
 use Rattle.binfarce_pe.specs.Pe.{Section}
 use Rattle.binfarce_pe.specs.PeParts.{TextPlace, SectionTable, places_of, section_table, table_walk, text_among}
 use Rattle.binfarce_pe.specs.PeSelection.{Rules, HasSection, the_text, all_sections, base_at, rules_of, moved, section_entries, entries_by, symbols_of, selected_answer}
-use Rattle.binfarce_pe.specs.PeSymbols.{SymbolTable, Located, text_section, symbol_table, located, is_function_of, entries_of, pe_answer}
+use Rattle.binfarce_pe.specs.PeSymbols.{SymbolTable, Located, text_section, symbol_table, located, text_rules, entries_of, pe_answer}
 use Rattle.binfarce_pe.proofs.Walks.{text_of}
 
 without_section : (n : ℕ) (es : List Entry) → map (λ e. e.entry) (in_section n (map (moved (λ value. value)) es) ++ []) ≡ es
 without_section n [] = refl
 without_section n (e ∷ es) = ap (λ (rest : List Entry). e ∷ rest) (without_section n es)
 
-text_entries : (text : TextPlace) (symbols : SymbolTable) → map (λ e. e.entry) (entries_by (rules_of (the_text text)) symbols) ≡ entries_of symbols (is_function_of text.index) text.size
-text_entries text symbols = without_section (text.index + 1) (entries_of symbols (is_function_of text.index) text.size)
+text_entries : (text : TextPlace) (symbols : SymbolTable) → map (λ e. e.entry) (entries_by (rules_of (the_text text)) symbols) ≡ entries_of symbols (text_rules text.index text.size)
+text_entries text symbols = without_section (text.index + 1) (entries_of symbols (text_rules text.index text.size))
 
 by_located : Result Section Refusal → Result SymbolTable Refusal → Result Listed Refusal
 by_located text table =
     (text >>= λ text. table >>= λ table. Ok (record { text = text; table = table }))
-    >>= λ (found : Located). Ok (record { entries = entries_of found.table (is_function_of found.text.index) found.text.size_of_raw_data; section_size = found.text.size_of_raw_data })
+    >>= λ (found : Located). Ok (record { entries = entries_of found.table (text_rules found.text.index found.text.size_of_raw_data); section_size = found.text.size_of_raw_data })
 
 -- the entries without their sections, and the section's size, or another
 abbrev pub listed_with : (SelectedSymbols → ℕ) → SelectedSymbols → Listed

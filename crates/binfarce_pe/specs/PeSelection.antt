@@ -6,20 +6,31 @@ use Rattle.binfarce_bytes.specs.Number.{bytes_at}
 use Rattle.binfarce_bytes.specs.Refusal.{◌>>=◌, Refusal, if_as_long_as}
 use Rattle.binfarce_bytes.specs.Field.{Field, number_in}
 use Rattle.binfarce_bytes.specs.Entries.{Entry}
+use Rattle.binfarce_bytes.specs.Sizes.{least_of, least_above}
 use Rattle.binfarce_bytes.specs.SectionEntries.{SectionEntry, SelectedSymbols, in_section, unless}
 use Rattle.binfarce_pe.specs.declared.functions.SelectedSections as code
 use Rattle.binfarce_pe.specs.declared.functions.SelectedSections.TheVariants.{Text, All}
 use Rattle.binfarce_pe.specs.Pe.{header_of, image_base, least_length, section_fields, section_length}
 use Rattle.binfarce_pe.specs.PeParts.{TablePlaces, TextPlace, SectionTable, headers_view, places_of, section_table, section_in, table_walk, text_place, text_view, whole_in}
-use Rattle.binfarce_pe.specs.PeSymbols.{SymbolRow, SymbolTable, symbol_table, is_function, is_function_of, entries_of}
+use Rattle.binfarce_pe.specs.PeSymbols.{SymbolRow, SymbolTable, SectionRules, symbol_table, is_function, text_rules, entries_of}
 
 -- the image base of a file with tables at these places
 abbrev pub base_at : List ℕ → TablePlaces → Option ℕ
 base_at file places = image_base (bytes_at file places.optional_header places.optional_header_size)
 
--- a function that is external (class 2) or static (class 3), in the section of this index
+-- where a program or a library is loaded unless the loader chooses another address: at its image base. None without one, as in an object. Refused where the
+-- optional header's bytes that state it end past the file
+unfoldable pub load_address_at : List ℕ → TablePlaces → Result (Option ℕ) Refusal
+load_address_at file places = if_as_long_as (places.optional_header + places.optional_header_size) file (Ok (base_at file places))
+
+-- that of a file that has a header
+abbrev pub file_load_address : List ℕ → Result (Option ℕ) Refusal
+file_load_address file = if_as_long_as (least_length file) file (load_address_at file (places_of file))
+
+-- a row that is external (class 2) or static (class 3), in the section of this index: its value is the symbol's offset there. A code label (class 6) lies
+-- within a function, and records for a debugger have other values
 abbrev pub is_external_or_static : ℕ → SymbolRow ℕ → Bool
-is_external_or_static index row = is_function row && (nat_eq row.storage_class 2 || nat_eq row.storage_class 3) && nat_eq row.section_number (index + 1)
+is_external_or_static index row = (nat_eq row.storage_class 2 || nat_eq row.storage_class 3) && nat_eq row.section_number (index + 1)
 
 -- a number of the section header of this index
 abbrev pub number_of : SectionTable → ℕ → Field → ℕ
@@ -42,30 +53,39 @@ pub data SelectedSections : Type 0 where
   the_text : TextPlace → SelectedSections
   all_sections : Option ℕ → SectionTable → SelectedSections
 
+-- the size at an offset in a section of this size in memory: up to the least address above that ends sizes, and to the section's end at the latest; 0 at and
+-- past that end
+abbrev pub size_within : ℕ → List ℕ → ℕ → ℕ
+size_within section_size addresses address = least_of section_size (least_above addresses address) - address
+
+-- the rules of the section of this index of a table: external and static functions are kept; external and static rows end sizes, whatever their type
+abbrev pub section_rules : SectionTable → ℕ → SectionRules
+section_rules sections index = record {
+  accepts = λ row. is_function row && is_external_or_static index row;
+  ends = is_external_or_static index;
+  size = size_within (memory_size sections index);
+}
+
 -- how the function symbols of chosen sections are listed: the index of the first section, and how many follow from it on; and for each section, by its
--- index, which rows are kept, the size that sizes end at, and the address for a row's value
+-- index, the rules of its rows, and the address for a row's value
 pub record Rules : Type 0 where
   pub first : ℕ
   pub count : ℕ
-  pub accepts : ℕ → SymbolRow ℕ → Bool
-  pub size : ℕ → ℕ
+  pub section : ℕ → SectionRules
   pub address : ℕ → ℕ → ℕ
 
--- of the text external functions, at their offsets, up to its size in the file; of all sections external and static ones, at their addresses in memory, up
--- to the end of each section there
+-- of the text its functions, at their offsets; of all sections theirs, at their addresses in memory
 abbrev pub rules_of : SelectedSections → Rules
 rules_of (the_text text) = record {
   first = text.index;
   count = 1;
-  accepts = is_function_of;
-  size = λ index. text.size;
+  section = λ index. text_rules index text.size;
   address = λ index value. value;
 }
 rules_of (all_sections base sections) = record {
   first = 0;
   count = sections.count;
-  accepts = is_external_or_static;
-  size = λ index. memory_size sections index;
+  section = section_rules sections;
   address = λ index value. (memory_address base sections index + value) % 2 ^ 64;
 }
 
@@ -76,7 +96,7 @@ moved address entry = record { name = entry.name; address = address entry.addres
 -- the entries of the section of this index, whose number is one more
 abbrev pub section_entries : Rules → SymbolTable → ℕ → List SectionEntry
 section_entries rules symbols index =
-    in_section (index + 1) (map (moved (rules.address index)) (entries_of symbols (rules.accepts index) (rules.size index)))
+    in_section (index + 1) (map (moved (rules.address index)) (entries_of symbols (rules.section index)))
 
 -- the entries of the chosen sections, in the order of their numbers; also of a section whose name isn't UTF-8
 abbrev pub entries_by : Rules → SymbolTable → List SectionEntry

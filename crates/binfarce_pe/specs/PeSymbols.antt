@@ -1,5 +1,5 @@
 -- The function symbols of a PE file (Microsoft PE Format, "COFF Symbol Table"), with sizes that their addresses give.
-use Rattle.std.specs.Prelude.{◌≡◌, ℕ, zero, suc, ◌+◌, ◌-◌, ◌*◌, ◌/◌, Bool, ◌&&◌, List, [], ◌∷◌, length, drop, codes, Option, None, Result, Ok, Err, nat_eq, nat_lt, nat_le, unwrap_or, if◌then◌else◌}
+use Rattle.std.specs.Prelude.{◌≡◌, ℕ, zero, suc, ◌+◌, ◌-◌, ◌*◌, ◌/◌, Bool, false, ◌&&◌, List, [], ◌∷◌, length, drop, codes, Option, Some, None, Result, Ok, Err, nat_eq, nat_lt, nat_le, unwrap_or, if◌then◌else◌}
 use Rattle.std.specs.Option.{option_map}
 use Rattle.std.specs.List.{filter_map}
 use Rattle.binfarce_bytes.specs.Number.{bytes_at}
@@ -92,29 +92,42 @@ function_name table accepts k row = if accepts row then name_of table k row else
 abbrev pub kept_row : SymbolTable → (SymbolRow ℕ → Bool) → ℕ → Option RowAddress
 kept_row table accepts k = option_map (λ _. record { address = (symbol_of table k).value; row = k }) (function_name table accepts k (symbol_of table k))
 
--- the rows that are kept, in table order
-unfoldable pub kept_rows : SymbolTable → (SymbolRow ℕ → Bool) → List RowAddress
-kept_rows table accepts = filter_map (kept_row table accepts) (row_numbers table)
+-- how the rows of a section are listed: which are accepted; which end sizes even where they aren't kept; and the size at an address, given the addresses of
+-- all rows that end sizes
+pub record SectionRules : Type 0 where
+  pub accepts : SymbolRow ℕ → Bool
+  pub ends : SymbolRow ℕ → Bool
+  pub size : List ℕ → ℕ → ℕ
+
+-- the address and the number of a row that ends sizes: one that is kept, or another
+abbrev pub ending_row : SymbolTable → SectionRules → ℕ → Option RowAddress
+ending_row table rules k =
+    if rules.ends (symbol_of table k) then Some (record { address = (symbol_of table k).value; row = k }) else kept_row table rules.accepts k
+
+-- the rows that end sizes, in table order
+unfoldable pub ending_rows : SymbolTable → SectionRules → List RowAddress
+ending_rows table rules = filter_map (ending_row table rules) (row_numbers table)
+
+-- the entry of such a row, where it is kept, by the addresses of all of them
+abbrev pub entry_of : SymbolTable → SectionRules → List ℕ → RowAddress → Option Entry
+entry_of table rules addresses at =
+    option_map (λ name. record { name = name; address = at.address; size = rules.size addresses at.address }) (function_name table rules.accepts at.row (symbol_of table at.row))
+
+-- the entries of such rows in this order
+abbrev pub entries_in : SymbolTable → SectionRules → List RowAddress → List Entry
+entries_in table rules in_order = filter_map (entry_of table rules (addresses_of (ending_rows table rules))) in_order
+
+-- the entries of the kept rows, in the order of (address, row number)
+unfoldable pub entries_of : SymbolTable → SectionRules → List Entry
+entries_of table rules = entries_in table rules (arranged (ending_rows table rules))
 
 -- the size at an address: up to the least member above it, and 0 where there is none
 abbrev pub size_among : List ℕ → ℕ → ℕ
 size_among members address = unwrap_or (option_map (λ above. above - address) (least_above members address)) 0
 
--- the bounds that sizes end at: the section's size and the addresses of the kept rows
-abbrev pub size_members : ℕ → List RowAddress → List ℕ
-size_members section_size rows = section_size ∷ addresses_of rows
-
--- the entry of a kept row
-abbrev pub entry_of : SymbolTable → List ℕ → RowAddress → Option Entry
-entry_of table members at = option_map (λ name. record { name = name; address = at.address; size = size_among members at.address }) (name_of table at.row (symbol_of table at.row))
-
--- the entries of kept rows in this order; each has a name, so that none is left out
-abbrev pub entries_in : SymbolTable → (SymbolRow ℕ → Bool) → ℕ → List RowAddress → List Entry
-entries_in table accepts section_size in_order = filter_map (entry_of table (size_members section_size (kept_rows table accepts))) in_order
-
--- the entries of the kept rows, in the order of (address, row number)
-unfoldable pub entries_of : SymbolTable → (SymbolRow ℕ → Bool) → ℕ → List Entry
-entries_of table accepts section_size = entries_in table accepts section_size (arranged (kept_rows table accepts))
+-- the rules of a text of this index and size in the file: functions are kept, and no other rows end sizes. A size ends at their addresses and at the text's size
+abbrev pub text_rules : ℕ → ℕ → SectionRules
+text_rules index section_size = record { accepts = is_function_of index; ends = λ row. false; size = λ addresses. size_among (section_size ∷ addresses) }
 
 -- the text: the first section `.text`
 abbrev pub text_section : List ℕ → Result Section Refusal
@@ -149,7 +162,7 @@ located file = do
 unfoldable pub pe_answer : List ℕ → Result Listed Refusal
 pe_answer file = do
   found ← located file
-  Ok (record { entries = entries_of found.table (is_function_of found.text.index) found.text.size_of_raw_data; section_size = found.text.size_of_raw_data })
+  Ok (record { entries = entries_of found.table (text_rules found.text.index found.text.size_of_raw_data); section_size = found.text.size_of_raw_data })
 
 -- that of a file that has a header
 abbrev pub pe_file_answer : List ℕ → Result Listed Refusal
@@ -158,5 +171,5 @@ pe_file_answer file = if_as_long_as (least_length file) file (pe_answer file)
 -- a law of `pe_answer`: its entries are those of the kept rows, arranged so that (address, row number) rises strictly
 abbrev pub ArrangesRows : List ℕ → Type 0
 ArrangesRows file = (found : Located) (listed : Listed) → located file ≡ Ok found → pe_answer file ≡ Ok listed
-    → ListsArranged (kept_rows found.table (is_function_of found.text.index))
-    (λ in_order entries. entries ≡ entries_in found.table (is_function_of found.text.index) found.text.size_of_raw_data in_order) listed.entries
+    → let rules = text_rules found.text.index found.text.size_of_raw_data in
+    ListsArranged (ending_rows found.table rules) (λ in_order entries. entries ≡ entries_in found.table rules in_order) listed.entries

@@ -1,20 +1,21 @@
 //! The function symbols of selected sections: of the text, or of all sections at their addresses in memory.
 
-ghost use Rattle.std.specs.Prelude.{◌≡◌, ◌≢◌, ◌⊎◌, ℕ, Bool, ◌&&◌, ◌+◌, ◌-◌, ◌*◌, ◌<◌, ◌≤◌, ◌++◌, true, false, [], ◌∷◌, length, map, All, Some, IfOk, IfSome, OnErr, MatchOption, nat_eq, nat_lt, unwrap_or, if◌then◌else◌};
+ghost use Rattle.std.specs.Prelude.{◌≡◌, ◌≢◌, ◌⊎◌, ℕ, ◌&&◌, ◌+◌, ◌-◌, ◌*◌, ◌<◌, ◌≤◌, ◌++◌, true, false, List, [], ◌∷◌, length, map, All, Some, None, IfOk, IfSome, OnErr, MatchOption, is_some, nat_eq, nat_lt, unwrap_or, if◌then◌else◌};
+ghost use Rattle.std.specs.List.{filter_map};
 ghost use Rattle.std.specs.Option.{option_map};
 ghost use Rattle.binfarce_bytes.specs.Entries.{Answers};
 ghost use Rattle.binfarce_bytes.specs.Refusal.{Gives, refusal_of};
 ghost use Rattle.binfarce_bytes.specs.RowViews.{rows_view};
-ghost use Rattle.binfarce_bytes.specs.SectionEntries.{SelectsSome, in_section};
+ghost use Rattle.binfarce_bytes.specs.SectionEntries.{SelectsSome};
 ghost use Rattle.binfarce_bytes.specs.Selection.{section_of};
 ghost use Rattle.binfarce_bytes.specs.Sizes.{addresses_of, least_above, least_of};
 ghost use Rattle.binfarce_bytes.specs.SymbolViews.{section_function_view, HoldsSized};
 ghost use Rattle.binfarce_pe.specs.Pe.{section_at};
 ghost use Rattle.binfarce_pe.specs.PeParts.{places_of, places_view, headers_view, section_table, table_view, whole_in};
-ghost use Rattle.binfarce_pe.specs.PeSelection.{Rules, memory_size, memory_address, rules_of, moved, name_of, entries_by, section_size, whole_sections, sections_in, selected_answer, sections_view, IsWhole};
+ghost use Rattle.binfarce_pe.specs.PeSelection.{is_external_or_static, memory_size, memory_address, rules_of, name_of, section_entries, entries_by, section_size, whole_sections, sections_in, selected_answer, sections_view, IsWhole};
 ghost use Rattle.binfarce_pe.specs.PeSymbols as pe_symbols;
-ghost use Rattle.binfarce_pe.specs.PeSymbols.{entries_of, size_members};
-ghost use Rattle.binfarce_pe.specs.machine.RawPe.{symbol_view, function_in, AllOrNone, HoldsRows, HoldsSections, IsAdded, SomeKept};
+ghost use Rattle.binfarce_pe.specs.PeSymbols.{record_count};
+ghost use Rattle.binfarce_pe.specs.machine.RawPe.{symbol_view, bound_of, ending_name, function_in, names_view, HoldsRows, HoldsSections};
 
 use crate::header::image_base;
 use crate::parts::{SECTION_LENGTH, TableOffsets, Text, text_in};
@@ -148,13 +149,15 @@ pub fn functions_of<'a>(
     ensures memory { OnErr result
         (entries_by (rules_of (sections_view sections.entry)) (table_view symbols.entry) ≢ []) }
 {
-    let mut kept = kept_by_section(alloc, sections, symbols)?;
-    let (first, _) = span_of(sections);
     let mut functions = Vec::new(alloc);
-    let held = kept.len();
-    for at in 0..held {
-        let rows = mem::replace(&mut kept[at], nothing_kept(alloc));
-        push_functions(alloc, &mut functions, sections, first + at as u32, rows)?;
+    if !keeps_some(sections, symbols) {
+        return Ok(functions);
+    }
+    let mut held = rows_by_section(alloc, sections, symbols)?;
+    let (first, count) = span_of(sections);
+    for at in 0..count {
+        let rows = mem::replace(&mut held[at as usize], no_rows(alloc));
+        push_functions(alloc, &mut functions, sections, first + at, rows)?;
     }
     Ok(functions)
 }
@@ -171,18 +174,127 @@ fn span_of(sections: SelectedSections<'_>) -> (u32, u32)
     }
 }
 
-// Whether a row is kept of the section that it names, if that is selected.
+// Whether a row is a function that is kept of the section that it names, if that is selected and its name can be read.
 fn accepts(sections: SelectedSections<'_>, row: SymbolRow) -> bool
-    ensures { (index : ℕ) → (rules_of (sections_view sections.entry)).accepts index (symbol_view row)
+    ensures { (index : ℕ) → ((rules_of (sections_view sections.entry)).section index).accepts (symbol_view row)
+        ≡ (result && nat_eq (symbol_view row).section_number (index + 1)) }
+{
+    let is_kept = match sections {
+        SelectedSections::Text(_) => row.storage_class == IMAGE_SYM_CLASS_EXTERNAL,
+        SelectedSections::All(_, _) => is_external_or_static(row),
+    };
+    is_function(row) && is_kept
+}
+
+// Whether a row ends sizes in the section that it names, if that is selected, even where it isn't kept.
+fn ends_sizes(sections: SelectedSections<'_>, row: SymbolRow) -> bool
+    ensures { (index : ℕ) → ((rules_of (sections_view sections.entry)).section index).ends (symbol_view row)
+        ≡ (result && nat_eq (symbol_view row).section_number (index + 1)) }
+{
+    match sections {
+        SelectedSections::Text(_) => false,
+        SelectedSections::All(_, _) => is_external_or_static(row),
+    }
+}
+
+// Whether a row's value is the offset of a symbol in its section. A code label lies within a function.
+fn is_external_or_static(row: SymbolRow) -> bool
+    ensures { (index : ℕ) → is_external_or_static index (symbol_view row)
         ≡ (result && nat_eq (symbol_view row).section_number (index + 1)) }
 {
     let class = row.storage_class;
-    let is_kept = match sections {
-        SelectedSections::Text(_) => class == IMAGE_SYM_CLASS_EXTERNAL,
-        SelectedSections::All(_, _) => class == IMAGE_SYM_CLASS_EXTERNAL
-            || class == IMAGE_SYM_CLASS_STATIC,
+    class == IMAGE_SYM_CLASS_EXTERNAL || class == IMAGE_SYM_CLASS_STATIC
+}
+
+// The position among the selected sections of the one that a row names.
+fn position_of(sections: SelectedSections<'_>, row: SymbolRow) -> Option<u32>
+    ensures { let rules = rules_of (sections_view sections.entry) in
+        let names = λ (i : ℕ). nat_eq (symbol_view row).section_number (rules.first + i + 1) in MatchOption result
+        ((i : ℕ) → i < rules.count → names i ≡ false)
+        (λ at. (at < rules.count) × ((i : ℕ) → names i ≡ nat_eq i at)) }
+{
+    let (first, count) = span_of(sections);
+    let number = u32::from(row.section_number);
+    if first < number && number - first <= count {
+        Some(number - first - 1)
+    } else {
+        None
+    }
+}
+
+// The position among the selected sections of the one in which a row ends sizes, and the row's name where it is kept.
+fn ending_of<'a>(
+    sections: SelectedSections<'_>,
+    symbols: SymbolTable<'a>,
+    number: usize,
+    row: SymbolRow,
+) -> Option<(u32, Option<&'a str>)>
+    requires { number < record_count (table_view symbols) }
+    ensures { let rules = rules_of (sections_view sections.entry) in
+        let name = λ (i : ℕ). ending_name (table_view symbols.entry) (rules.section (rules.first + i)) number
+        (symbol_view row) in MatchOption result
+        ((i : ℕ) → i < rules.count → name i ≡ None)
+        (λ f. (f.0 < rules.count)
+        × ((i : ℕ) → name i ≡ (if nat_eq i f.0 then Some (option_map (λ t. t.now) f.1) else None))) }
+{
+    let at = match position_of(sections, row) {
+        None => return None,
+        Some(at) => at,
     };
-    is_function(row) && is_kept
+    match function_name(sections, symbols, number, row) {
+        Some(name) => Some((at, Some(name))),
+        None => {
+            if ends_sizes(sections, row) {
+                Some((at, None))
+            } else {
+                None
+            }
+        }
+    }
+}
+
+// The position among the selected sections of the one that a row is kept of.
+fn kept_in(
+    sections: SelectedSections<'_>,
+    symbols: SymbolTable<'_>,
+    number: usize,
+    row: SymbolRow,
+) -> Option<u32>
+    requires { number < record_count (table_view symbols) }
+    ensures { let rules = rules_of (sections_view sections.entry) in
+        let name = λ (i : ℕ). pe_symbols.function_name (table_view symbols.entry)
+        (rules.section (rules.first + i)).accepts number (symbol_view row) in MatchOption result
+        ((i : ℕ) → i < rules.count → name i ≡ None)
+        (λ at. (at < rules.count) × (is_some (name at) ≡ true)) }
+{
+    let at = match position_of(sections, row) {
+        None => return None,
+        Some(at) => at,
+    };
+    match function_name(sections, symbols, number, row) {
+        None => None,
+        Some(_) => Some(at),
+    }
+}
+
+// The name of a row that is kept of the section that it names, if that is selected.
+#[tactic(auto, unfolding(crate::specs::PeSymbols::function_name))]
+fn function_name<'a>(
+    sections: SelectedSections<'_>,
+    symbols: SymbolTable<'a>,
+    number: usize,
+    row: SymbolRow,
+) -> Option<&'a str>
+    requires { number < record_count (table_view symbols) }
+    ensures { (index : ℕ) → pe_symbols.function_name (table_view symbols.entry)
+        ((rules_of (sections_view sections.entry)).section index).accepts number (symbol_view row)
+        ≡ (if nat_eq (symbol_view row).section_number (index + 1) then option_map (λ t. t.now) result else None) }
+{
+    if accepts(sections, row) {
+        name_of(symbols, number, row)
+    } else {
+        None
+    }
 }
 
 // The size that sizes end at in the section of this index.
@@ -190,7 +302,7 @@ fn accepts(sections: SelectedSections<'_>, row: SymbolRow) -> bool
 fn bound_of(sections: SelectedSections<'_>, index: u32) -> u32
     requires whole { IsWhole (sections_view sections) }
     requires within { index < (rules_of (sections_view sections)).first + (rules_of (sections_view sections)).count }
-    ensures { result ≡ (rules_of (sections_view sections.entry)).size index }
+    ensures { result ≡ bound_of (sections_view sections.entry) index }
 {
     match sections {
         SelectedSections::Text(text) => text.size,
@@ -241,140 +353,121 @@ fn memory_address(image_base: Option<u64>, sections: Table<'_>, index: u32) -> u
     }
 }
 
-// The rows that are kept of a section, in table order: the address of each and its index among them, and its name.
+// The rows that end sizes in a section, in table order: the address of each and its index among them, and its name where
+// it is kept.
 #[derive(Drop)]
-struct Kept<'a> {
+struct Held<'a> {
     rows: Vec<RowAddress>,
-    names: Vec<&'a str>,
+    names: Vec<Option<&'a str>>,
 }
 
-// The rows that are kept of each selected section; nothing where none is kept of any.
-fn kept_by_section<'a>(
+// Whether a row is kept of a selected section. Nothing is allocated.
+fn keeps_some(sections: SelectedSections<'_>, symbols: SymbolTable<'_>) -> bool
+    ensures some { result ≡ true
+        → entries_by (rules_of (sections_view sections.entry)) (table_view symbols.entry) ≢ [] }
+    ensures none { result ≡ false
+        → entries_by (rules_of (sections_view sections.entry)) (table_view symbols.entry) ≡ [] }
+{
+    let row_count = symbols.rows.len() / SYMBOL_LENGTH;
+    let mut next = 0;
+    while next < row_count {
+        let number = next;
+        let row = symbol_of(symbols, number);
+        next = number + 1 + row.number_of_aux_symbols as usize;
+        match kept_in(sections, symbols, number, row) {
+            None => {}
+            Some(_) => return true,
+        }
+    }
+    false
+}
+
+// The rows that end sizes in each selected section.
+fn rows_by_section<'a>(
     alloc: Global,
     sections: SelectedSections<'_>,
     symbols: SymbolTable<'a>,
-) -> Result<Vec<Kept<'a>>, AllocError>
-    ensures kept { IfOk result
+) -> Result<Vec<Held<'a>>, AllocError>
+    ensures held { IfOk result
         (λ v. HoldsSections (table_view symbols.entry) (rules_of (sections_view sections.entry)) 0 v.items) }
-    ensures few { IfOk result (λ v. length v.items ≤ (rules_of (sections_view sections.entry)).count) }
-    ensures memory { OnErr result (SomeKept (table_view symbols.entry) (rules_of (sections_view sections.entry))) }
+    ensures long { IfOk result (λ v. length v.items ≡ (rules_of (sections_view sections.entry)).count) }
 {
     let (_, count) = span_of(sections);
     let row_count = symbols.rows.len() / SYMBOL_LENGTH;
-    let mut kept = Vec::new(alloc);
+    let mut held = no_rows_of(alloc, count)?;
     let mut next = 0;
     while next < row_count {
         let number = next;
         let row = symbol_of(symbols, number);
         next += 1 + row.number_of_aux_symbols as usize;
-        let at = match position_of(sections, row) {
-            None => continue,
-            Some(at) => at,
-        };
-        let name = match name_of(symbols, number, row) {
-            None => continue,
-            Some(name) => name,
-        };
-        push_kept(alloc, &mut kept, count, at, u64::from(row.value), name)?;
+        match ending_of(sections, symbols, number, row) {
+            None => {}
+            Some((at, name)) => push_row(&mut held[at as usize], u64::from(row.value), name)?,
+        }
     }
-    Ok(kept)
-}
-
-// The position among the selected sections of the one that this row is kept of.
-fn position_of(sections: SelectedSections<'_>, row: SymbolRow) -> Option<u32>
-    ensures { let rules = rules_of (sections_view sections.entry) in MatchOption result
-        ((at : ℕ) → at < rules.count → rules.accepts (rules.first + at) (symbol_view row) ≡ false)
-        (λ at. (at < rules.count) × ((i : ℕ) → rules.accepts (rules.first + i) (symbol_view row) ≡ nat_eq i at)) }
-{
-    let (first, count) = span_of(sections);
-    let number = u32::from(row.section_number);
-    if accepts(sections, row) && first < number && number - first <= count {
-        Some(number - first - 1)
-    } else {
-        None
-    }
-}
-
-// Keeps a row of this address and name of the section at this position among so many.
-fn push_kept<'a>(
-    alloc: Global,
-    kept: &mut Vec<Kept<'a>>,
-    count: u32,
-    at: u32,
-    address: u64,
-    name: &'a str,
-) -> Result<(), AllocError>
-    requires within { at < count }
-    requires long { AllOrNone kept.old.items count }
-    ensures { IfOk result (λ _. IsAdded kept.old.items kept.new.items count at address name.entry.now) }
-{
-    if kept.is_empty() {
-        *kept = nothing_kept_of(alloc, count)?;
-    }
-    push_row(&mut kept[at as usize], address, name)
+    Ok(held)
 }
 
 // No rows so far, for each of as many sections.
-fn nothing_kept_of<'a>(alloc: Global, count: u32) -> Result<Vec<Kept<'a>>, AllocError>
+fn no_rows_of<'a>(alloc: Global, count: u32) -> Result<Vec<Held<'a>>, AllocError>
     ensures { IfOk result
-        (λ v. (length v.items ≡ count) × All (λ k. (k.rows.items ≡ []) × (k.names.items ≡ [])) v.items) }
+        (λ v. (length v.items ≡ count) × All (λ h. (h.rows.items ≡ []) × (h.names.items ≡ [])) v.items) }
 {
-    let mut kept = Vec::new(alloc);
+    let mut held = Vec::new(alloc);
     for _index in 0..count {
-        kept.push(nothing_kept(alloc))?;
+        held.push(no_rows(alloc))?;
     }
-    Ok(kept)
+    Ok(held)
 }
 
-fn nothing_kept<'a>(alloc: Global) -> Kept<'a>
+fn no_rows<'a>(alloc: Global) -> Held<'a>
     ensures rows { result.rows.items ≡ [] }
     ensures names { result.names.items ≡ [] }
 {
-    Kept {
+    Held {
         rows: Vec::new(alloc),
         names: Vec::new(alloc),
     }
 }
 
-fn push_row<'a>(kept: &mut Kept<'a>, address: u64, name: &'a str) -> Result<(), AllocError>
+fn push_row<'a>(held: &mut Held<'a>, address: u64, name: Option<&'a str>) -> Result<(), AllocError>
     ensures rows { IfOk result
-        (λ _. kept.new.rows.items
-        ≡ kept.old.rows.items ++ record { address = address; index = length kept.old.names.items } ∷ []) }
-    ensures names { IfOk result (λ _. kept.new.names.items ≡ kept.old.names.items ++ name.entry ∷ []) }
+        (λ _. held.new.rows.items
+        ≡ held.old.rows.items ++ record { address = address; index = length held.old.names.items } ∷ []) }
+    ensures names { IfOk result (λ _. held.new.names.items ≡ held.old.names.items ++ name.entry ∷ []) }
 {
-    kept.rows.push(RowAddress {
+    held.rows.push(RowAddress {
         address,
-        index: kept.names.len(),
+        index: held.names.len(),
     })?;
-    kept.names.push(name)?;
+    held.names.push(name)?;
     Ok(())
 }
 
-// Adds the function symbols of the kept rows of the section of this index.
+// Adds the function symbols of the section of this index, of whose rows these are held.
 fn push_functions<'a>(
     alloc: Global,
     functions: &mut Vec<SectionFunction<'a>>,
     sections: SelectedSections<'_>,
     index: u32,
-    kept: Kept<'a>,
+    held: Held<'a>,
 ) -> Result<(), AllocError>
-    requires named { All (λ r. r.index < length kept.names.items) kept.rows.items }
+    requires named { All (λ r. r.index < length held.names.items) held.rows.items }
     requires whole { IsWhole (sections_view sections) }
     requires within { (index < 65536)
         × (index < (rules_of (sections_view sections)).first + (rules_of (sections_view sections)).count) }
-    ensures { (table : pe_symbols.SymbolTable) (accepts : pe_symbols.SymbolRow ℕ → Bool)
-        → HoldsRows table accepts kept.entry → let rules = rules_of (sections_view sections.entry) in IfOk result
+    ensures { let rules = rules_of (sections_view sections.entry) in (table : pe_symbols.SymbolTable)
+        → HoldsRows table (rules.section index) held.entry → IfOk result
         (λ _. map section_function_view functions.new.items
-        ≡ map section_function_view functions.old.items ++ in_section (index + 1)
-        (map (moved (rules.address index)) (entries_of table accepts (rules.size index)))) }
+        ≡ map section_function_view functions.old.items ++ section_entries rules table index) }
 {
-    let arranged = arrange(alloc, kept.rows)?;
+    let arranged = arrange(alloc, held.rows)?;
     push_rows(
         functions,
         sections,
         index,
         &arranged.rows,
-        &kept.names,
+        &held.names,
         &arranged.above,
     )
 }
@@ -385,7 +478,7 @@ fn push_rows<'a>(
     sections: SelectedSections<'_>,
     index: u32,
     rows: &[RowAddress],
-    names: &[&'a str],
+    names: &[Option<&'a str>],
     above: &[Option<u64>],
 ) -> Result<(), AllocError>
     requires named { All (λ r. r.index < length names.now) rows.now }
@@ -395,35 +488,63 @@ fn push_rows<'a>(
         × (index < (rules_of (sections_view sections)).first + (rules_of (sections_view sections)).count) }
     ensures { let rules = rules_of (sections_view sections.entry) in IfOk result
         (λ _. map section_function_view functions.new.items
-        ≡ map section_function_view functions.old.items ++ map (function_in rules index (map (λ t. t.now) names.now)
-        (size_members (rules.size index) (rows_view rows.now))) (rows_view rows.now)) }
+        ≡ map section_function_view functions.old.items ++ filter_map (function_in rules index (names_view names.now)
+        (addresses_of (rows_view rows.now))) (rows_view rows.now)) }
 {
-    let size = u64::from(bound_of(sections, index));
+    let bound = u64::from(bound_of(sections, index));
     for at in 0..rows.len() {
         let row = rows[at];
+        let name = match names[row.index] {
+            None => continue,
+            Some(name) => name,
+        };
         functions.push(SectionFunction {
             section: index + 1,
             function: FunctionSymbol {
-                name: names[row.index],
+                name,
                 address: address_of(sections, index, row.address),
-                size: size_up_to(row.address, above[at], size),
+                size: size_at(sections, row.address, above[at], bound),
             },
         })?;
     }
     Ok(())
 }
 
-// The distance from the address to the least of the section's size and `above` that is greater; 0 where neither is.
-fn size_up_to(address: u64, above: Option<u64>, section_size: u64) -> u64
+// The size at an address, given the least greater address that ends sizes and the size that sizes end at.
+fn size_at(sections: SelectedSections<'_>, address: u64, above: Option<u64>, bound: u64) -> u64
+    requires { IfSome above (λ a. address < a) }
+    ensures { let chosen = sections_view sections.entry in (index : ℕ) (addresses : List ℕ)
+        → bound ≡ bound_of chosen index → above ≡ least_above addresses address
+        → result ≡ ((rules_of chosen).section index).size addresses address }
+{
+    match sections {
+        SelectedSections::Text(_) => size_up_to(address, above, bound),
+        SelectedSections::All(_, _) => size_within(address, above, bound),
+    }
+}
+
+// The distance from the address to the least of the text's size and `above` that is greater; 0 where neither is.
+fn size_up_to(address: u64, above: Option<u64>, text_size: u64) -> u64
     requires { IfSome above (λ a. address < a) }
     ensures { result ≡ unwrap_or
         (option_map (λ a. a - address)
-        (if nat_lt address section_size then Some (least_of section_size above) else above)) 0 }
+        (if nat_lt address text_size then Some (least_of text_size above) else above)) 0 }
+{
+    let end = match above {
+        None => text_size,
+        Some(next) if address < text_size => next.min(text_size),
+        Some(next) => next,
+    };
+    end.saturating_sub(address)
+}
+
+// The distance from the address to `above`, and to the section's end at the latest; 0 at and past that end.
+fn size_within(address: u64, above: Option<u64>, section_size: u64) -> u64
+    ensures { result ≡ least_of section_size above - address }
 {
     let end = match above {
         None => section_size,
-        Some(next) if address < section_size => next.min(section_size),
-        Some(next) => next,
+        Some(next) => next.min(section_size),
     };
     end.saturating_sub(address)
 }

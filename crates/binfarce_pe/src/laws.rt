@@ -2,6 +2,7 @@
 
 ghost use Rattle.std.specs.Prelude.{◌≡◌, [], ◌∷◌, ◌++◌, replicate, codes, Some};
 ghost use Rattle.binfarce_pe.specs.Pe.{section_at};
+ghost use Rattle.binfarce_pe.specs.PeSelection.{size_within};
 ghost use Rattle.binfarce_pe.specs.PeSymbols.{symbol_at, row_numbers, size_among};
 
 /// The section `.text`, of 0x1F bytes in memory at 0x1000 and 0x200 in the file, from 0x400 on.
@@ -49,4 +50,13 @@ fn worked_sizes()
     ensures up_to_the_end { size_among (256 ∷ 384 ∷ 0 ∷ 64 ∷ 0 ∷ 256 ∷ []) 64 ≡ 192 }
     ensures past_the_end { size_among (256 ∷ 384 ∷ 0 ∷ 64 ∷ 0 ∷ 256 ∷ []) 256 ≡ 128 }
     ensures last { size_among (256 ∷ 384 ∷ 0 ∷ 64 ∷ 0 ∷ 256 ∷ []) 384 ≡ 0 }
+{}
+
+/// Sizes at the same addresses of all sections, in a section of 256 bytes in memory.
+#[tactic(auto, unfolding(binfarce_bytes::specs::Sizes::least_above))]
+fn worked_sizes_within()
+    ensures up_to_the_next { size_within 256 (384 ∷ 0 ∷ 64 ∷ 0 ∷ 256 ∷ []) 0 ≡ 64 }
+    ensures up_to_the_end { size_within 256 (384 ∷ 0 ∷ 64 ∷ 0 ∷ []) 64 ≡ 192 }
+    ensures at_the_end { size_within 256 (384 ∷ 0 ∷ 64 ∷ 0 ∷ 256 ∷ []) 256 ≡ 0 }
+    ensures past_the_end { size_within 256 (384 ∷ 512 ∷ []) 384 ≡ 0 }
 {}

@@ -1,13 +1,15 @@
 -- Views of the values that a PE file is read into, for private clauses.
-use Rattle.std.specs.Prelude.{◌≡◌, ◌≢◌, ◌⊎◌, ℕ, ◌+◌, ◌-◌, ◌<◌, ◌≤◌, Bool, List, [], ◌∷◌, ◌++◌, length, map, Option, Some, None, nat_eq, min, get_or, if◌then◌else◌}
+use Rattle.std.specs.Borrow.{Bor}
+use Rattle.std.specs.Prelude.{◌≡◌, ℕ, ◌+◌, ◌-◌, ◌<◌, ◌≤◌, Bool, List, [], ◌∷◌, map, Option, Some, None, min, get_or, if◌then◌else◌}
+use Rattle.std.specs.Option.{option_map}
 use Rattle.std.specs.List.{AllZip, range_with_len, filter_map}
 use Rattle.binfarce_bytes.specs.Walk.{Walk, ended}
 use Rattle.binfarce_pe.specs.declared.symbols.SymbolRow.{SymbolRow}
-use Rattle.binfarce_pe.specs.declared.functions.Kept.{Kept}
+use Rattle.binfarce_pe.specs.declared.functions.Held.{Held}
 use Rattle.binfarce_pe.specs.Pe as pe
 use Rattle.binfarce_pe.specs.PeParts.{SectionTable, whole_in, section_in, table_walk}
 use Rattle.binfarce_pe.specs.PeSymbols as symbols
-use Rattle.binfarce_pe.specs.PeSelection.{Rules}
+use Rattle.binfarce_pe.specs.PeSelection.{SelectedSections, the_text, all_sections, Rules, memory_size}
 use Rattle.binfarce_bytes.specs.Sizes.{RowAddress, addresses_of}
 use Rattle.binfarce_bytes.specs.SectionEntries.{SectionEntry}
 use Rattle.binfarce_bytes.specs.RowViews.{rows_view}
@@ -32,50 +34,47 @@ abbrev pub numbered : ℕ → List ℕ → List RowAddress
 numbered n [] = []
 numbered n (address ∷ addresses) = record { address = address; row = n } ∷ numbered (n + 1) addresses
 
--- the name of this row can be read, and is this one
-abbrev pub IsNameOf : symbols.SymbolTable → RowAddress → List ℕ → Type 0
-IsNameOf table r name = symbols.name_of table r.row (symbols.symbol_of table r.row) ≡ Some name
+-- this is the name of a row that is kept, and none for another row
+abbrev pub IsNameOf : symbols.SymbolTable → (symbols.SymbolRow ℕ → Bool) → RowAddress → Option (List ℕ) → Type 0
+IsNameOf table accepts r name = symbols.function_name table accepts r.row (symbols.symbol_of table r.row) ≡ name
 
--- the rows that are held have the addresses of the kept ones and are numbered in their order, and the names are theirs
-pub record HoldsKept (table : symbols.SymbolTable) (kept rows : List RowAddress) (names : List (List ℕ)) : Type 0 where
-  pub rows_are : rows ≡ numbered 0 (addresses_of kept)
-  pub names_are : AllZip (IsNameOf table) kept names
+-- the rows that are held have the addresses of these and are numbered in their order, and the names are theirs
+pub record HoldsThese (table : symbols.SymbolTable) (accepts : symbols.SymbolRow ℕ → Bool) (these rows : List RowAddress) (names : List (Option (List ℕ))) : Type 0 where
+  pub rows_are : rows ≡ numbered 0 (addresses_of these)
+  pub names_are : AllZip (IsNameOf table accepts) these names
 
--- the rows that are kept of those that are accepted
-abbrev pub HoldsRows : symbols.SymbolTable → (symbols.SymbolRow ℕ → Bool) → Kept → Type 0
-HoldsRows table accepts k = HoldsKept table (symbols.kept_rows table accepts) (rows_view k.rows.items) (map (λ t. t.now) k.names.items)
+-- the names that are held
+abbrev pub names_view : List (Option (Bor (List ℕ))) → List (Option (List ℕ))
+names_view names = map (option_map (λ t. t.now)) names
+
+-- the rows that end sizes are held
+abbrev pub HoldsRows : symbols.SymbolTable → symbols.SectionRules → Held → Type 0
+HoldsRows table rules h = HoldsThese table rules.accepts (symbols.ending_rows table rules) (rows_view h.rows.items) (names_view h.names.items)
 
 -- the rows that are held of the section at this position, and their names; none past the end
-abbrev pub rows_at : List Kept → ℕ → List RowAddress
-rows_at kept i = get_or (map (λ k. rows_view k.rows.items) kept) i []
+abbrev pub rows_at : List Held → ℕ → List RowAddress
+rows_at held i = get_or (map (λ h. rows_view h.rows.items) held) i []
 
-abbrev pub names_at : List Kept → ℕ → List (List ℕ)
-names_at kept i = get_or (map (λ k. map (λ t. t.now) k.names.items) kept) i []
+abbrev pub names_at : List Held → ℕ → List (Option (List ℕ))
+names_at held i = get_or (map (λ h. names_view h.names.items) held) i []
 
--- a row is kept of a selected section
-abbrev pub SomeKept : symbols.SymbolTable → Rules → Type 0
-SomeKept table rules = (i : ℕ) × (i < rules.count) × (symbols.kept_rows table (rules.accepts (rules.first + i)) ≢ [])
+-- of each selected section from this position on the rows that end sizes are held
+abbrev pub HoldsSections : symbols.SymbolTable → Rules → ℕ → List Held → Type 0
+HoldsSections table rules from held =
+    (i : ℕ) → from ≤ i → i < rules.count → HoldsThese table (rules.section (rules.first + i)).accepts (symbols.ending_rows table (rules.section (rules.first + i))) (rows_at held i) (names_at held i)
 
--- of each selected section from this position on the rows that are kept are held; where there is a place for any, one is kept
-pub record HoldsSections (table : symbols.SymbolTable) (rules : Rules) (from : ℕ) (kept : List Kept) : Type 0 where
-  pub some : 0 < length kept → SomeKept table rules
-  pub each : (i : ℕ) → from ≤ i → i < rules.count → HoldsKept table (symbols.kept_rows table (rules.accepts (rules.first + i))) (rows_at kept i) (names_at kept i)
+-- the name of a row that ends sizes, and none of it where it isn't kept
+abbrev pub ending_name : symbols.SymbolTable → symbols.SectionRules → ℕ → symbols.SymbolRow ℕ → Option (Option (List ℕ))
+ending_name table rules k row =
+    if rules.ends row then Some (symbols.function_name table rules.accepts k row) else option_map (λ name. Some name) (symbols.function_name table rules.accepts k row)
 
--- nothing is held yet, or there is a place for each of so many sections
-abbrev pub AllOrNone : List Kept → ℕ → Type 0
-AllOrNone kept count = (kept ≡ []) ⊎ (length kept ≡ count)
+-- the size that sizes end at in the section of this index
+abbrev pub bound_of : SelectedSections → ℕ → ℕ
+bound_of (the_text text) index = text.size
+bound_of (all_sections base sections) index = memory_size sections index
 
--- the element, if it is at this position
-abbrev pub if_here : {A : Type 0} → ℕ → ℕ → A → List A
-if_here i at x = if nat_eq i at then x ∷ [] else []
-
--- one row of this address and name is held more, of the section at this position of so many; its number is that of its name
-pub record IsAdded (old new : List Kept) (count at address : ℕ) (name : List ℕ) : Type 0 where
-  pub long : length new ≡ count
-  pub rows : (i : ℕ) → i < count → rows_at new i ≡ rows_at old i ++ if_here i at (record { address = address; row = length (names_at old i) })
-  pub names : (i : ℕ) → i < count → names_at new i ≡ names_at old i ++ if_here i at name
-
--- the entry of a row whose name has its number, in the section of this index
-abbrev pub function_in : Rules → ℕ → List (List ℕ) → List ℕ → RowAddress → SectionEntry
-function_in rules index names members r =
-    record { section = index + 1; entry = record { name = get_or names r.row []; address = rules.address index r.address; size = symbols.size_among members r.address } }
+-- the entry of a row whose name has its number, in the section of this index, by the addresses that end sizes; none of a row without a name
+abbrev pub function_in : Rules → ℕ → List (Option (List ℕ)) → List ℕ → RowAddress → Option SectionEntry
+function_in rules index names addresses r =
+    option_map (λ name. record { section = index + 1; entry = record { name = name; address = rules.address index r.address; size = (rules.section index).size addresses r.address } })
+    (get_or names r.row None)

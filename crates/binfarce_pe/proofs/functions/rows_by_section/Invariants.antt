@@ -1,0 +1,15 @@
+use Rattle.std.proofs.Common.{ℕ, List, ◌-◌}
+use Rattle.binfarce_pe.specs.PeParts.{table_view}
+use Rattle.binfarce_pe.specs.PeSelection.{rules_of, sections_view}
+use Rattle.binfarce_pe.proofs.Rows.{AreBefore}
+use Rattle.binfarce_pe.proofs.EachSection.{HoldsEach}
+use Rattle.binfarce_pe.proofs.functions.rows_by_section.Given as goal
+
+-- of each section those of the rows before the next are held that end sizes
+abbrev pub invariant-loop-next : goal.invariant-loop-next
+invariant-loop-next l =
+    let table = table_view l.symbols in
+    (before : List ℕ) × AreBefore table l.next before × HoldsEach table (rules_of (sections_view l.sections)) before l.held.items
+
+abbrev pub decreases-loop-next : goal.decreases-loop-next
+decreases-loop-next l = l.row_count - l.next

@@ -313,7 +313,7 @@ pub(crate) fn section_at(bytes: &[u8], start: usize) -> Result<Option<Section<'_
 
 // The name in a field's bytes: those up to the first NUL, or all where there is none.
 #[tactic(auto, using(crate::proofs::SectionNames::name_is, crate::proofs::SectionNames::name_empty))]
-fn name_in(bytes: &[u8]) -> Option<&str>
+pub(crate) fn name_in(bytes: &[u8]) -> Option<&str>
     ensures { option_map (λ t. t.now) result ≡ padded_name bytes.now }
 {
     let name = up_to_nul(bytes);

@@ -12,7 +12,7 @@ use Rattle.binfarce_bytes.specs.SectionEntries.{SelectedSymbols}
 use Rattle.binfarce_elf.specs.Classes.{class_of}
 use Rattle.binfarce_elf.specs.Elf.{ElfClass, Header, SectionTable, Section, header_of, section_at, walk, whole_headers, names_bytes, names_section, contents}
 use Rattle.binfarce_elf.specs.ElfParts.{headers_alone}
-use Rattle.binfarce_elf.specs.ElfSymbols.{TableSections, TableRows, Selected, section_data, rows_at, elf_selected, symbols_of, listed_of, elf_answer, elf_file_answer, selected_file_answer}
+use Rattle.binfarce_elf.specs.ElfSymbols.{FileKind, TableSections, TableRows, Selected, file_kind, section_data, rows_at, elf_selected, symbols_of, listed_of, elf_answer, elf_file_answer, selected_file_answer}
 use Rattle.binfarce_elf.specs.declared.class.Width.{Width}
 use Rattle.binfarce_elf.specs.declared.symbol_table.SymbolTable.{SymbolTable}
 use Rattle.binfarce_elf.proofs.Steps.{assoc}
@@ -22,7 +22,7 @@ use Rattle.binfarce_tables.specs.SectionReading.{FileSections, file_sections}
 use Rattle.binfarce_tables.specs.machine.Places.{headers_of}
 use Rattle.binfarce_tables.proofs.Contents.{no_names, names_section_is, names_are}
 use Rattle.binfarce_tables.proofs.ElfSure.{of_names_header, of_names, of_headers, of_file_header, of_tables, of_sections, of_rows}
-use Rattle.binfarce_tables.proofs.HeadersAlone.{HasWithin, within_of, some_of, place_is, type_is, headers_walk}
+use Rattle.binfarce_tables.proofs.HeadersAlone.{HasWithin, within_of, some_of, place_is, kind_is, headers_walk}
 use Rattle.binfarce_tables.proofs.Located.{walk_outside, walk_of_none, after_rows, from_sections, after_needed, needed_of, after_sections, from_file, table_found}
 use Rattle.binfarce_tables.proofs.Readings.{after_same}
 use Rattle.binfarce_tables.proofs.Sure.{front, back, in_file}
@@ -35,7 +35,7 @@ placed order header file = record { order = order; file = file; shoff = header.s
 abbrev of_header : ElfClass → ByteOrder → Header ℕ → List ℕ → FileSections
 of_header class order header file =
     let table = placed order header file in
-    record { class = class; order = order; elf_type = header.elf_type; count = header.shnum; sections = walk class table; names = names_bytes class table; file_length = length file }
+    record { class = class; order = order; kind = file_kind header; count = header.shnum; sections = walk class table; names = names_bytes class table; file_length = length file }
 
 module _ (file other : List ℕ) (long : length file ≡ length other) where
   -- the bytes of a section that both hold
@@ -107,9 +107,9 @@ module _ (file other : List ℕ) (long : length file ≡ length other) where
 sections_by : (class : ElfClass) → HasWithin class → (order : ByteOrder) (file : List ℕ) (header : Header ℕ) → header ≡ header_of class order (bytes_at file 0 class.header_length)
     → file_sections class order file ≡ cond (ltb (length file) class.header_length) (Err unexpected_eof) (Ok (of_header class order header file))
 sections_by class within order file header same =
-    ap₂ (λ (t : SectionTable) (elf_type : ℕ). cond (ltb (length file) class.header_length) (Err unexpected_eof) (Ok (record { class = class; order = order; elf_type = elf_type; count = t.shnum; sections = walk class t; names = names_bytes class t; file_length = length file })))
+    ap₂ (λ (t : SectionTable) (kind : FileKind). cond (ltb (length file) class.header_length) (Err unexpected_eof) (Ok (record { class = class; order = order; kind = kind; count = t.shnum; sections = walk class t; names = names_bytes class t; file_length = length file })))
     (place_is class order file class.header_length header within refl same)
-    (sym (type_is class order file class.header_length header within refl same))
+    (sym (kind_is class order file class.header_length header within refl same))
 
 -- a section's answer is that of a selection as a list
 abbrev list_of : SelectedSymbols → Listed

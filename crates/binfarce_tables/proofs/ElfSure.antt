@@ -4,13 +4,16 @@ use Rattle.std.specs.Prelude.{All}
 use Rattle.std.proofs.lemmas.Bool.{lt-ltb, ne_eqb, eq-eqb}
 use Rattle.std.proofs.lemmas.List.Elements.{All-head, All-tail}
 use Rattle.binfarce_bytes.specs.declared.ByteOrder.{ByteOrder}
-use Rattle.binfarce_bytes.specs.Part.{Part, part, parts_if}
+use Rattle.binfarce_bytes.specs.Part.{Part, part, parts_if, whole_part}
 use Rattle.binfarce_bytes.specs.Refusal.{◌>>=◌, Refusal, unexpected_eof}
 use Rattle.binfarce_bytes.specs.Walk.{Walk}
-use Rattle.binfarce_elf.specs.Elf.{ElfClass, SectionTable, Section, walk, whole_headers, names_section}
+use Rattle.binfarce_elf.specs.Classes.{class_of}
+use Rattle.binfarce_elf.specs.Elf.{ElfClass, SectionTable, Section, header_of, walk, whole_headers, names_section}
+use Rattle.binfarce_elf.specs.ElfSegments.{program_length, programs_size}
 use Rattle.binfarce_elf.specs.ElfSymbols.{TableSections, Taken, NeededSections, taken, needed, table_sections}
+use Rattle.binfarce_elf.specs.declared.class.Width.{Width}
 use Rattle.binfarce_elf.specs.declared.symbol_table.SymbolTable.{SymbolTable}
-use Rattle.binfarce_tables.specs.ElfReads.{table_of, section_parts, names_header, names_parts, headers_size, headers_parts, table_parts, rows_parts, found_parts, elf_section_parts, elf_parts}
+use Rattle.binfarce_tables.specs.ElfReads.{table_of, section_parts, names_header, names_parts, headers_size, headers_parts, table_parts, rows_parts, found_parts, elf_section_parts, elf_parts, elf_load_parts}
 use Rattle.binfarce_tables.specs.machine.Places.{table_step}
 use Rattle.binfarce_tables.proofs.Sure.{front, back, only, of_some}
 
@@ -95,3 +98,19 @@ needed_table which sections names count section found is = by_taken (taken which
     by_taken : (o : Result Taken Refusal) → (o >>= λ selected. table_sections which sections >>= λ table. Ok (record { taken = selected; table = table })) ≡ Ok found → table_sections which sections ≡ Ok found.table
     by_taken (Ok selected) e = by_table selected (table_sections which sections) e
     by_taken (Err refusal) e = absurd cc
+
+module _ (P : Part → Type 0) (width : Width) (order : ByteOrder) (file : List ℕ) where
+  -- of the file header, by which a file's load address is read
+  pub of_load_header : All P (elf_load_parts width order file) → P (part 0 (class_of width).header_length)
+  unfolding elf_load_parts
+  of_load_header all =
+      let header = header_of (class_of width) order file in
+      All-head P (part 0 (class_of width).header_length) (whole_part file header.phoff (programs_size width header)) all
+
+  -- of the program headers, at the place that was read
+  pub of_programs : (phoff phnum : ℕ) → phoff ≡ (header_of (class_of width) order file).phoff → phnum ≡ (header_of (class_of width) order file).phnum
+      → All P (elf_load_parts width order file) → All P (whole_part file phoff (phnum * program_length width))
+  unfolding elf_load_parts
+  of_programs phoff phnum begins many all =
+      let header = header_of (class_of width) order file in
+      rw (begins, many) (All-tail P (part 0 (class_of width).header_length) (whole_part file header.phoff (programs_size width header)) all)

@@ -1,5 +1,5 @@
 -- The walk over the section headers alone, and where the symbols are by what is found there.
-use Rattle.std.proofs.Common.{◌≡◌, ℕ, zero, suc, ◌+◌, ◌*◌, ◌-◌, ◌/◌, ◌<◌, ◌≤◌, Bool, true, false, cond, ltb, leb, ◌&&◌, List, ◌∷◌, length, take, drop, map, min, Some, None, refl, ap, ap₂, ◌∙◌, arith, inl, inr, length-drop}
+use Rattle.std.proofs.Common.{◌≡◌, ℕ, zero, suc, ◌+◌, ◌*◌, ◌-◌, ◌/◌, ◌<◌, ◌≤◌, cond, ltb, leb, ◌&&◌, List, ◌∷◌, length, take, drop, map, min, Some, None, refl, ap, ap₂, ◌∙◌, arith, inl, inr, length-drop}
 use Rattle.std.proofs.Math.Bool.{and-false}
 use Rattle.std.proofs.Math.Nat.{div-mul-le_self}
 use Rattle.std.proofs.lemmas.Bool.{cases_lt, lt-ltb, lt-leb, le-leb}
@@ -13,6 +13,7 @@ use Rattle.binfarce_bytes.specs.Refusal.{unexpected_eof}
 use Rattle.binfarce_elf.specs.Elf.{ElfClass, elf32, elf64, SectionTable, Header, header_of, section_table, section_at, section_of, walk, whole_headers}
 use Rattle.binfarce_elf.specs.Classes.{class_of}
 use Rattle.binfarce_elf.specs.ElfParts.{IsPlaceOf, headers_alone}
+use Rattle.binfarce_elf.specs.ElfSymbols.{file_kind}
 use Rattle.binfarce_elf.specs.declared.class.Width.{Width}
 use Rattle.binfarce_elf.specs.declared.class.Width.TheVariants.{Bits32, Bits64}
 use Rattle.binfarce_elf.specs.declared.parts.HeaderTable.{HeaderTable}
@@ -43,6 +44,9 @@ Within len f = f.offset + f.width ≤ len
 -- the fields that are read lie within their structures
 pub record HasWithin (class : ElfClass) : Type 0 where
   pub elf_type : Within class.header_length class.header.elf_type
+  pub machine : Within class.header_length class.header.machine
+  pub phoff : Within class.header_length class.header.phoff
+  pub phnum : Within class.header_length class.header.phnum
   pub shoff : Within class.header_length class.header.shoff
   pub shnum : Within class.header_length class.header.shnum
   pub shstrndx : Within class.header_length class.header.shstrndx
@@ -57,6 +61,9 @@ pub record HasWithin (class : ElfClass) : Type 0 where
 within_class : (class : ElfClass) (w : ℕ) → class.header ≡ fields_of_header w → class.header_length ≡ 40 + 3 * w → class.section ≡ fields_of_section w → class.section_length ≡ 16 + 6 * w → HasWithin class
 within_class class w header_fields header_len fields len = record {
   elf_type = rw (header_fields, header_len) (omega arith);
+  machine = rw (header_fields, header_len) (omega arith);
+  phoff = rw (header_fields, header_len) (omega arith);
+  phnum = rw (header_fields, header_len) (omega arith);
   shoff = rw (header_fields, header_len) (omega arith);
   shnum = rw (header_fields, header_len) (omega arith);
   shstrndx = rw (header_fields, header_len) (omega arith);
@@ -107,12 +114,19 @@ place_is class order file size header within is same = cc (
   value_in order file 0 size 0 class.header.shstrndx (omega (arith, is, within.shstrndx)),
 )
 
--- the file's type, as the file header alone states it
-pub type_is : (class : ElfClass) (order : ByteOrder) (file : List ℕ) (size : ℕ) (header : Header ℕ) → HasWithin class → size ≡ class.header_length
-    → header ≡ header_of class order (bytes_at file 0 size) → header.elf_type ≡ (header_of class order file).elf_type
+-- the file's type and machine, as the file header alone states them
+pub kind_is : (class : ElfClass) (order : ByteOrder) (file : List ℕ) (size : ℕ) (header : Header ℕ) → HasWithin class → size ≡ class.header_length
+    → header ≡ header_of class order (bytes_at file 0 size) → file_kind header ≡ file_kind (header_of class order file)
 unfolding header_of
-type_is class order file size header within is same =
-    ap (λ (h : Header ℕ). h.elf_type) same ∙ value_in order file 0 size 0 class.header.elf_type (omega (arith, is, within.elf_type))
+kind_is class order file size header within is same =
+    cc (same, value_in order file 0 size 0 class.header.elf_type (omega (arith, is, within.elf_type)), value_in order file 0 size 0 class.header.machine (omega (arith, is, within.machine)))
+
+-- where the program headers are, as the file header alone states it
+pub programs_are : (class : ElfClass) (order : ByteOrder) (file : List ℕ) (size : ℕ) → HasWithin class → size ≡ class.header_length
+    → ((header_of class order (bytes_at file 0 size)).phoff ≡ (header_of class order file).phoff) × ((header_of class order (bytes_at file 0 size)).phnum ≡ (header_of class order file).phnum)
+unfolding header_of
+programs_are class order file size within is =
+    (value_in order file 0 size 0 class.header.phoff (omega (arith, is, within.phoff)), value_in order file 0 size 0 class.header.phnum (omega (arith, is, within.phnum)))
 
 -- the table at the place that was read from the file header alone
 pub table_is : (class : ElfClass) (order : ByteOrder) (file header : List ℕ) (place : HeaderTable) → HasWithin class → header ≡ bytes_at file 0 class.header_length → IsPlaceOf class order header place

@@ -8,7 +8,7 @@ use Rattle.binfarce_bytes.specs.Refusal.{◌>>=◌, Refusal, unexpected_eof}
 use Rattle.binfarce_bytes.specs.SectionEntries.{SelectedSymbols}
 use Rattle.binfarce_bytes.specs.Walk.{ended}
 use Rattle.binfarce_elf.specs.Elf.{ElfClass, SectionTable, header_of, section_table, walk, whole_headers, names_bytes}
-use Rattle.binfarce_elf.specs.ElfSymbols.{TableSections, NeededSections, TableRows, Selected, table_sections, needed, section_data, whole_rows, rows_at, taken_from, elf_selected, symbols_of, selected_file_answer}
+use Rattle.binfarce_elf.specs.ElfSymbols.{TableSections, NeededSections, TableRows, Selected, table_sections, needed, section_data, whole_rows, rows_at, file_kind, selected_from, elf_selected, symbols_of, selected_file_answer}
 use Rattle.binfarce_elf.specs.declared.symbol_table.SymbolTable.{SymbolTable}
 use Rattle.binfarce_elf.proofs.Steps.{assoc}
 use Rattle.binfarce_tables.specs.ElfReading.{symbols_in}
@@ -80,7 +80,7 @@ after_sections which section file seen = needed_of which section seen >>= after_
 abbrev sections_in : ElfClass → ByteOrder → List ℕ → FileSections
 sections_in class order file =
     let table = table_of class order file in
-    record { class = class; order = order; elf_type = (header_of class order file).elf_type; count = table.shnum; sections = walk class table; names = names_bytes class table; file_length = length file }
+    record { class = class; order = order; kind = file_kind (header_of class order file); count = table.shnum; sections = walk class table; names = names_bytes class table; file_length = length file }
 
 sections_are : (class : ElfClass) (order : ByteOrder) (file : List ℕ) (seen : FileSections) → file_sections class order file ≡ Ok seen → sections_in class order file ≡ seen
 sections_are class order file seen given = by_test (ltb (length file) class.header_length) given
@@ -102,10 +102,10 @@ module _ (which : SymbolTable) (class : ElfClass) (order : ByteOrder) (file : Li
       seen = sections_in class order file
 
       selected : NeededSections → TableRows → Result Selected Refusal
-      selected needs found = Ok (record { entries = taken_from class order needs.taken found; size = needs.taken.size })
+      selected needs found = Ok (selected_from class order seen.sections seen.kind needs.taken found)
 
       shown : Selected → Result SelectedSymbols Refusal
-      shown s = Ok (symbols_of s seen.names seen.sections seen.elf_type)
+      shown s = Ok (symbols_of s seen.names seen.sections seen.kind.elf_type)
 
       steps : (elf_selected which class table section >>= shown) ≡ after_sections which section file seen
       steps =

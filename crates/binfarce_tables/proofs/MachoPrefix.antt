@@ -6,6 +6,7 @@ use Rattle.std.proofs.lemmas.List.{length-take-le, take_all}
 use Rattle.std.proofs.lemmas.List.Elements.{All-nil, All-head, All-tail, All-same, All-append, All-take}
 use Rattle.std.proofs.lemmas.Nat.{le-div}
 use Rattle.std.specs.Prelude.{All}
+use Rattle.std.specs.Option.{option_map}
 use Rattle.binfarce_bytes.specs.declared.ByteOrder.TheVariants.{LittleEndian}
 use Rattle.binfarce_bytes.specs.Field.{Field, field, number_in}
 use Rattle.binfarce_bytes.specs.Number.{bytes_at, number}
@@ -16,7 +17,7 @@ use Rattle.binfarce_macho.specs.Macho.{Command, Section, header_of, header_field
 use Rattle.binfarce_macho.specs.MachoSections.{NumberedSection, first_starts, starts_in, starts_among, section_starts, has_instructions, extent_at, numbered_at, numbered_sections}
 use Rattle.binfarce_macho.specs.MachoSelection.{the_text, all_sections, sections_in, is_object}
 use Rattle.binfarce_macho.specs.MachoSymbols.{SymbolTable, symbol_table_at, symbol_table_fields, Extent, some_size, text_extent, symbol_command, whole_table, named_table, table_of}
-use Rattle.binfarce_macho.specs.MachoParts.{holds_body, holds_from, holds_commands}
+use Rattle.binfarce_macho.specs.MachoParts.{holds_body, holds_from, holds_commands, segment_address, is_text_segment, load_address}
 use Rattle.binfarce_macho.proofs.AllWalks.{each_start}
 use Rattle.binfarce_macho.proofs.CommandWalks.{bad, given}
 use Rattle.binfarce_tables.specs.BeginningReading.{Begins, macho_sections}
@@ -240,6 +241,45 @@ module _ (file bytes : List ℕ) (short : length bytes ≤ length file) (same : 
     section_same start (omega (arith, h)),
   ) refl
 
+  -- the name and the address of a segment
+  text_same : (command : Command) → is_segment command ≡ true → holds_body bytes command ≡ true
+      → (is_text_segment bytes command ≡ is_text_segment file command) × (segment_address bytes (body_of command) ≡ segment_address file (body_of command))
+  text_same command is held =
+      let body = body_of command in
+      let room : body + 24 ≤ length bytes = omega (arith, structures_held command is held) in (
+        rw (le-leb (body + 24) (length bytes) room, le-leb (body + 24) (length file) (omega (arith, room, short)), same (body + 0) 16 (omega (arith, room))) refl,
+        number_same body (field 16 8) (omega (arith, room)),
+      )
+
+  abbrev address_in : List ℕ → Option Command → Option ℕ
+  address_in f found = option_map (λ command. segment_address f (body_of command)) found
+
+  addresses_same : (commands : List Command) → AreHeld commands → address_in bytes (find (is_text_segment bytes) commands) ≡ address_in file (find (is_text_segment file) commands)
+  unfolding AreHeld
+  addresses_same [] held = refl
+  addresses_same (command ∷ others) held = by_kind (is_segment command) refl (addresses_same others held.1)
+    where
+      rest_of : List ℕ → Option Command
+      rest_of f = find (is_text_segment f) others
+
+      by_test : (b : Bool) → segment_address bytes (body_of command) ≡ segment_address file (body_of command) → address_in bytes (rest_of bytes) ≡ address_in file (rest_of file)
+          → address_in bytes (cond b (Some command) (rest_of bytes)) ≡ address_in file (cond b (Some command) (rest_of file))
+      by_test true here rest = ap (λ (a : ℕ). Some a) here
+      by_test false here rest = rest
+
+      by_kind : (b : Bool) → is_segment command ≡ b → address_in bytes (rest_of bytes) ≡ address_in file (rest_of file)
+          → address_in bytes (cond (is_text_segment bytes command) (Some command) (rest_of bytes)) ≡ address_in file (cond (is_text_segment file command) (Some command) (rest_of file))
+      by_kind true is rest = let same_text = text_same command is held.0 in rw same_text.0 (by_test (is_text_segment file command) same_text.1 rest)
+      by_kind false is rest = rw is rest
+
+  found_same : (x y : Option Command) (end : Option Refusal) → address_in bytes x ≡ address_in file y
+      → (found_or_end x end >>= λ found. Ok (address_in bytes found)) ≡ (found_or_end y end >>= λ found. Ok (address_in file found))
+  found_same None None None is = refl
+  found_same None None (Some refusal) is = refl
+  found_same (Some x) (Some y) end is = ap (λ (a : Option ℕ). Ok a) is
+  found_same None (Some y) end is = absurd cc
+  found_same (Some x) None end is = absurd cc
+
   -- where they hold all commands of the header, the same sections are selected
   module _ (whole : 28 ≤ length bytes) (held : holds_commands bytes ≡ true) where
     agrees : Agrees (header_of bytes).ncmds header_length
@@ -286,6 +326,13 @@ module _ (file bytes : List ℕ) (short : length bytes ≤ length file) (same : 
 
     pub table_held : table_of bytes ≡ table_of file
     table_held = named_held
+
+    -- and the file is loaded at the same address
+    pub load_same : load_address bytes ≡ load_address file
+    unfolding load_address
+    load_same =
+        found_same (find (is_text_segment bytes) (commands bytes).items) (find (is_text_segment file) (commands bytes).items) (commands bytes).refusal (addresses_same (commands bytes).items agrees.1)
+        ∙ ap (λ (w : Walk Command). first (is_text_segment file) w >>= λ found. Ok (address_in file found)) commands_same
 
   pub filetype_same : 28 ≤ length bytes → (header_of bytes).filetype ≡ (header_of file).filetype
   unfolding header_of header_fields
@@ -343,11 +390,12 @@ begins_with_commands file bytes is = by_held (holds_commands (bytes_at file 0 (s
     by_held true is = (said_end file, is)
     by_held false is = (length file, is ∙ sym (take_all (length file) file (omega arith)))
 
--- what the bytes that its commands are in say of a file's sections and of its symbol table
+-- what the bytes that its commands are in say of a file's sections, of its symbol table, and of where it is loaded
 pub record SameSections (file bytes : List ℕ) : Type 0 where
   pub sections : (section : Option (List ℕ)) → sections_in section bytes ≡ sections_in section file
   pub table : table_of bytes ≡ table_of file
   pub object : is_object bytes ≡ is_object file
+  pub loaded : load_address bytes ≡ load_address file
 
 pub same_sections : (file bytes : List ℕ) → 28 ≤ length file → bytes ≡ command_bytes file → SameSections file bytes
 same_sections file bytes inside is = rw is (by_held (holds_commands (bytes_at file 0 (said_end file))) refl)
@@ -362,5 +410,6 @@ same_sections file bytes inside is = rw is (by_held (holds_commands (bytes_at fi
           sections = sections_held file begins short (λ k width h. prefix_same file (said_end file) k width (omega arith) h) whole held;
           table = table_held file begins short (λ k width h. prefix_same file (said_end file) k width (omega arith) h) whole held;
           object = ap (λ (n : ℕ). nat_eq n 1) (filetype_same file begins short (λ k width h. prefix_same file (said_end file) k width (omega arith) h) whole);
+          loaded = load_same file begins short (λ k width h. prefix_same file (said_end file) k width (omega arith) h) whole held;
         }
-    by_held false held = record { sections = λ section. refl; table = refl; object = refl }
+    by_held false held = record { sections = λ section. refl; table = refl; object = refl; loaded = refl }

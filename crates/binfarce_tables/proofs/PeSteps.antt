@@ -7,7 +7,7 @@ use Rattle.binfarce_bytes.specs.Refusal.{◌>>=◌, Refusal, unexpected_eof}
 use Rattle.binfarce_bytes.specs.SectionEntries.{SelectedSymbols, unless}
 use Rattle.binfarce_pe.specs.Pe.{least_length, signature_offset, header_after, header_of}
 use Rattle.binfarce_pe.specs.PeParts.{TablePlaces, places_after, places_of, table_walk}
-use Rattle.binfarce_pe.specs.PeSelection.{SelectedSections, all_sections, base_at, sections_in, symbols_of, selected_answer, selected_file_answer}
+use Rattle.binfarce_pe.specs.PeSelection.{SelectedSections, all_sections, base_at, sections_in, symbols_of, selected_answer, selected_file_answer, load_address_at, file_load_address}
 use Rattle.binfarce_pe.specs.PeSymbols.{SymbolTable, symbol_table}
 use Rattle.binfarce_tables.specs.declared.error.ReadError.{ReadError}
 use Rattle.binfarce_tables.specs.Reading.{Reads}
@@ -96,3 +96,9 @@ places_are file headers signature places step inside is stated =
     let header : header_after headers 0 ≡ header_of file = ap (λ b. header_after b 0) is ∙ header_alone file signature ∙ ap (header_after file) is_known.1 in
     let same : places ≡ places_of file = stated ∙ ap₂ places_after is_known.1 header in
     rw (le-ltb (length file) (least_length file) (omega (arith, is_known.0, is_known.1, inside))) (ap Ok (sym same))
+
+-- the load address, at the places that were read
+pub load_steps : (file : List ℕ) (places : TablePlaces) → places_step file ≡ Ok places → file_load_address file ≡ load_address_at file places
+load_steps file places step =
+    after_test (ltb (length file) (least_length file)) unexpected_eof (places_of file) (load_address_at file)
+    ∙ ap (λ (s : Result TablePlaces Refusal). s >>= load_address_at file) step

@@ -5,7 +5,7 @@ use Rattle.std.proofs.lemmas.List.Elements.{All-head, All-tail, All-take}
 use Rattle.std.specs.Prelude.{All}
 use Rattle.binfarce_bytes.specs.Part.{Part, part}
 use Rattle.binfarce_pe.specs.PeParts.{TablePlaces, places_of}
-use Rattle.binfarce_tables.specs.PeReads.{pointer_part, header_part, places_parts, table_parts, beginning_part, pe_section_parts, selected_parts, pe_parts}
+use Rattle.binfarce_tables.specs.PeReads.{pointer_part, header_part, places_parts, optional_header_part, table_parts, beginning_part, pe_section_parts, selected_parts, pe_parts, pe_load_parts}
 use Rattle.binfarce_tables.specs.machine.PePlaces.{signature_step, places_step}
 use Rattle.binfarce_tables.proofs.PeBeginning.{places_read}
 use Rattle.binfarce_tables.proofs.PeSteps.{signature_known}
@@ -58,6 +58,13 @@ module _ (P : Part → Type 0) (file : List ℕ) where
         let beginning = beginning_part file (places_of file) in
         subst (λ (p : TablePlaces). P (beginning_part file p)) (sym is.0)
         (All-head P beginning [] (All-tail P (header_part file) (beginning ∷ []) (All-tail P pointer_part (header_part file ∷ beginning ∷ []) section_each)))
+
+  -- the optional header's first bytes, at the place that was read
+  pub base_sure : (places : TablePlaces) → places_step file ≡ Ok places → All P (pe_load_parts file) → All P (optional_header_part places ∷ [])
+  base_sure places step are =
+      let is = places_read file places step in
+      subst (λ (p : TablePlaces). All P (optional_header_part p ∷ [])) (sym is.0)
+      (All-tail P (header_part file) (optional_header_part (places_of file) ∷ []) (All-tail P pointer_part (header_part file ∷ optional_header_part (places_of file) ∷ []) are))
 
   -- the headers, at the offset that was read
   pub header_sure : (signature : ℕ) → signature_step file ≡ Ok signature → All P (places_parts file) → P (part signature 24)

@@ -3,6 +3,7 @@ use Rattle.std.proofs.Common.{◌≡◌, ℕ, Bool, ltb, List, length, Option, R
 use Rattle.binfarce_bytes.specs.declared.ByteOrder.{ByteOrder}
 use Rattle.binfarce_bytes.specs.Refusal.{◌>>=◌, Refusal, refusal_of, unexpected_eof}
 use Rattle.binfarce_bytes.specs.Walk.{Walk}
+use Rattle.binfarce_elf.specs.ElfSymbols.{FileKind, file_kind}
 use Rattle.binfarce_elf.specs.Elf.{ElfClass, SectionTable, Section, header_of, section_table, walk, names_bytes}
 use Rattle.binfarce_tables.specs.Reading.{Reads}
 use Rattle.binfarce_tables.specs.SectionReading.{FileSections, file_sections}
@@ -19,21 +20,21 @@ seen_as {Y = Y} fails view next y z (Err (Refused p)) same step = let e : Path (
 seen_as fails view next y z (Err Unreadable) same step = step
 seen_as fails view next y z (Err OutOfMemory) same step = tt
 
-abbrev of_table : ElfClass → ℕ → List ℕ → SectionTable → Result FileSections Refusal
-of_table class elf_type file table =
-    Ok (record { class = class; order = table.order; elf_type = elf_type; count = table.shnum; sections = walk class table; names = names_bytes class table; file_length = length file })
+abbrev of_table : ElfClass → FileKind → List ℕ → SectionTable → Result FileSections Refusal
+of_table class kind file table =
+    Ok (record { class = class; order = table.order; kind = kind; count = table.shnum; sections = walk class table; names = names_bytes class table; file_length = length file })
 
-sections_from : (class : ElfClass) (order : ByteOrder) (file : List ℕ) → file_sections class order file ≡ (table_step class order file >>= of_table class (header_of class order file).elf_type file)
+sections_from : (class : ElfClass) (order : ByteOrder) (file : List ℕ) → file_sections class order file ≡ (table_step class order file >>= of_table class (file_kind (header_of class order file)) file)
 unfolding section_table
 sections_from class order file =
     let table = section_table class (record { order = order; bytes = file }) in
-    after_test (ltb (length file) class.header_length) unexpected_eof table (of_table class (header_of class order file).elf_type file)
+    after_test (ltb (length file) class.header_length) unexpected_eof table (of_table class (file_kind (header_of class order file)) file)
 
 -- a file's sections, where its table is this, and these are its type, its walk, its section names and its length
-pub sections_read : (class : ElfClass) (order : ByteOrder) (file : List ℕ) (table : SectionTable) (elf_type : ℕ) (sections : Walk Section) (names : Option (List ℕ)) (len : ℕ)
-    → table_step class order file ≡ Ok table → elf_type ≡ (header_of class order file).elf_type → sections ≡ walk class table → names ≡ names_bytes class table → len ≡ length file
-    → file_sections class order file ≡ Ok (record { class = class; order = table.order; elf_type = elf_type; count = table.shnum; sections = sections; names = names; file_length = len })
-sections_read class order file table elf_type sections names len placed typed walked named long =
+pub sections_read : (class : ElfClass) (order : ByteOrder) (file : List ℕ) (table : SectionTable) (kind : FileKind) (sections : Walk Section) (names : Option (List ℕ)) (len : ℕ)
+    → table_step class order file ≡ Ok table → kind ≡ file_kind (header_of class order file) → sections ≡ walk class table → names ≡ names_bytes class table → len ≡ length file
+    → file_sections class order file ≡ Ok (record { class = class; order = table.order; kind = kind; count = table.shnum; sections = sections; names = names; file_length = len })
+sections_read class order file table kind sections names len placed typed walked named long =
     sections_from class order file
-    ∙ ap (λ (a : Result SectionTable Refusal). a >>= of_table class (header_of class order file).elf_type file) placed
+    ∙ ap (λ (a : Result SectionTable Refusal). a >>= of_table class (file_kind (header_of class order file)) file) placed
     ∙ ap Ok (cc (typed, walked, named, long))

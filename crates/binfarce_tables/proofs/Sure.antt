@@ -8,7 +8,7 @@ use Rattle.binfarce_bytes.specs.Part.{Part, part, whole_part, parts_if}
 use Rattle.binfarce_bytes.specs.Source.{ReadsOnly}
 use Rattle.binfarce_bytes.specs.declared.error.ParseError.{ParseError}
 use Rattle.binfarce_tables.specs.declared.error.ReadError.{ReadError}
-use Rattle.binfarce_tables.specs.declared.error.ReadError.TheVariants.{Refused, Unreadable}
+use Rattle.binfarce_tables.specs.declared.error.ReadError.TheVariants.{Refused, Unreadable, OutOfMemory}
 use Rattle.binfarce_tables.proofs.Readings.{err_is}
 
 -- what is true of each part of a list is true of each part of the lists that it is made of: of those that are surely given, and of those that files agree in
@@ -73,3 +73,7 @@ module _ {X : Type 0} {sure : Part → Bool} {old new : (Part → Bool) → Bool
 -- a refusal of a reader, as `?` converts it
 pub converted_surely : {X : Type 0} (p : ParseError) (r : Result X ReadError) → (IsErr r × IsErrAnd r (λ e. e ≡ Refused p)) → IfErr r (λ e. e ≢ Unreadable)
 converted_surely p r error = err_is (λ (x : Result _ ReadError). IfErr x (λ e. e ≢ Unreadable)) r (Refused p) error (λ is. cc)
+
+-- a failed allocation, as `?` converts it
+pub out_surely : {X : Type 0} (r : Result X ReadError) → (IsErr r × IsErrAnd r (λ e. e ≡ OutOfMemory)) → IfErr r (λ e. e ≢ Unreadable)
+out_surely r error = err_is (λ (x : Result _ ReadError). IfErr x (λ e. e ≢ Unreadable)) r OutOfMemory error (λ is. cc)

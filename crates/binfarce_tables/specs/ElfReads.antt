@@ -3,8 +3,11 @@ use Rattle.std.specs.Prelude.{ℕ, ◌+◌, ◌*◌, List, [], ◌∷◌, ◌++�
 use Rattle.binfarce_bytes.specs.declared.ByteOrder.{ByteOrder}
 use Rattle.binfarce_bytes.specs.Part.{Part, part, whole_part, parts_if}
 use Rattle.binfarce_bytes.specs.Refusal.{Refusal}
-use Rattle.binfarce_elf.specs.Elf.{ElfClass, SectionTable, Section, section_table, walk, whole_headers, names_section}
+use Rattle.binfarce_elf.specs.Classes.{class_of}
+use Rattle.binfarce_elf.specs.Elf.{ElfClass, SectionTable, Section, header_of, section_table, walk, whole_headers, names_section}
+use Rattle.binfarce_elf.specs.ElfSegments.{programs_size}
 use Rattle.binfarce_elf.specs.ElfSymbols.{TableSections, table_sections}
+use Rattle.binfarce_elf.specs.declared.class.Width.{Width}
 use Rattle.binfarce_elf.specs.declared.symbol_table.SymbolTable.{SymbolTable}
 
 -- the section header table as a file's header describes it
@@ -58,3 +61,9 @@ elf_section_parts class order file = part 0 class.header_length ∷ table_parts 
 unfoldable pub elf_parts : SymbolTable → ElfClass → ByteOrder → List ℕ → List Part
 elf_parts which class order file =
     elf_section_parts class order file ++ found_parts file (table_sections which (walk class (table_of class order file)))
+
+-- what a reading of the load address reads: the file header, and the program headers, if they lie in the file
+unfoldable pub elf_load_parts : Width → ByteOrder → List ℕ → List Part
+elf_load_parts width order file =
+    let header = header_of (class_of width) order file in
+    part 0 (class_of width).header_length ∷ whole_part file header.phoff (programs_size width header)

@@ -6,6 +6,7 @@ pub mod PeReading
 pub mod PeReads
 pub mod Reading
 pub mod SectionReading
+pub mod Loading
 pub mod MachoReading
 pub mod MachoReads
 pub mod machine

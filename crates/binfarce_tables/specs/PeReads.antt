@@ -48,3 +48,7 @@ selected_parts None file places = headers_part file places ∷ optional_header_p
 -- what a reading of the symbols of a selection reads
 unfoldable pub pe_parts : Option (List ℕ) → List ℕ → List Part
 pe_parts section file = pointer_part ∷ header_part file ∷ (selected_parts section file (places_of file) ++ table_parts file (places_of file))
+
+-- what a reading of the load address reads
+abbrev pub pe_load_parts : List ℕ → List Part
+pe_load_parts file = pointer_part ∷ header_part file ∷ optional_header_part (places_of file) ∷ []

@@ -7,13 +7,15 @@ use Rattle.binfarce_bytes.specs.Walk.{Walk}
 use Rattle.binfarce_elf.specs.Classes.{class_of}
 use Rattle.binfarce_elf.specs.Elf.{ElfClass, Section, header_of, section_table, walk, names_bytes}
 use Rattle.binfarce_elf.specs.ElfParts.{headers_alone}
+use Rattle.binfarce_elf.specs.ElfSymbols.{FileKind, file_kind}
+use Rattle.binfarce_elf.specs.ElfViews.{kind_view}
 use Rattle.binfarce_tables.specs.declared.sections.SectionParts.{SectionParts}
 
--- a file's class, byte order and type, and how many section headers its header states; its sections and the section names; and its length
+-- a file's class, byte order, type and machine, and how many section headers its header states; its sections and the section names; and its length
 pub record FileSections : Type 0 where
   pub class : ElfClass
   pub order : ByteOrder
-  pub elf_type : ℕ
+  pub kind : FileKind
   pub count : ℕ
   pub sections : Walk Section
   pub names : Option (List ℕ)
@@ -26,7 +28,7 @@ file_sections class order file =
     if_as_long_as class.header_length file (Ok (record {
       class = class;
       order = order;
-      elf_type = (header_of class order file).elf_type;
+      kind = file_kind (header_of class order file);
       count = table.shnum;
       sections = walk class table;
       names = names_bytes class table;
@@ -38,7 +40,7 @@ abbrev pub sections_view : SectionParts → FileSections
 sections_view p = record {
   class = class_of p.width;
   order = p.place.byte_order;
-  elf_type = p.place.elf_type;
+  kind = kind_view p.place.kind;
   count = p.place.shnum;
   sections = walk (class_of p.width) (headers_alone p.place.byte_order p.headers.items p.place.shnum);
   names = option_map (λ v. v.items) p.names;

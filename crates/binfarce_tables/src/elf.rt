@@ -11,9 +11,9 @@ ghost use Rattle.binfarce_bytes.specs.Selection.{section_of};
 ghost use Rattle.binfarce_elf.specs.Classes.{class_of};
 ghost use Rattle.binfarce_elf.specs.Elf.{contents, header_of, names_bytes};
 ghost use Rattle.binfarce_elf.specs.ElfParts.{needed_view, table_sections_view};
-ghost use Rattle.binfarce_elf.specs.ElfSymbols.{selected_file_answer, needed, rows_at, section_data};
-ghost use Rattle.binfarce_elf.specs.ElfViews.{section_view, functions_left, selected_view};
-ghost use Rattle.binfarce_tables.specs.ElfReading.{parts_view};
+ghost use Rattle.binfarce_elf.specs.ElfSymbols.{file_kind, selected_file_answer, needed, rows_at, section_data};
+ghost use Rattle.binfarce_elf.specs.ElfViews.{kind_view, section_view, functions_left, selected_view, taken_view};
+ghost use Rattle.binfarce_tables.specs.ElfReading.{parts_view, symbols_by, symbols_in};
 ghost use Rattle.binfarce_tables.specs.ElfReads.{elf_parts, headers_size, names_parts, rows_parts, section_parts};
 ghost use Rattle.binfarce_tables.specs.Reading.{Reads, Known};
 ghost use Rattle.binfarce_tables.specs.SectionReading.{sections_view};
@@ -27,11 +27,11 @@ use binfarce_bytes::parser::to_index;
 use binfarce_bytes::source::{Source, read_part};
 use binfarce_bytes::{ByteOrder, ParseError};
 use binfarce_elf::class::{Half, Width};
-use binfarce_elf::parts::{HeaderTable, needed_in, place_in, section_at};
+use binfarce_elf::parts::{HeaderTable, needed_in, place_in, section_at, sizes_in};
 use binfarce_elf::sections::Section;
 use binfarce_elf::symbol_table::SymbolTable;
 use binfarce_elf::symbols::{Functions, Needed, TableSections, Taken, functions_in, whole_rows};
-use std::alloc::Global;
+use std::alloc::{AllocError, Global};
 
 /// `ET_REL`, the type of an object file.
 const RELOCATABLE: Half = 1;
@@ -43,6 +43,8 @@ pub struct Parts {
     rows: Vec<u8>,
     strings: Vec<u8>,
     taken: Taken,
+    // For all sections, the size of each row in memory.
+    sizes: Vec<u64>,
 }
 
 impl Parts {
@@ -58,6 +60,8 @@ impl Parts {
             self.sections.width,
             self.sections.place.byte_order,
             self.taken,
+            self.sections.place.kind.has_modes(),
+            &self.sizes,
         )
     }
 
@@ -73,7 +77,7 @@ impl Parts {
     pub fn shares_addresses(&self) -> bool
         ensures { result ≡ (parts_view self.now).shares_addresses }
     {
-        self.taken.size.is_none() && self.sections.place.elf_type == RELOCATABLE
+        self.taken.size.is_none() && self.sections.place.kind.elf_type == RELOCATABLE
     }
 }
 
@@ -108,12 +112,36 @@ pub fn read<S: Source>(
     let needed = needed_of(&sections, which, selection)?;
     let len = sections.file_length;
     let table = read_rows(alloc, source, log, len, sections.width, needed.table)?;
+    let sizes = sizes_of(alloc, &sections, needed.taken, &table)?;
     Ok(Parts {
         sections,
         rows: table.rows,
         strings: table.strings,
         taken: needed.taken,
+        sizes,
     })
+}
+
+// For all sections, the sizes in memory of these rows.
+fn sizes_of(
+    alloc: Global,
+    sections: &SectionParts,
+    taken: Taken,
+    table: &TableParts,
+) -> Result<Vec<u64>, AllocError>
+    ensures { let seen = sections_view sections.now in IfOk result
+        (λ v. symbols_by seen (taken_view taken) (rows_view table.now) v.items
+        ≡ symbols_in seen (taken_view taken) (rows_view table.now)) }
+{
+    sizes_in(
+        alloc,
+        &sections.headers,
+        sections.width,
+        sections.place,
+        taken,
+        &table.rows,
+        &table.strings,
+    )
 }
 
 // What a selection needs of these sections.
@@ -145,8 +173,11 @@ pub(crate) fn read_place<S: Source>(
 ) -> Result<HeaderTable, ReadError>
     ensures table { (file : List ℕ) → Known (S.bytes source.now) len file
         → Reads (S.may_fail source.now) (table_at file) (table_step (class_of width) byte_order file) result }
-    ensures type_is { (file : List ℕ) → Known (S.bytes source.now) len file
-        → IfOk result (λ p. p.elf_type ≡ (header_of (class_of width) byte_order file).elf_type) }
+    ensures kind_is { (file : List ℕ) → Known (S.bytes source.now) len file
+        → IfOk result (λ p. kind_view p.kind ≡ file_kind (header_of (class_of width) byte_order file)) }
+    ensures programs { (file : List ℕ) → Known (S.bytes source.now) len file
+        → let header = header_of (class_of width) byte_order file in IfOk result
+        (λ p. (p.byte_order ≡ byte_order) × (p.phoff ≡ header.phoff) × (p.phnum ≡ header.phnum)) }
     ensures only { ReadsOnly (S.is_sure source.now) (S.logs_only log.old) (S.logs_only log.new)
         (part 0 (class_of width).header_length ∷ []) (IfErr result (λ e. e ≢ Unreadable)) }
 {

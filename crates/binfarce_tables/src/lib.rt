@@ -5,9 +5,11 @@ mod beginning;
 pub mod elf;
 mod error;
 pub mod format;
+pub mod loading;
 pub mod macho;
 pub mod pe;
 mod sections;
+mod segments;
 
 pub use crate::beginning::Beginning;
 pub use crate::elf::part;

@@ -9,7 +9,7 @@ ghost use Rattle.binfarce_bytes.specs.Selection.{section_of};
 ghost use Rattle.binfarce_bytes.specs.Source.{ReadsOnly};
 ghost use Rattle.binfarce_bytes.specs.SymbolViews.{HoldsSelected};
 ghost use Rattle.binfarce_macho.specs.Macho.{least_length, header_of};
-ghost use Rattle.binfarce_macho.specs.MachoParts.{table_view, holds_commands};
+ghost use Rattle.binfarce_macho.specs.MachoParts.{table_view, holds_commands, load_address, file_load_address};
 ghost use Rattle.binfarce_macho.specs.MachoSelection as selection;
 ghost use Rattle.binfarce_macho.specs.MachoSelection.{selected_file_tables, section_name, section_size, shares_addresses, symbols_of, NeedsMemory};
 ghost use Rattle.binfarce_macho.specs.MachoSymbols.{slice_at, symbols_by};
@@ -30,7 +30,7 @@ use binfarce_bytes::source::Source;
 use binfarce_macho::functions::functions_of;
 use binfarce_macho::header::{MachoHeader, parse_header};
 use binfarce_macho::numbered::{SelectedSections, is_object, selected_sections};
-use binfarce_macho::parts::{commands_end, holds_commands};
+use binfarce_macho::parts::{commands_end, holds_commands, load_address};
 use binfarce_macho::symbols::{SYMBOL_LENGTH, SymbolBytes, SymbolTable, symbol_table};
 use std::alloc::Global;
 
@@ -236,6 +236,42 @@ pub fn read_sections<S: Source>(
     }
     let bytes = read_commands(alloc, source, log, file_length)?;
     Ok(Beginning { bytes, file_length })
+}
+
+/// Where the file is loaded unless the loader slides it: the address of its first segment `__TEXT`. `None` without one,
+/// as in an object file. It reads what `read_sections` reads. The magic number isn't checked.
+///
+/// # Errors
+///
+/// `Refused` with `UnexpectedEof` for fewer than 28 bytes, and with `MalformedInput` for a bad load command before that
+/// segment; `Unreadable` where the source can't be read at offsets, or a read of it fails, and never for a source that
+/// can't fail, such as bytes in memory; `OutOfMemory` where an allocation fails.
+pub fn read_load_address<S: Source>(
+    alloc: Global,
+    source: &S,
+    log: &mut S::Log,
+) -> Result<Option<u64>, ReadError>
+    ensures answer { (file : List ℕ) → S.bytes source.now ≡ Some file
+        → Reads (S.may_fail source.now) (λ address. address) (file_load_address file) result }
+    ensures only { (file : List ℕ) → S.bytes source.now ≡ Some file
+        → ReadsOnly (S.is_sure source.now) (S.logs_only log.old) (S.logs_only log.new)
+        (macho_section_parts file) (IfErr result (λ e. e ≢ Unreadable)) }
+{
+    let len = source.length()?;
+    if len < HEADER {
+        return Err(ReadError::Refused(ParseError::UnexpectedEof));
+    }
+    let commands = read_commands(alloc, source, log, len)?;
+    address_in(&commands)
+}
+
+// Where the file is loaded, of which these bytes hold the load commands.
+fn address_in(commands: &[u8]) -> Result<Option<u64>, ReadError>
+    ensures { (file : List ℕ) → least_length ≤ length file → commands.now ≡ command_bytes file
+        → Reads false (λ address. address) (load_address file) result }
+{
+    let header = header_in(commands)?;
+    Ok(load_address(commands, header)?)
 }
 
 // The prefix of the file that has the load commands.

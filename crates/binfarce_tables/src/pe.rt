@@ -8,10 +8,10 @@ ghost use Rattle.binfarce_bytes.specs.SectionEntries.{SelectsSome};
 ghost use Rattle.binfarce_bytes.specs.Selection.{section_of};
 ghost use Rattle.binfarce_bytes.specs.SymbolViews.{HoldsSelected};
 ghost use Rattle.binfarce_pe.specs.PeParts.{headers_alone, places_view, text_view, whole_in};
-ghost use Rattle.binfarce_pe.specs.PeSelection.{sections_view, selected_file_answer, IsWhole};
+ghost use Rattle.binfarce_pe.specs.PeSelection.{sections_view, selected_file_answer, load_address_at, file_load_address, IsWhole};
 ghost use Rattle.binfarce_tables.specs.BeginningReading.{ReadsBeginning, pe_sections};
 ghost use Rattle.binfarce_tables.specs.PeReading.{selected_view};
-ghost use Rattle.binfarce_tables.specs.PeReads.{pointer_part, places_parts, headers_part, selected_parts, table_parts, pe_section_parts, pe_parts};
+ghost use Rattle.binfarce_tables.specs.PeReads.{pointer_part, places_parts, optional_header_part, headers_part, selected_parts, table_parts, pe_section_parts, pe_parts, pe_load_parts};
 ghost use Rattle.binfarce_tables.specs.Reading.{Reads, Known};
 ghost use Rattle.binfarce_tables.specs.declared.error.ReadError.TheVariants.{Unreadable};
 ghost use Rattle.binfarce_tables.specs.machine.PePlaces.{signature_step, places_step, text_at, whole_at, chosen_at, table_at, read_view, records_view};
@@ -243,6 +243,55 @@ pub fn read_sections<S: Source>(
         .max(STUB_LENGTH);
     let bytes = part(alloc, source, log, 0, end.min(file_length))?;
     Ok(Beginning { bytes, file_length })
+}
+
+/// Where the file is loaded unless the loader chooses another address: its image base (`ImageBase`). `None` without one,
+/// as in an object file. The offset of the signature, the signature and the file header, which are 24 bytes, and up to
+/// 32 bytes of the optional header are read, and no other byte. The signature isn't checked.
+///
+/// # Errors
+///
+/// `Refused` with `UnexpectedEof` where the file is too short for its file header, or for these bytes of the optional
+/// header; `Unreadable` where the source can't be read at offsets, or a read of it fails, and never for a source that
+/// can't fail, such as bytes in memory; `OutOfMemory` where an allocation fails.
+pub fn read_load_address<S: Source>(
+    alloc: Global,
+    source: &S,
+    log: &mut S::Log,
+) -> Result<Option<u64>, ReadError>
+    ensures answer { (file : List ℕ) → S.bytes source.now ≡ Some file
+        → Reads (S.may_fail source.now) (λ address. address) (file_load_address file) result }
+    ensures only { (file : List ℕ) → S.bytes source.now ≡ Some file
+        → ReadsOnly (S.is_sure source.now) (S.logs_only log.old) (S.logs_only log.new)
+        (pe_load_parts file) (IfErr result (λ e. e ≢ Unreadable)) }
+{
+    let len = source.length()?;
+    let places = read_places(alloc, source, log, len)?;
+    read_base(alloc, source, log, len, places)
+}
+
+// The image base, in the optional header's first bytes.
+#[tactic(auto, unfolding(binfarce_pe::specs::PeSelection::load_address_at))]
+fn read_base<S: Source>(
+    alloc: Global,
+    source: &S,
+    log: &mut S::Log,
+    len: u64,
+    places: TableOffsets,
+) -> Result<Option<u64>, ReadError>
+    ensures answer { (file : List ℕ) → Known (S.bytes source.now) len file
+        → Reads (S.may_fail source.now) (λ address. address) (load_address_at file (places_view places)) result }
+    ensures only { (file : List ℕ) → Known (S.bytes source.now) len file
+        → ReadsOnly (S.is_sure source.now) (S.logs_only log.old) (S.logs_only log.new)
+        (optional_header_part (places_view places) ∷ []) (IfErr result (λ e. e ≢ Unreadable)) }
+{
+    let offset = places.optional_header;
+    let size = places.optional_header_size as u64;
+    if offset > len || size > len - offset {
+        return Err(ReadError::Refused(ParseError::UnexpectedEof));
+    }
+    let header = part(alloc, source, log, offset, size)?;
+    Ok(image_base(&header))
 }
 
 // The places that the file header states.

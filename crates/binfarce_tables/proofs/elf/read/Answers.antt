@@ -1,17 +1,18 @@
-use Rattle.std.proofs.Common.{Result, Ok, Err, ap, ◌∙◌}
+use Rattle.std.proofs.Common.{Result, Ok, Err, ap, sym, ◌∙◌}
 use Rattle.binfarce_bytes.specs.Refusal.{◌>>=◌, Refusal}
 use Rattle.binfarce_bytes.specs.Selection.{section_of}
 use Rattle.binfarce_elf.specs.Classes.{class_of}
 use Rattle.binfarce_elf.specs.ElfParts.{needed_view}
 use Rattle.binfarce_elf.specs.ElfSymbols.{NeededSections, TableRows, rows_at, selected_file_answer}
 use Rattle.binfarce_tables.specs.ElfReading.{symbols_in, parts_view}
-use Rattle.binfarce_tables.specs.Reading.{Known}
+use Rattle.binfarce_tables.specs.Reading.{Known, Reads}
+use Rattle.binfarce_tables.specs.declared.error.ReadError.TheVariants.{OutOfMemory}
 use Rattle.binfarce_tables.specs.SectionReading.{file_sections, sections_view}
 use Rattle.binfarce_tables.specs.machine.Places.{rows_view}
 use Rattle.binfarce_tables.proofs.ElfSure.{of_sections, of_rows}
 use Rattle.binfarce_tables.proofs.Located.{after_needed, after_sections, from_file, from_seen, from_needed, length_is, table_found}
-use Rattle.binfarce_tables.proofs.Readings.{after_err, instead, converted, passed}
-use Rattle.binfarce_tables.proofs.Sure.{within, next, ending, passed_only, converted_surely}
+use Rattle.binfarce_tables.proofs.Readings.{after_err, instead, converted, err_is, passed}
+use Rattle.binfarce_tables.proofs.Sure.{within, next, ending, passed_only, converted_surely, out_surely}
 use Rattle.binfarce_tables.proofs.elf.read.Goals as goal
 
 pub returns-in_err-sections-clause-answer : goal.returns-in_err-sections-clause-answer
@@ -58,6 +59,7 @@ returns-clause-answer g c = λ file known.
     let is_known : Known (g.S.Source.bytes c.args.source.now) c.in_ok-sections.sections.file_length file = (known, length_is c.args.which class c.args.byte_order file section seen given) in
     from_needed c.args.which class c.args.byte_order file section seen given n c.in_ok-needed.ensures
     ∙ ap (λ (a : Result TableRows Refusal). a >>= λ found. Ok (symbols_in seen n.taken found)) (c.in_ok-table.ensures.answer file is_known)
+    ∙ ap Ok (sym c.in_ok-sizes.ensures)
 
 pub returns-in_err-sections-clause-only : goal.returns-in_err-sections-clause-only
 returns-in_err-sections-clause-only g c = λ file known.
@@ -91,3 +93,21 @@ returns-clause-only g c = λ file known.
     let found = table_found c.args.which class c.args.byte_order file section seen given n c.in_ok-needed.ensures in
     next (within (λ P. of_sections P class c.args.byte_order file c.args.which) (c.in_ok-sections.ensures.only file known))
     (within (λ P. of_rows P class c.args.byte_order file c.args.which n.table found) (c.in_ok-table.ensures.only file is_known))
+
+pub returns-in_err-sizes-clause-answer : goal.returns-in_err-sizes-clause-answer
+returns-in_err-sizes-clause-answer g c = λ file known.
+    let answer = selected_file_answer c.args.which (class_of c.args.width) c.args.byte_order file (section_of c.args.selection) in
+    err_is (Reads (g.S.Source.may_fail c.args.source.now) parts_view answer) c.from_residual-in_err-sizes.result OutOfMemory c.from_residual-in_err-sizes.ensures tt
+
+pub returns-in_err-sizes-clause-only : goal.returns-in_err-sizes-clause-only
+returns-in_err-sizes-clause-only g c = λ file known.
+    let class = class_of c.args.width in
+    let section = section_of c.args.selection in
+    let seen = sections_view c.in_ok-sections.sections in
+    let given = c.in_ok-sections.ensures.answer file known in
+    let n = needed_view c.in_ok-needed.needed in
+    let is_known : Known (g.S.Source.bytes c.args.source.now) c.in_ok-sections.sections.file_length file = (known, length_is c.args.which class c.args.byte_order file section seen given) in
+    let found = table_found c.args.which class c.args.byte_order file section seen given n c.in_ok-needed.ensures in
+    ending (next (within (λ P. of_sections P class c.args.byte_order file c.args.which) (c.in_ok-sections.ensures.only file known))
+    (within (λ P. of_rows P class c.args.byte_order file c.args.which n.table found) (c.in_ok-table.ensures.only file is_known)))
+    (out_surely c.from_residual-in_err-sizes.result c.from_residual-in_err-sizes.ensures)

@@ -2,6 +2,7 @@ use Rattle.std.specs.Option.{option_map}
 use Rattle.binfarce_elf.specs.Elf.{walk}
 use Rattle.binfarce_elf.specs.ElfParts.{headers_alone}
 use Rattle.binfarce_elf.specs.Classes.{class_of}
+use Rattle.binfarce_elf.specs.ElfViews.{kind_view}
 use Rattle.binfarce_tables.specs.ElfReads.{names_parts, headers_parts}
 use Rattle.binfarce_tables.specs.Reading.{Known}
 use Rattle.binfarce_tables.specs.machine.Places.{table_at}
@@ -16,8 +17,8 @@ returns-clause-answer g c = λ file known.
     let class = class_of c.args.width in
     let place = c.in_ok-place.place in
     let is_known : Known (g.S.Source.bytes c.args.source.now) c.in_ok-len.len file = (known, length_known _ file c.in_ok-len.len known c.in_ok-len.ensures.length) in
-    sections_read class c.args.byte_order file (table_at file place) place.elf_type (walk class (headers_alone place.byte_order c.in_ok-headers.headers.items place.shnum)) (option_map (λ v. v.items) c.in_ok-names.names) c.in_ok-len.len
-    (c.in_ok-place.ensures.table file is_known) (c.in_ok-place.ensures.type_is file is_known) (taken (c.in_ok-headers.ensures.answer file is_known)) (taken (c.in_ok-names.ensures.answer file is_known)) is_known.1
+    sections_read class c.args.byte_order file (table_at file place) (kind_view place.kind) (walk class (headers_alone place.byte_order c.in_ok-headers.headers.items place.shnum)) (option_map (λ v. v.items) c.in_ok-names.names) c.in_ok-len.len
+    (c.in_ok-place.ensures.table file is_known) (c.in_ok-place.ensures.kind_is file is_known) (taken (c.in_ok-headers.ensures.answer file is_known)) (taken (c.in_ok-names.ensures.answer file is_known)) is_known.1
 
 pub returns-in_err-len-clause-only : goal.returns-in_err-len-clause-only
 returns-in_err-len-clause-only g c = λ file known. unmeasured _ (λ P. of_file_header P (class_of c.args.width) c.args.byte_order file) c.in_err-len.ensures.unsure

@@ -1,0 +1,71 @@
+//! Where an ELF file is loaded, read from its program headers.
+
+ghost use Rattle.std.specs.Prelude.{◌≡◌, ◌≢◌, ◌*◌, List, ℕ, Some, IfErr};
+ghost use Rattle.binfarce_bytes.specs.Part.{whole_part};
+ghost use Rattle.binfarce_bytes.specs.Source.{ReadsOnly};
+ghost use Rattle.binfarce_elf.specs.ElfSegments.{file_load_address, load_address_at, program_length};
+ghost use Rattle.binfarce_tables.specs.ElfReads.{elf_load_parts};
+ghost use Rattle.binfarce_tables.specs.Reading.{Reads, Known};
+ghost use Rattle.binfarce_tables.specs.declared.error.ReadError.TheVariants.{Unreadable};
+
+use crate::elf::{part, read_place};
+use crate::error::ReadError;
+use binfarce_bytes::source::Source;
+use binfarce_bytes::{ByteOrder, ParseError};
+use binfarce_elf::class::Width;
+use binfarce_elf::parts::HeaderTable;
+use binfarce_elf::segments::load_page;
+use std::alloc::Global;
+
+/// Where a file of this class is loaded unless the loader chooses another address, numbers in the given order: the page
+/// of 4096 bytes of its lowest loaded segment. `None` without one, as in an object file. The file header of 52 or 64
+/// bytes and the program headers are read, and no other byte. The magic number isn't checked.
+///
+/// # Errors
+///
+/// `Refused` with `UnexpectedEof` where the file is too short for its header, or its program headers end past it;
+/// `Unreadable` where the source can't be read at offsets, or a read of it fails, and never for a source that can't
+/// fail, such as bytes in memory; `OutOfMemory` where an allocation fails.
+#[tactic(auto, unfolding(binfarce_elf::specs::ElfSegments::file_load_address, crate::specs::ElfReads::elf_load_parts))]
+pub fn read_load_address<S: Source>(
+    alloc: Global,
+    source: &S,
+    log: &mut S::Log,
+    width: Width,
+    byte_order: ByteOrder,
+) -> Result<Option<u64>, ReadError>
+    ensures answer { (file : List ℕ) → S.bytes source.now ≡ Some file
+        → Reads (S.may_fail source.now) (λ address. address) (file_load_address width byte_order file) result }
+    ensures only { (file : List ℕ) → S.bytes source.now ≡ Some file
+        → ReadsOnly (S.is_sure source.now) (S.logs_only log.old) (S.logs_only log.new)
+        (elf_load_parts width byte_order file) (IfErr result (λ e. e ≢ Unreadable)) }
+{
+    let len = source.length()?;
+    let place = read_place(alloc, source, log, len, width, byte_order)?;
+    read_page(alloc, source, log, len, width, place)
+}
+
+// The page of the lowest loaded segment, by the program headers at this place.
+#[tactic(auto, unfolding(binfarce_elf::specs::ElfSegments::load_address_at))]
+fn read_page<S: Source>(
+    alloc: Global,
+    source: &S,
+    log: &mut S::Log,
+    len: u64,
+    width: Width,
+    place: HeaderTable,
+) -> Result<Option<u64>, ReadError>
+    ensures answer { (file : List ℕ) → Known (S.bytes source.now) len file
+        → Reads (S.may_fail source.now) (λ address. address)
+        (load_address_at width place.byte_order file place.phoff (place.phnum * program_length width)) result }
+    ensures only { (file : List ℕ) → Known (S.bytes source.now) len file
+        → ReadsOnly (S.is_sure source.now) (S.logs_only log.old) (S.logs_only log.new)
+        (whole_part file place.phoff (place.phnum * program_length width)) (IfErr result (λ e. e ≢ Unreadable)) }
+{
+    let size = u64::from(place.phnum) * width.program_length() as u64;
+    if place.phoff > len || size > len - place.phoff {
+        return Err(ReadError::Refused(ParseError::UnexpectedEof));
+    }
+    let headers = part(alloc, source, log, place.phoff, size)?;
+    Ok(load_page(&headers, width, place.byte_order))
+}

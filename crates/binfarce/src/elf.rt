@@ -1,24 +1,25 @@
 //! ELF files of either class (System V gABI).
 
-ghost use Rattle.std.specs.Prelude.{◌≡◌, ◌<◌, ◌≤◌, length, nat_eq, None, All, MatchResult};
+ghost use Rattle.std.specs.Prelude.{◌≡◌, ◌<◌, ◌≤◌, length, nat_eq, None, Some, All, MatchResult};
 ghost use Rattle.std.specs.Option.{option_map};
+ghost use Rattle.std.specs.Result.{IsOk};
 ghost use Rattle.binfarce_bytes.specs.Refusal.{Gives, refusal_of, unexpected_eof};
 ghost use Rattle.binfarce_bytes.specs.Walk.{MayBeAsked, FirstAccepted, first};
 ghost use Rattle.binfarce_bytes.specs.Entries.{Answers, ListsSome};
 ghost use Rattle.binfarce_bytes.specs.Found.{entry_at};
-ghost use Rattle.binfarce_bytes.specs.Selection.{section_of};
 ghost use Rattle.binfarce_bytes.specs.SymbolViews.{function_view};
 ghost use Rattle.binfarce.specs.ElfFunctions.{functions_left, functions_view};
 ghost use Rattle.binfarce.specs.Symbol.{HoldsSymbols};
 ghost use Rattle.binfarce_elf.specs.Elf.{header_of, section_table, walk, name_of};
 ghost use Rattle.binfarce_elf.specs.ElfSymbols.{is_named, section_data, listed_of, elf_selected, elf_answer};
-ghost use Rattle.binfarce_elf.specs.ElfViews.{header_view, section_view, selected_view};
+ghost use Rattle.binfarce_elf.specs.ElfViews.{header_view, section_view, selected_view, HoldsAllFunctions};
 ghost use Rattle.binfarce_elf.specs.declared.symbol_table.SymbolTable.TheVariants.{Symtab, Dynsym};
 
 use crate::symbols::symbols_of_elf;
-use binfarce_bytes::functions::{FunctionSymbol, Selection};
+use binfarce_bytes::functions::{FunctionSymbol, SectionFunction};
 use binfarce_bytes::{ByteOrder, ParseError};
 use binfarce_elf::class::Class;
+use binfarce_elf::ends::kind_of;
 use binfarce_elf::header::{Header, parse_header};
 use binfarce_elf::sections::{self, HasSections, Section, Sections, Table};
 use binfarce_elf::symbol_table::SymbolTable;
@@ -153,8 +154,7 @@ impl<'a, C: Class> Elf<'a, C> {
         ensures { Gives refusal_of functions_view
             (elf_answer Symtab C.table (section_table C.table self.now) section_name.now) result }
     {
-        let section = Selection::Section(section_name);
-        let functions = self.selected_functions(SymbolTable::Symtab, section)?;
+        let functions = self.section_functions(SymbolTable::Symtab, section_name)?;
         Ok(of_section(functions))
     }
 
@@ -170,43 +170,50 @@ impl<'a, C: Class> Elf<'a, C> {
         ensures { Gives refusal_of functions_view
             (elf_answer Dynsym C.table (section_table C.table self.now) section_name.now) result }
     {
-        let section = Selection::Section(section_name);
-        let functions = self.selected_functions(SymbolTable::Dynsym, section)?;
+        let functions = self.section_functions(SymbolTable::Dynsym, section_name)?;
         Ok(of_section(functions))
     }
 
-    /// The function symbols of all sections as the file stores them, each with the index of its section, in the order
-    /// of this symbol table. Nothing is allocated, and names stay mangled.
+    /// The function symbols of all sections, each with the index of its section, at their addresses and with their sizes
+    /// in memory: a list in the order of this symbol table. Names stay mangled.
     ///
-    /// It keeps the rows that `dynamic_functions` would keep for some section of the file, from either symbol table:
-    /// indirect functions too, none without a section (`SHN_UNDEF`), and none with a reserved index such as `SHN_ABS`.
+    /// It keeps rows of type function (`STT_FUNC`, `STT_GNU_IFUNC`) that have a name: none without a section
+    /// (`SHN_UNDEF`), and none with a reserved index such as `SHN_ABS`. A function of size 0, such as `_start`, ends at
+    /// the next greater address of a symbol of its section, or with the section. In a file for Arm (`EM_ARM`), bit 0 of a
+    /// function's value is its instruction set, and is cleared.
     ///
     /// # Errors
     ///
     /// In this order: `UnexpectedEof` where the section header table doesn't begin in the file, or a section header is
-    /// truncated; those of `functions`, or `dynamic_functions`, from the missing symbol table on.
-    pub fn all_functions(&self, which: SymbolTable) -> Result<AllFunctions<'a>, ParseError>
-        ensures { Gives refusal_of selected_view
+    /// truncated; those of `functions`, or `dynamic_functions`, from the missing symbol table on; `OutOfMemory` where an
+    /// allocation failed.
+    #[tactic(auto, unfolding(binfarce_elf::specs::Elf::section_table))]
+    pub fn all_functions(
+        &self,
+        alloc: Global,
+        which: SymbolTable,
+    ) -> Result<Vec<SectionFunction<'a>>, ParseError>
+        ensures { Answers HoldsAllFunctions IsOk
             (elf_selected which C.table (section_table C.table self.now) None) result }
     {
-        self.selected_functions(which, Selection::All)
+        symbols::all_functions::<C>(alloc, self.section_table(), kind_of(&self.header), which)
     }
 
-    /// The function symbols of a section as `functions` or `dynamic_functions` gives them, or those of all sections as
-    /// `all_functions` does, by this symbol table: each with the index of its section.
+    /// The function symbols of a section as `functions` or `dynamic_functions` gives them, each with the section's
+    /// index, by this symbol table. Nothing is allocated.
     ///
     /// # Errors
     ///
     /// Those of these calls.
-    pub fn selected_functions(
+    pub fn section_functions(
         &self,
         which: SymbolTable,
-        selection: Selection<'_>,
+        name: &str,
     ) -> Result<AllFunctions<'a>, ParseError>
         ensures { Gives refusal_of selected_view
-            (elf_selected which C.table (section_table C.table self.now) (section_of selection.entry)) result }
+            (elf_selected which C.table (section_table C.table self.now) (Some name.now)) result }
     {
-        symbols::selected_functions::<C>(self.section_table(), which, selection)
+        symbols::section_functions::<C>(self.section_table(), which, name)
     }
 
     /// The functions of the symbol table as symbols with readable names, and the section's size in bytes.

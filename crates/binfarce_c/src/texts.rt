@@ -1,7 +1,7 @@
 //! Listings and reports of files.
 
 ghost use Rattle.std.specs.Prelude.{◌≡◌, Err};
-ghost use Rattle.binfarce_tools.specs.Answer.{file_answer, FileNeedsMemory};
+ghost use Rattle.binfarce_tools.specs.Answer.{file_answer, MemoryIn};
 ghost use Rattle.binfarce_tools.specs.Listing.{IsListingOf, ListingFits};
 ghost use Rattle.binfarce_tools.specs.Report.{IsReportOf, ReportFits};
 ghost use Rattle.binfarce_tools.specs.ReportWords as reporting;
@@ -19,7 +19,7 @@ use std::str;
 #[unsafe(no_mangle)]
 #[tactic(auto, unfolding(crate::specs::Texts::GivesText))]
 pub extern "C" fn binfarce_list(alloc: Global, file: &[u8], section: &[u8], out: &mut [u8]) -> Text
-    ensures { GivesText ListingFits (FileNeedsMemory file.now) IsListingOf section.now
+    ensures { GivesText ListingFits (MemoryIn file.now (Some section.now)) IsListingOf section.now
         (file_answer file.now section.now) out.old out.new result }
 {
     let Ok(section) = str::from_utf8(section) else {
@@ -41,7 +41,7 @@ pub extern "C" fn binfarce_report(
     section: &[u8],
     out: &mut [u8],
 ) -> Text
-    ensures { GivesText ReportFits (FileNeedsMemory file.now) IsReportOf section.now
+    ensures { GivesText ReportFits (MemoryIn file.now (Some section.now)) IsReportOf section.now
         (file_answer file.now section.now) out.old out.new result }
 {
     let Ok(section) = str::from_utf8(section) else {

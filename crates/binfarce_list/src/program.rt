@@ -2,7 +2,7 @@
 
 ghost use Rattle.std.specs.Prelude.{◌≡◌, ◌⊎◌, ℕ, List, [], true, map, Some, None, MatchResult, IfSome};
 ghost use Rattle.std.specs.String.{string_bytes};
-ghost use Rattle.binfarce_tools.specs.Answer.{file_answer, FileNeedsMemory};
+ghost use Rattle.binfarce_tools.specs.Answer.{file_answer, MemoryIn};
 ghost use Rattle.binfarce_tools.specs.Listing.{IsListingOf, ListingFits};
 ghost use Rattle.binfarce_tools.specs.Given.{words_of};
 ghost use Rattle.binfarce_tools.specs.Sink.{writer_of, has_failed};
@@ -80,7 +80,7 @@ pub fn run<R: Read, W: Write>(
     out: &mut Out<W>,
 ) -> Result<(), Fault>
     ensures outcome { IfSome (R.remaining file.old) (λ bytes. ProgramEndsAs (Unit {0}) ListingFits
-        (FileNeedsMemory bytes) (file_answer bytes section.now) (outcome_of result)) }
+        (MemoryIn bytes (Some section.now)) (file_answer bytes section.now) (outcome_of result)) }
     ensures takes { IfSome (R.remaining file.old) (λ bytes. Takes IsListingOf (file_answer bytes section.now)
         (W.contents (writer_of out.old)) (W.contents (writer_of out.new)) (outcome_of result)) }
     ensures fails { Fails (has_failed out.old) (has_failed out.new) (outcome_of result) }
@@ -91,7 +91,6 @@ pub fn run<R: Read, W: Write>(
 }
 
 /// As `run`, but of a file that can be read at offsets only the headers, the symbol table and the names are read.
-#[tactic(auto, unfolding(binfarce_tools::specs::Selection::answer_in, binfarce_tools::specs::Selection::MemoryIn))]
 pub fn run_file<F: Read + Source<Log = ()>, W: Write>(
     alloc: Global,
     file: &mut F,
@@ -99,7 +98,7 @@ pub fn run_file<F: Read + Source<Log = ()>, W: Write>(
     out: &mut Out<W>,
 ) -> Result<(), Fault>
     ensures outcome { (bytes : List ℕ) → F.bytes file.old ≡ Some bytes → F.remaining file.old ≡ Some bytes
-        → ProgramEndsAs ((F.may_fail file.old ≡ true) ⊎ (bytes ≡ [])) ListingFits (FileNeedsMemory bytes)
+        → ProgramEndsAs ((F.may_fail file.old ≡ true) ⊎ (bytes ≡ [])) ListingFits (MemoryIn bytes (Some section.now))
         (file_answer bytes section.now) (outcome_of result) }
     ensures takes { (bytes : List ℕ) → F.bytes file.old ≡ Some bytes → F.remaining file.old ≡ Some bytes
         → Takes IsListingOf (file_answer bytes section.now)

@@ -5,6 +5,7 @@ use Rattle.binfarce.specs.declared.ByteOrder.{ByteOrder}
 use Rattle.binfarce.specs.declared.Format.{Format}
 use Rattle.binfarce.specs.declared.Format.TheVariants as formats
 use Rattle.binfarce.specs.Elf as elf
+use Rattle.binfarce.specs.ElfSymbols.{file_kind}
 use Rattle.binfarce.specs.Format.{format_of}
 use Rattle.binfarce.specs.Macho as macho
 use Rattle.binfarce.specs.Pe as pe
@@ -48,7 +49,7 @@ whole class order file =
     record {
       class = class;
       order = order;
-      elf_type = (elf.header_of class order file).elf_type;
+      kind = file_kind (elf.header_of class order file);
       count = table.shnum;
       sections = elf.walk class table;
       names = elf.names_bytes class table;

@@ -2,7 +2,7 @@
 
 ghost use Rattle.std.specs.Prelude.{◌≡◌, ◌⊎◌, ℕ, List, [], true, map, Some, None, MatchResult, IfSome};
 ghost use Rattle.std.specs.String.{string_bytes};
-ghost use Rattle.binfarce_tools.specs.Answer.{file_answer, FileNeedsMemory};
+ghost use Rattle.binfarce_tools.specs.Answer.{file_answer, MemoryIn};
 ghost use Rattle.binfarce_tools.specs.Report.{IsReportOf, ReportFits};
 ghost use Rattle.binfarce_tools.specs.Given.{words_of};
 ghost use Rattle.binfarce_tools.specs.Sink.{writer_of, has_failed};
@@ -81,7 +81,7 @@ pub fn run<R: Read, W: Write>(
     out: &mut Out<W>,
 ) -> Result<(), Fault>
     ensures outcome { IfSome (R.remaining file.old) (λ bytes. ProgramEndsAs (Unit {0}) ReportFits
-        (FileNeedsMemory bytes) (file_answer bytes section.now) (outcome_of result)) }
+        (MemoryIn bytes (Some section.now)) (file_answer bytes section.now) (outcome_of result)) }
     ensures takes { IfSome (R.remaining file.old) (λ bytes. Takes IsReportOf (file_answer bytes section.now)
         (W.contents (writer_of out.old)) (W.contents (writer_of out.new)) (outcome_of result)) }
     ensures fails { Fails (has_failed out.old) (has_failed out.new) (outcome_of result) }
@@ -92,7 +92,6 @@ pub fn run<R: Read, W: Write>(
 }
 
 /// As `run`, but of a file that can be read at offsets only the headers, the symbol table and the names are read.
-#[tactic(auto, unfolding(binfarce_tools::specs::Selection::answer_in, binfarce_tools::specs::Selection::MemoryIn))]
 pub fn run_file<F: Read + Source<Log = ()>, W: Write>(
     alloc: Global,
     file: &mut F,
@@ -100,7 +99,7 @@ pub fn run_file<F: Read + Source<Log = ()>, W: Write>(
     out: &mut Out<W>,
 ) -> Result<(), Fault>
     ensures outcome { (bytes : List ℕ) → F.bytes file.old ≡ Some bytes → F.remaining file.old ≡ Some bytes
-        → ProgramEndsAs ((F.may_fail file.old ≡ true) ⊎ (bytes ≡ [])) ReportFits (FileNeedsMemory bytes)
+        → ProgramEndsAs ((F.may_fail file.old ≡ true) ⊎ (bytes ≡ [])) ReportFits (MemoryIn bytes (Some section.now))
         (file_answer bytes section.now) (outcome_of result) }
     ensures takes { (bytes : List ℕ) → F.bytes file.old ≡ Some bytes → F.remaining file.old ≡ Some bytes
         → Takes IsReportOf (file_answer bytes section.now)

@@ -12,7 +12,6 @@ pub mod TablesRead
 pub mod TablesGive
 pub mod Totals
 pub mod Maps
-pub mod Selections
 pub mod Objects
 mod Decided
 mod SymbolLaws

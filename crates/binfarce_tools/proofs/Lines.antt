@@ -4,10 +4,8 @@ use Rattle.std.specs.Io.KnownBytes.{Appends}
 use Rattle.std.specs.Result.{IsErrAnd}
 use Rattle.std.specs.List.{AllZip, concat}
 use Rattle.binfarce.specs.Refusal.{Refusal}
-use Rattle.binfarce.specs.Symbol.{Entry, Listed}
 use Rattle.binfarce_tools.specs.declared.list.ListError.{ListError}
 use Rattle.binfarce_tools.specs.declared.list.ListError.TheVariants.{Unknown, Parse, OutOfMemory, Write}
-use Rattle.binfarce_tools.specs.Listing.{IsLineOf, IsListingOf, size_line}
 use Rattle.binfarce_tools.specs.ListWords.{outcome_of, Writes}
 use Rattle.binfarce_tools.specs.Writing as writing
 use Rattle.binfarce_tools.specs.Entries.{GetsAs}
@@ -38,12 +36,6 @@ module _ {X : Type 0} (IsLine : X → List ℕ → Type 0) where
       let P : List ℕ → Type 0 = λ x. AreLines all x in
       let Q : List X → Type 0 = λ x. Completes all x text in
       subst P (append-nil text) (subst Q none w [] ([], tt, refl))
-
-pub is_listing : (all : List Entry) (size : ℕ) (lines text : List ℕ) (listed : Listed) → AreLines IsLineOf all lines → text ≡ lines ++ size_line size → all ≡ listed.entries → size ≡ listed.section_size → IsListingOf listed text
-is_listing all size lines text listed are is same sizes =
-    let P : List Entry → Type 0 = λ x. AreLines IsLineOf x lines in
-    let of_listed : AreLines IsLineOf listed.entries lines = subst P same are in
-    (of_listed.0, of_listed.1, is ∙ ap (λ (x : List ℕ). x ++ size_line size) of_listed.2 ∙ ap (λ (n : ℕ). concat of_listed.0 ++ size_line n) sizes)
 
 pub nothing : (old : Option (List ℕ)) → Appends old old []
 nothing None = tt

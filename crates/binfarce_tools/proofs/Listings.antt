@@ -1,5 +1,5 @@
 -- What `list` reports and what was taken follows from what its reader returned and its sink took.
-use Rattle.std.proofs.Common.{◌≡◌, ℕ, ◌+◌, ◌-◌, true, List, ◌++◌, length, take, drop, Option, Some, None, Result, Ok, Err, refl, sym, ap, subst, ◌∙◌, inl, inr, append_assoc, arith}
+use Rattle.std.proofs.Common.{◌≡◌, ℕ, ◌+◌, ◌-◌, true, List, map, is_some, unwrap_or, ◌++◌, length, take, drop, Option, Some, None, Result, Ok, Err, refl, sym, ap, subst, ◌∙◌, inl, inr, append_assoc, arith}
 use Rattle.std.specs.Result.{IsErrAnd}
 use Rattle.std.specs.Io.KnownBytes.{Appends, Keeps}
 use Rattle.std.proofs.lemmas.List.{take-append-drop, take_all, length-drop}
@@ -7,16 +7,18 @@ use Rattle.std.proofs.Math.Seq.{take-add}
 use Rattle.binfarce.specs.declared.ParseError.{ParseError}
 use Rattle.binfarce.specs.declared.ParseError.TheVariants as errors
 use Rattle.binfarce.specs.Refusal.{Refusal, refusal_of, out_of_memory}
-use Rattle.binfarce.specs.Symbol.{Listed, Answers}
+use Rattle.binfarce.specs.SectionEntries.{SectionEntry, SelectedSymbols}
+use Rattle.binfarce.specs.Symbol.{Answers}
 use Rattle.binfarce_tools.specs.declared.functions.Functions.{Functions}
+use Rattle.binfarce_tools.specs.declared.functions.Selected.{Selected}
 use Rattle.binfarce_tools.specs.declared.list.ListError.{ListError}
 use Rattle.binfarce_tools.specs.declared.list.ListError.TheVariants.{Parse, OutOfMemory}
 use Rattle.binfarce_tools.specs.Writing.{AppendsBeginning}
 use Rattle.binfarce.specs.declared.Format.{Format}
 use Rattle.binfarce.specs.declared.SymbolTable.TheVariants.{Symtab}
-use Rattle.binfarce_tools.specs.Answer.{symbols_answer, NeedsMemory}
+use Rattle.binfarce_tools.specs.Answer.{selected_symbols, NeedsMemory}
 use Rattle.binfarce_tools.specs.ListWords.{list_error_of}
-use Rattle.binfarce_tools.specs.Entries.{HoldsLeft, Gets}
+use Rattle.binfarce_tools.specs.Entries.{GetsAs, HoldsLeft, HoldsListed, all_left}
 use Rattle.binfarce_tools.proofs.Reported.{is_reported, Reported}
 
 -- a failed allocation is reported as such
@@ -29,25 +31,49 @@ pub parse : (e : ParseError) → is_reported (refusal_of e) ≡ true → list_er
 parse errors.OutOfMemory reported_is = absurd cc
 parse e reported_is = refl
 
-gets_refusal : (memory : Result Listed Refusal → Type 0) (answer : Result Listed Refusal) (e : ParseError) → Reported answer → Answers HoldsLeft memory answer (Err e) → Gets memory (Some answer) (Err (list_error_of e))
-gets_refusal memory (Ok listed) e reported_is answers = (answers.1, as_memory e answers.0)
+gets_refusal : (memory : Result SelectedSymbols Refusal → Type 0) (answer : Result SelectedSymbols Refusal) (e : ParseError) → Reported answer → Answers {X = Selected} HoldsLeft memory answer (Err e)
+    → GetsAs {X = Selected} HoldsLeft memory (Some answer) (Err (list_error_of e))
+gets_refusal memory (Ok seen) e reported_is answers = (answers.1, as_memory e answers.0)
 gets_refusal memory (Err refusal) e reported_is (inl is) = inl (e, is, parse e (ap is_reported is ∙ reported_is))
 gets_refusal memory (Err refusal) e reported_is (inr h) = inr (h.1, as_memory e h.0)
 
 -- as `?` passes it on
-pub reported_refusal : (memory : Result Listed Refusal → Type 0) (answer : Result Listed Refusal) (e : ParseError) (result : Result (Functions × ℕ) ListError)
-    → Reported answer → Answers HoldsLeft memory answer (Err e) → IsErrAnd result (λ f. f ≡ list_error_of e) → Gets memory (Some answer) result
+pub reported_refusal : (memory : Result SelectedSymbols Refusal → Type 0) (answer : Result SelectedSymbols Refusal) (e : ParseError) (result : Result Selected ListError)
+    → Reported answer → Answers {X = Selected} HoldsLeft memory answer (Err e) → IsErrAnd result (λ f. f ≡ list_error_of e) → GetsAs HoldsLeft memory (Some answer) result
 reported_refusal memory answer e (Ok x) reported_is answers is = absurd is
 reported_refusal memory answer e (Err f) reported_is answers is =
-    let P : ListError → Type 0 = λ f. Gets memory (Some answer) (Err f) in subst P (sym is) (gets_refusal memory answer e reported_is answers)
+    subst (λ (f : ListError). GetsAs {X = Selected} HoldsLeft memory (Some answer) (Err f)) (sym is) (gets_refusal memory answer e reported_is answers)
 
 -- what the reader of a format refuses is what is got of a file of that format
-pub refused : (format found : Format) (file section : List ℕ) (answer : Result Listed Refusal) (e : ParseError) (result : Result (Functions × ℕ) ListError)
-    → format ≡ found → Some answer ≡ symbols_answer Symtab format file section → Reported answer → Answers HoldsLeft (NeedsMemory format file) answer (Err e)
-    → IsErrAnd result (λ f. f ≡ list_error_of e) → Gets (NeedsMemory found file) (symbols_answer Symtab found file section) result
+pub refused : (format found : Format) (file section : List ℕ) (answer : Result SelectedSymbols Refusal) (e : ParseError) (result : Result Selected ListError)
+    → format ≡ found → Some answer ≡ selected_symbols Symtab (Some section) format file → Reported answer → Answers {X = Selected} HoldsLeft (NeedsMemory format (Some section) file) answer (Err e)
+    → IsErrAnd result (λ f. f ≡ list_error_of e) → GetsAs HoldsLeft (NeedsMemory found (Some section) file) (selected_symbols Symtab (Some section) found file) result
 refused format found file section answer e result same is reported_is answers err =
-    subst (λ (f : Format). Gets (NeedsMemory f file) (symbols_answer Symtab f file section) result) same
-    (subst (λ (o : Option (Result Listed Refusal)). Gets (NeedsMemory format file) o result) is (reported_refusal (NeedsMemory format file) answer e result reported_is answers err))
+    subst (λ (f : Format). GetsAs HoldsLeft (NeedsMemory f (Some section) file) (selected_symbols Symtab (Some section) f file) result) same
+    (subst (λ (o : Option (Result SelectedSymbols Refusal)). GetsAs HoldsLeft (NeedsMemory format (Some section) file) o result) is (reported_refusal (NeedsMemory format (Some section) file) answer e result reported_is answers err))
+
+-- what was got of a section, without its section
+pub listed : (memory : Result SelectedSymbols Refusal → Type 0) (answer : Option (Result SelectedSymbols Refusal)) → ((seen : SelectedSymbols) → answer ≡ Some (Ok seen) → is_some seen.section_size ≡ true)
+    → (selected : Selected) (list : Functions × Option ℕ) (size : ℕ) → GetsAs HoldsLeft memory answer (Ok selected) → all_left list.0.all ≡ all_left selected.functions → list.1 ≡ selected.size → size ≡ unwrap_or list.1 0
+    → GetsAs HoldsListed memory answer (Ok (list.0, size))
+listed memory None sized selected list size gets left is given = absurd gets
+listed memory (Some (Err refusal)) sized selected list size gets left is given = absurd gets
+listed memory (Some (Ok seen)) sized selected list size gets left is given =
+    (ap (map (λ (e : SectionEntry). e.entry)) (left ∙ gets.0), by_size seen.section_size (sized seen refl) ∙ ap (λ (n : ℕ). Some n) (sym (given ∙ ap (λ (o : Option ℕ). unwrap_or o 0) (is ∙ gets.1))))
+  where
+    by_size : (o : Option ℕ) → is_some o ≡ true → o ≡ Some (unwrap_or o 0)
+    by_size (Some n) is = refl
+    by_size None is = absurd cc
+
+pub not_listed : (memory : Result SelectedSymbols Refusal → Type 0) (answer : Option (Result SelectedSymbols Refusal)) (e : ListError) (result : Result (Functions × ℕ) ListError) → GetsAs {X = Selected} HoldsLeft memory answer (Err e) → IsErrAnd result (λ f. f ≡ e)
+    → GetsAs HoldsListed memory answer result
+not_listed memory answer e (Ok value) gets is = absurd is
+not_listed memory answer e (Err f) gets is = subst (λ (f : ListError). GetsAs {X = Functions × ℕ} HoldsListed memory answer (Err f)) (sym is) (by_answer answer gets)
+  where
+    by_answer : (answer : Option (Result SelectedSymbols Refusal)) → GetsAs {X = Selected} HoldsLeft memory answer (Err e) → GetsAs {X = Functions × ℕ} HoldsListed memory answer (Err e)
+    by_answer None gets = gets
+    by_answer (Some (Err refusal)) gets = gets
+    by_answer (Some (Ok seen)) gets = gets
 
 -- bytes that stay as they were have grown by nothing more
 kept : (old mid new : Option (List ℕ)) (xs : List ℕ) → Appends old mid xs → Keeps mid new → Appends old new xs

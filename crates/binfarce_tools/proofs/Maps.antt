@@ -1,5 +1,5 @@
 -- The bars of sums by crate are those of the crates.
-use Rattle.std.proofs.Common.{◌≡◌, ℕ, ◌<◌, ◌^◌, List, [], ◌∷◌, String, string_bytes, map, refl, sym, ap, subst, ◌∙◌}
+use Rattle.std.proofs.Common.{◌≡◌, ℕ, ◌<◌, ◌^◌, List, [], ◌∷◌, Result, IfOk, String, string_bytes, map, refl, sym, ap, subst, ◌∙◌}
 use Rattle.std.specs.Global.{Global}
 use Rattle.std.specs.BTreeMap.{IsOrdered}
 use Rattle.std.specs.String.{string_cmp}
@@ -9,9 +9,12 @@ use Rattle.binfarce_chart.specs.Svg.{IsChartOf}
 use Rattle.binfarce_tools.proofs.CrateLines.{HaveSums, are_crates, have_sums, texts_of}
 use Rattle.binfarce_tools.specs.declared.report.CrateSums.{CrateSums}
 use Rattle.binfarce_tools.specs.Report.{Share, AreCratesOf}
-use Rattle.binfarce_tools.specs.Sums.{AreSumsOf}
+use Rattle.binfarce.specs.SectionEntries.{SelectedSymbols, as_listed}
+use Rattle.binfarce_tools.specs.Answer.{entries_of}
+use Rattle.binfarce_tools.specs.Sums.{AreSumsOf, AreSumsOfFile}
+use Rattle.binfarce_tools.proofs.Reports.{due}
 use Rattle.binfarce_tools.proofs.Totals.{totals_add_up}
-use Rattle.binfarce_tools.specs.Map.{IsMapOfShares, crate_rows}
+use Rattle.binfarce_tools.specs.Map.{IsMapOf, IsMapOfShares, crate_rows}
 
 -- a row for each entry of a map
 abbrev pub entry_rows : List (String Global × ℕ) → List Row
@@ -39,3 +42,10 @@ pub of_chart : (title : List ℕ) (shares : List Share) (sums : CrateSums) (rows
 of_chart title shares sums rows text seen drawn =
     let P : List Row → Type 0 = λ rs. IsChartOf title rs sums.section_size text in
     (seen.0, seen.1, subst P seen.2 drawn)
+
+-- the picture of the sums of a file's answer
+pub of_picture : {Y E : Type 0} (title : List ℕ) (seen : SelectedSymbols) (sums : CrateSums) (made : Result (String Y) E) → AreSumsOfFile seen sums
+    → IfOk made (λ t. (shares : List Share) → AreSumsOf shares sums → IsMapOfShares title shares sums.section_size (string_bytes t)) → IfOk made (λ t. IsMapOf title seen (string_bytes t))
+of_picture title seen sums made are is =
+    due (λ shares text. IsMapOfShares title shares (as_listed seen).section_size text) seen (entries_of seen) sums made refl are.1
+    (subst (λ (n : ℕ). IfOk made (λ t. (shares : List Share) → AreSumsOf shares sums → IsMapOfShares title shares n (string_bytes t))) are.0 is)

@@ -241,3 +241,8 @@ reported_entries (selection.all_sections sections) (Some symbols) = tt
 pub reported_symbols_of : (tables : selection.SelectedTables) → Reported (selection.symbols_of tables)
 unfolding selection.symbols_of
 reported_symbols_of tables = reported_step (selection.entries_in tables.sections tables.symbols) _ (reported_entries tables.sections tables.symbols) (λ entries. tt)
+
+-- an answer whose list doesn't report a failed allocation doesn't either
+pub reported_list : {A B : Type 0} (answer : Result A Refusal) (f : A → B) → Reported (answer >>= λ x. Ok (f x)) → Reported answer
+reported_list (Ok x) f is = tt
+reported_list (Err refusal) f is = is

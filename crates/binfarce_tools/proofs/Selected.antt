@@ -1,6 +1,7 @@
--- What a file of each format answers for a selection: of a section as one list with its size, of all sections without one.
-use Rattle.std.proofs.Common.{◌≡◌, ◌≢◌, ℕ, Bool, true, false, cond, ltb, List, [], ◌∷◌, map, length, Option, Some, None, is_some, unwrap_or, Result, Ok, Err, refl, sym, ap, subst, ◌∙◌}
+-- What a file of each format answers for a section is the answer of its reader, with the size of the section.
+use Rattle.std.proofs.Common.{◌≡◌, ℕ, Bool, true, false, cond, ltb, List, [], ◌∷◌, map, length, Option, Some, None, is_some, unwrap_or, Result, Ok, Err, refl, sym, ap, subst, ◌∙◌}
 use Rattle.std.specs.Prelude.{nat_eq}
+use Rattle.std.specs.List.{sum_by}
 use Rattle.binfarce.specs.declared.ByteOrder.{ByteOrder}
 use Rattle.binfarce.specs.declared.Format.{Format}
 use Rattle.binfarce.specs.declared.Format.TheVariants as formats
@@ -8,11 +9,11 @@ use Rattle.binfarce.specs.declared.SymbolTable.{SymbolTable}
 use Rattle.binfarce.specs.declared.SymbolTable.TheVariants.{Symtab, Dynsym}
 use Rattle.binfarce.specs.Format.{format_of}
 use Rattle.binfarce.specs.Refusal.{◌>>=◌, Refusal, unexpected_eof, symbols_section_is_missing}
-use Rattle.binfarce.specs.SectionEntries.{SectionEntry, SelectedSymbols, as_listed, in_section, unless}
+use Rattle.binfarce.specs.SectionEntries.{SectionEntry, SelectedSymbols, in_section, unless}
 use Rattle.binfarce.specs.Symbol.{Entry, Listed}
 use Rattle.binfarce.specs.Elf.{ElfClass, SectionTable, Section, elf32, elf64, header_of, section_table, walk, names_bytes, name_among}
 use Rattle.binfarce.specs.ElfSymbols as elf
-use Rattle.binfarce.specs.ElfSymbols.{TableSections, TableRows, NeededSections, Taken, sought, is_named, table_sections, taken, needed, rows_at, taken_from, is_of_section, elf_selected, elf_answer, elf_file_answer}
+use Rattle.binfarce.specs.ElfSymbols.{TableSections, TableRows, NeededSections, Taken, sought, is_named, table_sections, taken, needed, rows_at, is_of_section, elf_selected, elf_answer, elf_file_answer}
 use Rattle.binfarce.specs.SymbolTables.{has_indirect}
 use Rattle.binfarce.specs.Macho.{least_length}
 use Rattle.binfarce.specs.MachoSections.{NumberedSection, numbered_sections}
@@ -24,18 +25,15 @@ use Rattle.binfarce.specs.PeSymbols.{pe_answer, pe_file_answer}
 use Rattle.binfarce_macho.proofs.Selected.{as_selected, text_selected, needs}
 use Rattle.binfarce_pe.specs.PeParts.{TextPlace, SectionTable as PeSections, places_of, section_table as pe_sections, text_place}
 use Rattle.binfarce_pe.specs.PeSymbols as pe_symbols
-use Rattle.binfarce_pe.proofs.Selected.{listed_with, listed_is, has_section}
-use Rattle.binfarce_tools.specs.Answer.{symbols_answer, by_symbol_table}
-use Rattle.binfarce_tools.specs.AllAnswer.{selected_symbols, selected_answer, one_answer}
-use Rattle.binfarce_tools.specs.Selection.{answer_in}
+use Rattle.binfarce_pe.proofs.Selected.{listed_is}
+use Rattle.binfarce_tools.specs.Answer.{by_symbol_table, one_list, selected_symbols, selected_answer}
 
 -- a section has a size, and shares no addresses; all sections have none
 abbrev pub IsSized : Option (List ℕ) → SelectedSymbols → Type 0
 IsSized section seen = (is_some seen.section_size ≡ is_some section) × (is_some section ≡ true → seen.shares_addresses ≡ false)
 
--- as one list, with another size where there is none
-abbrev pub listed_by : (SelectedSymbols → ℕ) → Result SelectedSymbols Refusal → Result Listed Refusal
-listed_by other r = r >>= λ s. Ok (listed_with other s)
+abbrev sizes : SelectedSymbols → ℕ
+sizes s = sum_by (λ (e : Entry). e.size) (map (λ (e : SectionEntry). e.entry) s.entries)
 
 ok_is : {A : Type 0} {a b : A} → Path (Result A Refusal) (Ok a) (Ok b) → a ≡ b
 ok_is e = cc
@@ -65,7 +63,7 @@ module _ (which : SymbolTable) (class : ElfClass) (order : ByteOrder) (file : Li
   with_table t sections = Ok (record { taken = t; table = sections })
 
   with_rows : Taken → TableRows → Result elf.Selected Refusal
-  with_rows t found = Ok (record { entries = taken_from class table.order t found; size = t.size })
+  with_rows t found = Ok (elf.selected_from class table.order (walk class table) (elf.kind_of class table) t found)
 
   of_needed : NeededSections → Result elf.Selected Refusal
   of_needed sections = rows_at class table.file sections.table >>= with_rows sections.taken
@@ -107,20 +105,20 @@ module _ (which : SymbolTable) (class : ElfClass) (order : ByteOrder) (file : Li
       by_test true e = absurd cc
       by_test false e = by_selected (elf_selected which class table section) refl e
 
-  elf_listed : (other : SelectedSymbols → ℕ) (name : List ℕ) → elf_file_answer which class order file name ≡ listed_by other (elf.selected_file_answer which class order file (Some name))
+  pub elf_listed : (name : List ℕ) → elf_file_answer which class order file name ≡ one_list (elf.selected_file_answer which class order file (Some name))
   unfolding elf_answer elf.selected_file_answer shown
-  elf_listed other name = by_test (ltb (length file) class.header_length)
+  elf_listed name = by_test (ltb (length file) class.header_length)
     where
       by_size : (s : elf.Selected) (size : Option ℕ) → is_some size ≡ true
-          → Path (Result Listed Refusal) (Ok (record { entries = map (λ e. e.entry) s.entries; section_size = unwrap_or size 0 })) (Ok (record { entries = map (λ e. e.entry) s.entries; section_size = unwrap_or size (other (shown s)) }))
+          → Path (Result Listed Refusal) (Ok (record { entries = map (λ e. e.entry) s.entries; section_size = unwrap_or size 0 })) (Ok (record { entries = map (λ e. e.entry) s.entries; section_size = unwrap_or size (sizes (shown s)) }))
       by_size s (Some n) is = refl
       by_size s None is = absurd cc
 
-      by_selected : (r : Result elf.Selected Refusal) → elf_selected which class table (Some name) ≡ r → (r >>= λ s. Ok (elf.listed_of s)) ≡ listed_by other (r >>= λ s. Ok (shown s))
+      by_selected : (r : Result elf.Selected Refusal) → elf_selected which class table (Some name) ≡ r → (r >>= λ s. Ok (elf.listed_of s)) ≡ one_list (r >>= λ s. Ok (shown s))
       by_selected (Err why) at = refl
       by_selected (Ok s) at = by_size s s.size (elf_size (Some name) s at)
 
-      by_test : (short : Bool) → cond short (Err unexpected_eof) (elf_selected which class table (Some name) >>= λ s. Ok (elf.listed_of s)) ≡ listed_by other (cond short (Err unexpected_eof) (elf_selected which class table (Some name) >>= λ s. Ok (shown s)))
+      by_test : (short : Bool) → cond short (Err unexpected_eof) (elf_selected which class table (Some name) >>= λ s. Ok (elf.listed_of s)) ≡ one_list (cond short (Err unexpected_eof) (elf_selected which class table (Some name) >>= λ s. Ok (shown s)))
       by_test true = refl
       by_test false = by_selected (elf_selected which class table (Some name)) refl
 
@@ -137,10 +135,10 @@ module _ (file : List ℕ) where
   entries_alone [] = refl
   entries_alone (e ∷ entries) = ap (λ (es : List Entry). e ∷ es) (entries_alone entries)
 
-  pub macho_listed : (other : SelectedSymbols → ℕ) (name : List ℕ) → macho_file_answer file ≡ listed_by other (macho.selected_file_answer (Some name) file)
-  macho_listed other name = by_answer (macho_file_answer file) ∙ sym (ap (listed_by other) (macho_selected name))
+  pub macho_listed : (name : List ℕ) → macho_file_answer file ≡ one_list (macho.selected_file_answer (Some name) file)
+  macho_listed name = by_answer (macho_file_answer file) ∙ sym (ap one_list (macho_selected name))
     where
-      by_answer : (a : Result Listed Refusal) → a ≡ listed_by other (a >>= as_selected)
+      by_answer : (a : Result Listed Refusal) → a ≡ one_list (a >>= as_selected)
       by_answer (Err why) = refl
       by_answer (Ok listed) = ap (λ (es : List Entry). Ok (record { entries = es; section_size = listed.section_size })) (sym (entries_alone listed.entries))
 
@@ -213,12 +211,12 @@ module _ (file : List ℕ) where
 
 -- PE
 module _ (file : List ℕ) where
-  pub pe_listed : (other : SelectedSymbols → ℕ) (name : List ℕ) → pe_file_answer file ≡ listed_by other (pe.selected_file_answer (Some name) file)
-  pe_listed other name = by_test (ltb (length file) (pe_file.least_length file))
+  pub pe_listed : (name : List ℕ) → pe_file_answer file ≡ one_list (pe.selected_file_answer (Some name) file)
+  pe_listed name = by_test (ltb (length file) (pe_file.least_length file))
     where
-      by_test : (short : Bool) → cond short (Err unexpected_eof) (pe_answer file) ≡ listed_by other (cond short (Err unexpected_eof) (pe.selected_answer (Some name) file))
+      by_test : (short : Bool) → cond short (Err unexpected_eof) (pe_answer file) ≡ one_list (cond short (Err unexpected_eof) (pe.selected_answer (Some name) file))
       by_test true = refl
-      by_test false = listed_is other name file
+      by_test false = listed_is sizes name file
 
   by_table : (chosen : pe.SelectedSections) (seen : SelectedSymbols) (table : Result pe_symbols.SymbolTable Refusal) → (table >>= λ symbols. Ok (pe.symbols_of chosen symbols)) ≡ Ok seen
       → (seen.section_size ≡ pe.section_size chosen) × (seen.shares_addresses ≡ pe.shares_addresses chosen)
@@ -244,24 +242,11 @@ module _ (file : List ℕ) where
       by_test (Some name) false e = by_text (text_place (pe_sections file)) e
       by_test None false e = (by_all (pe.base_at file (places_of file)) (pe.whole_sections (pe_sections file)) e, λ one. absurd cc)
 
-  -- a file with an entry has a section
-  pub pe_has_section : (seen : SelectedSymbols) → pe.selected_file_answer None file ≡ Ok seen → seen.entries ≢ [] → pe.HasSection file
-  pe_has_section seen is = by_test (ltb (length file) (pe_file.least_length file)) is
-    where
-      by_test : (short : Bool) → cond short (Err unexpected_eof) (pe.selected_answer None file) ≡ Ok seen → seen.entries ≢ [] → pe.HasSection file
-      by_test true e = absurd cc
-      by_test false e = has_section file seen e
-
--- entries without their sections, where there are some
-pub some_of : (entries : List SectionEntry) → entries ≢ [] → map (λ e. e.entry) entries ≢ []
-some_of [] some none = some refl
-some_of (e ∷ es) some none = absurd cc
-
 -- a file of any format
 some_is : {A : Type 0} {a b : A} → Path (Option A) (Some a) (Some b) → a ≡ b
 some_is e = cc
 
-pub by_symtab : {A : Type 0} (which : SymbolTable) (answer : Result A Refusal) (x : A) → Path (Option (Result A Refusal)) (Some (by_symbol_table which answer)) (Some (Ok x)) → answer ≡ Ok x
+by_symtab : {A : Type 0} (which : SymbolTable) (answer : Result A Refusal) (x : A) → Path (Option (Result A Refusal)) (Some (by_symbol_table which answer)) (Some (Ok x)) → answer ≡ Ok x
 by_symtab Symtab answer x e = some_is e
 by_symtab Dynsym answer x e = absurd cc
 
@@ -276,27 +261,3 @@ module _ (which : SymbolTable) (file : List ℕ) where
       by_format formats.Macho e = macho_sized file section seen (by_symtab which (macho.selected_file_answer section file) seen e)
       by_format formats.PE e = pe_sized file section seen (by_symtab which (pe.selected_file_answer section file) seen e)
       by_format formats.Unknown e = absurd cc
-
-  abbrev other : SelectedSymbols → ℕ
-  other s = (as_listed (record { entries = s.entries; section_size = None; section_name = s.section_name; shares_addresses = s.shares_addresses })).section_size
-
-  as_one : (r : Result SelectedSymbols Refusal) → Some (listed_by other r) ≡ one_answer (Some r)
-  as_one (Ok s) = refl
-  as_one (Err why) = refl
-
-  by_table_of : (w : SymbolTable) (listed : Result Listed Refusal) (r : Result SelectedSymbols Refusal) → listed ≡ listed_by other r → Some (by_symbol_table w listed) ≡ one_answer (Some (by_symbol_table w r))
-  by_table_of Symtab listed r is = ap Some is ∙ as_one r
-  by_table_of Dynsym listed r is = refl
-
-  -- the answer for a selection is that of its function symbols as one list
-  pub in_is : (section : Option (List ℕ)) → answer_in which file section ≡ one_answer (selected_answer which section file)
-  unfolding answer_in symbols_answer selected_symbols
-  in_is None = refl
-  in_is (Some name) = by_format (format_of file)
-    where
-      by_format : (format : Format) → symbols_answer which format file name ≡ one_answer (selected_symbols which (Some name) format file)
-      by_format (formats.Elf32 order) = ap Some (elf_listed which elf32 order file other name) ∙ as_one (elf.selected_file_answer which elf32 order file (Some name))
-      by_format (formats.Elf64 order) = ap Some (elf_listed which elf64 order file other name) ∙ as_one (elf.selected_file_answer which elf64 order file (Some name))
-      by_format formats.Macho = by_table_of which (macho_file_answer file) (macho.selected_file_answer (Some name) file) (macho_listed file other name)
-      by_format formats.PE = by_table_of which (pe_file_answer file) (pe.selected_file_answer (Some name) file) (pe_listed file other name)
-      by_format formats.Unknown = refl

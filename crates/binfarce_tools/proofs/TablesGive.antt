@@ -1,6 +1,5 @@
 -- What the tables of a file give is what the file answers for the selection.
-use Rattle.std.proofs.Common.{◌≡◌, ℕ, List, [], map, Option, Some, None, is_some, unwrap_or, Result, Ok, Err, refl, sym, ap, subst, ◌∙◌, inl, inr}
-use Rattle.std.specs.Prelude.{◌≢◌}
+use Rattle.std.proofs.Common.{◌≡◌, ℕ, Bool, true, false, List, map, Option, Some, None, is_some, Result, Ok, Err, refl, sym, ap, subst, ◌∙◌, inl, inr}
 use Rattle.std.specs.Global.{Vec}
 use Rattle.std.specs.Result.{IsErrAnd}
 use Rattle.binfarce.specs.declared.Format.{Format}
@@ -11,113 +10,129 @@ use Rattle.binfarce.specs.declared.SymbolTable.{SymbolTable}
 use Rattle.binfarce.specs.declared.SymbolTable.TheVariants.{Symtab}
 use Rattle.binfarce.specs.Format.{format_of}
 use Rattle.binfarce.specs.MachoSelection as macho
-use Rattle.binfarce.specs.PeSelection as pe
 use Rattle.binfarce.specs.Refusal.{Refusal}
-use Rattle.binfarce.specs.SectionEntries.{SectionEntry, SelectedSymbols, as_listed}
-use Rattle.binfarce.specs.Symbol.{Listed, Answers}
+use Rattle.binfarce.specs.SectionEntries.{SectionEntry, SelectedSymbols, SelectsSome}
+use Rattle.binfarce.specs.Symbol.{Answers}
 use Rattle.binfarce.specs.SymbolViews.{HoldsSelected, section_function_view}
+use Rattle.binfarce_tables.specs.MachoReading as macho_reading
 use Rattle.binfarce_tools.specs.declared.functions.Selected.{Selected}
-use Rattle.binfarce_tools.specs.declared.functions.Selected.TheVariants.{Section, All}
 use Rattle.binfarce_tools.specs.declared.list.ListError.{ListError}
-use Rattle.binfarce_tools.specs.declared.list.ListError.TheVariants.{Unknown}
-use Rattle.binfarce_tools.specs.Answer.{NeedsMemory}
-use Rattle.binfarce_tools.specs.AllAnswer.{selected_symbols, selected_answer, one_answer, HasSections}
-use Rattle.binfarce_tools.specs.Entries.{GetsAs, GetsIn, HoldsIn, IsSelection}
+use Rattle.binfarce_tools.specs.declared.list.ListError.TheVariants as errors
+use Rattle.binfarce_tools.specs.declared.tables.Tables.{Tables}
+use Rattle.binfarce_tools.specs.declared.tables.Tables.TheVariants as variants
+use Rattle.binfarce_tools.specs.Answer.{selected_symbols, selected_answer, MemoryIn, NeedsMemory}
+use Rattle.binfarce_tools.specs.Entries.{all_left, GetsAs, GetsIn, HoldsLeft}
 use Rattle.binfarce_tools.specs.ListWords.{list_error_of}
-use Rattle.binfarce_tools.specs.Selection.{answer_in, MemoryIn}
-use Rattle.binfarce_tools.specs.Tables.{AreTablesOf}
-use Rattle.binfarce_tools.specs.declared.tables.Tables.TheVariants.{Made}
-use Rattle.binfarce_tools.proofs.Listings.{as_memory, parse}
-use Rattle.binfarce_tools.proofs.Reported.{Reported, is_reported}
-use Rattle.binfarce_tools.proofs.Selected.{in_is, sized_in, by_symtab, some_of, macho_needs, pe_has_section}
+use Rattle.binfarce_tools.specs.Tables.{AreTablesOf, given_by, section_names, shares_addresses_of}
+use Rattle.binfarce_tools.proofs.Listings.{reported_refusal}
+use Rattle.binfarce_tools.proofs.Reported.{Reported}
+use Rattle.binfarce_tools.proofs.Selected.{sized_in, macho_made, macho_needs}
 use Rattle.binfarce_tools.proofs.TablesRead.{of_format}
 
--- a selection of these entries, whose size is known
-pub same_selection : (entries same : List SectionEntry) (size known : Option ℕ) (value : Selected) → entries ≡ same → size ≡ known → IsSelection entries size value → IsSelection same known value
-same_selection entries same size known value is sized selection =
-    subst (λ (n : Option ℕ). IsSelection same n value) sized (subst (λ (es : List SectionEntry). IsSelection es size value) is selection)
+some_is : {A : Type 0} {a b : A} → Path (Option A) (Some a) (Some b) → a ≡ b
+some_is e = cc
 
-module _ (which : SymbolTable) (file : List ℕ) where
-  held : (section : Option (List ℕ)) (seen : SelectedSymbols) (size : Option ℕ) (value : Selected) → selected_answer which section file ≡ Some (Ok seen) → seen.section_size ≡ size → is_some size ≡ is_some section
-      → IsSelection seen.entries size value → HoldsIn which file section (as_listed seen) value
-  held (Some name) seen (Some n) (Section functions m) is at sized selection =
-      (ap (map (λ e. e.entry)) selection.0, selection.1 ∙ ap (λ (o : Option ℕ). unwrap_or o (as_listed (record { entries = seen.entries; section_size = None; section_name = seen.section_name; shares_addresses = seen.shares_addresses })).section_size) (sym at))
-  held (Some name) seen (Some n) (All functions) is at sized selection = absurd selection
-  held (Some name) seen None value is at sized selection = absurd cc
-  held None seen (Some n) value is at sized selection = absurd cc
-  held None seen None (Section functions m) is at sized selection = absurd selection
-  held None seen None (All functions) is at sized selection = (seen, is, selection)
+some_ok : {A : Type 0} {a b : A} → Path (Option (Result A Refusal)) (Some (Ok a)) (Some (Ok b)) → a ≡ b
+some_ok e = cc
+
+module _ (which : SymbolTable) (file : List ℕ) (section : Option (List ℕ)) where
+  abbrev P : Option (Result SelectedSymbols Refusal) → Result Selected ListError → Type 0
+  P answer result = GetsAs HoldsLeft (MemoryIn file section) answer result
 
   -- function symbols that are those of the file's answer
-  pub given : (section : Option (List ℕ)) (seen : SelectedSymbols) (value : Selected) → selected_answer which section file ≡ Some (Ok seen) → IsSelection seen.entries seen.section_size value → GetsIn which file section (Ok value)
-  given section seen value is selection =
-      subst (λ (a : Option (Result Listed Refusal)). GetsAs (HoldsIn which file section) (MemoryIn file section) a (Ok value)) (sym (in_is which file section ∙ ap one_answer is))
-      (held section seen seen.section_size value is refl (sized_in which file section seen is).0 selection)
+  pub given : (seen : SelectedSymbols) (value : Selected) → selected_answer which section file ≡ Some (Ok seen) → HoldsLeft seen value → GetsIn which file section (Ok value)
+  given seen value is held = subst (λ (a : Option (Result SelectedSymbols Refusal)). P a (Ok value)) (sym is) held
 
-  -- so for an answer that the parts give, or refuse
-  pub given_of : (section : Option (List ℕ)) (N : Type 0) (answer : Result SelectedSymbols Refusal) (functions : Vec SectionFunction) (value : Selected) → selected_answer which section file ≡ Some answer
-      → Answers HoldsSelected (λ _. N) answer (Ok functions) → ((seen : SelectedSymbols) → answer ≡ Ok seen → HoldsSelected seen functions → IsSelection seen.entries seen.section_size value) → GetsIn which file section (Ok value)
-  given_of section N (Ok seen) functions value is answers selection = given section seen value is (selection seen refl answers)
-  given_of section N (Err why) functions value is answers selection = absurd answers
+  -- so for a list that the parts give of an answer
+  pub given_of : (N : Result SelectedSymbols Refusal → Type 0) (answer : Result SelectedSymbols Refusal) (functions : Vec SectionFunction) (value : Selected) → selected_answer which section file ≡ Some answer
+      → Answers HoldsSelected N answer (Ok functions) → all_left value.functions ≡ map section_function_view functions.items → ((seen : SelectedSymbols) → answer ≡ Ok seen → value.size ≡ seen.section_size) → GetsIn which file section (Ok value)
+  given_of N (Ok seen) functions value is answers left sized = subst (λ (a : Option (Result SelectedSymbols Refusal)). P a (Ok value)) (sym is) (left ∙ answers, sized seen refl)
+  given_of N (Err why) functions value is answers left sized = absurd answers
 
   -- and why there are none
-  pub not_given : (section : Option (List ℕ)) (N : Type 0) (answer : Result SelectedSymbols Refusal) (e : ParseError) (result : Result Selected ListError) → selected_answer which section file ≡ Some answer
-      → ((a : Result Listed Refusal) → one_answer (Some answer) ≡ Some a → N → MemoryIn file section a) → Reported answer → Answers {X = Vec SectionFunction} HoldsSelected (λ _. N) answer (Err e)
-      → IsErrAnd result (λ f. f ≡ list_error_of e) → GetsIn which file section result
-  not_given section N answer e (Ok value) is memory reported answers err = absurd err
-  not_given section N answer e (Err f) is memory reported answers err =
-      let P : Option (Result Listed Refusal) → ListError → Type 0 = λ a f. GetsAs (HoldsIn which file section) (MemoryIn file section) a (Err f) in
-      subst (λ (f : ListError). P (answer_in which file section) f) (sym err)
-      (subst (λ (a : Option (Result Listed Refusal)). P a (list_error_of e)) (sym (in_is which file section ∙ ap one_answer is)) (by_answer answer memory reported answers))
+  pub not_given : (N : Result SelectedSymbols Refusal → Type 0) (answer : Result SelectedSymbols Refusal) (e : ParseError) (result : Result Selected ListError) → selected_answer which section file ≡ Some answer
+      → (N answer → MemoryIn file section answer) → Reported answer → Answers {X = Vec SectionFunction} HoldsSelected N answer (Err e) → IsErrAnd result (λ f. f ≡ list_error_of e) → GetsIn which file section result
+  not_given N answer e result is memory reported answers err =
+      subst (λ (a : Option (Result SelectedSymbols Refusal)). P a result) (sym is) (reported_refusal (MemoryIn file section) answer e result reported (as_left answer memory answers) err)
     where
-      by_answer : (answer : Result SelectedSymbols Refusal) → ((a : Result Listed Refusal) → one_answer (Some answer) ≡ Some a → N → MemoryIn file section a) → Reported answer → Answers {X = Vec SectionFunction} HoldsSelected (λ _. N) answer (Err e)
-          → GetsAs (HoldsIn which file section) (MemoryIn file section) (one_answer (Some answer)) (Err (list_error_of e))
-      by_answer (Ok seen) memory reported h = (memory (Ok (as_listed seen)) refl h.1, as_memory e h.0)
-      by_answer (Err why) memory reported (inl is) = inl (e, is, parse e (ap is_reported is ∙ reported))
-      by_answer (Err why) memory reported (inr h) = inr (memory (Err why) refl h.1, as_memory e h.0)
+      as_left : (answer : Result SelectedSymbols Refusal) → (N answer → MemoryIn file section answer) → Answers {X = Vec SectionFunction} HoldsSelected N answer (Err e) → Answers {X = Selected} HoldsLeft (MemoryIn file section) answer (Err e)
+      as_left (Ok seen) memory h = (h.0, memory h.1)
+      as_left (Err why) memory (inl h) = inl h
+      as_left (Err why) memory (inr h) = inr (h.0, memory h.1)
 
   -- the parts of a Mach-O file that need memory are of a file that needs it
-  pub macho_memory : (section : Option (List ℕ)) (t : macho.SelectedTables) (answer : Result Listed Refusal) → format_of file ≡ formats.Macho → macho.selected_file_tables section file ≡ Ok t
-      → macho.NeedsMemory t.sections t.symbols → MemoryIn file section answer
-  unfolding MemoryIn NeedsMemory HasSections
-  macho_memory (Some name) t answer format is need = subst (λ (f : Format). NeedsMemory f file answer) (sym format) (macho_needs file (Some name) t is need)
-  macho_memory None t answer format is need = subst (λ (f : Format). HasSections f file) (sym format) (macho_needs file None t is need)
+  pub macho_memory : (t : macho.SelectedTables) (answer : Result SelectedSymbols Refusal) → format_of file ≡ formats.Macho → macho.selected_file_tables section file ≡ Ok t → macho.NeedsMemory t.sections t.symbols → MemoryIn file section answer
+  unfolding NeedsMemory
+  macho_memory t answer format is need = subst (λ (f : Format). NeedsMemory f section file answer) (sym format) (macho_needs file section t is need)
 
   -- and so are the function symbols of a PE file
-  pub pe_memory : (section : Option (List ℕ)) (seen : SelectedSymbols) (answer : Result Listed Refusal) → format_of file ≡ formats.PE → selected_answer which section file ≡ Some (Ok seen)
-      → one_answer (Some (Ok seen)) ≡ Some answer → seen.entries ≢ [] → MemoryIn file section answer
-  unfolding MemoryIn NeedsMemory HasSections selected_symbols
-  pe_memory (Some name) seen answer format is one some =
-      let P : Format → Result Listed Refusal → Type 0 = λ f a. NeedsMemory f file a in
-      let same : Ok (as_listed seen) ≡ answer = cc in
-      subst (λ (f : Format). P f answer) (sym format) (subst (P formats.PE) same (some_of seen.entries some))
-  pe_memory None seen answer format is one some =
-      let answered : selected_symbols which None formats.PE file ≡ Some (Ok seen) = sym (of_format which None file formats.PE format) ∙ is in
-      subst (λ (f : Format). HasSections f file) (sym format) (pe_has_section file seen (by_symtab which (pe.selected_file_answer None file) seen answered) some)
+  pub pe_memory : (answer : Result SelectedSymbols Refusal) → format_of file ≡ formats.PE → SelectsSome answer → MemoryIn file section answer
+  unfolding NeedsMemory
+  pe_memory answer format some = subst (λ (f : Format). NeedsMemory f section file answer) (sym format) some
 
   -- a file of an unknown format has no answer
-  pub of_unknown : (section : Option (List ℕ)) → format_of file ≡ formats.Unknown → GetsIn which file section (Err Unknown)
+  pub of_unknown : format_of file ≡ formats.Unknown → GetsIn which file section (Err errors.Unknown)
   unfolding selected_symbols
-  of_unknown section is =
-      subst (λ (a : Option (Result Listed Refusal)). GetsAs (HoldsIn which file section) (MemoryIn file section) a (Err Unknown)) (sym (in_is which file section ∙ ap one_answer answered)) refl
+  of_unknown is = subst (λ (a : Option (Result SelectedSymbols Refusal)). P a (Err errors.Unknown)) (sym (of_format which section file formats.Unknown is)) refl
+
+  -- what was made of an answer is that answer
+  pub of_made : (functions : Vec SectionFunction) (size : ℕ) (value : Selected) → AreTablesOf which file section (variants.Made functions size) → all_left value.functions ≡ map section_function_view functions.items → value.size ≡ Some size → GetsIn which file section (Ok value)
+  unfolding AreTablesOf
+  of_made functions size value are left sized = subst (λ (a : Option (Result SelectedSymbols Refusal)). P a (Ok value)) (sym are.1) (left ∙ are.2, sized ∙ sym are.3)
+
+  -- what a whole file gives is its own answer for its section by the symbol table
+  pub of_whole : (whole named : List ℕ) (result : Result Selected ListError) → (which ≡ Symtab) × (file ≡ whole) × (section ≡ Some named) → GetsIn Symtab whole (Some named) result → GetsIn which file section result
+  of_whole whole named result is gets =
+      subst (λ (w : SymbolTable). GetsIn w file section result) (sym is.0)
+      (subst (λ (s : Option (List ℕ)). GetsIn Symtab file s result) (sym is.2) (subst (λ (f : List ℕ). GetsIn Symtab f (Some named) result) (sym is.1) gets))
+
+  -- the sections' names that were read are those of the answer for all sections
+  pub names_are : (read : Tables) (seen : SelectedSymbols) → AreTablesOf which file section read → selected_answer which section file ≡ Some (Ok seen) → seen.section_size ≡ None → section_names read ≡ seen.section_name
+  unfolding AreTablesOf selected_symbols
+  names_are (variants.Elf parts) seen are is none = ap (λ (a : SelectedSymbols). a.section_name) (some_ok (sym are ∙ is))
+  names_are (variants.Macho parts) seen are is none = (macho_made file (macho_reading.parts_view parts) seen (some_is (sym are.1 ∙ is))).1
+  names_are (variants.Pe parts) seen are is none = ap (λ (a : SelectedSymbols). a.section_name) (some_ok (sym are.1 ∙ is))
+  names_are variants.Unknown seen are is none =
+      let e : Path (Option (Result SelectedSymbols Refusal)) None (Some (Ok seen)) = sym (of_format which section file formats.Unknown are) ∙ is in absurd cc
+  names_are (variants.Whole whole named) seen are is none =
+      let never : false ≡ true = sym (ap is_some none) ∙ (sized_in which file section seen is).0 ∙ ap is_some are.2 in absurd cc
+  names_are (variants.Made functions size) seen are is none =
+      let never : None ≡ Some size = sym none ∙ ap (λ (a : SelectedSymbols). a.section_size) (some_ok (sym is ∙ are.1)) ∙ are.3 in absurd cc
+
+  -- they share addresses where those of the answer do
+  pub sharing_is : (read : Tables) (seen : SelectedSymbols) → AreTablesOf which file section read → selected_answer which section file ≡ Some (Ok seen) → shares_addresses_of read ≡ seen.shares_addresses
+  unfolding AreTablesOf selected_symbols
+  sharing_is (variants.Elf parts) seen are is = ap (λ (a : SelectedSymbols). a.shares_addresses) (some_ok (sym are ∙ is))
+  sharing_is (variants.Macho parts) seen are is = (macho_made file (macho_reading.parts_view parts) seen (some_is (sym are.1 ∙ is))).2
+  sharing_is (variants.Pe parts) seen are is = ap (λ (a : SelectedSymbols). a.shares_addresses) (some_ok (sym are.1 ∙ is))
+  sharing_is variants.Unknown seen are is =
+      let e : Path (Option (Result SelectedSymbols Refusal)) None (Some (Ok seen)) = sym (of_format which section file formats.Unknown are) ∙ is in absurd cc
+  sharing_is (variants.Whole whole named) seen are is = sym ((sized_in which file section seen is).1 (ap is_some are.2))
+  sharing_is (variants.Made functions size) seen are is =
+      let sized = sized_in which file section seen is in
+      let same : seen.section_size ≡ Some size = ap (λ (a : SelectedSymbols). a.section_size) (some_ok (sym is ∙ are.1)) ∙ are.3 in
+      sym (sized.1 (sym sized.0 ∙ ap is_some same))
+
+  -- a text of what the tables give is one of the file's answer, if names count only where there is no size
+  pub as_answered : (IsText : SelectedSymbols → Type 0) (read : Tables) (selected : Selected) (seen : SelectedSymbols) → AreTablesOf which file section read → selected_answer which section file ≡ Some (Ok seen) → HoldsLeft seen selected
+      → ((entries : List SectionEntry) (size : ℕ) (names other : ℕ → Option (List ℕ)) (shares : Bool) → IsText (record { entries = entries; section_size = Some size; section_name = names; shares_addresses = shares })
+      → IsText (record { entries = entries; section_size = Some size; section_name = other; shares_addresses = shares }))
+      → IsText (given_by read selected) → IsText seen
+  as_answered IsText read selected seen are is held unnamed text = by_size seen.section_size refl (subst Sharing (sharing_is read seen are is) (subst Sized held.1 (subst Having held.0 text)))
     where
-      answered : selected_answer which section file ≡ None
-      answered = of_format which section file formats.Unknown is
+      Having : List SectionEntry → Type 0
+      Having entries = IsText (record { entries = entries; section_size = selected.size; section_name = section_names read; shares_addresses = shares_addresses_of read })
 
--- what was made of a section's answer is that answer
-pub of_made : (which : SymbolTable) (file : List ℕ) (section : Option (List ℕ)) (functions : Vec SectionFunction) (size : ℕ) (entries : List SectionEntry) (value : Selected) → AreTablesOf which file section (Made functions size)
-    → map section_function_view functions.items ≡ entries → IsSelection entries (Some size) value → GetsIn which file section (Ok value)
-unfolding AreTablesOf
-of_made which file section functions size entries (All all) are same selection = absurd selection
-of_made which file section functions size entries (Section given n) are same selection =
-    let P : Option (List ℕ) → Option (Result Listed Refusal) → Type 0 = λ s a. GetsAs (HoldsIn which file s) (MemoryIn file s) a (Ok (Section given n)) in
-    let left = ap (map (λ e. e.entry)) (selection.0 ∙ sym same) ∙ are.4 in
-    subst (P section) (sym are.3) (subst (λ (s : Option (List ℕ)). P s (Some (Ok are.1))) (sym are.2) (left, selection.1 ∙ are.5))
+      Sized : Option ℕ → Type 0
+      Sized size = IsText (record { entries = seen.entries; section_size = size; section_name = section_names read; shares_addresses = shares_addresses_of read })
 
--- what a whole file gives is its own answer for its section by the symbol table
-pub of_whole : (which : SymbolTable) (file whole named : List ℕ) (section : Option (List ℕ)) (result : Result Selected ListError) → (which ≡ Symtab) × (file ≡ whole) × (section ≡ Some named)
-    → GetsIn Symtab whole (Some named) result → GetsIn which file section result
-of_whole which file whole named section result is gets =
-    subst (λ (w : SymbolTable). GetsIn w file section result) (sym is.0)
-    (subst (λ (s : Option (List ℕ)). GetsIn Symtab file s result) (sym is.2)
-    (subst (λ (f : List ℕ). GetsIn Symtab f (Some named) result) (sym is.1) gets))
+      Sharing : Bool → Type 0
+      Sharing shares = IsText (record { entries = seen.entries; section_size = seen.section_size; section_name = section_names read; shares_addresses = shares })
+
+      With : Option ℕ → (ℕ → Option (List ℕ)) → Type 0
+      With size names = IsText (record { entries = seen.entries; section_size = size; section_name = names; shares_addresses = seen.shares_addresses })
+
+      by_size : (size : Option ℕ) → seen.section_size ≡ size → With seen.section_size (section_names read) → With seen.section_size seen.section_name
+      by_size None none text = subst (With seen.section_size) (names_are read seen are is none) text
+      by_size (Some n) sized text =
+          subst (λ (o : Option ℕ). With o seen.section_name) (sym sized) (unnamed seen.entries n (section_names read) seen.section_name seen.shares_addresses (subst (λ (o : Option ℕ). With o (section_names read)) sized text))

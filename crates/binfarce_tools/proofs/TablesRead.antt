@@ -13,10 +13,8 @@ use Rattle.binfarce_tables.specs.Reading.{Reads}
 use Rattle.binfarce_tables.specs.declared.error.ReadError.{ReadError}
 use Rattle.binfarce_tables.specs.declared.error.ReadError.TheVariants.{Refused, Unreadable, OutOfMemory}
 use Rattle.binfarce_tools.specs.declared.tables.Tables.{Tables}
-use Rattle.binfarce_tools.specs.Answer.{by_symbol_table}
-use Rattle.binfarce_tools.specs.AllAnswer.{selected_symbols, selected_answer, one_answer}
+use Rattle.binfarce_tools.specs.Answer.{by_symbol_table, selected_symbols, selected_answer}
 use Rattle.binfarce_tools.specs.Tables.{ReadsTables}
-use Rattle.binfarce_tools.proofs.Selected.{in_is}
 use Rattle.binfarce_tables.proofs.Readings.{err_is}
 
 -- the answer of a file is that of its format
@@ -34,7 +32,7 @@ without_table which answer p is = ap (λ (w : SymbolTable). Some (by_symbol_tabl
 module _ (may_fail : Bool) (which : SymbolTable) (section : Option (List ℕ)) (file : List ℕ) where
   not_read : {X : Type 0} (view : X → SelectedSymbols) (given : Result SelectedSymbols Refusal) (e : ReadError)
       → selected_answer which section file ≡ Some given → Reads may_fail view given (Err e) → ReadsTables (may_fail ≡ true) which file section (Err e)
-  not_read view given (Refused p) is reads = in_is which file section ∙ ap one_answer (is ∙ ap Some reads)
+  not_read view given (Refused p) is reads = is ∙ ap Some reads
   not_read view given Unreadable is reads = reads
   not_read view given OutOfMemory is reads = tt
 

@@ -1,6 +1,3 @@
-pub mod AllAnswer
-pub mod AllListing
-pub mod Selection
 pub mod Answer
 pub mod Entries
 pub mod Writing

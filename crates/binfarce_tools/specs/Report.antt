@@ -1,5 +1,5 @@
--- The text of a report: a line for each crate, and two lines for the whole.
-use Rattle.std.specs.Prelude.{◌≡◌, ◌<◌, ◌^◌, ℕ, List, [], ◌∷◌, ◌++◌, map, filter, All, Contains, Option, Some, None, unwrap_or, codes}
+-- The text of a report: a line for each crate, one for the whole, and where a section is selected one for its size.
+use Rattle.std.specs.Prelude.{◌≡◌, ◌<◌, ◌^◌, ℕ, List, [], ◌∷◌, ◌++◌, map, filter, All, Contains, Option, unwrap_or, codes}
 use Rattle.std.specs.Cmp.Lexicographic.{slice_cmp}
 use Rattle.std.specs.Fmt.{decimal}
 use Rattle.std.specs.List.{AllZip, flat_map, sum_by}
@@ -9,8 +9,10 @@ use Rattle.std.specs.Str.{bytes_eq}
 use Rattle.binfarce_names.specs.Crates.{crate_of}
 use Rattle.binfarce_names.specs.Name.{Name}
 use Rattle.binfarce_names.specs.Named.{IsNamed}
-use Rattle.binfarce.specs.Symbol.{Entry, Listed}
-use Rattle.binfarce_tools.specs.Listing.{size_text, size_line}
+use Rattle.binfarce.specs.SectionEntries.{SelectedSymbols}
+use Rattle.binfarce.specs.Symbol.{Entry}
+use Rattle.binfarce_tools.specs.Answer.{entries_of}
+use Rattle.binfarce_tools.specs.Listing.{size_text, last_line}
 
 -- the label for symbols without a crate
 abbrev pub unknown_crate : List ℕ
@@ -54,35 +56,18 @@ total_line total = codes "sum " ++ (decimal total ++ 10 ∷ [])
 abbrev pub crate_lines : List Share → List (List ℕ) → List ℕ
 crate_lines shares names = flat_map (λ name. crate_line name (sum_of shares name)) names
 
--- the lines of the crates, and then those of the sum of all sizes and of the section's size
-abbrev pub report : List Share → List (List ℕ) → ℕ → List ℕ
-report shares names size = crate_lines shares names ++ (total_line (total shares) ++ size_line size)
+-- the lines of the crates, then that of the sum of all sizes, and the last line
+abbrev pub report : List Share → List (List ℕ) → (size : Option ℕ) → List ℕ
+report shares names size = crate_lines shares names ++ (total_line (total shares) ++ last_line size)
 
--- the lines of the crates, and then that of the sum of all sizes
-abbrev pub sums : List Share → List (List ℕ) → List ℕ
-sums shares names = crate_lines shares names ++ total_line (total shares)
-
--- text is that of these shares
-abbrev pub IsSumsOfShares : List Share → List ℕ → Type 0
-IsSumsOfShares shares text = (names : List (List ℕ)) × AreCratesOf shares names × (text ≡ sums shares names)
-
--- text is that of what a file holds: each entry adds its share
-abbrev pub IsSumsOf : Listed → List ℕ → Type 0
-IsSumsOf listed text = (shares : List Share) × AllZip IsShareOf listed.entries shares × IsSumsOfShares shares text
-
--- text is the report of these shares and of their section's size
-abbrev pub IsReportOfShares : List Share → ℕ → List ℕ → Type 0
+-- text is the report of these shares, where the selected section has this size
+abbrev pub IsReportOfShares : List Share → (size : Option ℕ) → List ℕ → Type 0
 IsReportOfShares shares size text = (names : List (List ℕ)) × AreCratesOf shares names × (text ≡ report shares names size)
 
 -- text is the report of a file's answer: each entry adds its share
-abbrev pub IsReportOf : Listed → List ℕ → Type 0
-IsReportOf listed text = (shares : List Share) × AllZip IsShareOf listed.entries shares × IsReportOfShares shares listed.section_size text
-
--- text is the report of a selection's answer: that of all sections doesn't end with a section's size
-abbrev pub IsReportIn : (section : Option (List ℕ)) → Listed → List ℕ → Type 0
-IsReportIn (Some section) = IsReportOf
-IsReportIn None = IsSumsOf
+abbrev pub IsReportOf : SelectedSymbols → List ℕ → Type 0
+IsReportOf selected text = (shares : List Share) × AllZip IsShareOf (entries_of selected) shares × IsReportOfShares shares selected.section_size text
 
 -- a report can be made where the sum of all sizes is a number of 64 bits
-abbrev pub ReportFits : Listed → Type 0
-ReportFits listed = sum_by (λ entry. entry.size) listed.entries < 2 ^ 64
+abbrev pub ReportFits : SelectedSymbols → Type 0
+ReportFits selected = sum_by (λ entry. entry.size) (entries_of selected) < 2 ^ 64

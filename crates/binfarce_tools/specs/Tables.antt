@@ -4,7 +4,7 @@ use Rattle.binfarce.specs.declared.Format.TheVariants as formats
 use Rattle.binfarce.specs.Format.{format_of}
 use Rattle.binfarce.specs.MachoSelection as macho_file
 use Rattle.binfarce.specs.Refusal.{Refusal, refusal_of}
-use Rattle.binfarce.specs.Symbol.{Listed}
+use Rattle.binfarce.specs.SectionEntries.{SelectedSymbols}
 use Rattle.binfarce.specs.SymbolViews.{section_function_view}
 use Rattle.binfarce_tables.specs.ElfReading as elf
 use Rattle.binfarce_tables.specs.MachoReading as macho
@@ -13,8 +13,9 @@ use Rattle.binfarce_tables.specs.declared.error.ReadError.{ReadError}
 use Rattle.binfarce_tables.specs.declared.error.ReadError.TheVariants.{Refused, Unreadable, OutOfMemory}
 use Rattle.binfarce.specs.declared.SymbolTable.{SymbolTable}
 use Rattle.binfarce.specs.declared.SymbolTable.TheVariants.{Symtab}
-use Rattle.binfarce_tools.specs.AllAnswer.{selected_answer}
-use Rattle.binfarce_tools.specs.Selection.{answer_in}
+use Rattle.binfarce_tools.specs.Answer.{selected_answer}
+use Rattle.binfarce_tools.specs.Entries.{all_left}
+use Rattle.binfarce_tools.specs.declared.functions.Selected.{Selected}
 use Rattle.binfarce_tools.specs.declared.tables.Tables.{Tables}
 use Rattle.binfarce_tools.specs.declared.tables.Tables.TheVariants.{Elf, Macho, Pe, Unknown, Whole, Made}
 
@@ -30,8 +31,8 @@ AreTablesOf which file section (Pe parts) = (format_of file ≡ formats.PE) × (
 AreTablesOf which file section Unknown = format_of file ≡ formats.Unknown
 AreTablesOf which file section (Whole whole named) = (which ≡ Symtab) × (file ≡ whole.now) × (section ≡ Some named.now)
 AreTablesOf which file section (Made functions size) =
-    (name : List ℕ) × (listed : Listed) × (section ≡ Some name) × (answer_in which file section ≡ Some (Ok listed))
-    × (map (λ e. e.entry) (map section_function_view functions.items) ≡ listed.entries) × (size ≡ listed.section_size)
+    (selected : SelectedSymbols) × (selected_answer which section file ≡ Some (Ok selected)) × (map section_function_view functions.items ≡ selected.entries)
+    × (selected.section_size ≡ Some size)
 
 -- what a reading of a file with this answer gives: tables that are its own, or its refusal; or a read failed, which it may only where MayFail says so; or an allocation failed
 abbrev pub ReadsAs : {L T : Type 0} → (T → Type 0) → Type 0 → Option (Result L Refusal) → Result T ReadError → Type 0
@@ -42,7 +43,7 @@ ReadsAs AreTables MayFail answer (Err OutOfMemory) = Unit {0}
 
 -- so for a selection
 abbrev pub ReadsTables : Type 0 → SymbolTable → (file : List ℕ) → (section : Option (List ℕ)) → Result Tables ReadError → Type 0
-ReadsTables MayFail which file section result = ReadsAs (AreTablesOf which file section) MayFail (answer_in which file section) result
+ReadsTables MayFail which file section result = ReadsAs (AreTablesOf which file section) MayFail (selected_answer which section file) result
 
 -- the names of the sections that were read, by their numbers
 abbrev pub section_names : Tables → ℕ → Option (List ℕ)
@@ -57,3 +58,12 @@ shares_addresses_of (Elf parts) = (elf.parts_view parts).shares_addresses
 shares_addresses_of (Macho parts) = macho_file.shares_addresses (macho.parts_view parts).sections (macho.parts_view parts).is_object
 shares_addresses_of (Pe parts) = (pe.selected_view parts).shares_addresses
 shares_addresses_of tables = false
+
+-- what the tables and the function symbols that they give have
+abbrev pub given_by : Tables → Selected → SelectedSymbols
+given_by tables selected = record {
+  entries = all_left selected.functions;
+  section_size = selected.size;
+  section_name = section_names tables;
+  shares_addresses = shares_addresses_of tables;
+}

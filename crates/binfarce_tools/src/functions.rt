@@ -1,16 +1,17 @@
 //! The function symbols of a file of any format.
 
-ghost use Rattle.std.specs.Prelude.{◌≡◌, Some, None, map, unwrap_or};
+ghost use Rattle.std.specs.Prelude.{◌≡◌, map, Some};
 ghost use Rattle.std.specs.Iterator.{YieldsFirstBy};
-ghost use Rattle.binfarce.specs.ElfSymbols.{elf_file_answer, listed_of};
+ghost use Rattle.binfarce.specs.ElfSymbols.{selected_file_answer};
 ghost use Rattle.binfarce.specs.ElfViews.{selected_view};
-ghost use Rattle.binfarce.specs.MachoSymbols.{macho_file_answer, HasAddress};
-ghost use Rattle.binfarce.specs.PeSymbols.{pe_file_answer};
-ghost use Rattle.binfarce.specs.Symbol.{ListsSome, Answers};
+ghost use Rattle.binfarce.specs.MachoSelection as macho_selection;
+ghost use Rattle.binfarce.specs.PeSelection as pe_selection;
+ghost use Rattle.binfarce.specs.SectionEntries.{SelectsSome};
+ghost use Rattle.binfarce.specs.Symbol.{Answers};
 ghost use Rattle.binfarce.specs.SymbolViews.{section_function_view};
 ghost use Rattle.binfarce.specs.declared.SymbolTable.TheVariants.{Symtab};
-ghost use Rattle.binfarce_tools.specs.Answer.{file_answer, FileNeedsMemory};
-ghost use Rattle.binfarce_tools.specs.Entries.{all_left, arranged_left, lent_left, functions_left, selected_left, size_of, HoldsLeft, IsSelection, Gets};
+ghost use Rattle.binfarce_tools.specs.Answer.{file_answer, MemoryIn};
+ghost use Rattle.binfarce_tools.specs.Entries.{all_left, arranged_left, lent_left, functions_left, HoldsLeft, HoldsListed, GetsAs, GetsIn};
 
 use crate::list::ListError;
 use binfarce::{
@@ -47,7 +48,7 @@ impl<'a> Iterator for Functions<'a> {
     }
 }
 
-/// An iterator over the function symbols of a file with their sections, in the order of its listing.
+/// An iterator over the function symbols of a selection with their sections, in the order of the listing.
 #[derive(Drop)]
 pub enum AllFunctions<'a> {
     Elf(symbols::Functions<'a>),
@@ -113,23 +114,21 @@ impl<'a> Lent<'a> {
 
 /// The function symbols of a selection.
 #[derive(Drop)]
-pub enum Selected<'a> {
-    /// Those of a section, and the section's size.
-    Section(Functions<'a>, u64),
-    /// Those of all sections.
-    All(AllFunctions<'a>),
+pub struct Selected<'a> {
+    /// The function symbols with their sections, in the order of the listing.
+    pub functions: AllFunctions<'a>,
+    /// The size of the selected section; `None` for all sections.
+    pub size: Option<u64>,
 }
 
 impl<'a> Selected<'a> {
-    /// The function symbols as one list, and the section's size: `None` for all sections.
+    /// The function symbols without their sections, and the section's size: `None` for all sections.
     pub fn into_list(self) -> (Functions<'a>, Option<u64>)
-        ensures functions { functions_left result.0 ≡ selected_left self.entry }
-        ensures size { result.1 ≡ size_of self.entry }
+        ensures functions { all_left result.0.all ≡ all_left self.entry.functions }
+        ensures size { result.1 ≡ self.entry.size }
     {
-        match self {
-            Selected::Section(functions, size) => (functions, Some(size)),
-            Selected::All(all) => (Functions { all }, None),
-        }
+        let Selected { functions, size } = self;
+        (Functions { all: functions }, size)
     }
 }
 
@@ -139,13 +138,26 @@ impl<'a> Selected<'a> {
 ///
 /// `Unknown` where the format isn't supported; `Parse` where its reader refuses the file; `OutOfMemory` where an
 /// allocation failed.
-#[tactic(auto, unfolding(crate::specs::Answer::symbols_answer, crate::specs::Answer::NeedsMemory))]
 pub fn functions_of_file<'a>(
     alloc: Global,
     file: &'a [u8],
     section: &str,
 ) -> Result<(Functions<'a>, u64), ListError>
-    ensures { Gets (FileNeedsMemory file.entry.now) (file_answer file.entry.now section.now) result }
+    ensures { GetsAs HoldsListed (MemoryIn file.entry.now (Some section.entry.now))
+        (file_answer file.entry.now section.entry.now) result }
+{
+    let (functions, size) = section_functions(alloc, file, section)?.into_list();
+    Ok((functions, size.unwrap_or(0)))
+}
+
+// Those of a section of a file, as a selection.
+#[tactic(auto, unfolding(crate::specs::Answer::selected_symbols, crate::specs::Answer::NeedsMemory))]
+pub(crate) fn section_functions<'a>(
+    alloc: Global,
+    file: &'a [u8],
+    section: &str,
+) -> Result<Selected<'a>, ListError>
+    ensures { GetsIn Symtab file.entry.now (Some section.entry.now) result }
 {
     match detect_format(file) {
         Format::Elf32 { byte_order } => Ok(functions_of_elf::<u32>(file, byte_order, section)?),
@@ -157,29 +169,31 @@ pub fn functions_of_file<'a>(
 }
 
 // Those of a section of an ELF file of this class.
-#[tactic(auto, unfolding(binfarce_elf::specs::ElfSymbols::elf_answer))]
+#[tactic(auto, unfolding(binfarce_elf::specs::ElfSymbols::selected_file_answer))]
 fn functions_of_elf<'a, C: Class>(
     file: &'a [u8],
     byte_order: ByteOrder,
     section: &str,
-) -> Result<(Functions<'a>, u64), ParseError>
-    ensures { Answers HoldsLeft ListsSome
-        (elf_file_answer Symtab C.table byte_order file.entry.now section.now) result }
+) -> Result<Selected<'a>, ParseError>
+    ensures { Answers HoldsLeft SelectsSome
+        (selected_file_answer Symtab C.table byte_order file.entry.now (Some section.entry.now)) result }
 {
     let header = parse_header::<C>(file, byte_order)?;
     let table = section_table(file, byte_order, &header);
-    let selection = Selection::Section(section);
-    let functions = symbols::selected_functions::<C>(table, SymbolTable::Symtab, selection)?;
-    Ok(of_section(functions))
+    let functions = symbols::section_functions::<C>(table, SymbolTable::Symtab, section)?;
+    Ok(of_elf(functions))
 }
 
-// The functions of a section of an ELF file, with its size.
-fn of_section(functions: symbols::Functions<'_>) -> (Functions<'_>, u64)
-    ensures { HoldsLeft (listed_of (selected_view functions.entry)) result }
+// The function symbols of a selection of an ELF file.
+pub(crate) fn of_elf(functions: symbols::Functions<'_>) -> Selected<'_>
+    ensures functions { all_left result.functions ≡ (selected_view functions.entry).entries }
+    ensures size { result.size ≡ (selected_view functions.entry).size }
 {
-    let size = functions.section_size().unwrap_or(0);
-    let all = AllFunctions::Elf(functions);
-    (Functions { all }, size)
+    let size = functions.section_size();
+    Selected {
+        functions: AllFunctions::Elf(functions),
+        size,
+    }
 }
 
 // Those of the text of a Mach-O file, whichever the section.
@@ -187,13 +201,12 @@ fn functions_of_macho<'a>(
     alloc: Global,
     file: &'a [u8],
     section: &str,
-) -> Result<(Functions<'a>, u64), ParseError>
-    ensures { Answers HoldsLeft (λ _. HasAddress file.entry.now) (macho_file_answer file.entry.now) result }
+) -> Result<Selected<'a>, ParseError>
+    ensures { Answers HoldsLeft (λ _. macho_selection.FileNeedsMemory (Some section.entry.now) file.entry.now)
+        (macho_selection.selected_file_answer (Some section.entry.now) file.entry.now) result }
 {
-    let (functions, size) = macho::parse(file)?.selected_functions(
-        alloc,
-        Selection::Section(section),
-    )?;
+    let selection = Selection::Section(section);
+    let (functions, size) = macho::parse(file)?.selected_functions(alloc, selection)?;
     Ok(listed(functions, size))
 }
 
@@ -202,47 +215,33 @@ fn functions_of_pe<'a>(
     alloc: Global,
     file: &'a [u8],
     section: &str,
-) -> Result<(Functions<'a>, u64), ParseError>
-    ensures { Answers HoldsLeft ListsSome (pe_file_answer file.entry.now) result }
+) -> Result<Selected<'a>, ParseError>
+    ensures { Answers HoldsLeft SelectsSome
+        (pe_selection.selected_file_answer (Some section.entry.now) file.entry.now) result }
 {
-    let (functions, size) = pe::parse(file)?.selected_functions(
-        alloc,
-        Selection::Section(section),
-    )?;
+    let selection = Selection::Section(section);
+    let (functions, size) = pe::parse(file)?.selected_functions(alloc, selection)?;
     Ok(listed(functions, size))
 }
 
-// The functions of a list with the size of their section.
-fn listed(functions: Vec<SectionFunction<'_>>, size: Option<u64>) -> (Functions<'_>, u64)
-    ensures functions { functions_left result.0
-        ≡ map (λ e. e.entry) (map section_function_view functions.entry.items) }
-    ensures size { result.1 ≡ unwrap_or size 0 }
+// The function symbols of a list, with the size of their section, if one is selected.
+pub(crate) fn listed(functions: Vec<SectionFunction<'_>>, size: Option<u64>) -> Selected<'_>
+    ensures functions { all_left result.functions ≡ map section_function_view functions.entry.items }
+    ensures size { result.size ≡ size }
 {
-    let all = from_list(functions);
-    (Functions { all }, size.unwrap_or(0))
-}
-
-// All functions of a list.
-pub(crate) fn from_list(functions: Vec<SectionFunction<'_>>) -> AllFunctions<'_>
-    ensures { all_left result ≡ map section_function_view functions.entry.items }
-{
-    AllFunctions::Arranged(Arranged { functions, next: 0 })
+    Selected {
+        functions: AllFunctions::Arranged(Arranged { functions, next: 0 }),
+        size,
+    }
 }
 
 // Those of a list that is lent, as those of a section of this size.
-pub(crate) fn lent_section<'a>(functions: &'a [SectionFunction<'a>], size: u64) -> Selected<'a>
-    ensures { IsSelection (map section_function_view functions.entry.now) (Some size) result }
+pub(crate) fn section_lent<'a>(functions: &'a [SectionFunction<'a>], size: u64) -> Selected<'a>
+    ensures functions { all_left result.functions ≡ map section_function_view functions.entry.now }
+    ensures size { result.size ≡ Some size }
 {
-    let all = AllFunctions::Lent(Lent { functions, next: 0 });
-    Selected::Section(Functions { all }, size)
-}
-
-// The functions as those of a section, where they have its size.
-pub(crate) fn selection(functions: AllFunctions<'_>, size: Option<u64>) -> Selected<'_>
-    ensures { IsSelection (all_left functions.entry) size result }
-{
-    match size {
-        Some(size) => Selected::Section(Functions { all: functions }, size),
-        None => Selected::All(functions),
+    Selected {
+        functions: AllFunctions::Lent(Lent { functions, next: 0 }),
+        size: Some(size),
     }
 }

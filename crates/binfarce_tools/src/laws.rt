@@ -1,8 +1,9 @@
-//! The law of parts, proved from the definitions. Worked examples, computed from the definitions alone.
+//! Laws of answers and of parts, proved from the definitions. Worked examples, computed from the definitions alone.
 
-ghost use Rattle.std.specs.Prelude.{◌≡◌, ◌++◌, [], ◌∷◌, replicate, Option, Some, None, Err, List, ℕ};
+ghost use Rattle.std.specs.Prelude.{◌≡◌, ◌++◌, [], ◌∷◌, replicate, Option, Some, None, is_some, Bool, true, false, Ok, Err, List, ℕ};
 ghost use Rattle.binfarce.specs.declared.ByteOrder.TheVariants.{LittleEndian};
 ghost use Rattle.binfarce.specs.Refusal.{symbols_section_is_missing, malformed_input, unexpected_eof};
+ghost use Rattle.binfarce.specs.SectionEntries.{SelectedSymbols};
 ghost use Rattle.binfarce.specs.Elf.{elf32, elf64};
 ghost use Rattle.binfarce.specs.ElfSymbols as elf;
 ghost use Rattle.binfarce.specs.ElfSymbols.{elf_file_answer};
@@ -17,7 +18,8 @@ ghost use Rattle.binfarce_tables.specs.ElfReads.{elf_parts, headers_size};
 ghost use Rattle.binfarce_tables.specs.MachoReads.{macho_parts};
 ghost use Rattle.binfarce_tables.specs.PeReads.{pe_parts};
 ghost use Rattle.binfarce_tools.specs.Parts.{PartsDecide};
-ghost use Rattle.binfarce.specs.Symbol.{AreSymbolsOf, Listed};
+ghost use Rattle.binfarce.specs.Symbol.{AreSymbolsOf};
+ghost use Rattle.binfarce_tools.specs.Answer.{entries_of, one_list, selected_answer};
 ghost use Rattle.binfarce_tools.specs.Listing.{IsListingOf};
 ghost use Rattle.binfarce_tools.specs.Report.{IsReportOf};
 ghost use Rattle.binfarce_tools.specs.machine.Symbols.{IsReportOfSymbols, symbols_listing};
@@ -25,8 +27,27 @@ ghost use Rattle.binfarce_tools.specs.machine.Symbols.{IsReportOfSymbols, symbol
 use binfarce::ByteOrder;
 use binfarce::demangle::SymbolData;
 
-/// Two files of one length that agree in the parts of the first have one format, one answer for each section, and one
-/// for all sections: by the symbol table, or by the dynamic one.
+/// The answer for a section, as one list with the section's size, is the one of the format's reader. It has a size, and
+/// its sections share no addresses; that for all sections has no size.
+pub fn sections_are_selected(file: &[u8], byte_order: ByteOrder, section: &str)
+    ensures of_elf32 { (which : SymbolTable) → elf_file_answer which elf32 byte_order file.now section.now
+        ≡ one_list (elf.selected_file_answer which elf32 byte_order file.now (Some section.now)) }
+    ensures of_elf64 { (which : SymbolTable) → elf_file_answer which elf64 byte_order file.now section.now
+        ≡ one_list (elf.selected_file_answer which elf64 byte_order file.now (Some section.now)) }
+    ensures of_macho { macho_file_answer file.now ≡ one_list (macho.selected_file_answer (Some section.now) file.now) }
+    ensures of_pe { pe_file_answer file.now ≡ one_list (pe.selected_file_answer (Some section.now) file.now) }
+    ensures sized { (which : SymbolTable) (selection : Option (List ℕ)) (selected : SelectedSymbols)
+        → selected_answer which selection file.now ≡ Some (Ok selected)
+        → (is_some selected.section_size ≡ is_some selection)
+        × (is_some selection ≡ true → selected.shares_addresses ≡ false) }
+{
+    let _ = file;
+    let _ = byte_order;
+    let _ = section;
+}
+
+/// Two files of one length that agree in the parts of the first for a section, or for all sections, have one format, and
+/// one answer for each section, or for all sections: by the symbol table, or by the dynamic one.
 ///
 /// No other byte matters to a listing or a report, and `tables::read` needs no other byte. The
 /// first 8 bytes are a part of every file. Of an ELF file the others are the file header, the section headers, the
@@ -156,14 +177,14 @@ fn worked_pe_parts()
         ≡ part 60 4 ∷ part 64 24 ∷ part 128 0 ∷ part 88 32 ∷ part 0 0 ∷ part 0 135 ∷ [] }
 {}
 
-/// The lines of the symbols of a file's entries are the file's listing, and the report of their shares is the file's
+/// The lines of the symbols of a section's entries are the section's listing, and the report of their shares is its
 /// report.
 #[tactic(auto, using(crate::proofs::SymbolLaws::listing_of_symbols))]
 fn symbols_list_and_report(symbols: &[SymbolData], size: u64)
-    ensures listing { (listed : Listed) → AreSymbolsOf listed.entries symbols.now → size ≡ listed.section_size
-        → IsListingOf listed (symbols_listing symbols.now size) }
-    ensures report { (listed : Listed) (text : List ℕ) → AreSymbolsOf listed.entries symbols.now
-        → size ≡ listed.section_size → IsReportOfSymbols symbols.now size text → IsReportOf listed text }
+    ensures listing { (selected : SelectedSymbols) → AreSymbolsOf (entries_of selected) symbols.now
+        → selected.section_size ≡ Some size → IsListingOf selected (symbols_listing symbols.now size) }
+    ensures report { (selected : SelectedSymbols) (text : List ℕ) → AreSymbolsOf (entries_of selected) symbols.now
+        → selected.section_size ≡ Some size → IsReportOfSymbols symbols.now size text → IsReportOf selected text }
 {
     let _ = symbols;
     let _ = size;

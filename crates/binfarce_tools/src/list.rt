@@ -1,26 +1,21 @@
 //! Lists the function symbols of an executable, a line each.
 
-ghost use Rattle.std.specs.Prelude.{◌≡◌, ◌++◌, ◌<◌, ◌≤◌, ℕ, List, Bool, true, false, length, take, Option, Ok, Some, None, IfSome, IfNone, IfOk, OnOk};
+ghost use Rattle.std.specs.Prelude.{◌≡◌, ◌++◌, ◌<◌, ◌≤◌, ℕ, List, Bool, true, false, length, take, Option, Some, None, IfSome, IfNone, IfOk, OnOk};
 ghost use Rattle.std.specs.String.{string_bytes};
 ghost use Rattle.std.specs.Io.KnownBytes.{Keeps, Appends};
-ghost use Rattle.binfarce.specs.SectionEntries.{SelectedSymbols};
-ghost use Rattle.binfarce.specs.Symbol.{Listed};
-ghost use Rattle.binfarce.specs.SymbolViews.{function_view, section_function_view};
+ghost use Rattle.binfarce.specs.SymbolViews.{section_function_view};
 ghost use Rattle.binfarce.specs.declared.SymbolTable.{SymbolTable};
-ghost use Rattle.binfarce_tools.specs.AllListing.{section_text, IsLineIn, IsAllListingOf, IsListingIn};
-ghost use Rattle.binfarce_tools.specs.Answer.{file_answer, FileNeedsMemory};
-ghost use Rattle.binfarce_tools.specs.Listing.{IsLineOf, IsListingOf, ListingFits};
+ghost use Rattle.binfarce_tools.specs.Answer.{file_answer, selected_answer, MemoryIn};
+ghost use Rattle.binfarce_tools.specs.Listing.{IsLineOf, IsListingOf, ListingFits, last_line, section_part, section_text};
 ghost use Rattle.binfarce_tools.specs.ListWords.{outcome_of};
 ghost use Rattle.binfarce_tools.specs.Writing.{EndsAs, Takes, Fails, Leaves};
-ghost use Rattle.binfarce_tools.specs.Entries.{all_left, HoldsIn, HoldsLeft};
-ghost use Rattle.binfarce_tools.specs.Selection.{answer_in, MemoryIn};
-ghost use Rattle.binfarce_tools.specs.Tables.{AreTablesOf, section_names};
+ghost use Rattle.binfarce_tools.specs.Tables.{AreTablesOf, given_by, section_names};
 
-use crate::functions::{AllFunctions, Functions, Selected};
+use crate::functions::Selected;
 use crate::head::push_head;
 use crate::tables::Tables;
 use crate::writing::write_whole;
-use binfarce::{FunctionSymbol, ParseError, SectionFunction};
+use binfarce::{ParseError, SectionFunction};
 use binfarce_names::demangle::Demangler;
 use std::alloc::{AllocError, Global};
 use std::error::Error;
@@ -169,14 +164,13 @@ impl From<ParseError> for ListError {
 /// `Unknown` where the format isn't supported; `Parse` where its reader refuses the file; `OutOfMemory` where an
 /// allocation failed. Nothing is written then. `Write` where a write failed: a beginning of the listing may then be
 /// written.
-#[tactic(auto, unfolding(crate::specs::Selection::answer_in, crate::specs::Selection::MemoryIn))]
 pub fn list<S: Sink>(
     alloc: Global,
     file: &[u8],
     section: &str,
     out: &mut S,
 ) -> Result<(), ListError>
-    ensures outcome { EndsAs ListingFits (FileNeedsMemory file.now)
+    ensures outcome { EndsAs ListingFits (MemoryIn file.now (Some section.now))
         (file_answer file.now section.now) (outcome_of result) }
     ensures takes { Takes IsListingOf (file_answer file.now section.now) (S.taken out.old)
         (S.taken out.new) (outcome_of result) }
@@ -200,10 +194,10 @@ pub fn list_tables<S: Sink>(
 ) -> Result<(), ListError>
     ensures outcome { (which : SymbolTable) (file : List ℕ) (section : Option (List ℕ))
         → AreTablesOf which file section tables.now
-        → EndsAs ListingFits (MemoryIn file section) (answer_in which file section) (outcome_of result) }
+        → EndsAs ListingFits (MemoryIn file section) (selected_answer which section file) (outcome_of result) }
     ensures takes { (which : SymbolTable) (file : List ℕ) (section : Option (List ℕ))
-        → AreTablesOf which file section tables.now → Takes (IsListingIn which file section)
-        (answer_in which file section) (S.taken out.old) (S.taken out.new) (outcome_of result) }
+        → AreTablesOf which file section tables.now → Takes IsListingOf
+        (selected_answer which section file) (S.taken out.old) (S.taken out.new) (outcome_of result) }
     ensures fails { Fails (S.has_failed out.old) (S.has_failed out.new) (outcome_of result) }
     ensures leaves { Leaves out.old out.new (outcome_of result) }
 {
@@ -214,80 +208,57 @@ pub fn list_tables<S: Sink>(
 
 // The whole listing of a selection.
 fn listing(alloc: Global, tables: &Tables<'_>, selected: Selected<'_>) -> Result<String, AllocError>
-    ensures { (which : SymbolTable) (file : List ℕ) (section : Option (List ℕ)) (listed : Listed)
-        → AreTablesOf which file section tables.now → HoldsIn which file section listed selected.entry
-        → IfOk result (λ t. IsListingIn which file section listed (string_bytes t)) }
+    ensures { IfOk result (λ t. IsListingOf (given_by tables.now selected.entry) (string_bytes t)) }
 {
-    match selected {
-        Selected::Section(functions, size) => section_listing(alloc, functions, size),
-        Selected::All(functions) => sections_listing(alloc, functions, tables),
-    }
-}
-
-// The whole listing of a section.
-fn section_listing(alloc: Global, functions: Functions<'_>, size: u64) -> Result<String, AllocError>
-    ensures { IfOk result
-        (λ t. (listed : Listed) → HoldsLeft listed (functions.entry, size) → IsListingOf listed (string_bytes t)) }
-{
+    let Selected { functions, size } = selected;
     let mut text = String::new(alloc);
     let mut demangler = Demangler::new(alloc);
     for function in functions {
-        push_line(&mut demangler, &mut text, function)?;
+        push_line(&mut demangler, &mut text, tables, size, function)?;
     }
-    writeln!(text, "text {size}")?;
+    push_last_line(&mut text, size)?;
     Ok(text)
 }
 
-// Appends the line of a function to the text.
+// Appends the line of a function symbol to the text, with its section where there is no size.
 fn push_line(
     demangler: &mut Demangler,
     text: &mut String,
-    function: FunctionSymbol<'_>,
-) -> Result<(), AllocError>
-    ensures { OnOk result
-        ((line : List ℕ) × IsLineOf (function_view function.entry) line
-        × (string_bytes text.new ≡ string_bytes text.old ++ line)) }
-{
-    push_head(text, function.address, function.size)?;
-    demangler.push_trimmed(text, function.name)?;
-    text.push_str("\n")
-}
-
-// The whole listing of all sections.
-fn sections_listing(
-    alloc: Global,
-    functions: AllFunctions<'_>,
     tables: &Tables<'_>,
-) -> Result<String, AllocError>
-    ensures { IfOk result
-        (λ t. (all : SelectedSymbols) → all_left functions.entry ≡ all.entries → section_names tables.now
-        ≡ all.section_name
-        → IsAllListingOf all (string_bytes t)) }
-{
-    let mut text = String::new(alloc);
-    let mut demangler = Demangler::new(alloc);
-    for function in functions {
-        push_section_line(&mut demangler, &mut text, tables, function)?;
-    }
-    Ok(text)
-}
-
-// Appends the line of a function symbol, with its section, to the text.
-fn push_section_line(
-    demangler: &mut Demangler,
-    text: &mut String,
-    tables: &Tables<'_>,
+    size: Option<u64>,
     function: SectionFunction<'_>,
 ) -> Result<(), AllocError>
     ensures { OnOk result
-        ((line : List ℕ) × IsLineIn (section_names tables.now) (section_function_view function.entry) line
+        ((line : List ℕ) × IsLineOf (section_names tables.now) size (section_function_view function.entry) line
         × (string_bytes text.new ≡ string_bytes text.old ++ line)) }
 {
     push_head(text, function.function.address, function.function.size)?;
-    push_section(text, tables, function.section)?;
-    text.push_str(" ")?;
+    push_section_part(text, tables, size, function.section)?;
     demangler.push_trimmed(text, function.function.name)?;
     text.push_str("\n")
+}
+
+/// Appends a section and a blank to the text where all sections are selected, which have no size; else nothing.
+///
+/// # Errors
+///
+/// `AllocError` where an allocation failed. The text is then unspecified.
+pub fn push_section_part(
+    text: &mut String,
+    tables: &Tables<'_>,
+    size: Option<u64>,
+    number: u32,
+) -> Result<(), AllocError>
+    ensures { OnOk result
+        (string_bytes text.new ≡ string_bytes text.old ++ section_part (section_names tables.now) size number) }
+{
+    match size {
+        Some(_) => Ok(()),
+        None => {
+            push_section(text, tables, number)?;
+            text.push_str(" ")
+        }
+    }
 }
 
 /// Appends a section's name, or its number in brackets where it has none, to the text.
@@ -302,5 +273,15 @@ pub fn push_section(text: &mut String, tables: &Tables<'_>, number: u32) -> Resu
     match tables.section_name(number) {
         Some(name) => text.push_str(name),
         None => write!(text, "[{number}]"),
+    }
+}
+
+// Appends the last line to the text: that of the selected section's size; nothing where all sections are selected.
+pub(crate) fn push_last_line(text: &mut String, size: Option<u64>) -> Result<(), AllocError>
+    ensures { OnOk result (string_bytes text.new ≡ string_bytes text.old ++ last_line size) }
+{
+    match size {
+        Some(size) => writeln!(text, "text {size}"),
+        None => Ok(()),
     }
 }

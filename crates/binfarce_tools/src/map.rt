@@ -1,12 +1,11 @@
 //! How much of an executable's code each crate takes, as a picture.
 
-ghost use Rattle.std.specs.Prelude.{◌≡◌, ℕ, List, Option, map, IfOk};
+ghost use Rattle.std.specs.Prelude.{◌≡◌, ℕ, List, Option, Some, map, IfOk};
 ghost use Rattle.std.specs.String.{string_bytes};
 ghost use Rattle.binfarce_chart.specs.Views.{bar_view};
-ghost use Rattle.binfarce_tools.specs.Answer.{file_answer, FileNeedsMemory};
+ghost use Rattle.binfarce_tools.specs.Answer.{file_answer, selected_answer, MemoryIn};
 ghost use Rattle.binfarce_tools.specs.Report.{Share, AreCratesOf, ReportFits};
 ghost use Rattle.binfarce_tools.specs.ReportWords.{outcome_of};
-ghost use Rattle.binfarce_tools.specs.Selection.{answer_in, MemoryIn};
 ghost use Rattle.binfarce_tools.specs.Sums.{AreSumsOf};
 ghost use Rattle.binfarce_tools.specs.Tables.{AreTablesOf};
 ghost use Rattle.binfarce.specs.declared.SymbolTable.{SymbolTable};
@@ -30,7 +29,6 @@ use std::alloc::{AllocError, Global};
 /// # Errors
 ///
 /// Those of `report`. Only after `Write` a beginning of the picture may be written.
-#[tactic(auto, unfolding(crate::specs::Selection::answer_in, crate::specs::Selection::MemoryIn))]
 pub fn map<S: Sink>(
     alloc: Global,
     title: &str,
@@ -38,7 +36,7 @@ pub fn map<S: Sink>(
     section: &str,
     out: &mut S,
 ) -> Result<(), ReportError>
-    ensures outcome { EndsAs ReportFits (FileNeedsMemory file.now)
+    ensures outcome { EndsAs ReportFits (MemoryIn file.now (Some section.now))
         (file_answer file.now section.now) (outcome_of result) }
     ensures takes { Takes (IsMapOf title.now) (file_answer file.now section.now) (S.taken out.old)
         (S.taken out.new) (outcome_of result) }
@@ -62,10 +60,10 @@ pub fn map_tables<S: Sink>(
 ) -> Result<(), ReportError>
     ensures outcome { (which : SymbolTable) (file : List ℕ) (section : Option (List ℕ))
         → AreTablesOf which file section tables.now
-        → EndsAs ReportFits (MemoryIn file section) (answer_in which file section) (outcome_of result) }
+        → EndsAs ReportFits (MemoryIn file section) (selected_answer which section file) (outcome_of result) }
     ensures takes { (which : SymbolTable) (file : List ℕ) (section : Option (List ℕ))
         → AreTablesOf which file section tables.now → Takes (IsMapOf title.now)
-        (answer_in which file section) (S.taken out.old) (S.taken out.new) (outcome_of result) }
+        (selected_answer which section file) (S.taken out.old) (S.taken out.new) (outcome_of result) }
     ensures fails { Fails (S.has_failed out.old) (S.has_failed out.new) (outcome_of result) }
     ensures leaves { Leaves out.old out.new (outcome_of result) }
 {

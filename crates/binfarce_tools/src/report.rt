@@ -7,19 +7,17 @@ ghost use Rattle.binfarce_names.specs.Name.{Name};
 ghost use Rattle.binfarce_names.specs.Named.{IsNamed};
 ghost use Rattle.binfarce.specs.SymbolViews.{function_view};
 ghost use Rattle.binfarce.specs.declared.SymbolTable.{SymbolTable};
-ghost use Rattle.binfarce_tools.specs.Answer.{file_answer, FileNeedsMemory};
-ghost use Rattle.binfarce_tools.specs.Report.{Share, IsShareOf, IsReportIn, IsReportOf, IsSumsOfShares, ReportFits, crate_text, crate_line};
+ghost use Rattle.binfarce_tools.specs.Answer.{file_answer, selected_answer, MemoryIn};
+ghost use Rattle.binfarce_tools.specs.Report.{Share, IsShareOf, IsReportOf, IsReportOfShares, ReportFits, crate_text, crate_line};
 ghost use Rattle.binfarce_tools.specs.ReportWords.{outcome_of};
 ghost use Rattle.binfarce_tools.specs.Writing.{EndsAs, Takes, Fails, Leaves, WritesMade};
 ghost use Rattle.binfarce_tools.specs.declared.report.ReportError.TheVariants.{OutOfMemory, TooLarge, Write};
 ghost use Rattle.binfarce_tools.specs.Entries.{functions_left};
-ghost use Rattle.binfarce_tools.specs.Selection.{answer_in, MemoryIn};
 ghost use Rattle.binfarce_tools.specs.Tables.{AreTablesOf};
 ghost use Rattle.binfarce_tools.specs.Sums.{AreSumsOf, GetsSums, sum_at, Adds};
-ghost use Rattle.binfarce_tools.specs.machine.Shares.{IsReportWith};
 
 use crate::functions::Functions;
-use crate::list::{ListError, Sink};
+use crate::list::{ListError, Sink, push_last_line};
 use crate::tables::Tables;
 use crate::writing::write_whole;
 use binfarce::{FunctionSymbol, ParseError};
@@ -104,14 +102,13 @@ impl From<ListError> for ReportError {
 ///
 /// Those of `list`; `TooLarge` where the sum of all sizes is 2^64 or more. Only after `Write` a beginning of the report
 /// may be written.
-#[tactic(auto, unfolding(crate::specs::Selection::answer_in, crate::specs::Selection::MemoryIn))]
 pub fn report<S: Sink>(
     alloc: Global,
     file: &[u8],
     section: &str,
     out: &mut S,
 ) -> Result<(), ReportError>
-    ensures outcome { EndsAs ReportFits (FileNeedsMemory file.now)
+    ensures outcome { EndsAs ReportFits (MemoryIn file.now (Some section.now))
         (file_answer file.now section.now) (outcome_of result) }
     ensures takes { Takes IsReportOf (file_answer file.now section.now) (S.taken out.old)
         (S.taken out.new) (outcome_of result) }
@@ -134,10 +131,10 @@ pub fn report_tables<S: Sink>(
 ) -> Result<(), ReportError>
     ensures outcome { (which : SymbolTable) (file : List ℕ) (section : Option (List ℕ))
         → AreTablesOf which file section tables.now
-        → EndsAs ReportFits (MemoryIn file section) (answer_in which file section) (outcome_of result) }
+        → EndsAs ReportFits (MemoryIn file section) (selected_answer which section file) (outcome_of result) }
     ensures takes { (which : SymbolTable) (file : List ℕ) (section : Option (List ℕ))
-        → AreTablesOf which file section tables.now → Takes (IsReportIn section)
-        (answer_in which file section) (S.taken out.old) (S.taken out.new) (outcome_of result) }
+        → AreTablesOf which file section tables.now → Takes IsReportOf
+        (selected_answer which section file) (S.taken out.old) (S.taken out.new) (outcome_of result) }
     ensures fails { Fails (S.has_failed out.old) (S.has_failed out.new) (outcome_of result) }
     ensures leaves { Leaves out.old out.new (outcome_of result) }
 {
@@ -162,9 +159,8 @@ pub struct CrateSums {
 /// # Errors
 ///
 /// As `report`, but for `Write`.
-#[tactic(auto, unfolding(crate::specs::Selection::answer_in, crate::specs::Selection::MemoryIn))]
 pub fn sums_of_file(alloc: Global, file: &[u8], section: &str) -> Result<CrateSums, ReportError>
-    ensures { GetsSums (FileNeedsMemory file.now)
+    ensures { GetsSums (MemoryIn file.now (Some section.now))
         (file_answer file.now section.now) result }
 {
     sums_of_tables(alloc, &Tables::whole(file, section))
@@ -178,7 +174,7 @@ pub fn sums_of_file(alloc: Global, file: &[u8], section: &str) -> Result<CrateSu
 pub fn sums_of_tables(alloc: Global, tables: &Tables<'_>) -> Result<CrateSums, ReportError>
     ensures sums { (which : SymbolTable) (file : List ℕ) (section : Option (List ℕ))
         → AreTablesOf which file section tables.now
-        → GetsSums (MemoryIn file section) (answer_in which file section) result }
+        → GetsSums (MemoryIn file section) (selected_answer which section file) result }
     ensures made { IfOk result (λ s. (shares : List Share) × AreSumsOf shares s) }
     ensures unwritten { IfErr result (λ e. e ≢ Write) }
 {
@@ -284,28 +280,17 @@ pub fn write_made<S: Sink>(out: &mut S, made: Result<String, AllocError>) -> Res
     Ok(())
 }
 
-// The whole report, with the section's size, or of all sections without one.
+// The whole report, where the selected section has this size.
 fn report_text(alloc: Global, sums: &CrateSums, size: Option<u64>) -> Result<String, AllocError>
     ensures { IfOk result
-        (λ t. (shares : List Share) → AreSumsOf shares sums.now → IsReportWith size shares (string_bytes t)) }
-{
-    let mut text = sums_text(alloc, sums)?;
-    if let Some(size) = size {
-        writeln!(text, "text {size}")?;
-    }
-    Ok(text)
-}
-
-// The lines of the crates, and that of the sum of all sizes.
-fn sums_text(alloc: Global, sums: &CrateSums) -> Result<String, AllocError>
-    ensures { IfOk result
-        (λ t. (shares : List Share) → AreSumsOf shares sums.now → IsSumsOfShares shares (string_bytes t)) }
+        (λ t. (shares : List Share) → AreSumsOf shares sums.now → IsReportOfShares shares size (string_bytes t)) }
 {
     let mut text = String::new(alloc);
     for (name, sum) in sums.crates.iter() {
         push_crate_line(&mut text, name.as_str(), *sum)?;
     }
     writeln!(text, "sum {}", sums.total)?;
+    push_last_line(&mut text, size)?;
     Ok(text)
 }
 

@@ -4,23 +4,19 @@ ghost use Rattle.std.specs.Prelude.{◌≡◌, ◌≢◌, ℕ, List, true, Optio
 ghost use Rattle.std.specs.Option.{option_map};
 ghost use Rattle.binfarce.specs.Refusal.{refusal_of, section_is_missing};
 ghost use Rattle.binfarce.specs.SectionEntries.{SelectedSymbols};
-ghost use Rattle.binfarce.specs.Symbol.{Listed};
 ghost use Rattle.binfarce.specs.declared.SymbolTable.{SymbolTable};
 ghost use Rattle.binfarce.specs.declared.SymbolTable.TheVariants.{Symtab, Dynsym};
 ghost use Rattle.binfarce.specs.Format.{format_of};
 ghost use Rattle.binfarce_bytes.specs.Source.{ReadsOnly};
 ghost use Rattle.binfarce_tables.specs.declared.error.ReadError.TheVariants.{Unreadable};
-ghost use Rattle.binfarce_tools.specs.AllAnswer.{all_answer_of};
+ghost use Rattle.binfarce_tools.specs.Answer.{selected_answer};
 ghost use Rattle.binfarce_tools.specs.Entries.{GetsIn};
 ghost use Rattle.binfarce_tools.specs.Parts.{format_parts, parts_in};
 ghost use Rattle.binfarce_bytes.specs.Selection.{section_of};
-ghost use Rattle.binfarce_tools.specs.Selection.{answer_in, share_in};
 ghost use Rattle.binfarce_tools.specs.declared.list.ListError.TheVariants.{Write};
 ghost use Rattle.binfarce_tools.specs.Tables.{AreTablesOf, ReadsTables, section_names, shares_addresses_of};
 
-use crate::functions::{
-    AllFunctions, Selected, from_list, functions_of_file, lent_section, selection,
-};
+use crate::functions::{Selected, listed, of_elf, section_functions, section_lent};
 use crate::list::ListError;
 use binfarce::{Format, ParseError, SectionFunction, SymbolTable};
 pub use binfarce_bytes::functions::Selection;
@@ -76,25 +72,12 @@ impl<'a> Tables<'a> {
         ensures unwritten { IfErr result (λ e. e ≢ Write) }
     {
         match self {
-            Tables::Elf(parts) => {
-                let functions = parts.functions();
-                let size = functions.section_size();
-                Ok(selection(AllFunctions::Elf(functions), size))
-            }
-            Tables::Macho(parts) => {
-                let functions = from_list(parts.functions(alloc)?);
-                Ok(selection(functions, parts.section_size()))
-            }
-            Tables::Pe(parts) => {
-                let functions = from_list(parts.functions(alloc)?);
-                Ok(selection(functions, parts.section_size()))
-            }
+            Tables::Elf(parts) => Ok(of_elf(parts.functions())),
+            Tables::Macho(parts) => Ok(listed(parts.functions(alloc)?, parts.section_size())),
+            Tables::Pe(parts) => Ok(listed(parts.functions(alloc)?, parts.section_size())),
             Tables::Unknown => Err(ListError::Unknown),
-            Tables::Whole { file, section } => {
-                let (functions, size) = functions_of_file(alloc, file, section)?;
-                Ok(Selected::Section(functions, size))
-            }
-            Tables::Made { functions, size } => Ok(lent_section(functions, *size)),
+            Tables::Whole { file, section } => section_functions(alloc, file, section),
+            Tables::Made { functions, size } => Ok(section_lent(functions, *size)),
         }
     }
 
@@ -102,9 +85,10 @@ impl<'a> Tables<'a> {
     /// has no valid name, and where the tables are those of one section of a Mach-O or PE file, or of a whole file.
     pub fn section_name(&self, number: u32) -> Option<&str>
         ensures read { option_map (λ t. t.now) result ≡ section_names self.entry.now number }
-        ensures file { (which : SymbolTable) (file : List ℕ) (all : SelectedSymbols)
-            → AreTablesOf which file None self.entry.now → all_answer_of which file ≡ Some (Ok all)
-            → option_map (λ t. t.now) result ≡ all.section_name number }
+        ensures file { (which : SymbolTable) (file : List ℕ) (section : Option (List ℕ)) (selected : SelectedSymbols)
+            → AreTablesOf which file section self.entry.now
+            → selected_answer which section file ≡ Some (Ok selected) → selected.section_size ≡ None
+            → option_map (λ t. t.now) result ≡ selected.section_name number }
     {
         self.name_read(number)
     }
@@ -123,9 +107,9 @@ impl<'a> Tables<'a> {
     /// Whether the sections that the tables were read for share addresses: all sections of an object file do (in ELF
     /// `ET_REL`, in Mach-O `MH_OBJECT`), and those of a PE file, whose addresses are offsets in a section.
     pub fn shares_addresses(&self) -> bool
-        ensures { (which : SymbolTable) (file : List ℕ) (section : Option (List ℕ)) (listed : Listed)
-            → AreTablesOf which file section self.now → answer_in which file section ≡ Some (Ok listed)
-            → result ≡ share_in which file section }
+        ensures { (which : SymbolTable) (file : List ℕ) (section : Option (List ℕ)) (selected : SelectedSymbols)
+            → AreTablesOf which file section self.now → selected_answer which section file ≡ Some (Ok selected)
+            → result ≡ selected.shares_addresses }
     {
         self.sharing_read()
     }

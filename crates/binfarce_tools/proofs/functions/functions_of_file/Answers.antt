@@ -1,42 +1,15 @@
-use Rattle.std.proofs.Common.{refl}
-use Rattle.binfarce.specs.declared.Format.TheVariants.{Elf32, Elf64, Macho, PE}
-use Rattle.binfarce.specs.Format.{format_of}
-use Rattle.binfarce.specs.Elf.{elf32, elf64}
-use Rattle.binfarce.specs.ElfSymbols.{elf_file_answer}
-use Rattle.binfarce.specs.MachoSymbols.{macho_file_answer}
-use Rattle.binfarce.specs.PeSymbols.{pe_file_answer}
+use Rattle.std.proofs.Common.{Some}
 use Rattle.binfarce.specs.declared.SymbolTable.TheVariants.{Symtab}
-use Rattle.binfarce_tools.specs.Answer.{symbols_answer, NeedsMemory}
-use Rattle.binfarce_tools.proofs.Reported.{reported_elf, reported_macho, reported_pe}
-use Rattle.binfarce_tools.proofs.Listings.{refused}
+use Rattle.binfarce_tools.specs.Answer.{file_answer, MemoryIn}
+use Rattle.binfarce_tools.proofs.Listings.{listed, not_listed}
+use Rattle.binfarce_tools.proofs.Selected.{sized_in}
 use Rattle.binfarce_tools.proofs.functions.functions_of_file.Goals as goal
 
-pub returns-in_err-functions_of_elf-in-Elf32 : goal.returns-in_err-functions_of_elf-in-Elf32
-unfolding symbols_answer NeedsMemory
-returns-in_err-functions_of_elf-in-Elf32 c =
-    let file = c.args.file.now in
-    let section = c.args.section.now in
-    let order = c.in-Elf32.byte_order in
-    refused (Elf32 order) (format_of file) file section (elf_file_answer Symtab elf32 order file section) c.in_err-functions_of_elf-in-Elf32.field-0.0 c.from_residual.result c.in-Elf32.ensures refl (reported_elf Symtab elf32 order file section) c.in_err-functions_of_elf-in-Elf32.ensures c.from_residual.ensures.1
+pub returns-in_err-section_functions : goal.returns-in_err-section_functions
+returns-in_err-section_functions c =
+    not_listed (MemoryIn c.args.file.now (Some c.args.section.now)) (file_answer c.args.file.now c.args.section.now) c.in_err-section_functions.field-0.0 c.from_residual.result c.in_err-section_functions.ensures c.from_residual.ensures.1
 
-pub returns-in_err-functions_of_elf-in-Elf64 : goal.returns-in_err-functions_of_elf-in-Elf64
-unfolding symbols_answer NeedsMemory
-returns-in_err-functions_of_elf-in-Elf64 c =
-    let file = c.args.file.now in
-    let section = c.args.section.now in
-    let order = c.in-Elf64.byte_order in
-    refused (Elf64 order) (format_of file) file section (elf_file_answer Symtab elf64 order file section) c.in_err-functions_of_elf-in-Elf64.field-0.0 c.from_residual-in_err-functions_of_elf-in-Elf64.result c.in-Elf64.ensures refl (reported_elf Symtab elf64 order file section) c.in_err-functions_of_elf-in-Elf64.ensures c.from_residual-in_err-functions_of_elf-in-Elf64.ensures.1
-
-pub returns-in_err-functions_of_macho-in-Macho : goal.returns-in_err-functions_of_macho-in-Macho
-unfolding symbols_answer NeedsMemory
-returns-in_err-functions_of_macho-in-Macho c =
-    let file = c.args.file.now in
-    let section = c.args.section.now in
-    refused Macho (format_of file) file section (macho_file_answer file) c.in_err-functions_of_macho-in-Macho.field-0.0 c.from_residual-in_err-functions_of_macho-in-Macho.result c.in-Macho.ensures refl (reported_macho file) c.in_err-functions_of_macho-in-Macho.ensures c.from_residual-in_err-functions_of_macho-in-Macho.ensures.1
-
-pub returns-in_err-functions_of_pe-in-PE : goal.returns-in_err-functions_of_pe-in-PE
-unfolding symbols_answer NeedsMemory
-returns-in_err-functions_of_pe-in-PE c =
-    let file = c.args.file.now in
-    let section = c.args.section.now in
-    refused PE (format_of file) file section (pe_file_answer file) c.in_err-functions_of_pe-in-PE.field-0.0 c.from_residual-in_err-functions_of_pe-in-PE.result c.in-PE.ensures refl (reported_pe file) c.in_err-functions_of_pe-in-PE.ensures c.from_residual-in_err-functions_of_pe-in-PE.ensures.1
+pub returns : goal.returns
+returns c =
+    listed (MemoryIn c.args.file.now (Some c.args.section.now)) (file_answer c.args.file.now c.args.section.now) (λ seen is. (sized_in Symtab c.args.file.now (Some c.args.section.now) seen is).0)
+    c.in_ok-section_functions.field-0 c.into_list-functions.result c.unwrap_or.result c.in_ok-section_functions.ensures c.into_list-functions.ensures.functions c.into_list-functions.ensures.size c.unwrap_or.ensures

@@ -1,15 +1,20 @@
-use Rattle.std.proofs.Common.{subst}
-use Rattle.binfarce_tools.specs.Entries.{HoldsIn}
-use Rattle.binfarce_tools.specs.declared.functions.Selected.{Selected}
-use Rattle.binfarce_tools.proofs.Selections.{listing_of_all, listing_of_one}
+use Rattle.std.proofs.Common.{List, ℕ, ◌++◌, ap, ◌∙◌}
+use Rattle.std.specs.String.{string_bytes}
+use Rattle.binfarce.specs.SymbolViews.{section_function_view}
+use Rattle.binfarce_tools.specs.Listing.{IsLineOf, last_line}
+use Rattle.binfarce_tools.specs.Tables.{section_names}
+use Rattle.binfarce_tools.specs.Entries.{all_left}
+use Rattle.binfarce_tools.proofs.Lines.{one_line, whole}
 use Rattle.binfarce_tools.proofs.list.listing.Goals as goal
 
-pub returns-in-Section : goal.returns-in-Section
-returns-in-Section c = λ which file section listed are holds.
-    listing_of_one which file section listed c.in-Section.functions c.in-Section.size c.section_listing.result
-    (subst (λ (s : Selected). HoldsIn which file section listed s) c.in-Section.is holds) c.section_listing.ensures
+pub loop-function-preserved : goal.loop-function-preserved
+loop-function-preserved c =
+    let line = c.in_ok-push_line.ensures in
+    one_line (IsLineOf (section_names c.args.tables.now) c.args.selected.size) (all_left c.args.selected.functions) (all_left c.loop-function.function-iterator) (all_left c.next.new.self) (section_function_view c.in-Some.function) line.0 (string_bytes c.loop-function.text) (string_bytes c.push_line.new.text)
+    c.in-Some.ensures.steps line.1 line.2 c.loop-function.invariant
 
-pub returns-in-All : goal.returns-in-All
-returns-in-All c = λ which file section listed are holds.
-    listing_of_all which file section listed c.args.tables.now c.in-All.functions c.sections_listing.result
-    are (subst (λ (s : Selected). HoldsIn which file section listed s) c.in-All.is holds) c.sections_listing.ensures
+pub returns : goal.returns
+returns c =
+    let size = c.args.selected.size in
+    let lines = whole (IsLineOf (section_names c.args.tables.now) size) (all_left c.args.selected.functions) (all_left c.loop-function.function-iterator) (string_bytes c.loop-function.text) c.in-None.ensures.steps.0 c.loop-function.invariant in
+    (lines.0, lines.1, c.in_ok-push_last_line.ensures ∙ ap (λ (text : List ℕ). text ++ last_line size) lines.2)

@@ -9,7 +9,7 @@ use Rattle.binfarce_tables.specs.ElfReading as elf
 use Rattle.binfarce_tables.specs.MachoReading as macho
 use Rattle.binfarce_tables.specs.PeReading as pe
 use Rattle.binfarce_tables.specs.declared.error.ReadError.TheVariants.{Refused}
-use Rattle.binfarce_tools.specs.AllAnswer.{selected_symbols}
+use Rattle.binfarce_tools.specs.Answer.{selected_symbols}
 use Rattle.binfarce_tools.specs.Parts.{format_parts}
 use Rattle.binfarce_tools.specs.Tables.{AreTablesOf}
 use Rattle.binfarce_tools.proofs.TablesRead.{of_format, with_table, without_table, unread, of_answer}

@@ -1,10 +1,10 @@
 use Rattle.std.specs.String.{string_bytes}
-use Rattle.binfarce_tools.specs.AllListing.{IsLineIn}
+use Rattle.binfarce_tools.specs.Listing.{IsLineOf}
 use Rattle.binfarce_tools.specs.Tables.{section_names}
 use Rattle.binfarce_tools.specs.Entries.{all_left}
 use Rattle.binfarce_tools.proofs.Lines.{Completes}
-use Rattle.binfarce_tools.proofs.list.sections_listing.Given as goal
+use Rattle.binfarce_tools.proofs.list.listing.Given as goal
 
 -- with the lines of what is left after it, the text is the lines of all
 abbrev pub invariant-loop-function : goal.invariant-loop-function
-invariant-loop-function l = Completes (IsLineIn (section_names l.tables)) (all_left l.fn.functions) (all_left l.function-iterator) (string_bytes l.text)
+invariant-loop-function l = Completes (IsLineOf (section_names l.tables) l.fn.selected.size) (all_left l.fn.selected.functions) (all_left l.function-iterator) (string_bytes l.text)

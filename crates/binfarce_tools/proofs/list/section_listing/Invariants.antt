@@ -1,9 +1,0 @@
-use Rattle.std.specs.String.{string_bytes}
-use Rattle.binfarce_tools.specs.Entries.{functions_left}
-use Rattle.binfarce_tools.specs.Listing.{IsLineOf}
-use Rattle.binfarce_tools.proofs.Lines.{Completes}
-use Rattle.binfarce_tools.proofs.list.section_listing.Given as goal
-
--- with the lines of what is left after it, the text is the lines of all
-abbrev pub invariant-loop-function : goal.invariant-loop-function
-invariant-loop-function l = Completes IsLineOf (functions_left l.fn.functions) (functions_left l.function-iterator) (string_bytes l.text)

@@ -2,18 +2,17 @@
 use Rattle.std.proofs.Common.{◌≡◌, ℕ, List, Option, Result, Ok, Err, String, string_bytes, IfOk, subst}
 use Rattle.std.specs.Global.{Global}
 use Rattle.binfarce.specs.declared.SymbolTable.{SymbolTable}
-use Rattle.binfarce_tools.specs.Selection.{answer_in}
+use Rattle.binfarce_tools.specs.Answer.{selected_answer}
 use Rattle.binfarce_tools.specs.Writing.{Outcome, Takes, WritesMade}
 use Rattle.binfarce_figures.specs.declared.key.Keyed.{Keyed}
 use Rattle.binfarce_figures.specs.declared.order.Row.{Row}
 use Rattle.binfarce_figures.specs.declared.sums.Figures.{Figures}
-use Rattle.binfarce_figures.specs.Figures.{AreFiguresBy, IsTextOfEntries, IsTextOfShares, shares_of}
+use Rattle.binfarce_figures.specs.Figures.{AreFiguresBy, IsTextOfShares, shares_of}
 use Rattle.binfarce_tools.specs.Json.{Style}
-use Rattle.binfarce_figures.specs.Keys.{section_keys}
 use Rattle.binfarce_figures.specs.machine.Got.{AreKeyedIn}
 use Rattle.binfarce_figures.specs.machine.Keyed.{AreClaimsWith}
-use Rattle.binfarce_figures.proofs.Got.{takes}
-use Rattle.binfarce_figures.proofs.Summed.{key_claims}
+use Rattle.binfarce_tools.proofs.Reports.{takes}
+use Rattle.binfarce_figures.proofs.Summed.{claims_of}
 
 -- text is that of what values with keys add
 abbrev pub IsTextWith : Figures → Style → (size : Option ℕ) → List Keyed → List ℕ → Type 0
@@ -21,16 +20,15 @@ IsTextWith shown style size keyed text = (claims : List Row) × AreClaimsWith ke
 
 module _ (shown : Figures) (style : Style) (which : SymbolTable) (file : List ℕ) (section : Option (List ℕ)) (names : ℕ → Option (List ℕ)) (keyed : List Keyed) (size : Option ℕ) where
   due : {E : Type 0} (got : AreKeyedIn shown.grouping which file section names keyed size) (made : Result (String Global) E) → IfOk made (λ t. IsTextWith shown style size keyed (string_bytes t))
-      → IfOk made (λ t. AreFiguresBy shown style which file section got.1.0 (string_bytes t))
+      → IfOk made (λ t. AreFiguresBy shown style got.1.0 (string_bytes t))
   due got (Err e) is = is
-  due (entries, (listed, answer, fits, are, size_is), with) (Ok t) (claims, claimed, text) = (
-    names,
-    entries,
-    are,
-    subst (λ (n : Option ℕ). IsTextOfEntries shown style names n entries (string_bytes t)) size_is (claims, key_claims shown.grouping (section_keys names size) entries keyed claims with claimed, text),
+  due (entries, (seen, answer, fits, same, size_is, named), with) (Ok t) (claims, claimed, text) = (
+    claims,
+    claims_of shown.grouping names entries keyed size seen claims same size_is named with claimed,
+    subst (λ (n : Option ℕ). IsTextOfShares shown style n (shares_of claims) (string_bytes t)) size_is text,
   )
 
   pub figured : {E : Type 0} (given : List Keyed) (made : Result (String Global) E) (old new : Option (List ℕ)) (o : Outcome) → AreKeyedIn shown.grouping which file section names keyed size → given ≡ keyed
-      → IfOk made (λ t. IsTextWith shown style size given (string_bytes t)) → WritesMade made old new o → Takes (AreFiguresBy shown style which file section) (answer_in which file section) old new o
+      → IfOk made (λ t. IsTextWith shown style size given (string_bytes t)) → WritesMade made old new o → Takes (AreFiguresBy shown style) (selected_answer which section file) old new o
   figured given made old new o got same is wrote =
-      takes (answer_in which file section) got.1.0 got.1.1 (AreFiguresBy shown style which file section) made old new o (due got made (subst (λ (ks : List Keyed). IfOk made (λ t. IsTextWith shown style size ks (string_bytes t))) same is)) wrote
+      takes (selected_answer which section file) got.1.0 got.1.1 (AreFiguresBy shown style) made old new o (due got made (subst (λ (ks : List Keyed). IfOk made (λ t. IsTextWith shown style size ks (string_bytes t))) same is)) wrote

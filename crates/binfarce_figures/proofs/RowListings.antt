@@ -1,37 +1,37 @@
 -- The listing of a selection.
-use Rattle.std.proofs.Common.{◌≡◌, ◌∙◌, ℕ, List, Option, Some, None, ap, map, subst, sym}
+use Rattle.std.proofs.Common.{◌≡◌, ◌∙◌, ℕ, List, Option, Some, Ok, ap, map, subst, sym}
 use Rattle.std.specs.List.{AllZip}
-use Rattle.binfarce.specs.SectionEntries.{SectionEntry}
-use Rattle.binfarce.specs.Symbol.{Entry, Listed}
+use Rattle.binfarce.specs.SectionEntries.{SectionEntry, SelectedSymbols}
 use Rattle.binfarce.specs.declared.SymbolTable.{SymbolTable}
-use Rattle.binfarce_bytes.specs.SectionEntries.{in_section}
-use Rattle.binfarce_tools.specs.Entries.{HoldsIn}
-use Rattle.binfarce_tools.specs.Json.{Style}
+use Rattle.binfarce_tools.specs.Answer.{selected_answer}
+use Rattle.binfarce_tools.specs.Entries.{HoldsLeft}
+use Rattle.binfarce_tools.specs.Json.{Style, lines, objects}
 use Rattle.binfarce_tools.specs.Tables.{AreTablesOf, section_names}
 use Rattle.binfarce_tools.specs.declared.functions.Selected.{Selected}
-use Rattle.binfarce_tools.specs.declared.functions.Selected.TheVariants.{Section, All}
 use Rattle.binfarce_tools.specs.declared.tables.Tables.{Tables}
-use Rattle.binfarce_tools.proofs.Selections.{names_are}
+use Rattle.binfarce_tools.proofs.TablesGive.{as_answered}
 use Rattle.binfarce_figures.specs.declared.order.Row.{Row}
 use Rattle.binfarce_figures.specs.declared.rows.Named.{Named}
 use Rattle.binfarce_figures.specs.declared.rows.Naming.{Naming}
-use Rattle.binfarce_figures.specs.RowListing.{IsRowOf}
-use Rattle.binfarce_figures.specs.Rows.{AreEntriesIn, IsNameText, IsTailText, size_in}
+use Rattle.binfarce_figures.specs.declared.rows.Shown.{Shown}
+use Rattle.binfarce_figures.specs.RowListing.{IsListingBy, IsListingOf, IsRowOf}
+use Rattle.binfarce_figures.specs.Rows.{IsNameText, IsTailText}
 use Rattle.binfarce_figures.specs.machine.Listings.{IsNamed, named_values}
-use Rattle.binfarce_figures.specs.machine.SelectedList.{IsListOf}
 use Rattle.binfarce_figures.specs.machine.Keyed.{Values, row_values}
+use Rattle.binfarce_figures.proofs.Got.{IsListOf}
 use Rattle.binfarce_figures.proofs.Growing.{same_values, through}
 
--- the list of what is left of a selection is that of the file's answer, with the names of the sections that were read
-pub are_entries : (which : SymbolTable) (file : List ℕ) (section : Option (List ℕ)) (listed : Listed) (tables : Tables) (selected : Selected) (entries : List SectionEntry) (size : Option ℕ)
-    → AreTablesOf which file section tables → HoldsIn which file section listed selected → IsListOf selected entries size
-    → AreEntriesIn which file section listed (section_names tables) entries × (size ≡ size_in section listed)
-are_entries which file (Some name) listed tables (Section functions n) entries size are holds list =
-    (list.0 ∙ ap (λ (es : List Entry). in_section 0 es) holds.0, list.1 ∙ ap (λ (m : ℕ). Some m) holds.1)
-are_entries which file (Some name) listed tables (All functions) entries size are holds list = absurd holds
-are_entries which file None listed tables (Section functions n) entries size are holds list = absurd holds.2
-are_entries which file None listed tables (All functions) entries size are holds list =
-    ((holds.0, holds.1, names_are which file tables holds.0 are holds.1, list.0 ∙ holds.2), list.1)
+-- the listing of what is left of a selection is that of the file's answer
+pub listing_of : (shown : Shown) (style : Style) (which : SymbolTable) (file : List ℕ) (section : Option (List ℕ)) (tables : Tables) (selected : Selected) (seen : SelectedSymbols) (entries : List SectionEntry) (size : Option ℕ) (text : List ℕ)
+    → AreTablesOf which file section tables → selected_answer which section file ≡ Some (Ok seen) → HoldsLeft seen selected → IsListOf selected entries size
+    → IsListingOf shown style (section_names tables) size entries text → IsListingBy shown style seen text
+listing_of shown style which file section tables selected seen entries size text are answer held list is =
+    as_answered which file section (λ s. IsListingBy shown style s text) tables selected seen are answer held (λ entries size names other shares. unnamed shown style entries size names other text)
+    (subst (λ (es : List SectionEntry). IsListingOf shown style (section_names tables) selected.size es text) list.0 (subst (λ (n : Option ℕ). IsListingOf shown style (section_names tables) n entries text) list.1 is))
+  where
+    unnamed : (shown : Shown) (style : Style) (entries : List SectionEntry) (size : ℕ) (names other : ℕ → Option (List ℕ)) (text : List ℕ) → IsListingOf shown style names (Some size) entries text → IsListingOf shown style other (Some size) entries text
+    unnamed shown lines entries size names other text is = is
+    unnamed shown (objects file name) entries size names other text is = is
 
 -- the rows of values with names are those of the entries
 pub rows_are : (naming : Naming) (style : Style) (entries : List SectionEntry) (named : List Named) (rows : List Row) → AllZip (IsNamed naming style) entries named → map row_values rows ≡ map named_values named → AllZip (IsRowOf naming style) entries rows

@@ -1,11 +1,11 @@
 -- The text of sums, from shares and from a file's answer.
-use Rattle.std.proofs.Common.{◌≡◌, ℕ, ◌<◌, ◌^◌, true, List, [], ◌∷◌, ◌++◌, Option, filter, map, unwrap_or, refl, sym, ap, subst, ◌∙◌, arith}
+use Rattle.std.proofs.Common.{◌≡◌, ℕ, ◌<◌, ◌^◌, true, List, [], ◌∷◌, ◌++◌, Option, None, Some, filter, map, unwrap_or, refl, sym, ap, subst, ◌∙◌, arith}
 use Rattle.std.specs.Global.{Global}
 use Rattle.std.specs.List.{AllZip, sum_by}
 use denote.Ref.{Bor}
 use Rattle.std.proofs.lemmas.List.Sums.{sum_by-cons}
 use Rattle.std.proofs.lemmas.List.Sorted.{sum_by-IsPermutation}
-use Rattle.binfarce.specs.SectionEntries.{SectionEntry}
+use Rattle.binfarce.specs.SectionEntries.{SectionEntry, SelectedSymbols}
 use Rattle.binfarce_tools.specs.Report.{Share, sum_of, total}
 use Rattle.binfarce_figures.specs.declared.key.Grouping.{Grouping}
 use Rattle.binfarce_figures.specs.declared.key.Keyed.{Keyed}
@@ -14,7 +14,7 @@ use Rattle.binfarce_figures.specs.declared.figures.Columns.TheVariants.{Sums}
 use Rattle.binfarce_figures.specs.declared.sums.Figures.{Figures}
 use Rattle.binfarce_figures.specs.Claims.{claimed}
 use Rattle.binfarce_figures.specs.Figures.{AreClaimsOf, AreRowsOf, IsKeyRow, IsTextOfShares, copies_of, numbers_of, shares_of, sum_row, whole_text}
-use Rattle.binfarce_figures.specs.Keys.{IsKeyOf}
+use Rattle.binfarce_figures.specs.Keys.{IsKeyOf, section_keys}
 use Rattle.binfarce_tools.specs.Json.{style_of}
 use Rattle.binfarce_tools.specs.declared.json.Form.{Form}
 use Rattle.binfarce_figures.specs.machine.Columns.{AreRowsFor}
@@ -71,6 +71,19 @@ total_is (r ∷ rows) = omega (arith, sum_by-cons (λ (s : Share). s.size) (reco
 -- what values with keys add is what the entries add
 pub key_claims : (grouping : Grouping) (sections : ℕ → List ℕ) (entries : List SectionEntry) (keyed : List Keyed) (claims : List Row) → AllZip (IsKeyed grouping sections) entries keyed → AreClaimsWith keyed claims → AreClaimsOf grouping sections entries claims
 key_claims grouping sections entries keyed claims are (rows, sorted, with, by, is) = (rows, sorted, key_rows grouping sections entries keyed rows are with, by, is)
+
+keys_are : (size : Option ℕ) (names other : ℕ → Option (List ℕ)) → (size ≡ None → names ≡ other) → section_keys names size ≡ section_keys other size
+keys_are None names other same = ap (λ (ns : ℕ → Option (List ℕ)). section_keys ns None) (same refl)
+keys_are (Some n) names other same = refl
+
+-- of a file's answer, whose names count where it has no size
+pub claims_of : (grouping : Grouping) (names : ℕ → Option (List ℕ)) (entries : List SectionEntry) (keyed : List Keyed) (size : Option ℕ) (seen : SelectedSymbols) (claims : List Row)
+    → entries ≡ seen.entries → size ≡ seen.section_size → (seen.section_size ≡ None → names ≡ seen.section_name) → AllZip (IsKeyed grouping (section_keys names size)) entries keyed → AreClaimsWith keyed claims
+    → AreClaimsOf grouping (section_keys seen.section_name seen.section_size) seen.entries claims
+claims_of grouping names entries keyed size seen claims same size_is named are claimed =
+    subst (λ (es : List SectionEntry). AreClaimsOf grouping (section_keys seen.section_name seen.section_size) es claims) same
+    (subst (λ (sections : ℕ → List ℕ). AreClaimsOf grouping sections entries claims) (ap (section_keys names) size_is ∙ keys_are seen.section_size names seen.section_name named)
+    (key_claims grouping (section_keys names size) entries keyed claims are claimed))
 
 -- what is claimed fits, as the sum of all sizes does
 pub claims_fit : (keyed : List Keyed) (claims : List Row) → AreClaimsWith keyed claims → sum_by (λ (k : Keyed). k.size) keyed < 2 ^ 64 → total (shares_of claims) < 2 ^ 64

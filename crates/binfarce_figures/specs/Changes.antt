@@ -2,14 +2,13 @@
 use Rattle.std.specs.Prelude.{◌≡◌, ◌⊎◌, ℕ, zero, suc, ◌+◌, ◌-◌, ◌/◌, ◌%◌, Bool, true, false, not, List, [], ◌++◌, filter, Option, Some, None, Result, Ok, Err, codes, nat_eq, nat_lt, if◌then◌else◌}
 use Rattle.std.specs.Fmt.{decimal}
 use Rattle.binfarce.specs.Refusal.{Refusal}
-use Rattle.binfarce.specs.SectionEntries.{SectionEntry}
-use Rattle.binfarce.specs.Symbol.{Listed}
+use Rattle.binfarce.specs.SectionEntries.{SelectedSymbols}
 use Rattle.binfarce.specs.declared.SymbolTable.{SymbolTable}
 use Rattle.binfarce_tools.specs.Json.{Style, number_member}
 use Rattle.binfarce_tools.specs.Listing.{pad_left, size_text}
 use Rattle.binfarce_tools.specs.Report.{Share, AreCratesOf, ReportFits, sum_of, total}
 use Rattle.binfarce_tools.specs.ReportWords.{outcome_of}
-use Rattle.binfarce_tools.specs.Selection.{answer_in, MemoryIn}
+use Rattle.binfarce_tools.specs.Answer.{selected_answer, MemoryIn}
 use Rattle.binfarce_tools.specs.Tables.{AreTablesOf}
 use Rattle.binfarce_tools.specs.Writing.{Outcome, EndsAs, no_memory, too_large}
 use Rattle.binfarce_tools.specs.declared.report.ReportError.{ReportError}
@@ -21,7 +20,6 @@ use Rattle.binfarce_figures.specs.declared.order.Row.{Row}
 use Rattle.binfarce_figures.specs.declared.sums.Figures.{Figures}
 use Rattle.binfarce_figures.specs.Figures.{AreClaimsOf, AreRowsOf, hundredths, numbers_of, row_of, shares_of}
 use Rattle.binfarce_figures.specs.Keys.{section_keys}
-use Rattle.binfarce_figures.specs.Rows.{AreEntriesIn, size_in}
 
 -- the distance of two numbers
 abbrev pub difference : (old new : ℕ) → ℕ
@@ -89,11 +87,11 @@ pub record Asked : Type 0 where
 abbrev pub AreTablesFor : Asked → Tables → Type 0
 AreTablesFor asked tables = AreTablesOf asked.which asked.file asked.section tables
 
-abbrev pub answer_for : Asked → Option (Result Listed Refusal)
-answer_for asked = answer_in asked.which asked.file asked.section
+abbrev pub answer_for : Asked → Option (Result SelectedSymbols Refusal)
+answer_for asked = selected_answer asked.which asked.section asked.file
 
 -- what two files answer: for a refusal, or an unknown format, the first one's
-abbrev pub both : (old new : Option (Result Listed Refusal)) → Option (Result (Listed × Listed) Refusal)
+abbrev pub both : (old new : Option (Result SelectedSymbols Refusal)) → Option (Result (SelectedSymbols × SelectedSymbols) Refusal)
 both (Some (Ok old)) (Some (Ok new)) = Some (Ok (old, new))
 both (Some (Ok old)) (Some (Err refusal)) = Some (Err refusal)
 both (Some (Ok old)) None = None
@@ -101,8 +99,8 @@ both (Some (Err refusal)) new = Some (Err refusal)
 both None new = None
 
 -- a call ends as one that sums the old file, if that fails; and otherwise as one that sums the new file, or an allocation failed
-abbrev pub EndsAfter : (old : Option (Result Listed Refusal)) → (Old New : Outcome → Type 0) → Outcome → Type 0
-EndsAfter (Some (Ok listed)) Old New outcome = (outcome ≡ no_memory) ⊎ (ReportFits listed × New outcome) ⊎ ((¬ (ReportFits listed)) × (outcome ≡ too_large))
+abbrev pub EndsAfter : (old : Option (Result SelectedSymbols Refusal)) → (Old New : Outcome → Type 0) → Outcome → Type 0
+EndsAfter (Some (Ok selected)) Old New outcome = (outcome ≡ no_memory) ⊎ (ReportFits selected × New outcome) ⊎ ((¬ (ReportFits selected)) × (outcome ≡ too_large))
 EndsAfter old Old New outcome = Old outcome
 
 abbrev pub EndsFor : Asked → Outcome → Type 0
@@ -112,21 +110,19 @@ abbrev pub EndsForBoth : (old new : Asked) → Outcome → Type 0
 EndsForBoth old new outcome = EndsAfter (answer_for old) (EndsFor old) (EndsFor new) outcome
 
 -- claims are those of a file's answer: what its function symbols add, with their keys
-abbrev pub AreClaimsIn : Grouping → Asked → Listed → List Row → Type 0
-AreClaimsIn grouping asked listed claims =
-    (names : ℕ → Option (List ℕ)) × (entries : List SectionEntry) × AreEntriesIn asked.which asked.file asked.section listed names entries
-    × AreClaimsOf grouping (section_keys names (size_in asked.section listed)) entries claims
+abbrev pub AreClaimsIn : Grouping → SelectedSymbols → List Row → Type 0
+AreClaimsIn grouping selected claims = AreClaimsOf grouping (section_keys selected.section_name selected.section_size) selected.entries claims
 
 -- text is that of the changes between two files' answers
-abbrev pub AreChangesBy : Figures → Style → (old new : Asked) → Listed × Listed → List ℕ → Type 0
-AreChangesBy shown style old new listed text =
-    (before : List Row) × (after : List Row) × AreClaimsIn shown.grouping old listed.0 before × AreClaimsIn shown.grouping new listed.1 after
+abbrev pub AreChangesBy : Figures → Style → SelectedSymbols × SelectedSymbols → List ℕ → Type 0
+AreChangesBy shown style selected text =
+    (before : List Row) × (after : List Row) × AreClaimsIn shown.grouping selected.0 before × AreClaimsIn shown.grouping selected.1 after
     × IsTextOfChanges shown style (shares_of before) (shares_of after) text
 
 -- growth is that between two files' answers
-abbrev pub IsGrowthBy : Grouping → (old new : Asked) → Listed × Listed → Growth → Type 0
-IsGrowthBy grouping old new listed growth =
-    (before : List Row) × (after : List Row) × AreClaimsIn grouping old listed.0 before × AreClaimsIn grouping new listed.1 after × IsGrowthOf (shares_of before) (shares_of after) growth
+abbrev pub IsGrowthBy : Grouping → SelectedSymbols × SelectedSymbols → Growth → Type 0
+IsGrowthBy grouping selected growth =
+    (before : List Row) × (after : List Row) × AreClaimsIn grouping selected.0 before × AreClaimsIn grouping selected.1 after × IsGrowthOf (shares_of before) (shares_of after) growth
 
 -- a result without its value, and without whose the error is
 abbrev pub ended : Result Growth DiffError → Result (Unit {0}) ReportError
@@ -140,7 +136,7 @@ other_error e = record { error = e; is_of_old = false }
 -- the error is the old file's where that file can't be summed; and where it isn't, that file can be
 abbrev pub IsOf : Asked → (is_of_old : Bool) → ReportError → Type 0
 IsOf before true e = EndsFor before (outcome_of (Err e))
-IsOf before false e = (listed : Listed) × (answer_for before ≡ Some (Ok listed)) × ReportFits listed
+IsOf before false e = (selected : SelectedSymbols) × (answer_for before ≡ Some (Ok selected)) × ReportFits selected
 
 abbrev pub IsWhose : (before : Asked) → DiffError → Type 0
 IsWhose before e = IsOf before e.is_of_old e.error

@@ -3,9 +3,7 @@ use Rattle.std.specs.Prelude.{◌≡◌, ℕ, ◌*◌, ◌/◌, ◌%◌, Bool, t
 use Rattle.std.specs.Fmt.{decimal}
 use Rattle.std.specs.List.{AllZip, flat_map, sum_by}
 use Rattle.std.specs.Str.{bytes_eq}
-use Rattle.binfarce.specs.SectionEntries.{SectionEntry}
-use Rattle.binfarce.specs.Symbol.{Listed}
-use Rattle.binfarce.specs.declared.SymbolTable.{SymbolTable}
+use Rattle.binfarce.specs.SectionEntries.{SectionEntry, SelectedSymbols}
 use Rattle.binfarce_chart.specs.Chart.{others_label}
 use Rattle.binfarce_tools.specs.Json.{Style, lines, objects, number_member, object_start, text_member}
 use Rattle.binfarce_tools.specs.Listing.{pad_left, size_text}
@@ -17,7 +15,7 @@ use Rattle.binfarce_figures.specs.declared.order.Row.{Row}
 use Rattle.binfarce_figures.specs.declared.figures.Figure.{Figure}
 use Rattle.binfarce_figures.specs.declared.sums.Figures.{Figures}
 use Rattle.binfarce_figures.specs.Claims.{IsByPlace, claimed}
-use Rattle.binfarce_figures.specs.Rows.{AreEntriesIn, count_of, size_in}
+use Rattle.binfarce_figures.specs.Rows.{count_of}
 use Rattle.binfarce_figures.specs.RowListing.{last_line}
 use Rattle.binfarce_figures.specs.Keys.{IsKeyOf, section_keys}
 use Rattle.binfarce_figures.specs.Order.{IsByKey, falling}
@@ -124,7 +122,6 @@ AreClaimsOf grouping sections entries claims =
 abbrev pub IsTextOfEntries : Figures → Style → (ℕ → Option (List ℕ)) → (size : Option ℕ) → List SectionEntry → List ℕ → Type 0
 IsTextOfEntries shown style names size entries text = (claims : List Row) × AreClaimsOf shown.grouping (section_keys names size) entries claims × IsTextOfShares shown style size (shares_of claims) text
 
--- text is that of the sums of a file's answer for a selection
-abbrev pub AreFiguresBy : Figures → Style → SymbolTable → (file : List ℕ) → (section : Option (List ℕ)) → Listed → List ℕ → Type 0
-AreFiguresBy shown style which file section listed text =
-    (names : ℕ → Option (List ℕ)) × (entries : List SectionEntry) × AreEntriesIn which file section listed names entries × IsTextOfEntries shown style names (size_in section listed) entries text
+-- text is that of the sums of a file's answer
+abbrev pub AreFiguresBy : Figures → Style → SelectedSymbols → List ℕ → Type 0
+AreFiguresBy shown style selected text = IsTextOfEntries shown style selected.section_name selected.section_size selected.entries text

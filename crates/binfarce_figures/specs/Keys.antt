@@ -5,7 +5,7 @@ use Rattle.std.specs.Str.{bytes_eq}
 use Rattle.binfarce.specs.SectionEntries.{SectionEntry}
 use Rattle.binfarce_names.specs.Name.{Name}
 use Rattle.binfarce_names.specs.Named.{IsNamed}
-use Rattle.binfarce_tools.specs.AllListing.{section_text}
+use Rattle.binfarce_tools.specs.Listing.{section_text}
 use Rattle.binfarce_tools.specs.Report.{crate_text}
 use Rattle.binfarce_figures.specs.declared.key.Grouping.{Grouping}
 use Rattle.binfarce_figures.specs.declared.key.Key.{Key}
@@ -13,12 +13,12 @@ use Rattle.binfarce_figures.specs.declared.key.Key.TheVariants.{Crate, Function,
 use Rattle.binfarce_figures.specs.declared.generic.Shape.TheVariants as shapes
 use Rattle.binfarce_figures.specs.Generic.{rewritten}
 
--- the crates of Rust's standard library, and those that it is built of
+-- the crates of Rust's standard library that no other program has: no package can have their names, or none does
 abbrev pub std_crates : List (List ℕ)
 std_crates =
-    codes "std" ∷ codes "core" ∷ codes "alloc" ∷ codes "compiler_builtins" ∷ codes "std_detect" ∷ codes "panic_unwind" ∷ codes "hashbrown"
-    ∷ codes "gimli" ∷ codes "addr2line" ∷ codes "rustc_demangle" ∷ codes "miniz_oxide" ∷ codes "object" ∷ codes "memchr" ∷ codes "libc"
-    ∷ codes "cfg_if" ∷ codes "adler" ∷ codes "adler2" ∷ codes "unwind" ∷ codes "panic_abort" ∷ codes "rustc_std_workspace_core" ∷ []
+    codes "std" ∷ codes "core" ∷ codes "alloc" ∷ codes "proc_macro" ∷ codes "test" ∷ codes "std_detect" ∷ codes "compiler_builtins" ∷ codes "unwind"
+    ∷ codes "panic_abort" ∷ codes "panic_unwind" ∷ codes "rustc_std_workspace_core" ∷ codes "rustc_std_workspace_alloc"
+    ∷ codes "rustc_std_workspace_std" ∷ []
 
 abbrev pub is_std : (crate_name : List ℕ) → Bool
 is_std crate_name = list_any (bytes_eq crate_name) std_crates

@@ -1,16 +1,13 @@
 -- The text of a listing in an order.
 use Rattle.std.specs.Prelude.{◌≡◌, ℕ, Bool, true, List, [], ◌∷◌, ◌++◌, codes, length, take, Option, Some, None}
 use Rattle.std.specs.List.{AllZip, concat, flat_map}
-use Rattle.binfarce.specs.SectionEntries.{SectionEntry}
-use Rattle.binfarce.specs.Symbol.{Listed}
-use Rattle.binfarce.specs.declared.SymbolTable.{SymbolTable}
-use Rattle.binfarce_tools.specs.AllListing.{section_text}
+use Rattle.binfarce.specs.SectionEntries.{SectionEntry, SelectedSymbols}
 use Rattle.binfarce_tools.specs.Json.{Style, lines, objects, address_member, number_member, object_start, text_member}
-use Rattle.binfarce_tools.specs.Listing.{line_head, size_line}
+use Rattle.binfarce_tools.specs.Listing.{line_head, section_part, size_line}
 use Rattle.binfarce_figures.specs.declared.rows.Naming.{Naming}
 use Rattle.binfarce_figures.specs.declared.rows.Shown.{Shown}
 use Rattle.binfarce_figures.specs.declared.order.Row.{Row}
-use Rattle.binfarce_figures.specs.Rows.{AreEntriesIn, IsNameText, IsTailText, count_of, size_in}
+use Rattle.binfarce_figures.specs.Rows.{IsNameText, IsTailText, count_of}
 use Rattle.binfarce_figures.specs.Order.{IsInOrder}
 
 -- row is that of an entry, with what is shown of its name in this form
@@ -20,11 +17,6 @@ pub record IsRowOf (naming : Naming) (style : Style) (e : SectionEntry) (row : R
   pub size_is : row.size ≡ e.entry.size
   pub name_is : IsNameText naming e.entry.name row.name.now
   pub tail_is : IsTailText style e.entry.name row.tail.now
-
--- a section's name and a blank where all sections are listed, which have no size
-abbrev pub section_part : (ℕ → Option (List ℕ)) → (size : Option ℕ) → (number : ℕ) → List ℕ
-section_part names (Some size) number = []
-section_part names None number = section_text (names number) number ++ codes " "
 
 -- `{address:016x} {size:>10} {name}`, with the section before the name where all sections are listed
 abbrev pub row_line : (ℕ → Option (List ℕ)) → Option ℕ → Row → List ℕ
@@ -59,7 +51,6 @@ listing shown style names size rows = flat_map (row_text style names size) (take
 abbrev pub IsListingOf : Shown → Style → (ℕ → Option (List ℕ)) → (size : Option ℕ) → List SectionEntry → List ℕ → Type 0
 IsListingOf shown style names size entries text = (rows sorted : List Row) × AllZip (IsRowOf shown.naming style) entries rows × IsInOrder shown.order rows sorted × (text ≡ listing shown style names size sorted)
 
--- text is the listing of a file's answer for a selection
-abbrev pub IsListingBy : Shown → Style → SymbolTable → (file : List ℕ) → (section : Option (List ℕ)) → Listed → List ℕ → Type 0
-IsListingBy shown style which file section listed text =
-    (names : ℕ → Option (List ℕ)) × (entries : List SectionEntry) × AreEntriesIn which file section listed names entries × IsListingOf shown style names (size_in section listed) entries text
+-- text is the listing of a file's answer
+abbrev pub IsListingBy : Shown → Style → SelectedSymbols → List ℕ → Type 0
+IsListingBy shown style selected text = IsListingOf shown style selected.section_name selected.section_size selected.entries text

@@ -1,14 +1,11 @@
 -- Function symbols as stacks.
-use Rattle.std.specs.Prelude.{◌≡◌, ℕ, List, ◌∷◌, [], ◌++◌, ◌||◌, codes, bytes_eq, nat_eq, Option, if◌then◌else◌}
+use Rattle.std.specs.Prelude.{◌≡◌, ℕ, List, ◌∷◌, [], ◌++◌, ◌||◌, codes, bytes_eq, nat_eq, if◌then◌else◌}
 use Rattle.std.specs.Fmt.{decimal}
 use Rattle.std.specs.List.{AllZip, concat, starts_with}
-use Rattle.binfarce.specs.SectionEntries.{SectionEntry}
-use Rattle.binfarce.specs.Symbol.{Listed}
-use Rattle.binfarce.specs.declared.SymbolTable.{SymbolTable}
+use Rattle.binfarce.specs.SectionEntries.{SectionEntry, SelectedSymbols}
 use Rattle.binfarce_figures.specs.declared.generic.Shape.TheVariants.{Stack}
 use Rattle.binfarce_figures.specs.Generic.{rewritten}
 use Rattle.binfarce_figures.specs.Keys.{IsCrateOf, IsTrimmedOf}
-use Rattle.binfarce_figures.specs.Rows.{AreEntriesIn}
 
 -- a crate, and below it the parts of a name; the first part is left out where it is the crate, which it is if the parts are the crate alone, or the crate
 -- and `;` before others
@@ -34,6 +31,6 @@ IsStackLine e line =
 abbrev pub AreStacksOf : List SectionEntry → (text : List ℕ) → Type 0
 AreStacksOf entries text = (lines : List (List ℕ)) × AllZip IsStackLine entries lines × (text ≡ concat lines)
 
--- so for a file's answer for a selection
-abbrev pub AreStacksIn : SymbolTable → (file : List ℕ) → (section : Option (List ℕ)) → Listed → (text : List ℕ) → Type 0
-AreStacksIn which file section listed text = (names : ℕ → Option (List ℕ)) × (entries : List SectionEntry) × AreEntriesIn which file section listed names entries × AreStacksOf entries text
+-- so for a file's answer
+abbrev pub AreStacksIn : SelectedSymbols → (text : List ℕ) → Type 0
+AreStacksIn selected text = AreStacksOf selected.entries text

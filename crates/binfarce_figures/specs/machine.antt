@@ -1,5 +1,4 @@
 -- Definitions that only private contracts cite.
-pub mod SelectedList
 pub mod Got
 pub mod Keyed
 pub mod Counts

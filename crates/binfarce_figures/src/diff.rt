@@ -3,7 +3,7 @@
 ghost use Rattle.std.specs.Prelude.{◌≡◌, ◌≢◌, ◌<◌, ◌^◌, true, Some, Ok, Err, IfOk, IfErr, MatchResult};
 ghost use Rattle.std.specs.List.{sum_by};
 ghost use Rattle.std.specs.String.{string_bytes};
-ghost use Rattle.binfarce.specs.Symbol.{Listed};
+ghost use Rattle.binfarce.specs.SectionEntries.{SelectedSymbols};
 ghost use Rattle.binfarce_tools.specs.Json.{style_of};
 ghost use Rattle.binfarce_tools.specs.Report.{total};
 ghost use Rattle.binfarce_tools.specs.ReportWords.{outcome_of};
@@ -106,13 +106,13 @@ pub fn diff<S: Sink>(
     ensures outcome { (before after : Asked) → AreTablesFor before old.now → AreTablesFor after new.now
         → EndsForBoth before after (outcome_of (ended result)) }
     ensures takes { (before after : Asked) → AreTablesFor before old.now → AreTablesFor after new.now
-        → Takes (AreChangesBy figures.now (style_of form.entry) before after)
+        → Takes (AreChangesBy figures.now (style_of form.entry))
         (both (answer_for before) (answer_for after))
         (S.taken out.old) (S.taken out.new) (outcome_of (ended result)) }
-    ensures growth { (before after : Asked) (listed : Listed × Listed)
+    ensures growth { (before after : Asked) (selected : SelectedSymbols × SelectedSymbols)
         → AreTablesFor before old.now → AreTablesFor after new.now
-        → both (answer_for before) (answer_for after) ≡ Some (Ok listed)
-        → IfOk result (λ g. IsGrowthBy figures.now.grouping before after listed g) }
+        → both (answer_for before) (answer_for after) ≡ Some (Ok selected)
+        → IfOk result (λ g. IsGrowthBy figures.now.grouping selected g) }
     ensures whose { (before : Asked) → AreTablesFor before old.now → IfErr result (IsWhose before) }
     ensures fails { Fails (S.has_failed out.old) (S.has_failed out.new) (outcome_of (ended result)) }
     ensures leaves { Leaves out.old out.new (outcome_of (ended result)) }

@@ -7,14 +7,14 @@ ghost use Rattle.binfarce.specs.SymbolViews.{section_function_view};
 ghost use Rattle.binfarce.specs.declared.SymbolTable.{SymbolTable};
 ghost use Rattle.binfarce_tools.specs.Listing.{ListingFits};
 ghost use Rattle.binfarce_tools.specs.ListWords.{outcome_of};
-ghost use Rattle.binfarce_tools.specs.Selection.{answer_in, MemoryIn};
+ghost use Rattle.binfarce_tools.specs.Answer.{selected_answer, MemoryIn};
+ghost use Rattle.binfarce_tools.specs.Entries.{all_left};
 ghost use Rattle.binfarce_tools.specs.Tables.{AreTablesOf};
 ghost use Rattle.binfarce_tools.specs.Writing.{EndsAs, Takes, Fails, Leaves};
 ghost use Rattle.binfarce_figures.specs.Rows.{IsNameText, IsTailText, count_of};
 ghost use Rattle.binfarce_figures.specs.RowListing.{IsListingBy};
 ghost use Rattle.binfarce_tools.specs.Json.{style_of};
 ghost use Rattle.binfarce_figures.specs.machine.Listings.{IsNamed, IsTextFor, named_values, shown_row, shown_rows};
-ghost use Rattle.binfarce_figures.specs.machine.SelectedList.{IsListOf};
 ghost use Rattle.binfarce_figures.specs.machine.Keyed.{row_values};
 
 use crate::order::{Order, Row, sort};
@@ -25,7 +25,7 @@ use binfarce_tools::head::push_head;
 use binfarce_tools::json::{
     Form, push_address_member, push_number_member, push_start, push_text_member,
 };
-use binfarce_tools::list::{ListError, Sink, push_section};
+use binfarce_tools::list::{ListError, Sink, push_section_part};
 use binfarce_tools::report::put_crate;
 use binfarce_tools::tables::Tables;
 use binfarce_tools::writing::write_whole;
@@ -72,11 +72,11 @@ pub fn list_by<S: Sink>(
 ) -> Result<(), ListError>
     ensures outcome { (which : SymbolTable) (file : List ℕ) (section : Option (List ℕ))
         → AreTablesOf which file section tables.now
-        → EndsAs ListingFits (MemoryIn file section) (answer_in which file section) (outcome_of result) }
+        → EndsAs ListingFits (MemoryIn file section) (selected_answer which section file) (outcome_of result) }
     ensures takes { (which : SymbolTable) (file : List ℕ) (section : Option (List ℕ))
         → AreTablesOf which file section tables.now
-        → Takes (IsListingBy shown.now (style_of form.entry) which file section)
-        (answer_in which file section) (S.taken out.old) (S.taken out.new) (outcome_of result) }
+        → Takes (IsListingBy shown.now (style_of form.entry))
+        (selected_answer which section file) (S.taken out.old) (S.taken out.new) (outcome_of result) }
     ensures fails { Fails (S.has_failed out.old) (S.has_failed out.new) (outcome_of result) }
     ensures leaves { Leaves out.old out.new (outcome_of result) }
 {
@@ -189,10 +189,7 @@ impl Listing<'_, '_> {
         match self.form {
             Form::Lines => {
                 push_head(text, row.address, row.size)?;
-                if self.size.is_none() {
-                    push_section(text, self.tables, row.section)?;
-                    text.push_str(" ")?;
-                }
+                push_section_part(text, self.tables, self.size, row.section)?;
                 text.push_str(row.name)?;
                 text.push_str("\n")
             }
@@ -242,20 +239,14 @@ pub(crate) fn count_of(first: Option<usize>, all: usize) -> usize
     first.map_or(all, |first| first.min(all))
 }
 
-/// The function symbols of a selection as one list, and the section's size. Those of one section have the section
-/// number 0.
+/// The function symbols of a selection as one list, and the size of the selected section, if one is selected.
 pub(crate) fn list_of<'a>(
     alloc: Global,
     selected: Selected<'a>,
 ) -> Result<(Vec<SectionFunction<'a>>, Option<u64>), AllocError>
-    ensures { IfOk result (λ r. IsListOf selected.entry (map section_function_view r.0.items) r.1) }
+    ensures { IfOk result (λ r. (map section_function_view r.0.items ≡ all_left selected.entry.functions)
+        × (r.1 ≡ selected.entry.size)) }
 {
-    match selected {
-        Selected::Section(functions, size) => {
-            let section = 0;
-            let list = functions.map(|function| SectionFunction { section, function });
-            Ok((list.collect(alloc)?, Some(size)))
-        }
-        Selected::All(functions) => Ok((functions.collect(alloc)?, None)),
-    }
+    let list = selected.functions.collect(alloc)?;
+    Ok((list, selected.size))
 }

@@ -6,7 +6,7 @@ ghost use Rattle.binfarce.specs.SymbolViews.{section_function_view};
 ghost use Rattle.binfarce.specs.declared.SymbolTable.{SymbolTable};
 ghost use Rattle.binfarce_tools.specs.Listing.{ListingFits};
 ghost use Rattle.binfarce_tools.specs.ListWords.{outcome_of};
-ghost use Rattle.binfarce_tools.specs.Selection.{answer_in, MemoryIn};
+ghost use Rattle.binfarce_tools.specs.Answer.{selected_answer, MemoryIn};
 ghost use Rattle.binfarce_tools.specs.Tables.{AreTablesOf};
 ghost use Rattle.binfarce_tools.specs.Writing.{EndsAs, Takes, Fails, Leaves};
 ghost use Rattle.binfarce_figures.specs.Stacks.{AreStacksIn, AreStacksOf, IsStackLine, stack_of};
@@ -39,10 +39,10 @@ pub fn fold_tables<S: Sink>(
 ) -> Result<(), ListError>
     ensures outcome { (which : SymbolTable) (file : List ℕ) (section : Option (List ℕ))
         → AreTablesOf which file section tables.now
-        → EndsAs ListingFits (MemoryIn file section) (answer_in which file section) (outcome_of result) }
+        → EndsAs ListingFits (MemoryIn file section) (selected_answer which section file) (outcome_of result) }
     ensures takes { (which : SymbolTable) (file : List ℕ) (section : Option (List ℕ))
-        → AreTablesOf which file section tables.now → Takes (AreStacksIn which file section)
-        (answer_in which file section) (S.taken out.old) (S.taken out.new) (outcome_of result) }
+        → AreTablesOf which file section tables.now → Takes AreStacksIn
+        (selected_answer which section file) (S.taken out.old) (S.taken out.new) (outcome_of result) }
     ensures fails { Fails (S.has_failed out.old) (S.has_failed out.new) (outcome_of result) }
     ensures leaves { Leaves out.old out.new (outcome_of result) }
 {

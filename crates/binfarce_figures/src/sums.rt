@@ -8,7 +8,7 @@ ghost use Rattle.binfarce.specs.declared.SymbolTable.{SymbolTable};
 ghost use Rattle.binfarce_tools.specs.Json.{style_of};
 ghost use Rattle.binfarce_tools.specs.Report.{ReportFits, total};
 ghost use Rattle.binfarce_tools.specs.ReportWords.{outcome_of};
-ghost use Rattle.binfarce_tools.specs.Selection.{answer_in, MemoryIn};
+ghost use Rattle.binfarce_tools.specs.Answer.{selected_answer, MemoryIn};
 ghost use Rattle.binfarce_tools.specs.Sums.{AreSumsOf};
 ghost use Rattle.binfarce_tools.specs.Tables.{AreTablesOf, section_names};
 ghost use Rattle.binfarce_tools.specs.Writing.{EndsAs, Takes, Fails, Leaves};
@@ -63,11 +63,11 @@ pub fn sum_by<S: Sink>(
 ) -> Result<(), ReportError>
     ensures outcome { (which : SymbolTable) (file : List ℕ) (section : Option (List ℕ))
         → AreTablesOf which file section tables.now
-        → EndsAs ReportFits (MemoryIn file section) (answer_in which file section) (outcome_of result) }
+        → EndsAs ReportFits (MemoryIn file section) (selected_answer which section file) (outcome_of result) }
     ensures takes { (which : SymbolTable) (file : List ℕ) (section : Option (List ℕ))
         → AreTablesOf which file section tables.now
-        → Takes (AreFiguresBy figures.now (style_of form.entry) which file section)
-        (answer_in which file section) (S.taken out.old) (S.taken out.new) (outcome_of result) }
+        → Takes (AreFiguresBy figures.now (style_of form.entry))
+        (selected_answer which section file) (S.taken out.old) (S.taken out.new) (outcome_of result) }
     ensures fails { Fails (S.has_failed out.old) (S.has_failed out.new) (outcome_of result) }
     ensures leaves { Leaves out.old out.new (outcome_of result) }
 {

@@ -17,7 +17,7 @@ returns-in_err-write_made-clause-takes g c = λ before after was is.
     let taken = g.S.Sink.taken c.args.out.now in
     let then = g.S.Sink.taken c.write_made.new.out in
     let e = c.in_err-write_made.field-0.0 in
-    let took : Outcome → Type 0 = λ o. Takes (AreChangesBy shown style before after) (both (answer_for before) (answer_for after)) taken then o in
+    let took : Outcome → Type 0 = λ o. Takes (AreChangesBy shown style) (both (answer_for before) (answer_for after)) taken then o in
     subst took (passed_on c.from_residual-in_err-write_made.result e c.from_residual-in_err-write_made.ensures.1)
     (compared shown style before after (section_names c.args.old.now) (section_names c.args.new.now) old.old_keyed.items new.new_keyed.items old.field-0-1 new.field-0-1 (old.ensures.got before was) (new.ensures.got after.which after.file after.section is)
     c.in_ok-text.text c.in_ok-text.growth taken then (outcome_of (Err e)) (given shown style _ _ _ _ _ c.in_ok-text.growth c.deref.ensures.value c.deref-2.ensures.value c.in_ok-text.ensures) c.in_err-write_made.ensures.takes)

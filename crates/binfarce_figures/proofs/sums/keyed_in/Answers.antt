@@ -15,7 +15,7 @@ sizes functions = sum_by (λ (e : SectionEntry). e.entry.size) (map section_func
 
 pub returns-then-total_of-from-clause-got : goal.returns-then-total_of-from-clause-got
 returns-then-total_of-from-clause-got c = λ which file section are.
-    too_large_got which file section c.args.tables.now c.in_ok-selected.selected (map section_function_view c.in_ok-functions.functions.items) c.in_ok-functions.size are (c.in_ok-selected.ensures.gets which file section are) c.in_ok-functions.ensures (omega (arith, ap sizes c.deref.ensures.value, c.total_of.ensures, c.from.ensures, c.if-total_of-from.true))
+    too_large_got which file section c.in_ok-selected.selected (map section_function_view c.in_ok-functions.functions.items) c.in_ok-functions.size (c.in_ok-selected.ensures.gets which file section are) c.in_ok-functions.ensures (omega (arith, ap sizes c.deref.ensures.value, c.total_of.ensures, c.from.ensures, c.if-total_of-from.true))
 
 pub returns-clause-got : goal.returns-clause-got
 returns-clause-got c = λ which file section are.
@@ -24,7 +24,7 @@ returns-clause-got c = λ which file section are.
     let size = c.in_ok-functions.size in
     let Q : List SectionFunction → Type 0 = λ fs. AllZip (IsKeyed c.args.grouping (section_keys names size)) (map section_function_view fs) c.in_ok-keyed_of.field-0.items in (
       map section_function_view functions,
-      got which file section c.args.tables.now c.in_ok-selected.selected (map section_function_view functions) size are (c.in_ok-selected.ensures.gets which file section are) c.in_ok-functions.ensures (omega (arith, ap sizes c.deref.ensures.value, c.total_of.ensures, c.from.ensures, c.if-total_of-from.false)),
+      got which file section c.in_ok-selected.selected (map section_function_view functions) size (c.in_ok-selected.ensures.gets which file section are) c.in_ok-functions.ensures c.args.tables.now are (omega (arith, ap sizes c.deref.ensures.value, c.total_of.ensures, c.from.ensures, c.if-total_of-from.false)),
       subst Q c.deref-2.ensures.value c.in_ok-keyed_of.ensures,
     )
 

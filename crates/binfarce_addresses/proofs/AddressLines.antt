@@ -11,15 +11,17 @@ use Rattle.binfarce.specs.Named.{IsShown}
 use Rattle.binfarce.specs.Refusal.{Refusal}
 use Rattle.binfarce_tools.specs.Json as json
 use Rattle.binfarce_tools.specs.Listing.{address_text, ListingFits}
-use Rattle.binfarce.specs.Symbol.{Entry, Listed}
+use Rattle.binfarce.specs.SectionEntries.{SelectedSymbols}
+use Rattle.binfarce.specs.Symbol.{Entry}
+use Rattle.binfarce_tools.specs.Answer.{entries_of}
 use Rattle.binfarce_tools.specs.declared.list.ListError.{ListError}
 use Rattle.binfarce_tools.specs.declared.list.ListError.TheVariants.{Unknown, Parse, OutOfMemory, Write}
 use Rattle.binfarce_tools.specs.ListWords.{Writes, outcome_of}
 use Rattle.binfarce_tools.specs.Writing.{Outcome, EndsAs, Takes}
 use Rattle.binfarce_tools.proofs.Lines.{takes_nothing}
-use Rattle.binfarce_addresses.specs.Lookup.{looked_up}
+use Rattle.binfarce_addresses.specs.Lookup.{found_at}
 use Rattle.binfarce_addresses.specs.declared.lookup.Lookup.{Lookup}
-use Rattle.binfarce_addresses.specs.Lines.{found_at, IsTextOf, address_line, IsLineAt, IsLineIn, AreLinesOf, AreLinesAt}
+use Rattle.binfarce_addresses.specs.Lines.{IsTextOf, address_line, IsLineAt, IsLineIn, AreLinesOf, AreLinesAt}
 use Rattle.binfarce_addresses.specs.PlacesViews.{IsMadeOf}
 use Rattle.binfarce_addresses.specs.Stream.{AreAnswersOf, IsAnswerOf}
 
@@ -59,7 +61,7 @@ one_behind entries lookup addresses i address answer old mid new lt are here is 
     )
 
 -- how the writing of the lines of what a file lists ended
-pub outcome : (memory : Result Listed Refusal → Type 0) (listed : Listed) (text : List ℕ) (old new : Option (List ℕ)) (result : Result (Unit {0}) ListError) → Writes old new text result → EndsAs ListingFits memory (Some (Ok listed)) (outcome_of result)
+pub outcome : (memory : Result SelectedSymbols Refusal → Type 0) (listed : SelectedSymbols) (text : List ℕ) (old new : Option (List ℕ)) (result : Result (Unit {0}) ListError) → Writes old new text result → EndsAs ListingFits memory (Some (Ok listed)) (outcome_of result)
 outcome memory listed text old new (Ok x) wrote = inr (inl (tt, inl refl))
 outcome memory listed text old new (Err Write) wrote = inr (inl (tt, inr refl))
 outcome memory listed text old new (Err Unknown) wrote = let e = wrote.0 in absurd cc
@@ -67,20 +69,20 @@ outcome memory listed text old new (Err (Parse p)) wrote = let e = wrote.0 in ab
 outcome memory listed text old new (Err OutOfMemory) wrote = let e = wrote.0 in absurd cc
 
 -- so where an allocation failed
-pub no_memory : (memory : Result Listed Refusal → Type 0) (listed : Listed) (result : Result (Unit {0}) ListError) → IsErrAnd result (λ e. e ≡ OutOfMemory) → EndsAs ListingFits memory (Some (Ok listed)) (outcome_of result)
+pub no_memory : (memory : Result SelectedSymbols Refusal → Type 0) (listed : SelectedSymbols) (result : Result (Unit {0}) ListError) → IsErrAnd result (λ e. e ≡ OutOfMemory) → EndsAs ListingFits memory (Some (Ok listed)) (outcome_of result)
 no_memory memory listed (Ok x) is = absurd is
 no_memory memory listed (Err e) is =
     let P : ListError → Type 0 = λ e. EndsAs ListingFits memory (Some (Ok listed)) (outcome_of (Err e)) in subst P (sym is) (inl refl)
 
 -- the end, and what is taken of the lines, are those of the answer that the places are made of
-pub ends_of : (memory : Result Listed Refusal → Type 0) (answer : Option (Result Listed Refusal)) (entries : List Entry) (o : Outcome) → IsMadeOf memory answer (Ok entries)
-    → ((listed : Listed) → entries ≡ listed.entries → EndsAs ListingFits (λ _. ⊥) (Some (Ok listed)) o) → EndsAs ListingFits memory answer o
+pub ends_of : (memory : Result SelectedSymbols Refusal → Type 0) (answer : Option (Result SelectedSymbols Refusal)) (entries : List Entry) (o : Outcome) → IsMadeOf memory answer (Ok entries)
+    → ((listed : SelectedSymbols) → entries ≡ entries_of listed → EndsAs ListingFits (λ _. ⊥) (Some (Ok listed)) o) → EndsAs ListingFits memory answer o
 ends_of memory None entries o made ends = absurd made
 ends_of memory (Some (Err refusal)) entries o made ends = absurd made
 ends_of memory (Some (Ok listed)) entries o made ends = ends listed made
 
-pub takes_of : (memory : Result Listed Refusal → Type 0) (answer : Option (Result Listed Refusal)) (entries : List Entry) (lookup : Lookup) (addresses : List ℕ) (old new : Option (List ℕ)) (o : Outcome) → IsMadeOf memory answer (Ok entries)
-    → ((listed : Listed) → entries ≡ listed.entries → Takes (AreLinesAt lookup addresses) (Some (Ok listed)) old new o) → Takes (AreLinesAt lookup addresses) answer old new o
+pub takes_of : (memory : Result SelectedSymbols Refusal → Type 0) (answer : Option (Result SelectedSymbols Refusal)) (entries : List Entry) (lookup : Lookup) (addresses : List ℕ) (old new : Option (List ℕ)) (o : Outcome) → IsMadeOf memory answer (Ok entries)
+    → ((listed : SelectedSymbols) → entries ≡ entries_of listed → Takes (AreLinesAt lookup addresses) (Some (Ok listed)) old new o) → Takes (AreLinesAt lookup addresses) answer old new o
 takes_of memory None entries lookup addresses old new o made takes = absurd made
 takes_of memory (Some (Err refusal)) entries lookup addresses old new o made takes = absurd made
 takes_of memory (Some (Ok listed)) entries lookup addresses old new o made takes = takes listed made
@@ -89,24 +91,23 @@ regroup : (t a b n p d e : List ℕ) → ((t ++ (a ++ b)) ++ n) ++ (p ++ (d ++ e
 regroup t a b n p d e = simp append_assoc
 
 -- the line of an address that an entry holds
-pub shown_line : (entries : List Entry) (lookup : Lookup) (address offset : ℕ) (entry : Entry) (name : List ℕ) (text addressed named new : List ℕ) → found_at entries (looked_up lookup address) ≡ Some entry → offset ≡ address - lookup.base - entry.address → IsShown entry.name name
+pub shown_line : (entries : List Entry) (lookup : Lookup) (address offset : ℕ) (entry : Entry) (name : List ℕ) (text addressed named new : List ℕ) → found_at entries lookup address ≡ Some (entry, offset) → IsShown entry.name name
     → addressed ≡ text ++ (address_text address ++ codes " ") → named ≡ addressed ++ name → new ≡ named ++ (codes "+0x" ++ (digits 16 false offset ++ codes "\n"))
     → (line : List ℕ) × IsLineIn json.lines entries lookup address line × (new ≡ text ++ line)
-shown_line entries lookup address offset entry name text addressed named new found is names a b c =
-    let shown = name ++ (codes "+0x" ++ digits 16 false (address - lookup.base - entry.address)) in
-    let P : Option Entry → Type 0 = λ o. IsTextOf o (address - lookup.base) shown in (
+shown_line entries lookup address offset entry name text addressed named new found names a b c =
+    let shown = name ++ (codes "+0x" ++ digits 16 false offset) in
+    let P : Option (Entry × ℕ) → Type 0 = λ o. IsTextOf o shown in (
       address_line address shown,
       (shown, subst P (sym found) (name, names, refl), refl),
       c ∙ ap (λ (xs : List ℕ). xs ++ (codes "+0x" ++ (digits 16 false offset ++ codes "\n"))) (b ∙ ap (λ (xs : List ℕ). xs ++ name) a)
-          ∙ ap (λ (n : ℕ). ((text ++ (address_text address ++ codes " ")) ++ name) ++ (codes "+0x" ++ (digits 16 false n ++ codes "\n"))) is
-          ∙ regroup text (address_text address) (codes " ") name (codes "+0x") (digits 16 false (address - lookup.base - entry.address)) (codes "\n"),
+          ∙ regroup text (address_text address) (codes " ") name (codes "+0x") (digits 16 false offset) (codes "\n"),
     )
 
 -- and of one that none holds
-pub unknown_line : (entries : List Entry) (lookup : Lookup) (address : ℕ) (text addressed new : List ℕ) → found_at entries (looked_up lookup address) ≡ None → addressed ≡ text ++ (address_text address ++ codes " ") → new ≡ addressed ++ codes "??\n"
+pub unknown_line : (entries : List Entry) (lookup : Lookup) (address : ℕ) (text addressed new : List ℕ) → found_at entries lookup address ≡ None → addressed ≡ text ++ (address_text address ++ codes " ") → new ≡ addressed ++ codes "??\n"
     → (line : List ℕ) × IsLineIn json.lines entries lookup address line × (new ≡ text ++ line)
 unknown_line entries lookup address text addressed new found a b =
-    let P : Option Entry → Type 0 = λ o. IsTextOf o (address - lookup.base) (codes "??") in (
+    let P : Option (Entry × ℕ) → Type 0 = λ o. IsTextOf o (codes "??") in (
       address_line address (codes "??"),
       (codes "??", subst P (sym found) refl, refl),
       b ∙ ap (λ (xs : List ℕ). xs ++ codes "??\n") a ∙ append_assoc text (address_text address ++ codes " ") (codes "??\n") ∙ ap (λ (xs : List ℕ). text ++ xs) (append_assoc (address_text address) (codes " ") (codes "??\n")),

@@ -11,3 +11,6 @@ pub mod Rows
 pub mod Kept
 pub mod Sweep
 pub mod Spans
+pub mod Contexts
+pub mod Mapped
+pub mod Words

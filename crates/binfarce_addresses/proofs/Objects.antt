@@ -1,5 +1,5 @@
 -- The answers of addresses as objects.
-use Rattle.std.proofs.Common.{◌≡◌, ℕ, ◌-◌, ◌++◌, [], List, Option, Some, None, sym, ap, subst, ◌∙◌, append-nil, append_assoc}
+use Rattle.std.proofs.Common.{◌≡◌, ℕ, ◌++◌, [], List, Option, Some, None, sym, ap, subst, ◌∙◌, append-nil, append_assoc}
 use Rattle.binfarce.specs.Symbol.{Entry}
 use Rattle.binfarce_tools.specs.Json as json
 use Rattle.binfarce_addresses.specs.Lines.{answer_object, IsSymbolOf}
@@ -13,12 +13,12 @@ object_answer file entries lookup None found symbol text nothing is same =
     let none : symbol ≡ None = subst (λ (o : Option (ℕ × ℕ)). IsSymbolAt entries o symbol) nothing is in
     same ∙ ap (answer_object file None) none
 object_answer file entries lookup (Some address) None symbol text none is same =
-    let P : Option Entry → Type 0 = λ o. IsSymbolOf o (address - lookup.base) symbol in
+    let P : Option (Entry × ℕ) → Type 0 = λ o. IsSymbolOf o symbol in
     (symbol, subst P (sym none) is, same)
-object_answer file entries lookup (Some address) (Some found) symbol text (entry, held, offset, at) (name, named, is) same =
+object_answer file entries lookup (Some address) (Some found) symbol text (entry, held, at) (name, named, is) same =
     let shown = named entry at in
-    let P : Option Entry → Type 0 = λ o. IsSymbolOf o (address - lookup.base) symbol in
-    let symbol_is = is ∙ ap (λ (n : List ℕ). Some (n, found.1)) shown.2 ∙ ap (λ (n : ℕ). Some (shown.0, n)) offset in
+    let P : Option (Entry × ℕ) → Type 0 = λ o. IsSymbolOf o symbol in
+    let symbol_is = is ∙ ap (λ (n : List ℕ). Some (n, found.1)) shown.2 in
     (symbol, subst P (sym held) (shown.0, shown.1, symbol_is), same)
 
 -- four parts, one after the other

@@ -1,7 +1,8 @@
 -- The range that is found at an address is that of the entry that the address symbolizes to.
-use Rattle.std.proofs.Common.{◌≡◌, ℕ, zero, suc, ◌^◌, ◌<◌, ◌≤◌, ◌⊎◌, inl, inr, Bool, true, false, cond, List, [], ◌∷◌, map, filter, length, get_or, Option, Some, None, MatchOption, refl, sym, ap, subst, ◌∙◌, arith}
+use Rattle.std.proofs.Common.{◌≡◌, ℕ, zero, suc, ◌-◌, ◌^◌, ◌<◌, ◌≤◌, ◌⊎◌, inl, inr, Bool, true, false, cond, List, [], ◌∷◌, map, filter, length, get_or, Option, Some, None, MatchOption, refl, sym, ap, subst, ◌∙◌, arith}
 use Rattle.std.proofs.lemmas.Bool.Decides.{nat_tests}
-use Rattle.std.proofs.lemmas.List.{get_or-map, length-map}
+use Rattle.std.specs.Option.{option_map, option_or}
+use Rattle.std.proofs.lemmas.List.{get_or_default, get_or-map, length-map}
 use Rattle.std.proofs.lemmas.List.Elements.{All-head, All-tail}
 use Rattle.binfarce.specs.Symbol.{Entry}
 use Rattle.binfarce.specs.SymbolViews.{function_view}
@@ -9,11 +10,9 @@ use Rattle.binfarce.specs.declared.FunctionSymbol.{FunctionSymbol}
 use Rattle.binfarce_addresses.specs.declared.ranges.AddressRange.{AddressRange}
 use Rattle.binfarce_addresses.specs.Range.{AreSpansOf, Holds, IsSpanAt, NoneHolds, IsFoundAt, span_at}
 use Rattle.binfarce.specs.Found.{holds, higher_of, highest, entry_at}
-use Rattle.binfarce_addresses.specs.Lines.{found_at}
-use Rattle.binfarce_addresses.specs.Lookup.{looked_up}
-use Rattle.binfarce_addresses.specs.declared.lookup.Lookup.{Lookup}
+use Rattle.binfarce_addresses.specs.Lookup.{entry_for, found_in}
 use Rattle.binfarce_addresses.specs.declared.ranges.Span.{Span}
-use Rattle.binfarce_addresses.specs.machine.Places.{range_of, ranges_of, IsAtPlace}
+use Rattle.binfarce_addresses.specs.machine.Places.{range_of, ranges_of, IsAtPlace, IsFoundIn, IsPlaceFor}
 
 -- the test says whether the range holds the address
 held : (address : ℕ) (entry : Entry) → Holds (range_of entry) address → holds address entry ≡ true
@@ -125,28 +124,44 @@ pub ranges_view : (functions : List FunctionSymbol) → ranges_of functions ≡ 
 ranges_view [] = refl
 ranges_view (f ∷ functions) = ap (λ (rs : List AddressRange). range_of (function_view f) ∷ rs) (ranges_view functions)
 
--- what holds where nothing is found
-pub at_none : {T : Type 0} (r : Option T) (P : Type 0) (Q : T → Type 0) → r ≡ None → P → MatchOption r P Q
-at_none None P Q is p = p
-at_none (Some x) P Q is p = absurd cc
+-- what is found among the spans of function symbols is what an address in the file symbolizes to
+module _ (functions : List FunctionSymbol) (spans : List Span) (entries : List Entry) (are : AreSpansOf (ranges_of functions) spans) (seen : map function_view functions ≡ entries) (address : ℕ) (fits : address < 2 ^ 64) (place : Option ℕ) (at : (k : ℕ) × IsSpanAt spans address k × (place ≡ (span_at spans k).place)) where
+  found : MatchOption place (NoneHolds (map range_of entries) address) (IsFoundAt (map range_of entries) address)
+  found =
+      let P : List AddressRange → Option ℕ → Type 0 = λ rs o. MatchOption o (NoneHolds rs address) (IsFoundAt rs address) in
+      subst (λ rs. P rs place) (ranges_view functions ∙ ap (map range_of) seen) (subst (P (ranges_of functions)) (sym at.2) (are at.0 address fits at.1))
 
--- what is found among the spans of function symbols is what the address symbolizes to
-module _ (functions : List FunctionSymbol) (spans : List Span) (entries : List Entry) (are : AreSpansOf (ranges_of functions) spans) (seen : map function_view functions ≡ entries) (lookup : Lookup) (address x : ℕ) (inside : looked_up lookup address ≡ Some x) (fits : x < 2 ^ 64) (place : Option ℕ) (at : (k : ℕ) × IsSpanAt spans x k × (place ≡ (span_at spans k).place)) where
-  found : (o : Option ℕ) → place ≡ o → MatchOption o (NoneHolds (map range_of entries) x) (IsFoundAt (map range_of entries) x)
-  found o is =
-      let P : List AddressRange → Option ℕ → Type 0 = λ rs o. MatchOption o (NoneHolds rs x) (IsFoundAt rs x) in
-      subst (λ rs. P rs o) (ranges_view functions ∙ ap (map range_of) seen) (subst (P (ranges_of functions)) (sym at.2 ∙ is) (are at.0 x fits at.1))
+  -- by what is found
+  placed : (o : Option ℕ) → MatchOption o (NoneHolds (map range_of entries) address) (IsFoundAt (map range_of entries) address) → IsPlaceFor entries (entry_at entries address) o
+  placed None none = not_shown entries address none
+  placed (Some p) found =
+      let d : Entry = record { name = []; address = 0; size = 0 } in
+      let entry = get_or entries p d in
+      let within : p < length entries = omega (arith, found.within, length_ranges entries) in
+      (entry, shown entries address p d found, (within, get_or_default entries p entry d within))
 
-  pub found_none : place ≡ None → found_at entries (looked_up lookup address) ≡ None
-  found_none is = ap (found_at entries) inside ∙ not_shown entries x (found None is)
+  pub place_is : IsPlaceFor entries (entry_at entries address) place
+  place_is = placed place found
 
-  pub found_within : (p : ℕ) → place ≡ Some p → p < length functions
-  found_within p is = omega (arith, (found (Some p) is).within, length_ranges entries, ap (length {A = Entry}) seen, length-map functions function_view)
+-- a place has one entry
+pub same_entry : (entries : List Entry) (place : ℕ) (entry other : Entry) → IsAtPlace entries place entry → IsAtPlace entries place other → entry ≡ other
+same_entry entries place entry other at also = sym at.1 ∙ get_or_default entries place entry other at.0 ∙ also.1
 
-  pub found_some : (p : ℕ) (f : FunctionSymbol) → place ≡ Some p → f ≡ get_or functions p f → (found_at entries (looked_up lookup address) ≡ Some (function_view f)) × IsAtPlace entries p (function_view f)
-  found_some p f is here =
-      let lt = found_within p is in
-      let entry : get_or entries p (function_view f) ≡ function_view f = ap (λ (es : List Entry). get_or es p (function_view f)) (sym seen) ∙ get_or-map function_view functions p f (function_view f) lt ∙ ap function_view (sym here) in (
-        ap (found_at entries) inside ∙ shown entries x p (function_view f) (found (Some p) is) ∙ ap Some entry,
-        (omega (arith, lt, ap (length {A = Entry}) seen, length-map functions function_view), entry),
-      )
+-- no entry has a place
+pub no_place : (is_return : Bool) (entries : List Entry) (address : ℕ) → entry_for is_return entries address ≡ None → Path (Option (Entry × ℕ)) (found_in entries is_return (Some address)) None
+no_place is_return entries address none = ap (option_map (λ (entry : Entry). (entry, address - entry.address))) none
+
+-- the entry at the place, and the offset into it
+pub some_place : (is_return : Bool) (entries : List Entry) (address place : ℕ) (entry : Entry) → IsPlaceFor entries (entry_for is_return entries address) (Some place) → IsAtPlace entries place entry → IsFoundIn entries is_return (Some address) (Some (place, address - entry.address))
+some_place is_return entries address place entry (e, is, at) also =
+    let same : e ≡ entry = same_entry entries place e entry at also in
+    (entry, ap (option_map (λ (x : Entry). (x, address - x.address))) (is ∙ ap Some same), also)
+
+-- the place of one entry, or else that of another
+pub place_or : (entries : List Entry) (one other : Option Entry) (first second : Option ℕ) → IsPlaceFor entries one first → IsPlaceFor entries other second → IsPlaceFor entries (option_or one other) (option_or first second)
+place_or entries one other None second none is = subst (λ (o : Option Entry). IsPlaceFor entries (option_or o other) second) (sym none) is
+place_or entries one other (Some place) second (e, is, at) also = (e, ap (λ (o : Option Entry). option_or o other) is, at)
+
+-- a place is within
+pub place_within : (entries : List Entry) (entry : Option Entry) (place : ℕ) → IsPlaceFor entries entry (Some place) → place < length entries
+place_within entries entry place (e, is, at) = at.0

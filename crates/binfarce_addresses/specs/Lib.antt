@@ -4,6 +4,9 @@ pub mod PlacesViews
 pub mod Stream
 pub mod Answered
 pub mod Annotated
+pub mod Maps
+pub mod Module
+pub mod Word
 pub mod machine
 pub mod Address
 pub mod Range

@@ -1,29 +1,25 @@
 -- The lines of addresses, or their objects.
-use Rattle.std.specs.Prelude.{◌≡◌, ℕ, ◌-◌, List, [], ◌∷◌, ◌++◌, codes, false, Option, Some, None}
+use Rattle.std.specs.Prelude.{◌≡◌, ℕ, List, [], ◌∷◌, ◌++◌, codes, false, Option, Some, None}
 use Rattle.std.specs.Fmt.{digits}
 use Rattle.std.specs.List.{AllZip, concat}
 use Rattle.binfarce.specs.Named.{IsShown}
-use Rattle.binfarce.specs.Symbol.{Entry, Listed}
+use Rattle.binfarce.specs.SectionEntries.{SelectedSymbols}
+use Rattle.binfarce.specs.Symbol.{Entry}
+use Rattle.binfarce_tools.specs.Answer.{entries_of}
 use Rattle.binfarce_tools.specs.Json as json
 use Rattle.binfarce_tools.specs.Json.{Style, style_of, address_member, number_member, object_start, text_member}
 use Rattle.binfarce_tools.specs.Listing.{address_text}
-use Rattle.binfarce.specs.Found.{entry_at}
-use Rattle.binfarce_addresses.specs.Lookup.{looked_up}
+use Rattle.binfarce_addresses.specs.Lookup.{found_at}
 use Rattle.binfarce_addresses.specs.declared.lookup.Lookup.{Lookup}
 
--- the entry that the address which is looked up symbolizes to
-abbrev pub found_at : List Entry → Option ℕ → Option Entry
-found_at entries None = None
-found_at entries (Some address) = entry_at entries address
-
 -- `{name}+0x{offset:x}`, with the answer of the entry's name and the offset into the entry
-abbrev pub IsPlaceOf : Entry → ℕ → List ℕ → Type 0
-IsPlaceOf entry address text = (name : List ℕ) × IsShown entry.name name × (text ≡ name ++ (codes "+0x" ++ digits 16 false (address - entry.address)))
+abbrev pub IsPlaceOf : Entry → (offset : ℕ) → List ℕ → Type 0
+IsPlaceOf entry offset text = (name : List ℕ) × IsShown entry.name name × (text ≡ name ++ (codes "+0x" ++ digits 16 false offset))
 
--- the text for an address in the file: that of its entry, or `??`
-abbrev pub IsTextOf : Option Entry → ℕ → List ℕ → Type 0
-IsTextOf None address text = text ≡ codes "??"
-IsTextOf (Some entry) address text = IsPlaceOf entry address text
+-- the text for what is found: an entry and an offset, or `??`
+abbrev pub IsTextOf : Option (Entry × ℕ) → List ℕ → Type 0
+IsTextOf None text = text ≡ codes "??"
+IsTextOf (Some (entry, offset)) text = IsPlaceOf entry offset text
 
 -- `{address:016x} {text}`, and a line feed: the address as it was given, and its symbol
 abbrev pub address_line : ℕ → List ℕ → List ℕ
@@ -43,17 +39,17 @@ symbol_members (Some (name, offset)) = text_member (codes "name") (Some name) ++
 abbrev pub answer_object : (file : List ℕ) → (address : Option ℕ) → (symbol : Option (List ℕ × ℕ)) → List ℕ
 answer_object file address symbol = concat (object_start file ∷ address_value address ∷ symbol_members symbol ∷ codes "}\n" ∷ [])
 
--- the symbol of an address in the file: the answer of the entry's name and the offset into the entry, or none
-abbrev pub IsSymbolOf : Option Entry → ℕ → Option (List ℕ × ℕ) → Type 0
-IsSymbolOf None address symbol = symbol ≡ None
-IsSymbolOf (Some entry) address symbol = (name : List ℕ) × IsShown entry.name name × (symbol ≡ Some (name, address - entry.address))
+-- the symbol for what is found: the answer of the entry's name, and the offset; or none
+abbrev pub IsSymbolOf : Option (Entry × ℕ) → Option (List ℕ × ℕ) → Type 0
+IsSymbolOf None symbol = symbol ≡ None
+IsSymbolOf (Some (entry, offset)) symbol = (name : List ℕ) × IsShown entry.name name × (symbol ≡ Some (name, offset))
 
--- line is that of the address in this style: its symbol is that of the address which is looked up, and its offset that of the address as it was given
+-- line is that of the address in this style: the address as it was given, and what is found at it
 abbrev pub IsLineIn : Style → List Entry → Lookup → ℕ → List ℕ → Type 0
 IsLineIn json.lines entries lookup address line =
-    (text : List ℕ) × IsTextOf (found_at entries (looked_up lookup address)) (address - lookup.base) text × (line ≡ address_line address text)
+    (text : List ℕ) × IsTextOf (found_at entries lookup address) text × (line ≡ address_line address text)
 IsLineIn (json.objects file section) entries lookup address line =
-    (symbol : Option (List ℕ × ℕ)) × IsSymbolOf (found_at entries (looked_up lookup address)) (address - lookup.base) symbol × (line ≡ answer_object file (Some address) symbol)
+    (symbol : Option (List ℕ × ℕ)) × IsSymbolOf (found_at entries lookup address) symbol × (line ≡ answer_object file (Some address) symbol)
 
 -- the same in the style of the lookup
 abbrev pub IsLineAt : List Entry → Lookup → ℕ → List ℕ → Type 0
@@ -64,5 +60,5 @@ abbrev pub AreLinesOf : List Entry → Lookup → List ℕ → List ℕ → Type
 AreLinesOf entries lookup addresses text = (lines : List (List ℕ)) × AllZip (IsLineAt entries lookup) addresses lines × (text ≡ concat lines)
 
 -- the same for the entries that a file lists
-abbrev pub AreLinesAt : Lookup → List ℕ → Listed → List ℕ → Type 0
-AreLinesAt lookup addresses listed text = AreLinesOf listed.entries lookup addresses text
+abbrev pub AreLinesAt : Lookup → List ℕ → SelectedSymbols → List ℕ → Type 0
+AreLinesAt lookup addresses selected text = AreLinesOf (entries_of selected) lookup addresses text

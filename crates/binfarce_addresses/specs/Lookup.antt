@@ -1,11 +1,35 @@
--- What is looked up of an address.
-use Rattle.std.specs.Prelude.{ℕ, ◌+◌, ◌-◌, Option, Some, None, nat_lt, if◌then◌else◌}
+-- What an address symbolizes to.
+use Rattle.std.specs.Prelude.{ℕ, ◌+◌, ◌-◌, ◌^◌, Bool, true, false, List, Option, Some, None, nat_lt, if◌then◌else◌}
+use Rattle.std.specs.Option.{option_map, option_or}
+use Rattle.binfarce.specs.Found.{entry_at}
+use Rattle.binfarce.specs.Symbol.{Entry}
 use Rattle.binfarce_addresses.specs.declared.lookup.Lookup.{Lookup}
 
--- how much is subtracted: the base, and 1 more from a return address, so that the address is that of the call's last byte
-abbrev pub subtracted : Lookup → ℕ
-subtracted lookup = lookup.base + (if lookup.is_return then 1 else 0)
+-- the number, if 64 bits hold it
+abbrev pub in_64_bits : ℕ → Option ℕ
+in_64_bits n = if nat_lt n (2 ^ 64) then Some n else None
 
--- the address in the file that is looked up; none where the address is less than what is subtracted
-abbrev pub looked_up : Lookup → ℕ → Option ℕ
-looked_up lookup address = if nat_lt address (subtracted lookup) then None else Some (address - subtracted lookup)
+-- the address in the file of an address in memory, where the file is loaded at the base, and says itself that it is loaded at the linked address. It has
+-- the same distance to both. None below the base. Without a base addresses are the file's own
+abbrev pub loaded_at : (base : Option ℕ) (linked address : ℕ) → Option ℕ
+loaded_at None linked address = Some address
+loaded_at (Some base) linked address = if nat_lt address base then None else in_64_bits (address - base + linked)
+
+-- the address in the file by this lookup
+abbrev pub in_file : Lookup → ℕ → Option ℕ
+in_file lookup address = loaded_at lookup.base lookup.linked address
+
+-- the entry that an address in the file symbolizes to. A return address is that behind a call: its entry is that of the address before it. Where that has
+-- none, the address is of a frame that a signal interrupted at its first instruction, and its entry begins there
+abbrev pub entry_for : (is_return : Bool) → List Entry → ℕ → Option Entry
+entry_for false entries address = entry_at entries address
+entry_for true entries address = option_or (entry_at entries (address - 1)) (entry_at entries address)
+
+-- the entry of an address in the file, if it has one, and the offset of the address into it
+abbrev pub found_in : List Entry → (is_return : Bool) → Option ℕ → Option (Entry × ℕ)
+found_in entries is_return None = None
+found_in entries is_return (Some address) = option_map (λ entry. (entry, address - entry.address)) (entry_for is_return entries address)
+
+-- the same of an address by this lookup
+abbrev pub found_at : List Entry → Lookup → ℕ → Option (Entry × ℕ)
+found_at entries lookup address = found_in entries lookup.is_return (in_file lookup address)

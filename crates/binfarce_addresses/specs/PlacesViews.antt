@@ -2,14 +2,16 @@
 use Rattle.std.specs.Prelude.{◌≡◌, ◌⊎◌, List, Option, Some, None, Result, Ok, Err}
 use Rattle.binfarce.specs.declared.ParseError.{ParseError}
 use Rattle.binfarce.specs.Refusal.{Refusal, refusal_of}
-use Rattle.binfarce.specs.Symbol.{Entry, Listed}
+use Rattle.binfarce.specs.SectionEntries.{SelectedSymbols}
+use Rattle.binfarce.specs.Symbol.{Entry}
+use Rattle.binfarce_tools.specs.Answer.{entries_of}
 use Rattle.binfarce_tools.specs.declared.list.ListError.{ListError}
 use Rattle.binfarce_tools.specs.declared.list.ListError.TheVariants.{Unknown, Parse, OutOfMemory}
 
 -- the result for a file's answer: places of its entries, or its refusal. Only a refusal that needs memory may be replaced by a failed allocation
-abbrev pub IsMadeOf : (Result Listed Refusal → Type 0) → Option (Result Listed Refusal) → Result (List Entry) ListError → Type 0
-IsMadeOf NeedsMemory (Some (Ok listed)) (Ok entries) = entries ≡ listed.entries
-IsMadeOf NeedsMemory (Some (Ok listed)) (Err e) = e ≡ OutOfMemory
+abbrev pub IsMadeOf : (Result SelectedSymbols Refusal → Type 0) → Option (Result SelectedSymbols Refusal) → Result (List Entry) ListError → Type 0
+IsMadeOf NeedsMemory (Some (Ok selected)) (Ok entries) = entries ≡ entries_of selected
+IsMadeOf NeedsMemory (Some (Ok selected)) (Err e) = e ≡ OutOfMemory
 IsMadeOf NeedsMemory (Some (Err refusal)) (Ok entries) = ⊥
 IsMadeOf NeedsMemory (Some (Err refusal)) (Err e) = ((p : ParseError) × (refusal_of p ≡ refusal) × (e ≡ Parse p)) ⊎ (NeedsMemory (Err refusal) × (e ≡ OutOfMemory))
 IsMadeOf NeedsMemory None (Ok entries) = ⊥

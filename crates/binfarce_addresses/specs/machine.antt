@@ -5,3 +5,4 @@ pub mod Answering
 pub mod Annotating
 pub mod Sweep
 pub mod Sweeping
+pub mod Words

@@ -1,7 +1,7 @@
 //! Addresses as words.
 
 ghost use Rattle.std.specs.Prelude.{◌≡◌};
-ghost use Rattle.binfarce_addresses.specs.Address.{address_of, hexadecimal};
+ghost use Rattle.binfarce_addresses.specs.Address.{address_of, has_prefix, hexadecimal};
 
 /// The address in a word: 1 to 16 hexadecimal digits, in upper or lower case, optionally after `0x` or `0X`. `None` for
 /// any other word. Nothing is allocated.
@@ -13,7 +13,7 @@ pub fn parse_address(word: &[u8]) -> Option<u64>
 }
 
 // The number that 1 to 16 digits write.
-fn hex_number(digits: &[u8]) -> Option<u64>
+pub(crate) fn hex_number(digits: &[u8]) -> Option<u64>
     ensures { result ≡ hexadecimal digits.now }
 {
     if digits.is_empty() || digits.len() > 16 {
@@ -24,4 +24,11 @@ fn hex_number(digits: &[u8]) -> Option<u64>
         number = 16 * number + u64::from(char::from(*digit).to_digit(16)?);
     }
     Some(number)
+}
+
+/// Whether the word begins with `0x` or `0X`.
+pub(crate) fn has_prefix(word: &[u8]) -> bool
+    ensures { result ≡ has_prefix word.now }
+{
+    word.starts_with(b"0x") || word.starts_with(b"0X")
 }

@@ -1,22 +1,23 @@
 //! Symbolizes addresses in an executable, a line for each.
 
-ghost use Rattle.std.specs.Prelude.{◌≡◌, ◌≢◌, ◌++◌, ◌-◌, ◌<◌, ℕ, List, Option, length, Some, None, Ok, map, IfErr, IfOk, MatchOption, OnOk};
-ghost use Rattle.binfarce.specs.Symbol.{Entry, Listed};
+ghost use Rattle.std.specs.Prelude.{◌≡◌, ◌≢◌, ◌++◌, ◌<◌, ℕ, List, Option, length, Some, None, Ok, map, IfErr, IfOk, MatchOption, OnOk};
+ghost use Rattle.binfarce.specs.SectionEntries.{SelectedSymbols};
+ghost use Rattle.binfarce.specs.Symbol.{Entry};
 ghost use Rattle.binfarce.specs.SymbolViews.{function_view};
-ghost use Rattle.binfarce_tools.specs.Answer.{file_answer, FileNeedsMemory};
+ghost use Rattle.binfarce_tools.specs.Answer.{entries_of, file_answer, selected_answer, MemoryIn};
 ghost use Rattle.binfarce_tools.specs.Entries.{functions_left};
 ghost use Rattle.binfarce_tools.specs.Listing.{ListingFits};
 ghost use Rattle.binfarce_tools.specs.ListWords.{outcome_of};
-ghost use Rattle.binfarce_tools.specs.Selection.{answer_in, MemoryIn};
 ghost use Rattle.binfarce_tools.specs.Tables.{AreTablesOf};
 ghost use Rattle.binfarce_tools.specs.declared.SymbolTable.{SymbolTable};
 ghost use Rattle.binfarce_tools.specs.declared.list.ListError.TheVariants.{Write};
 ghost use Rattle.binfarce_tools.specs.Writing.{EndsAs, Takes, Fails, Leaves};
-ghost use Rattle.binfarce_addresses.specs.Lookup.{looked_up};
-ghost use Rattle.binfarce_addresses.specs.Lines.{found_at, IsLineAt, AreLinesAt};
+ghost use Rattle.binfarce.specs.Found.{entry_at};
+ghost use Rattle.binfarce_addresses.specs.Lookup.{entry_for, found_at};
+ghost use Rattle.binfarce_addresses.specs.Lines.{IsLineAt, AreLinesAt};
 ghost use Rattle.binfarce_addresses.specs.PlacesViews.{IsMadeOf};
 ghost use Rattle.binfarce_addresses.specs.Stream.{AreAnswersOf, IsAnswerOf};
-ghost use Rattle.binfarce_addresses.specs.machine.Places.{ArePlacesOf, IsAtPlace, IsFoundFor};
+ghost use Rattle.binfarce_addresses.specs.machine.Places.{ArePlacesOf, IsAtPlace, IsFoundFor, IsFoundIn, IsPlaceFor};
 
 use crate::lookup::Lookup;
 use crate::names::Names;
@@ -56,7 +57,7 @@ impl<'a> Places<'a> {
     ///
     /// Those of `list`, except `Write`.
     pub fn of_file(alloc: Global, file: &'a [u8], section: &str) -> Result<Places<'a>, ListError>
-        ensures { IsMadeOf (FileNeedsMemory file.entry.now)
+        ensures { IsMadeOf (MemoryIn file.entry.now (Some section.now))
             (file_answer file.entry.now section.now) result }
     {
         let (functions, _) = functions_of_file(alloc, file, section)?;
@@ -73,7 +74,7 @@ impl<'a> Places<'a> {
     pub fn of_tables(alloc: Global, tables: &'a Tables<'_>) -> Result<Places<'a>, ListError>
         ensures made { (which : SymbolTable) (file : List ℕ) (section : Option (List ℕ))
             → AreTablesOf which file section tables.entry.now
-            → IsMadeOf (MemoryIn file section) (answer_in which file section) result }
+            → IsMadeOf (MemoryIn file section) (selected_answer which section file) result }
         ensures unwritten { IfErr result (λ e. e ≢ Write) }
     {
         let (functions, _) = tables.functions(alloc)?.into_list();
@@ -82,9 +83,8 @@ impl<'a> Places<'a> {
 
     /// The function symbol that an address symbolizes to by this lookup, and the offset of the address into it.
     pub fn find(&self, lookup: Lookup<'_>, address: u64) -> Option<(FunctionSymbol<'a>, u64)>
-        ensures { MatchOption result (found_at self.now (looked_up lookup.entry address) ≡ None)
-            (λ f. (found_at self.now (looked_up lookup.entry address) ≡ Some (function_view f.0))
-            × (f.1 ≡ address - lookup.entry.base - f.0.address)) }
+        ensures { MatchOption result (found_at self.now lookup.entry address ≡ None)
+            (λ f. found_at self.now lookup.entry address ≡ Some (function_view f.0, f.1)) }
     {
         let (place, offset) = self.find_place(lookup, Some(address))?;
         Some((self.functions[place], offset))
@@ -95,10 +95,39 @@ impl<'a> Places<'a> {
     pub(crate) fn find_place(&self, lookup: Lookup<'_>, address: Option<u64>) -> Option<Found>
         ensures { IsFoundFor self.now lookup.entry address result }
     {
+        self.find_in(lookup.is_return, lookup.in_file(address?))
+    }
+
+    // What an address in the file symbolizes to; nothing without an address.
+    #[inline(always)]
+    pub(crate) fn find_in(&self, is_return: bool, address: Option<u64>) -> Option<Found>
+        ensures { IsFoundIn self.now is_return address result }
+    {
         let address = address?;
-        let place = self.ranges.find(lookup.in_file(address)?)?;
-        let offset = lookup.offset_in(address, self.functions[place].address);
+        let place = self.place_for(is_return, address)?;
+        let offset = address.saturating_sub(self.at(place).address);
         Some((place, offset))
+    }
+
+    // The place of the function symbol that an address in the file symbolizes to.
+    #[inline(always)]
+    fn place_for(&self, is_return: bool, address: u64) -> Option<usize>
+        ensures { IsPlaceFor self.now (entry_for is_return self.now address) result }
+    {
+        let here = self.place_of(address);
+        if !is_return {
+            return here;
+        }
+        let before = self.place_of(address.saturating_sub(1));
+        before.or(here)
+    }
+
+    // The place of the function symbol that holds an address in the file.
+    #[inline(always)]
+    fn place_of(&self, address: u64) -> Option<usize>
+        ensures { IsPlaceFor self.now (entry_at self.now address) result }
+    {
+        self.ranges.find(address)
     }
 
     // The function symbol at a place.
@@ -151,16 +180,15 @@ fn places_of(alloc: Global, listed: Functions<'_>) -> Result<Places<'_>, AllocEr
 /// Symbolizes addresses in an executable: a line for each, in their order.
 ///
 /// The format and the section are as in `list`. A line is `{address:016x} {name}+0x{offset:x}`: the address, the
-/// readable name of its function symbol, and the offset into it. The base is subtracted first, and from a return
-/// address 1 more for the lookup, but not for the offset. A symbol holds the addresses of its range, or of size 0 its
-/// own. Of several that hold an address, it is the one of greatest address, and of several there the first in the order
-/// of the listing. The line is `{address:016x} ??` for an address that none holds, for one below the base, and for a
-/// return address at the base.
+/// readable name of its function symbol, and the offset into it. With a base, the address in the file is as far behind
+/// `linked` as the address is behind the base. Of a return address the one before is looked up, but the offset is that
+/// of the address. A symbol holds the addresses of its range, or of size 0 its own. Of several that hold an address, it
+/// is the one of greatest address, and of several there the first in the order of the listing. The line is
+/// `{address:016x} ??` for an address that none holds, and for one below the base.
 ///
 /// # Errors
 ///
 /// Those of `list`. Only after `Write` a beginning of the lines may be written.
-#[tactic(auto, unfolding(binfarce_tools::specs::Selection::answer_in, binfarce_tools::specs::Selection::MemoryIn))]
 pub fn at<S: Sink>(
     alloc: Global,
     file: &[u8],
@@ -169,7 +197,7 @@ pub fn at<S: Sink>(
     addresses: &[u64],
     out: &mut S,
 ) -> Result<(), ListError>
-    ensures outcome { EndsAs ListingFits (FileNeedsMemory file.now)
+    ensures outcome { EndsAs ListingFits (MemoryIn file.now (Some section.now))
         (file_answer file.now section.now) (outcome_of result) }
     ensures takes { Takes (AreLinesAt lookup.entry addresses.now) (file_answer file.now section.now)
         (S.taken out.old) (S.taken out.new) (outcome_of result) }
@@ -194,10 +222,10 @@ pub fn at_tables<S: Sink>(
 ) -> Result<(), ListError>
     ensures outcome { (which : SymbolTable) (file : List ℕ) (section : Option (List ℕ))
         → AreTablesOf which file section tables.now
-        → EndsAs ListingFits (MemoryIn file section) (answer_in which file section) (outcome_of result) }
+        → EndsAs ListingFits (MemoryIn file section) (selected_answer which section file) (outcome_of result) }
     ensures takes { (which : SymbolTable) (file : List ℕ) (section : Option (List ℕ))
         → AreTablesOf which file section tables.now → Takes (AreLinesAt lookup.entry addresses.now)
-        (answer_in which file section) (S.taken out.old) (S.taken out.new) (outcome_of result) }
+        (selected_answer which section file) (S.taken out.old) (S.taken out.new) (outcome_of result) }
     ensures fails { Fails (S.has_failed out.old) (S.has_failed out.new) (outcome_of result) }
     ensures leaves { Leaves out.old out.new (outcome_of result) }
 {
@@ -219,11 +247,11 @@ pub fn write_lines<S: Sink>(
     addresses: &[u64],
     out: &mut S,
 ) -> Result<(), ListError>
-    ensures outcome { (listed : Listed) → places.now ≡ listed.entries
-        → EndsAs ListingFits (λ _. ⊥) (Some (Ok listed)) (outcome_of result) }
-    ensures takes { (listed : Listed) → places.now ≡ listed.entries
+    ensures outcome { (selected : SelectedSymbols) → places.now ≡ entries_of selected
+        → EndsAs ListingFits (λ _. ⊥) (Some (Ok selected)) (outcome_of result) }
+    ensures takes { (selected : SelectedSymbols) → places.now ≡ entries_of selected
         → Takes (AreLinesAt lookup.entry addresses.now)
-        (Some (Ok listed)) (S.taken out.old) (S.taken out.new) (outcome_of result) }
+        (Some (Ok selected)) (S.taken out.old) (S.taken out.new) (outcome_of result) }
     ensures fails { Fails (S.has_failed out.old) (S.has_failed out.new) (outcome_of result) }
     ensures leaves { Leaves out.old out.new (outcome_of result) }
 {

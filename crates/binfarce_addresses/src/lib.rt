@@ -7,10 +7,13 @@ pub mod at;
 mod digits;
 pub mod laws;
 pub mod lookup;
+pub mod maps;
+mod module;
 mod names;
 pub mod ranges;
 mod slices;
 pub mod stream;
+mod word;
 
 pub use crate::address::parse_address;
 pub use crate::lookup::Lookup;

@@ -1,11 +1,10 @@
 -- Places: function symbols, the spans of their ranges, and readable names that are kept.
-use Rattle.std.specs.Prelude.{◌≡◌, ℕ, ◌-◌, ◌<◌, ◌≤◌, List, map, drop, take, length, slice_index_or, Option, Some, None, MatchOption}
+use Rattle.std.specs.Prelude.{◌≡◌, ℕ, ◌-◌, Bool, ◌<◌, ◌≤◌, List, map, drop, take, length, slice_index_or, Option, Some, None, MatchOption}
 use Rattle.binfarce.specs.Named.{IsShown}
 use Rattle.binfarce.specs.Symbol.{Entry}
 use Rattle.binfarce.specs.SymbolViews.{function_view}
 use Rattle.binfarce.specs.declared.FunctionSymbol.{FunctionSymbol}
-use Rattle.binfarce_addresses.specs.Lines.{found_at}
-use Rattle.binfarce_addresses.specs.Lookup.{looked_up}
+use Rattle.binfarce_addresses.specs.Lookup.{found_in, in_file}
 use Rattle.binfarce_addresses.specs.declared.lookup.Lookup.{Lookup}
 use Rattle.binfarce_addresses.specs.declared.ranges.AddressRange.{AddressRange}
 use Rattle.binfarce_addresses.specs.declared.ranges.Span.{Span}
@@ -38,11 +37,19 @@ AreKept entries text kept =
 pub record ArePlacesOf (functions : List FunctionSymbol) (spans : List Span) : Type 0 where
   pub are : AreSpansOf (ranges_of functions) spans
 
--- the address symbolizes to this: the place of an entry, and the offset into it
+-- this place has the entry, or there is none
+abbrev pub IsPlaceFor : List Entry → Option Entry → Option ℕ → Type 0
+IsPlaceFor entries entry place = MatchOption place (entry ≡ None) (λ p. (e : Entry) × (entry ≡ Some e) × IsAtPlace entries p e)
+
+-- this is found at an address in the file, or at none: the place of an entry, and the offset into it
+abbrev pub IsFoundIn : List Entry → (is_return : Bool) → Option ℕ → Option (ℕ × ℕ) → Type 0
+IsFoundIn entries is_return address found =
+    MatchOption found (found_in entries is_return address ≡ None)
+    (λ f. (entry : Entry) × (found_in entries is_return address ≡ Some (entry, f.1)) × IsAtPlace entries f.0 entry)
+
+-- the address symbolizes to this
 abbrev pub IsShownAt : List Entry → Lookup → ℕ → Option (ℕ × ℕ) → Type 0
-IsShownAt entries lookup address found =
-    MatchOption found (found_at entries (looked_up lookup address) ≡ None)
-    (λ f. (entry : Entry) × (found_at entries (looked_up lookup address) ≡ Some entry) × (f.1 ≡ address - lookup.base - entry.address) × IsAtPlace entries f.0 entry)
+IsShownAt entries lookup address found = IsFoundIn entries lookup.is_return (in_file lookup address) found
 
 -- this is found for a line with the address, or with none
 abbrev pub IsFoundFor : List Entry → Lookup → Option ℕ → Option (ℕ × ℕ) → Type 0

@@ -1,14 +1,37 @@
-use Rattle.std.proofs.Common.{List, ℕ, ◌≡◌, ◌++◌, ◌∙◌, ◌-◌, ap, sym, take, drop, length}
+use Rattle.std.proofs.Common.{◌≡◌, ◌++◌, ◌∙◌, ◌-◌, ◌≤◌, List, ℕ, ap, arith, drop, length, min, refl, subst, sym, take}
+use Rattle.binfarce.specs.Symbol.{Entry}
+use Rattle.binfarce_addresses.specs.declared.lookup.Lookup.{Lookup}
+use Rattle.binfarce_addresses.specs.machine.Annotating.{IsEnough, LeavesAt, reach}
 use Rattle.binfarce_addresses.proofs.Annotating.{kept_none, shows_part}
+use Rattle.binfarce_addresses.proofs.Streams.{left_of}
 use Rattle.binfarce_addresses.proofs.annotate.Annotating.push.Goals as goal
 
 pub returns-clause-shows : goal.returns-clause-shows
 returns-clause-shows c =
+    let entries = c.args.self.now.names.0 in
+    let lookup = c.args.self.now.names.1 in
+    let kept = c.args.self.now.kept.items in
+    let old = c.args.self.now.from in
+    let from = c.min-from.result in
     let at = c.in_ok-at.at in
+    let to = c.min-self.result in
+    let cut = at - to in
     let bytes = c.deref.result.now in
-    let kept = c.in_ok-self.field-0.items in
-    let left : List ℕ → List ℕ = λ xs. take (length xs - at) (drop at xs) in
-    let rest : kept ≡ left bytes = c.in_ok-self.ensures.items ∙ ap left (c.deref-2.ensures.value ∙ sym c.deref.ensures.value) in
-    let parts = shows_part c.args.self.now.names.0 c.args.self.now.names.1 c.args.is_last (c.args.self.now.kept.items ++ c.args.part.now) bytes kept c.args.out.now.items c.push_decided.new.out.items at
-    (c.deref.ensures.value ∙ c.in_ok-extend_from_slice.ensures.items) c.in_ok-at.ensures.shows rest in
-    (parts.0, (c.push_decided.ensures.same, parts.1, λ last. kept_none bytes kept at rest (c.in_ok-at.ensures.last last)), parts.2)
+    let next = c.in_ok-self.field-0.items in
+    let shows = c.in_ok-at.ensures.shows in
+    let within = c.in_ok-at.ensures.within in
+    let same : bytes ≡ kept ++ c.args.part.now = c.deref.ensures.value ∙ c.in_ok-extend_from_slice.ensures.items in
+    let all : c.deref-2.result.now ≡ bytes = c.deref-2.ensures.value ∙ sym c.deref.ensures.value in
+    let rest : next ≡ drop cut bytes = c.in_ok-self.ensures.items ∙ left_of c.deref-2.result.now cut ∙ ap (drop cut) all in
+    let least : to ≡ min at (reach lookup) = c.min-self.ensures ∙ ap (min at) (c.reach-reach.ensures ∙ ap (λ (s : List Entry × Lookup). reach s.1) c.push_decided.ensures.same) in
+    let P : ℕ → Type 0 = λ n. (front made : List ℕ) → IsEnough lookup front n → LeavesAt entries lookup c.args.is_last front bytes n made → LeavesAt entries lookup c.args.is_last front bytes at (made ++ shows.0) in (
+      shows.0,
+      (
+        c.push_decided.ensures.same,
+        λ text made has.
+            let here : from ≡ old = omega (arith, c.min-from.ensures, c.len.ensures, has.within) in
+            shows_part entries lookup c.args.is_last text kept c.args.part.now bytes next made old at cut to shows.0 same within.1 (omega (arith, within.0, here)) least refl rest (subst P here shows.1) has,
+        λ last. kept_none bytes next at cut to rest (omega (arith, least)) (c.in_ok-at.ensures.last last),
+      ),
+      shows.2,
+    )

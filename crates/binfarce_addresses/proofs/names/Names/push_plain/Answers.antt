@@ -15,10 +15,10 @@ returns-in_ok-push_name-in-Some-found-clause-answer c =
     let shown : IsShownAt entries lookup address (Some (found.place, found.offset)) =
     subst (λ (o : Option (ℕ × ℕ)). IsFoundFor entries lookup (Some address) o) found.is (subst (λ (a : Option ℕ). IsFoundFor entries lookup a c.args.answer.found) c.in-Some.is c.requires) in
     let written = c.in_ok-push_name-in-Some-found.ensures.name in
-    let named = written.1 shown.0 shown.3 in
+    let named = written.1 shown.0 shown.2 in
     let A : Option ℕ → Type 0 = λ a. (answer : List ℕ) × IsAnswerIn json.lines entries lookup a answer × (c.push_offset.new.text.items ≡ c.args.text.now.items ++ answer) in
     on_ok_weaker c.push_offset.result (λ offset. subst A (sym c.in-Some.is)
-    (shown_line entries lookup address found.offset shown.0 named.0 c.args.text.now.items c.push_address.new.text.items c.push_name.new.text.items c.push_offset.new.text.items shown.1 shown.2 named.1 c.in_ok-push_address.ensures
+    (shown_line entries lookup address found.offset shown.0 named.0 c.args.text.now.items c.push_address.new.text.items c.push_name.new.text.items c.push_offset.new.text.items shown.1 named.1 c.in_ok-push_address.ensures
     (written.2 ∙ ap (λ (xs : List ℕ). c.push_address.new.text.items ++ xs) named.2) offset)) c.push_offset.ensures
 
 pub returns-in-None-clause-answer : goal.returns-in-None-clause-answer

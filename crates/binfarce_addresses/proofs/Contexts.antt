@@ -1,0 +1,67 @@
+-- What comes before a text matters by its end alone.
+use Rattle.std.proofs.Common.{◌≡◌, ℕ, Bool, ◌+◌, ◌-◌, ◌<◌, ◌≤◌, List, [], ◌∷◌, ◌++◌, length, take, drop, get_or, refl, sym, ◌∙◌, ap, arith, length-append, length-take}
+use Rattle.std.specs.Prelude.{◌&&◌, ◌||◌, codes, nat_eq}
+use Rattle.std.specs.Cmp.Lexicographic.{pointwise}
+use Rattle.std.specs.List.{ends_with}
+use Rattle.std.proofs.Math.Seq.{drop-append-add, take-append-add}
+use Rattle.std.proofs.lemmas.List.{get_or-append-add}
+use Rattle.std.proofs.lemmas.Bool.Decides.{nat_tests}
+use Rattle.binfarce_addresses.specs.Module.{ends_with_mark, ends_with_name, ends_with_plus, may_begin_name, names_module}
+use Rattle.binfarce_addresses.specs.Word.{address_len, bare_len}
+
+ends_more : (front text end : List ℕ) → length end ≤ length text → ends_with nat_eq (front ++ text) end ≡ ends_with nat_eq text end
+ends_more front text end le =
+    let at : length (front ++ text) - length end ≡ length front + (length text - length end) = omega (arith, le, length-append front text) in
+    ap (pointwise nat_eq end) (ap (λ n. drop n (front ++ text)) at ∙ drop-append-add front text (length text - length end))
+
+take_more : (front text : List ℕ) (n : ℕ) → n ≤ length text → take (length (front ++ text) - n) (front ++ text) ≡ front ++ take (length text - n) text
+take_more front text n le =
+    let at : length (front ++ text) - n ≡ length front + (length text - n) = omega (arith, le, length-append front text) in
+    ap (λ k. take k (front ++ text)) at ∙ take-append-add front text (length text - n)
+
+some : (front text : List ℕ) → 0 < length text → nat_eq (length (front ++ text)) 0 ≡ nat_eq (length text) 0
+some front text lt = let long = length-append front text in grind (arith, nat_tests, long)
+
+may_begin_more : (front text : List ℕ) → 2 ≤ length text → may_begin_name (front ++ text) ≡ may_begin_name text
+may_begin_more front text le = rw (
+  some front text (omega (arith, le)),
+  ends_more front text (codes "/") (omega (arith, le)),
+  ends_more front text (codes "[") (omega (arith, le)),
+  ends_more front text (codes " ") (omega (arith, le)),
+  ends_more front text (codes "\n") (omega (arith, le)),
+  ends_more front text (codes " (") le,
+) refl
+
+name_more : (name front text : List ℕ) → length name + 2 ≤ length text → ends_with_name name (front ++ text) ≡ ends_with_name name text
+name_more name front text le =
+    let left = take (length text - length name) text in
+    let long : 2 ≤ length left = omega (arith, le, length-take (length text - length name) text) in
+    ap (λ (b : Bool). b && may_begin_name (take (length (front ++ text) - length name) (front ++ text))) (ends_more front text name (omega (arith, le)))
+    ∙ ap (λ (b : Bool). ends_with nat_eq text name && b) (ap may_begin_name (take_more front text (length name) (omega (arith, le))) ∙ may_begin_more front left long)
+
+mark_more : (name mark front text : List ℕ) → length mark + (length name + 2) ≤ length text → ends_with_mark name mark (front ++ text) ≡ ends_with_mark name mark text
+mark_more name mark front text le =
+    let left = take (length text - length mark) text in
+    let long : length name + 2 ≤ length left = omega (arith, le, length-take (length text - length mark) text) in
+    ap (λ (b : Bool). b && ends_with_name name (take (length (front ++ text) - length mark) (front ++ text))) (ends_more front text mark (omega (arith, le)))
+    ∙ ap (λ (b : Bool). ends_with nat_eq text mark && b) (ap (ends_with_name name) (take_more front text (length mark) (omega (arith, le))) ∙ name_more name front left long)
+
+pub module_more : (name front text : List ℕ) → length name + 5 ≤ length text → names_module name (front ++ text) ≡ names_module name text
+module_more name front text le =
+    let P : Bool → Bool → Bool → Bool = λ a b c. a || (b || c) in
+    let one = mark_more name (codes "+") front text (omega (arith, le)) in
+    let two = mark_more name (codes "(+") front text (omega (arith, le)) in
+    let three = mark_more name (codes " + ") front text (omega (arith, le)) in
+    ap (λ a. P a (ends_with_mark name (codes "(+") (front ++ text)) (ends_with_mark name (codes " + ") (front ++ text))) one
+    ∙ ap (λ b. P (ends_with_mark name (codes "+") text) b (ends_with_mark name (codes " + ") (front ++ text))) two
+    ∙ ap (λ c. P (ends_with_mark name (codes "+") text) (ends_with_mark name (codes "(+") text) c) three
+
+pub plus_more : (front text : List ℕ) → 2 ≤ length text → ends_with_plus (front ++ text) ≡ ends_with_plus text
+plus_more front text le = rw (ends_more front text (codes "+") (omega (arith, le)), ends_more front text (codes "+ ") le) refl
+
+pub address_more : (bare : Bool) (front before text : List ℕ) → 0 < length before → address_len bare (front ++ before) text ≡ address_len bare before text
+address_more bare front before text lt =
+    let at : length (front ++ before) - 1 ≡ length front + (length before - 1) = omega (arith, lt, length-append front before) in
+    let last : get_or (front ++ before) (length (front ++ before) - 1) 0 ≡ get_or before (length before - 1) 0 =
+    ap (λ n. get_or (front ++ before) n 0) at ∙ get_or-append-add front before (length before - 1) 0 in
+    rw last refl

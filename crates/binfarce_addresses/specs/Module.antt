@@ -1,0 +1,49 @@
+-- Offsets into modules in a text.
+use Rattle.std.specs.Prelude.{◌≡◌, ℕ, ◌-◌, Bool, true, false, List, ◌&&◌, ◌||◌, codes, length, nat_eq, take}
+use Rattle.std.proofs.Common.{refl}
+use Rattle.std.specs.List.{ends_with}
+
+-- the name of a module may begin after this text: it is empty, or ends with `/`, `[`, a blank, a line feed, or a parenthesis after a blank
+abbrev pub may_begin_name : (text : List ℕ) → Bool
+may_begin_name text =
+    nat_eq (length text) 0 || (ends_with nat_eq text (codes "/") || (ends_with nat_eq text (codes "[") || (ends_with nat_eq text (codes " ") || (ends_with nat_eq text (codes "\n") || ends_with nat_eq text (codes " (")))))
+
+-- the text ends with the name of this module
+abbrev pub ends_with_name : (name text : List ℕ) → Bool
+ends_with_name name text = ends_with nat_eq text name && may_begin_name (take (length text - length name) text)
+
+-- the text ends with the name of this module, and a mark
+abbrev pub ends_with_mark : (name mark text : List ℕ) → Bool
+ends_with_mark name mark text = ends_with nat_eq text mark && ends_with_name name (take (length text - length mark) text)
+
+-- an offset into this module comes after the text: it ends with `NAME+`, `NAME(+` or `NAME + `
+abbrev pub names_module : (name text : List ℕ) → Bool
+names_module name text = ends_with_mark name (codes "+") text || (ends_with_mark name (codes "(+") text || ends_with_mark name (codes " + ") text)
+
+-- an offset comes after the text
+abbrev pub ends_with_plus : (text : List ℕ) → Bool
+ends_with_plus text = ends_with nat_eq text (codes "+") || ends_with nat_eq text (codes "+ ")
+
+-- the text before an offset: by `backtrace_symbols` of glibc
+worked_glibc : names_module (codes "libc.so.6") (codes "/lib/x86_64-linux-gnu/libc.so.6(+") ≡ true
+worked_glibc = refl
+
+-- where it names a function, the offset is one into that
+worked_function : names_module (codes "main") (codes "./main(main+") ≡ false
+worked_function = refl
+
+-- by AddressSanitizer
+worked_asan : names_module (codes "libc.so.6") (codes "    #1 0x7f5a0c82724a  (/lib/x86_64-linux-gnu/libc.so.6+") ≡ true
+worked_asan = refl
+
+-- by systemd-coredump
+worked_systemd : names_module (codes "libc.so.6") (codes "#1  0x00007f5a0c82724a n/a (libc.so.6 + ") ≡ true
+worked_systemd = refl
+
+-- by the Java virtual machine
+worked_java : names_module (codes "libjvm.so") (codes "V  [libjvm.so+") ≡ true
+worked_java = refl
+
+-- another module, whose name ends alike
+worked_longer : names_module (codes "c.so") (codes "/lib/libc.so(+") ≡ false
+worked_longer = refl

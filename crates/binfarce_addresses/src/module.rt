@@ -1,0 +1,46 @@
+//! Offsets into modules in a text.
+
+ghost use Rattle.std.specs.Prelude.{◌≡◌, length};
+ghost use Rattle.binfarce_addresses.specs.Module.{ends_with_mark, ends_with_name, ends_with_plus, may_begin_name, names_module};
+
+// Whether an offset into this module comes after the text.
+pub(crate) fn names_module(name: &[u8], text: &[u8]) -> bool
+    ensures { result ≡ names_module name.now text.now }
+{
+    ends_with_mark(name, b"+", text)
+        || ends_with_mark(name, b"(+", text)
+        || ends_with_mark(name, b" + ", text)
+}
+
+// Whether an offset comes after the text.
+pub(crate) fn ends_with_plus(text: &[u8]) -> bool
+    ensures { result ≡ ends_with_plus text.now }
+{
+    text.ends_with(b"+") || text.ends_with(b"+ ")
+}
+
+// Whether the text ends with the name of this module, and a mark.
+fn ends_with_mark(name: &[u8], mark: &[u8], text: &[u8]) -> bool
+    ensures { result ≡ ends_with_mark name.now mark.now text.now }
+{
+    text.ends_with(mark) && ends_with_name(name, &text[..text.len() - mark.len()])
+}
+
+// Whether the text ends with the name of this module.
+fn ends_with_name(name: &[u8], text: &[u8]) -> bool
+    ensures { result ≡ ends_with_name name.now text.now }
+{
+    text.ends_with(name) && may_begin_name(&text[..text.len() - name.len()])
+}
+
+// Whether the name of a module may begin after the text.
+fn may_begin_name(text: &[u8]) -> bool
+    ensures { result ≡ may_begin_name text.now }
+{
+    text.is_empty()
+        || text.ends_with(b"/")
+        || text.ends_with(b"[")
+        || text.ends_with(b" ")
+        || text.ends_with(b"\n")
+        || text.ends_with(b" (")
+}

@@ -1,5 +1,6 @@
 -- The views of a call, of its options and operands, and of a wrong call that clauses use.
 use Rattle.std.specs.Prelude.{◌≡◌, ◌⊎◌, ◌++◌, ℕ, List, codes, map, Some, None, Result, Ok, Err}
+use Rattle.std.specs.Fmt.{decimal}
 use Rattle.binfarce_words.specs.Named.{IsNearest}
 use Rattle.binfarce_words.specs.Words as words
 use Rattle.binfarce_words.specs.Words.{commands, command_name, flags_of, flag_name}
@@ -8,7 +9,7 @@ use Rattle.binfarce_words.specs.declared.words.Call.TheVariants as calls
 use Rattle.binfarce_words.specs.declared.words.Arguments.{Arguments}
 use Rattle.binfarce_words.specs.declared.words.Reading.{Reading}
 use Rattle.binfarce_words.specs.declared.words.Wrong.{Wrong}
-use Rattle.binfarce_words.specs.declared.words.Wrong.TheVariants.{NoCommand, UnknownCommand, UnknownOption, NoValue, Exclusive, NoAddress, BadValue, NoFile, NoSecondFile, TooMany, NotUtf8, OutOfMemory}
+use Rattle.binfarce_words.specs.declared.words.Wrong.TheVariants.{NoCommand, UnknownCommand, UnknownOption, NoValue, Exclusive, Needs, NoAddress, NotMaps, NotMapped, BadValue, NoFile, NoSecondFile, TooMany, BytesAsJson, NotUtf8, OutOfMemory}
 
 abbrev pub given_view : Arguments → words.Arguments
 given_view g = record { options = map (λ it. (it.0, it.1.now)) g.options.items; operands = map (λ t. t.now) g.operands.items }
@@ -32,12 +33,16 @@ wrong_words (UnknownOption command word (Some near)) =
     codes "no option " ++ (word.now ++ (codes " of " ++ (command_name command ++ (codes "; the nearest is " ++ flag_name near))))
 wrong_words (NoValue flag) = flag_name flag ++ codes " has no value"
 wrong_words (Exclusive one other) = flag_name one ++ (codes " and " ++ (flag_name other ++ codes " exclude each other"))
+wrong_words (Needs one other) = flag_name one ++ (codes " needs " ++ flag_name other)
 wrong_words (NoAddress word) = codes "not an address: " ++ word.now
-wrong_words (BadValue flag word) = flag_name flag ++ (codes " does not take " ++ word.now)
+wrong_words (NotMaps path) = codes "no line of " ++ (path.now ++ codes " is one of /proc/PID/maps")
+wrong_words (NotMapped file path) = path.now ++ (codes " maps no file named as " ++ (file.now ++ codes "; --as=NAME takes another name"))
+wrong_words (BadValue flag word) = flag_name flag ++ (codes " takes " ++ (words.values_of (words.form_of flag).2 ++ (codes ", and not " ++ word.now)))
 wrong_words (NoFile command) = codes "no file; binfarce " ++ (command_name command ++ codes " --help shows how it is called")
 wrong_words NoSecondFile = codes "diff compares two files, and has one"
 wrong_words (TooMany word) = codes "one argument too many: " ++ word.now
-wrong_words NotUtf8 = codes "an argument is not UTF-8"
+wrong_words BytesAsJson = codes "--json lists sections, and has no form for the bytes of one"
+wrong_words (NotUtf8 at) = codes "argument " ++ (decimal at ++ codes " is not UTF-8")
 wrong_words OutOfMemory = codes "out of memory"
 
 -- why a call is wrong, without the nearest name
@@ -47,12 +52,16 @@ wrong_view (UnknownCommand word nearest) = words.unknown_command word.now
 wrong_view (UnknownOption command word nearest) = words.unknown_option command word.now
 wrong_view (NoValue flag) = words.no_value flag
 wrong_view (Exclusive one other) = words.exclusive one other
+wrong_view (Needs one other) = words.needs one other
 wrong_view (NoAddress word) = words.no_address word.now
+wrong_view (NotMaps path) = words.not_maps path.now
+wrong_view (NotMapped file path) = words.not_mapped file.now path.now
 wrong_view (BadValue flag word) = words.not_taken flag word.now
 wrong_view (NoFile command) = words.no_file command
 wrong_view NoSecondFile = words.no_second_file
 wrong_view (TooMany word) = words.too_many word.now
-wrong_view NotUtf8 = words.not_utf8
+wrong_view BytesAsJson = words.bytes_as_json
+wrong_view (NotUtf8 at) = words.not_utf8
 wrong_view OutOfMemory = words.no_memory
 
 -- an unknown name comes with the nearest one

@@ -1,8 +1,8 @@
 -- The call that the words mean: `COMMAND [OPTION..] [OPERAND..]`.
-use Rattle.std.specs.Prelude.{◌==◌, ◌^◌, ◌++◌, ◌&&◌, ◌||◌, ℕ, Bool, true, false, not, List, [], ◌∷◌, codes, find, reverse, length, nat_lt, Option, Some, None, is_some, Result, Ok, Err, if◌then◌else◌}
+use Rattle.std.specs.Prelude.{◌==◌, ◌^◌, ◌++◌, ◌&&◌, ◌||◌, ℕ, Bool, true, false, not, List, [], ◌∷◌, codes, drop, find, reverse, length, nat_eq, nat_lt, slice_index, Option, Some, None, is_some, Result, Ok, Err, if◌then◌else◌}
 use Rattle.std.specs.Char.{digit_value}
 use Rattle.std.specs.Option.{option_map, option_and_then}
-use Rattle.std.specs.List.{list_all, position_or_len, before_first, after_first}
+use Rattle.std.specs.List.{list_all, starts_with, position_or_len, before_first, after_first}
 use Rattle.std.specs.Str.{byte, bytes_eq}
 use Rattle.std.specs.Str.Parse.{digits_value, without_leading_plus}
 use Rattle.binfarce_addresses.specs.Address.{address_of}
@@ -30,15 +30,15 @@ command_name Filter = codes "filter"
 command_name At = codes "at"
 command_name Section = codes "section"
 
--- the options of a command
+-- the options of a command, first those that not all commands on function symbols have
 abbrev pub flags_of : Command → List Flag
-flags_of Listing = flags.Help ∷ flags.Section ∷ flags.Dynamic ∷ flags.All ∷ flags.Sort ∷ flags.First ∷ flags.NoTotal ∷ flags.Raw ∷ flags.Full ∷ flags.Json ∷ []
-flags_of Size = flags.Help ∷ flags.Section ∷ flags.Dynamic ∷ flags.All ∷ flags.By ∷ flags.First ∷ flags.Percent ∷ flags.Std ∷ flags.Json ∷ []
-flags_of Map = flags.Help ∷ flags.Section ∷ flags.Dynamic ∷ flags.All ∷ flags.Folded ∷ []
-flags_of Diff = flags.Help ∷ flags.Section ∷ flags.Dynamic ∷ flags.All ∷ flags.By ∷ flags.First ∷ flags.Percent ∷ flags.Std ∷ flags.Json ∷ flags.FailAbove ∷ []
-flags_of Filter = flags.Help ∷ flags.Full ∷ []
-flags_of At = flags.Help ∷ flags.Section ∷ flags.Return ∷ flags.Annotate ∷ flags.Base ∷ flags.Dynamic ∷ flags.All ∷ flags.Json ∷ []
-flags_of Section = flags.Help ∷ flags.Json ∷ []
+flags_of Listing = flags.Sort ∷ flags.First ∷ flags.NoTotal ∷ flags.Raw ∷ flags.Full ∷ flags.Json ∷ flags.Section ∷ flags.Dynamic ∷ flags.All ∷ flags.Help ∷ []
+flags_of Size = flags.By ∷ flags.First ∷ flags.Percent ∷ flags.Std ∷ flags.Json ∷ flags.Section ∷ flags.Dynamic ∷ flags.All ∷ flags.Help ∷ []
+flags_of Map = flags.Folded ∷ flags.Section ∷ flags.Dynamic ∷ flags.All ∷ flags.Help ∷ []
+flags_of Diff = flags.By ∷ flags.First ∷ flags.Percent ∷ flags.Std ∷ flags.Json ∷ flags.FailAbove ∷ flags.Section ∷ flags.Dynamic ∷ flags.All ∷ flags.Help ∷ []
+flags_of Filter = flags.Full ∷ flags.Help ∷ []
+flags_of At = flags.Return ∷ flags.Annotate ∷ flags.Bare ∷ flags.Base ∷ flags.Maps ∷ flags.As ∷ flags.Json ∷ flags.Section ∷ flags.Dynamic ∷ flags.All ∷ flags.Help ∷ []
+flags_of Section = flags.Json ∷ flags.Help ∷ []
 
 -- how an option is written: its name, its short name if it has one, and what it takes
 abbrev pub form_of : Flag → List ℕ × List ℕ × Takes
@@ -46,8 +46,11 @@ form_of flags.Help = (codes "--help", codes "-h", Nothing)
 form_of flags.Section = (codes "--section", [], Text)
 form_of flags.Full = (codes "--full", [], Nothing)
 form_of flags.Base = (codes "--base", [], Address)
+form_of flags.Maps = (codes "--maps", [], Text)
+form_of flags.As = (codes "--as", [], Text)
 form_of flags.Return = (codes "--return", [], Nothing)
 form_of flags.Annotate = (codes "--annotate", [], Nothing)
+form_of flags.Bare = (codes "--bare", [], Nothing)
 form_of flags.Dynamic = (codes "--dynamic", [], Nothing)
 form_of flags.All = (codes "--all", [], Nothing)
 form_of flags.Sort = (codes "--sort", [], TakesOrder)
@@ -79,18 +82,22 @@ key_named name = if bytes_eq name (codes "crate") then Some keys.Crate
 abbrev pub flag_name : Flag → List ℕ
 flag_name flag = (form_of flag).0
 
--- why a call is wrong; the last two, where its words can't be taken
+-- why a call is wrong; `not_maps` and `not_mapped`, where its file of maps is; the last two, where its words can't be taken
 pub data Wrong : Type 0 where
   no_command : Wrong
   unknown_command : (word : List ℕ) → Wrong
   unknown_option : (command : Command) (word : List ℕ) → Wrong
   no_value : (flag : Flag) → Wrong
   exclusive : (one other : Flag) → Wrong
+  needs : (one other : Flag) → Wrong
   no_address : (word : List ℕ) → Wrong
+  not_maps : (path : List ℕ) → Wrong
+  not_mapped : (file path : List ℕ) → Wrong
   not_taken : (flag : Flag) (word : List ℕ) → Wrong
   no_file : (command : Command) → Wrong
   no_second_file : Wrong
   too_many : (word : List ℕ) → Wrong
+  bytes_as_json : Wrong
   not_utf8 : Wrong
   no_memory : Wrong
 
@@ -141,6 +148,15 @@ order_given given = option_and_then order_named (value_given flags.Sort given)
 abbrev pub key_given : Arguments → Option Key
 key_given given = option_and_then key_named (value_given flags.By given)
 
+-- the values that an option that takes this takes, in words
+abbrev pub values_of : Takes → List ℕ
+values_of Nothing = codes "no value"
+values_of Text = codes "a text"
+values_of Address = codes "an address"
+values_of Count = codes "a number"
+values_of TakesOrder = codes "address, size or name"
+values_of TakesKey = codes "crate, function, generic or section"
+
 -- whether an option that takes this takes the value
 abbrev pub is_met_by : Takes → (value : List ℕ) → Bool
 is_met_by Nothing value = true
@@ -179,9 +195,14 @@ is_option [] = false
 is_option (first ∷ []) = false
 is_option (first ∷ second ∷ others) = first == byte "-"
 
--- the parts of a word before and after its first `=`, or the word alone
+-- the value directly after `-n`
+abbrev pub after_short : List ℕ → Option (List ℕ)
+after_short word = if starts_with nat_eq word (codes "-n") && (nat_lt 2 (length word) && not (nat_eq (slice_index word 2) (byte "="))) then Some (drop 2 word) else None
+
+-- the option and the value of a word: `-n3`; the parts before and after its first `=`; or the word alone
 abbrev pub parts_of : List ℕ → List ℕ × Option (List ℕ)
-parts_of word = if position_or_len (λ b. b == byte "=") word == length word then (word, None)
+parts_of word = if is_some (after_short word) then (codes "-n", after_short word)
+    else if position_or_len (λ b. b == byte "=") word == length word then (word, None)
     else (before_first (λ b. b == byte "=") word, Some (after_first (λ b. b == byte "=") word))
 
 -- an option is written with its name or with its short name
@@ -273,11 +294,20 @@ operands_checked command annotates operands = Ok tt
 abbrev pub are_given : (one other : Flag) → Arguments → Bool
 are_given one other given = is_some (value_given one given) && is_some (value_given other given)
 
--- what is given is checked: no two options that exclude each other; the operands
+-- the bytes of a section are asked for
+abbrev pub is_of_bytes : Command → (operands : List (List ℕ)) → Bool
+is_of_bytes Section operands = nat_eq (length operands) 2
+is_of_bytes command operands = false
+
+-- what is given is checked: no two options that exclude each other, none without one that it needs, no bytes as JSON; the operands
 abbrev pub checked : Command → Arguments → Result (Unit {0}) Wrong
 checked command given = if are_given flags.All flags.Section given then Err (exclusive flags.All flags.Section)
     else if are_given flags.Raw flags.Full given then Err (exclusive flags.Raw flags.Full)
     else if are_given flags.Annotate flags.Json given then Err (exclusive flags.Annotate flags.Json)
+    else if are_given flags.Percent flags.Json given then Err (exclusive flags.Percent flags.Json)
+    else if is_of_bytes command given.operands && is_some (value_given flags.Json given) then Err bytes_as_json
+    else if are_given flags.Base flags.Maps given then Err (exclusive flags.Base flags.Maps)
+    else if is_some (value_given flags.Bare given) && not (is_some (value_given flags.Annotate given)) then Err (needs flags.Bare flags.Annotate)
     else operands_checked command (is_some (value_given flags.Annotate given)) given.operands
 
 -- the command, or help on it, where that is requested

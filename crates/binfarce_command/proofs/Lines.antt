@@ -1,8 +1,9 @@
 -- How the lines of standard input are answered: where the file isn't read, and where its entries can be had.
-use Rattle.std.proofs.Common.{◌≡◌, inl, inr, ap, ℕ, Bool, false, true, List, Option, Some, None, Result, Ok, Err, IsErrAnd, refl, sym, subst}
+use Rattle.std.proofs.Common.{◌≡◌, ◌∙◌, inl, inr, ap, ℕ, Bool, false, true, List, Option, Some, None, Result, Ok, Err, IsErrAnd, refl, sym, subst}
 use Rattle.std.proofs.KnownBytes.{Appends-nil, Consumes-nil}
 use Rattle.binfarce.specs.Refusal.{Refusal, refusal_of}
-use Rattle.binfarce.specs.Symbol.{Entry, Listed}
+use Rattle.binfarce.specs.SectionEntries.{SelectedSymbols}
+use Rattle.binfarce.specs.Symbol.{Entry}
 use Rattle.binfarce_addresses.specs.declared.lookup.Lookup.{Lookup}
 use Rattle.binfarce_addresses.specs.PlacesViews.{IsMadeOf}
 use Rattle.binfarce_addresses.specs.Annotated.{AnnotatesAll}
@@ -11,10 +12,13 @@ use Rattle.binfarce_addresses.specs.declared.stream.StreamError.{StreamError}
 use Rattle.binfarce_tables.specs.declared.error.ReadError.{ReadError}
 use Rattle.binfarce_tables.specs.declared.error.ReadError.TheVariants.{Refused, Unreadable, OutOfMemory}
 use Rattle.binfarce_tools.specs.Tables.{ReadsAs}
+use Rattle.binfarce_tools.specs.ListWords as list
+use Rattle.binfarce_tools.specs.declared.list.ListError.{ListError}
 use Rattle.binfarce_tools.specs.declared.list.ListError.TheVariants as errors
 use Rattle.binfarce_command.specs.At.{AnswersInput, HasPlaces, IsUntouched, WritesOf, lines_end}
-use Rattle.binfarce_command.specs.Faults.{stream_fault, read_fault}
+use Rattle.binfarce_command.specs.Faults.{failure, list_fault, read_fault}
 use Rattle.binfarce_command.specs.declared.fault.Fault.{Fault}
+use Rattle.binfarce_command.specs.declared.fault.Fault.TheVariants.{Stream}
 
 -- lines were answered
 pub of_lines : (annotates : Bool) (entries : List Entry) (lookup : Lookup) (given left old new : Option (List ℕ)) (ended : Result ℕ StreamError) → annotates ≡ false → Streams entries lookup given left old new ended → WritesOf annotates entries lookup given left old new ended
@@ -27,15 +31,15 @@ of_text annotates entries lookup given left old new is streams = let P : Bool �
 pub of_part : (annotates : Bool) (entries : List Entry) (lookup : Lookup) (given left old new : Option (List ℕ)) (e : StreamError) → annotates ≡ true → AnnotatesAll entries lookup given left old new (Err e) → WritesOf annotates entries lookup given left old new (Err e)
 of_part annotates entries lookup given left old new e is streams = let P : Bool → Type 0 = λ b. WritesOf b entries lookup given left old new (Err e) in subst P (sym is) streams
 
-pub answered_lines : (may : Type 0) (share : Bool) (memory : Result Listed Refusal → Type 0) (answer : Option (Result Listed Refusal)) (entries : List Entry) (annotates : Bool) (lookup : Lookup) (given left old new : Option (List ℕ)) (ended : Result ℕ StreamError) → share ≡ false → IsMadeOf memory answer (Ok entries)
+pub answered_lines : (may : Type 0) (share : Bool) (memory : Result SelectedSymbols Refusal → Type 0) (answer : Option (Result SelectedSymbols Refusal)) (entries : List Entry) (annotates : Bool) (lookup : Lookup) (given left old new : Option (List ℕ)) (ended : Result ℕ StreamError) → share ≡ false → IsMadeOf memory answer (Ok entries)
     → WritesOf annotates entries lookup given left old new ended → AnswersInput may share memory answer annotates lookup given left old new (lines_end ended)
 answered_lines may share memory None entries annotates lookup given left old new ended alone made streams = absurd made
 answered_lines may share memory (Some (Err refusal)) entries annotates lookup given left old new ended alone made streams = absurd made
 answered_lines may share memory (Some (Ok listed)) entries annotates lookup given left old new ended alone made streams =
-    let P : List Entry → Type 0 = λ es. WritesOf annotates es lookup given left old new ended in inr (inr (inr (alone, listed, ended, refl, subst P made streams, refl)))
+    let P : List Entry → Type 0 = λ es. WritesOf annotates es lookup given left old new ended in inr (alone, listed, ended, refl, subst P made streams, refl)
 
-pub answered_less : (may : Type 0) (share : Bool) (memory : Result Listed Refusal → Type 0) (answer : Option (Result Listed Refusal)) (entries : List Entry) (annotates : Bool) (lookup : Lookup) (given left old new : Option (List ℕ)) (e : StreamError) (result : Result ℕ Fault) → share ≡ false → IsMadeOf memory answer (Ok entries)
-    → WritesOf annotates entries lookup given left old new (Err e) → IsErrAnd result (λ x. x ≡ stream_fault e) → AnswersInput may share memory answer annotates lookup given left old new result
+pub answered_less : (may : Type 0) (share : Bool) (memory : Result SelectedSymbols Refusal → Type 0) (answer : Option (Result SelectedSymbols Refusal)) (entries : List Entry) (annotates : Bool) (lookup : Lookup) (given left old new : Option (List ℕ)) (e : StreamError) (result : Result ℕ Fault) → share ≡ false → IsMadeOf memory answer (Ok entries)
+    → WritesOf annotates entries lookup given left old new (Err e) → IsErrAnd result (λ x. x ≡ Stream e) → AnswersInput may share memory answer annotates lookup given left old new result
 answered_less may share memory answer entries annotates lookup given left old new e (Ok x) alone made streams is = absurd is
 answered_less may share memory answer entries annotates lookup given left old new e (Err x) alone made streams is =
     let P : Fault → Type 0 = λ f. AnswersInput may share memory answer annotates lookup given left old new (Err f) in subst P (sym is) (answered_lines may share memory answer entries annotates lookup given left old new (Err e) alone made streams)
@@ -44,7 +48,7 @@ untouched : (given old : Option (List ℕ)) → IsUntouched given given old old
 untouched given old = (Consumes-nil given, Appends-nil old)
 
 -- nothing was answered where the file isn't read
-pub unread : {T : Type 0} (AreTables : T → Type 0) (may : Type 0) (share : Bool) (memory : Result Listed Refusal → Type 0) (answer : Option (Result Listed Refusal)) (annotates : Bool) (lookup : Lookup) (given old : Option (List ℕ)) (e : ReadError) (result : Result ℕ Fault)
+pub unread : {T : Type 0} (AreTables : T → Type 0) (may : Type 0) (share : Bool) (memory : Result SelectedSymbols Refusal → Type 0) (answer : Option (Result SelectedSymbols Refusal)) (annotates : Bool) (lookup : Lookup) (given old : Option (List ℕ)) (e : ReadError) (result : Result ℕ Fault)
     → ReadsAs AreTables may answer (Err e) → IsErrAnd result (λ x. x ≡ read_fault e) → AnswersInput may share memory answer annotates lookup given given old old result
 unread AreTables may share memory answer annotates lookup given old e (Ok x) reads is = absurd is
 unread AreTables may share memory answer annotates lookup given old e (Err x) reads is =
@@ -52,23 +56,25 @@ unread AreTables may share memory answer annotates lookup given old e (Err x) re
   where
     by_error : (e : ReadError) → ReadsAs AreTables may answer (Err e) → AnswersInput may share memory answer annotates lookup given given old old (Err (read_fault e))
     by_error (Refused p) reads =
-        let P : Option (Result Listed Refusal) → Type 0 = λ answer. IsMadeOf memory answer (Err (errors.Parse p)) in
+        let P : Option (Result SelectedSymbols Refusal) → Type 0 = λ answer. IsMadeOf memory answer (Err (errors.Parse p)) in
         let refused : P (Some (Err (refusal_of p))) = inl (p, refl, refl) in
-        inr (inr (inl (errors.Parse p, subst P (sym reads) refused, refl, untouched given old)))
-    by_error Unreadable reads = inl (inl (reads, refl), untouched given old)
-    by_error OutOfMemory reads = inl (inr refl, untouched given old)
+        inl (read_fault (Refused p), refl, inr (inr (inr (errors.Parse p, subst P (sym reads) refused, refl))), untouched given old)
+    by_error Unreadable reads = inl (read_fault Unreadable, refl, inl (reads, refl), untouched given old)
+    by_error OutOfMemory reads = inl (read_fault OutOfMemory, refl, inr (inl refl), untouched given old)
 
--- the answering failed
-abbrev failed : Fault → Result ℕ Fault
-failed fault = Err fault
+list_failure : (e : ListError) → failure (list_fault e) ≡ list.outcome_of (Err e)
+list_failure errors.Unknown = refl
+list_failure (errors.Parse e) = refl
+list_failure errors.OutOfMemory = refl
+list_failure errors.Write = refl
 
 -- nothing was answered of a file whose places can't be had
-no_places : (may : Type 0) (share : Bool) (memory : Result Listed Refusal → Type 0) (answer : Option (Result Listed Refusal)) (annotates : Bool) (lookup : Lookup) (given old : Option (List ℕ)) (e : Fault) → HasPlaces share memory answer (Err e)
+no_places : (may : Type 0) (share : Bool) (memory : Result SelectedSymbols Refusal → Type 0) (answer : Option (Result SelectedSymbols Refusal)) (annotates : Bool) (lookup : Lookup) (given old : Option (List ℕ)) (e : Fault) → HasPlaces share memory answer (Err e)
     → AnswersInput may share memory answer annotates lookup given given old old (Err e)
-no_places may share memory answer annotates lookup given old e (inl (shared, is)) = inr (inl (shared, ap failed is, untouched given old))
-no_places may share memory answer annotates lookup given old e (inr (error, made, is)) = inr (inr (inl (error, made, ap failed is, untouched given old)))
+no_places may share memory answer annotates lookup given old e (inl (shared, is)) = inl (e, refl, inr (inr (inl (shared, is))), untouched given old)
+no_places may share memory answer annotates lookup given old e (inr (error, made, is)) = inl (e, refl, inr (inr (inr (error, made, ap failure is ∙ list_failure error))), untouched given old)
 
-pub without_places : (may : Type 0) (share : Bool) (memory : Result Listed Refusal → Type 0) (answer : Option (Result Listed Refusal)) (annotates : Bool) (lookup : Lookup) (given old : Option (List ℕ)) (e : Fault) (result : Result ℕ Fault) → HasPlaces share memory answer (Err e) → IsErrAnd result (λ x. x ≡ e)
+pub without_places : (may : Type 0) (share : Bool) (memory : Result SelectedSymbols Refusal → Type 0) (answer : Option (Result SelectedSymbols Refusal)) (annotates : Bool) (lookup : Lookup) (given old : Option (List ℕ)) (e : Fault) (result : Result ℕ Fault) → HasPlaces share memory answer (Err e) → IsErrAnd result (λ x. x ≡ e)
     → AnswersInput may share memory answer annotates lookup given given old old result
 without_places may share memory answer annotates lookup given old e (Ok x) has is = absurd is
 without_places may share memory answer annotates lookup given old e (Err x) has is =

@@ -2,23 +2,23 @@
 use Rattle.std.proofs.Common.{◌≡◌, ◌∙◌, inl, inr, ap, ℕ, Bool, true, false, List, Option, Some, Result, Ok, Err, IsErrAnd, if◌then◌else◌, refl, sym, subst}
 use Rattle.binfarce.specs.Format.{format_of}
 use Rattle.binfarce.specs.Refusal.{Refusal, refusal_of, symbols_section_is_missing}
-use Rattle.binfarce.specs.Symbol.{Listed}
+use Rattle.binfarce.specs.SectionEntries.{SelectedSymbols}
 use Rattle.binfarce.specs.declared.Format.{Format}
 use Rattle.binfarce_bytes.specs.Selection.{section_of}
 use Rattle.binfarce_tables.specs.declared.error.ReadError.{ReadError}
 use Rattle.binfarce_tables.specs.declared.error.ReadError.TheVariants.{Refused, Unreadable, OutOfMemory}
 use Rattle.binfarce_tools.specs.ListWords as list
 use Rattle.binfarce_tools.specs.ReportWords as report
-use Rattle.binfarce_tools.specs.Selection.{answer_in}
+use Rattle.binfarce_tools.specs.Answer.{selected_answer}
 use Rattle.binfarce_tools.specs.Tables.{ReadsAs, ReadsTables}
 use Rattle.binfarce_tools.specs.declared.tables.Tables.{Tables}
 use Rattle.binfarce_tools.specs.Writing.{Outcome, EndsAs, ProgramEndsAs, refused}
 use Rattle.binfarce_tools.specs.declared.list.ListError.{ListError}
 use Rattle.binfarce_tools.specs.declared.list.ListError.TheVariants as listing
 use Rattle.binfarce_tools.specs.declared.report.ReportError.{ReportError}
-use Rattle.binfarce_tools.specs.declared.report.ReportError.TheVariants as sums
-use Rattle.binfarce_command.specs.Faults.{list_fault, read_fault, report_fault, outcome_of}
+use Rattle.binfarce_command.specs.Faults.{list_fault, read_fault, outcome_of}
 use Rattle.binfarce_command.specs.declared.fault.Fault.{Fault}
+use Rattle.binfarce_command.specs.declared.fault.Fault.TheVariants.{Report}
 use Rattle.binfarce_command.specs.Show.{AreTablesFor, answer_for, is_taken}
 use Rattle.binfarce_command.specs.declared.show.Kind.{Kind}
 use Rattle.binfarce_command.specs.declared.show.Symbols.{Symbols}
@@ -29,26 +29,19 @@ list_ended (listing.Parse e) P h = h
 list_ended listing.OutOfMemory P h = h
 list_ended listing.Write P h = h
 
-report_ended : (e : ReportError) (P : Outcome → Type 0) → P (report.outcome_of (Err e)) → P (outcome_of (Err (report_fault e)))
-report_ended sums.Unknown P h = h
-report_ended (sums.Parse e) P h = h
-report_ended sums.OutOfMemory P h = h
-report_ended sums.TooLarge P h = h
-report_ended sums.Write P h = h
-
 pub of_list : (e : ListError) (result : Result (Unit {0}) Fault) (P : Outcome → Type 0) → IsErrAnd result (λ f. f ≡ list_fault e) → P (list.outcome_of (Err e)) → P (outcome_of result)
 of_list e (Ok x) P is h = absurd is
 of_list e (Err fault) P is h = subst (λ (f : Fault). P (outcome_of (Err f))) (sym is) (list_ended e P h)
 
-pub of_report : (e : ReportError) (result : Result (Unit {0}) Fault) (P : Outcome → Type 0) → IsErrAnd result (λ f. f ≡ report_fault e) → P (report.outcome_of (Err e)) → P (outcome_of result)
+pub of_report : (e : ReportError) (result : Result (Unit {0}) Fault) (P : Outcome → Type 0) → IsErrAnd result (λ f. f ≡ Report e) → P (report.outcome_of (Err e)) → P (outcome_of result)
 of_report e (Ok x) P is h = absurd is
-of_report e (Err fault) P is h = subst (λ (f : Fault). P (outcome_of (Err f))) (sym is) (report_ended e P h)
+of_report e (Err fault) P is h = subst (λ (f : Fault). P (outcome_of (Err f))) (sym is) h
 
 -- the same, where the call is the one for this kind
 pub list_in : (P : Kind → Outcome → Type 0) (kind found : Kind) → kind ≡ found → (e : ListError) (result : Result (Unit {0}) Fault) → IsErrAnd result (λ f. f ≡ list_fault e) → P found (list.outcome_of (Err e)) → P kind (outcome_of result)
 list_in P kind found is e result err h = of_list e result (λ (o : Outcome). P kind o) err (subst (λ (k : Kind). P k (list.outcome_of (Err e))) (sym is) h)
 
-pub report_in : (P : Kind → Outcome → Type 0) (kind found : Kind) → kind ≡ found → (e : ReportError) (result : Result (Unit {0}) Fault) → IsErrAnd result (λ f. f ≡ report_fault e) → P found (report.outcome_of (Err e)) → P kind (outcome_of result)
+pub report_in : (P : Kind → Outcome → Type 0) (kind found : Kind) → kind ≡ found → (e : ReportError) (result : Result (Unit {0}) Fault) → IsErrAnd result (λ f. f ≡ Report e) → P found (report.outcome_of (Err e)) → P kind (outcome_of result)
 report_in P kind found is e result err h = of_report e result (λ (o : Outcome). P kind o) err (subst (λ (k : Kind). P k (report.outcome_of (Err e))) (sym is) h)
 
 -- the tables that are read of a file are those for the function symbols that are taken, where the section can be selected
@@ -59,8 +52,8 @@ read_for MayFail symbols file format result is taken reads = by_result result re
     section : Option (List ℕ)
     section = section_of symbols.selection
 
-    same : answer_for symbols file ≡ answer_in symbols.which file section
-    same = ap (λ (b : Bool). if b then answer_in symbols.which file section else Some (Err symbols_section_is_missing)) (ap (is_taken section) (sym is) ∙ taken)
+    same : answer_for symbols file ≡ selected_answer symbols.which section file
+    same = ap (λ (b : Bool). if b then selected_answer symbols.which section file else Some (Err symbols_section_is_missing)) (ap (is_taken section) (sym is) ∙ taken)
 
     by_result : (result : Result Tables ReadError) → ReadsTables MayFail symbols.which file section result → ReadsAs (AreTablesFor symbols file) MayFail (answer_for symbols file) result
     by_result (Ok tables) reads = (reads, same)
@@ -72,15 +65,15 @@ read_for MayFail symbols file format result is taken reads = by_result result re
 pub missing_for : (symbols : Symbols) (file : List ℕ) (format : Format) → format ≡ format_of file → is_taken (section_of symbols.selection) format ≡ false → answer_for symbols file ≡ Some (Err symbols_section_is_missing)
 missing_for symbols file format is untaken =
     let section = section_of symbols.selection in
-    ap (λ (b : Bool). if b then answer_in symbols.which file section else Some (Err symbols_section_is_missing)) (ap (is_taken section) (sym is) ∙ untaken)
+    ap (λ (b : Bool). if b then selected_answer symbols.which section file else Some (Err symbols_section_is_missing)) (ap (is_taken section) (sym is) ∙ untaken)
 
 -- the tables weren't read
-pub unread : (MayFail : Type 0) {T : Type 0} (AreTables : T → Type 0) (Fits : Listed → Type 0) (memory : Result Listed Refusal → Type 0) (answer : Option (Result Listed Refusal)) (e : ReadError) (result : Result (Unit {0}) Fault)
+pub unread : (MayFail : Type 0) {T : Type 0} (AreTables : T → Type 0) (Fits : SelectedSymbols → Type 0) (memory : Result SelectedSymbols Refusal → Type 0) (answer : Option (Result SelectedSymbols Refusal)) (e : ReadError) (result : Result (Unit {0}) Fault)
     → ReadsAs AreTables MayFail answer (Err e) → IsErrAnd result (λ f. f ≡ read_fault e) → ProgramEndsAs MayFail Fits memory answer (outcome_of result)
 unread MayFail AreTables Fits memory answer e (Ok x) reads is = absurd is
 unread MayFail AreTables Fits memory answer e (Err f) reads is = subst (λ (f : Fault). ProgramEndsAs MayFail Fits memory answer (outcome_of (Err f))) (sym is) (by_error e reads)
   where
     by_error : (e : ReadError) → ReadsAs AreTables MayFail answer (Err e) → ProgramEndsAs MayFail Fits memory answer (outcome_of (Err (read_fault e)))
-    by_error (Refused p) reads = inr (inr (subst (λ (a : Option (Result Listed Refusal)). EndsAs Fits memory a (refused (refusal_of p))) (sym reads) (inl refl)))
+    by_error (Refused p) reads = inr (inr (subst (λ (a : Option (Result SelectedSymbols Refusal)). EndsAs Fits memory a (refused (refusal_of p))) (sym reads) (inl refl)))
     by_error Unreadable reads = inl (reads, refl)
     by_error OutOfMemory reads = inr (inl refl)

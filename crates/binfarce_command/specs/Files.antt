@@ -2,11 +2,12 @@
 use Rattle.std.specs.Prelude.{◌≡◌, ◌≢◌, ◌⊎◌, ℕ, Bool, true, false, List, [], ◌∷◌, ◌++◌, All, codes, map, Option, Some, None, Result, Ok, Err, if◌then◌else◌}
 use Rattle.std.specs.Io.KnownBytes.{Appends}
 use Rattle.std.specs.List.{flat_map, list_all}
-use Rattle.binfarce_tools.specs.Writing.{AppendsBeginning}
-use Rattle.binfarce_command.specs.Faults.{outcome_of}
+use Rattle.binfarce_tools.specs.Writing.{AppendsBeginning, Outcome, no_memory, write_failed}
+use Rattle.binfarce_command.specs.Faults.{failure, is_of_file}
+use Rattle.binfarce_command.specs.Foreign.{foreign_in}
+use Rattle.binfarce_command.specs.Input.{IsForeign, IsUnreadable}
 use Rattle.binfarce_command.specs.Show.{IsShownText, MayEnd}
 use Rattle.binfarce_command.specs.declared.fault.Fault.{Fault}
-use Rattle.binfarce_command.specs.declared.fault.Fault.TheVariants.{Input, Missing, OutOfMemory, Unreadable, Write}
 use Rattle.binfarce_command.specs.declared.show.Request.{Request}
 
 -- a path, and why the file there was refused
@@ -24,10 +25,21 @@ pub data Fate : Type 0 where
   shown : (text : List ℕ) → Fate
   refused : (fault : Fault) → Fate
 
--- the file at a path, which may fail to be read, or not, and holds these bytes, may come to this: it shows what is asked for, or is refused for a reason that it gives
+-- text is what is shown of the file at a path, which is one that a reader reads
+abbrev pub IsShownOf : Request → (path file text : List ℕ) → Type 0
+IsShownOf asked path file text = (foreign_in file ≡ None) × IsShownText asked path file text
+
+-- a file may be refused so: it can't be read; it is what no reader reads; or it is refused for a reason that it gives
+abbrev pub MayBeRefused : Request → (may_fail : Bool) → (file : List ℕ) → Fault → Type 0
+MayBeRefused asked may_fail file fault =
+    IsForeign file fault
+    ⊎ IsUnreadable may_fail file fault
+    ⊎ ((foreign_in file ≡ None) × (failure fault ≢ write_failed) × MayEnd ((may_fail ≡ true) ⊎ (file ≡ [])) asked file (failure fault))
+
+-- the file at a path, which may fail to be read, or not, and holds these bytes, may come to this
 abbrev pub MayComeTo : Request → (path : List ℕ) → (may_fail : Bool) → (file : List ℕ) → Fate → Type 0
-MayComeTo asked path may_fail file (shown text) = IsShownText asked path file text
-MayComeTo asked path may_fail file (refused fault) = (fault ≢ Write) × MayEnd ((may_fail ≡ true) ⊎ (file ≡ [])) asked file (outcome_of (Err fault))
+MayComeTo asked path may_fail file (shown text) = IsShownOf asked path file text
+MayComeTo asked path may_fail file (refused fault) = MayBeRefused asked may_fail file fault
 
 -- what precedes a file's text: of several files a blank line, and a line with its name
 abbrev pub heading : (are_several : Bool) → (path : List ℕ) → List ℕ
@@ -81,7 +93,7 @@ pub record BreaksOff (files : Files) (paths : List (List ℕ)) (old new : State)
   pub all : Bool
   pub shows : Shows files first old (record new { bytes = between }) all
   pub text : List ℕ
-  pub is : IsShownText files.asked next (files.held next) text
+  pub is : IsShownOf files.asked next (files.held next) text
   pub begins : AppendsBeginning between new.taken (heading files.are_several next ++ text)
 
 -- all was written of the first of these paths, and then the memory for a heading was refused
@@ -95,7 +107,7 @@ pub record StopsBefore (files : Files) (paths : List (List ℕ)) (old new : Stat
 -- how the showing of the files at these paths ended: whether all are shown; or a write failed, or an allocation
 abbrev pub ShowsAll : Files → (paths : List (List ℕ)) → (old new : State) → Result Bool Fault → Type 0
 ShowsAll files paths old new (Ok all) = Shows files paths old new all
-ShowsAll files paths old new (Err e) = ((e ≡ Write) × BreaksOff files paths old new) ⊎ ((e ≡ OutOfMemory) × StopsBefore files paths old new)
+ShowsAll files paths old new (Err e) = ((failure e ≡ write_failed) × BreaksOff files paths old new) ⊎ ((failure e ≡ no_memory) × StopsBefore files paths old new)
 
 -- the file at a path holds these bytes, where that is known
 abbrev pub AreHeld : (bytes_at : List ℕ → Option (List ℕ)) → (held : List ℕ → List ℕ) → (paths : List (List ℕ)) → Type 0
@@ -107,23 +119,25 @@ ShowsOne files path old new (Ok all) =
     (fate : Fate) × MayComeTo files.asked path (files.may_fail path) (files.held path) fate × (all ≡ is_shown fate)
     × Appends old.bytes new.bytes (written files.are_several path fate) × Reports old.reports new.reports (reported path fate)
 ShowsOne files path old new (Err e) =
-    (((e ≡ Write) × ((text : List ℕ) × IsShownText files.asked path (files.held path) text × AppendsBeginning old.bytes new.taken (heading files.are_several path ++ text))) ⊎ ((e ≡ OutOfMemory) × Appends old.bytes new.bytes []))
+    (((failure e ≡ write_failed) × ((text : List ℕ) × IsShownOf files.asked path (files.held path) text × AppendsBeginning old.bytes new.taken (heading files.are_several path ++ text))) ⊎ ((failure e ≡ no_memory) × Appends old.bytes new.bytes []))
     × Reports old.reports new.reports []
 
--- how the showing of a file that is read ended: its text is written after what was left of the heading; or a write failed; or it was refused, and nothing written
+-- how the showing of a file failed: a write failed, before which a beginning of the text was written after what was left of the heading; or the file was refused, and nothing written
+abbrev pub FailsAs : Request → (path : List ℕ) → (MayFail : Type 0) → (file : List ℕ) → (heading : List ℕ) → (old new taken : Option (List ℕ)) → Outcome → Type 0
+FailsAs asked path MayFail file heading old new taken write_failed = (text : List ℕ) × IsShownText asked path file text × AppendsBeginning old taken (heading ++ text)
+FailsAs asked path MayFail file heading old new taken outcome = MayEnd MayFail asked file outcome × (new ≡ old)
+
+-- how the showing of a file that is read ended: its text is written after what was left of the heading; or it failed
 abbrev pub ShowsSource : Request → (path : List ℕ) → (MayFail : Type 0) → (file : List ℕ) → (heading : List ℕ) → (old new taken : Option (List ℕ)) → Result (Unit {0}) Fault → Type 0
 ShowsSource asked path MayFail file heading old new taken (Ok x) = (text : List ℕ) × IsShownText asked path file text × Appends old new (heading ++ text)
-ShowsSource asked path MayFail file heading old new taken (Err Write) = (text : List ℕ) × IsShownText asked path file text × AppendsBeginning old taken (heading ++ text)
-ShowsSource asked path MayFail file heading old new taken (Err fault) = (fault ≢ Input) × MayEnd MayFail asked file (outcome_of (Err fault)) × (new ≡ old)
+ShowsSource asked path MayFail file heading old new taken (Err fault) = FailsAs asked path MayFail file heading old new taken (failure fault)
 
--- a file that may fail to be read, or not, and that holds these bytes, can't be opened or read for this reason
-abbrev pub IsUnreadable : (may_fail : Bool) → (file : List ℕ) → Fault → Type 0
-IsUnreadable may_fail file fault = (fault ≡ OutOfMemory) ⊎ ((fault ≡ Unreadable) × ((may_fail ≡ true) ⊎ (file ≡ [])))
+-- what is reported of a fault in the work on the file at a path: why the file is refused; a fault that isn't the file's is passed on
+abbrev pub ReportsFault : (path : List ℕ) → (before after : Option (List Refused)) → Fault → (of_file : Bool) → (result : Result Bool Fault) → Type 0
+ReportsFault path before after fault true result = (result ≡ Ok false) × Reports before after ((path, fault) ∷ [])
+ReportsFault path before after fault false result = (result ≡ Err fault) × Reports before after []
 
--- what is reported of the work on the file at a path: why the file is refused
+-- so of the work itself
 abbrev pub ReportsWhy : (path : List ℕ) → (before after : Option (List Refused)) → (done : Result (Unit {0}) Fault) → (result : Result Bool Fault) → Type 0
 ReportsWhy path before after (Ok x) result = (result ≡ Ok true) × Reports before after []
-ReportsWhy path before after (Err Write) result = (result ≡ Err Write) × Reports before after []
-ReportsWhy path before after (Err (Missing count)) result = (result ≡ Err (Missing count)) × Reports before after []
-ReportsWhy path before after (Err Input) result = (result ≡ Ok false) × Reports before after []
-ReportsWhy path before after (Err fault) result = (result ≡ Ok false) × Reports before after ((path, fault) ∷ [])
+ReportsWhy path before after (Err fault) result = ReportsFault path before after fault (is_of_file fault) result

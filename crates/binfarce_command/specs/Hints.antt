@@ -1,43 +1,71 @@
 -- Hints on files.
-use Rattle.std.specs.Prelude.{◌≡◌, ◌<◌, ℕ, zero, suc, ◌&&◌, ◌||◌, List, [], ◌∷◌, ◌++◌, length, slice_index, codes, nat_eq, nat_lt, Option, Some, None, Ok, if◌then◌else◌}
+use Rattle.std.specs.Prelude.{◌≡◌, ℕ, zero, suc, Bool, ◌&&◌, List, ◌++◌, length, codes, nat_eq, nat_lt, Option, Some, None, unwrap_or, Result, Ok, Err, if◌then◌else◌}
 use Rattle.std.specs.Fmt.{decimal}
-use Rattle.std.specs.List.{starts_with, sum_by}
+use Rattle.std.specs.List.{sum_by}
 use Rattle.std.specs.String.{string_bytes}
-use Rattle.binfarce.specs.Symbol.{Listed}
+use Rattle.binfarce.specs.Refusal.{Refusal}
+use Rattle.binfarce.specs.SectionEntries.{SelectedSymbols}
 use Rattle.binfarce.specs.declared.SymbolTable.{SymbolTable}
-use Rattle.binfarce_tools.specs.Selection.{answer_in}
+use Rattle.binfarce.specs.declared.SymbolTable.TheVariants.{Symtab, Dynsym}
+use Rattle.binfarce_bytes.specs.Format.{format_of}
+use Rattle.binfarce_bytes.specs.declared.format.Format.{Format}
+use Rattle.binfarce_bytes.specs.declared.format.Format.TheVariants as formats
+use Rattle.binfarce_tools.specs.Answer.{entries_of, selected_answer}
 use Rattle.binfarce_command.specs.declared.hint.Hint.{Hint}
 use Rattle.binfarce_command.specs.declared.hint.Hint.TheVariants as hints
 
 -- the printed words
 abbrev pub hint_words : Hint → List ℕ
 hint_words hints.Overlap = codes "symbols overlap; --by=crate counts each byte once"
-hint_words hints.None = codes "no function symbols; those of an MSVC program are in its .pdb file"
+hint_words hints.None = codes "no function symbols"
+hint_words hints.NoneDynamic = codes "no function symbols in .dynsym"
+hint_words hints.NoneOfPe = codes "no function symbols; those of an MSVC program are in its .pdb file"
+hint_words hints.NoneOfMacho = codes "no function symbols; those of a stripped program may be in its .dSYM bundle"
 hint_words (hints.Others count) = codes "no function symbols in the section; --all takes " ++ (decimal count ++ codes " of other sections")
-hint_words hints.Archive = codes "an archive; `ar x FILE` extracts its members"
-hint_words hints.Universal = codes "a universal Mach-O file; `lipo -thin ARCHITECTURE FILE` extracts a part"
-hint_words hints.Macho32 = codes "a Mach-O file of 32 bits"
+hint_words (hints.Dynamic count) = codes "--dynamic --all takes " ++ (decimal count ++ codes " function symbols")
 hint_words (hints.Stripped places) = codes "its debug symbols may be in " ++ string_bytes places
+hint_words hints.Missed = codes "no address in a function symbol was found; is --base right?"
 
--- what the first bytes of a file name that isn't in a supported format: an archive, by its first line; a universal Mach-O file of fewer than 45 parts, by FAT_MAGIC (a Java class file has 45 or more there); a Mach-O file of 32 bits, by MH_MAGIC or MH_CIGAM
-abbrev pub named_by : (magic : List ℕ) → Option Hint
-named_by magic =
-    if starts_with nat_eq magic (codes "!<arch>\n") then Some hints.Archive
-    else if starts_with nat_eq magic (202 ∷ 254 ∷ 186 ∷ 190 ∷ 0 ∷ 0 ∷ 0 ∷ []) && (nat_lt 7 (length magic) && nat_lt (slice_index magic 7) 45) then Some hints.Universal
-    else if starts_with nat_eq magic (254 ∷ 237 ∷ 250 ∷ 206 ∷ []) || starts_with nat_eq magic (206 ∷ 250 ∷ 237 ∷ 254 ∷ []) then Some hints.Macho32
+-- the hint on a section of this size with so many function symbols, whose sizes have this sum: it has none; or if sizes are summed, their sum exceeds its size
+abbrev pub hint_on : (count sum size : ℕ) → (are_summed : Bool) → Option Hint
+hint_on count sum size are_summed =
+    if nat_eq count 0 then Some hints.None
+    else if are_summed && nat_lt size sum then Some hints.Overlap
     else None
 
--- the hint where all sections have so many function symbols, and the selected one has none
-abbrev pub others : (count : ℕ) → Hint
-others zero = hints.None
-others (suc n) = hints.Others (suc n)
+abbrev pub hint_in : SelectedSymbols → (are_summed : Bool) → Option Hint
+hint_in selected are_summed = hint_on (length selected.entries) (sum_by (λ e. e.size) (entries_of selected)) (unwrap_or selected.section_size 0) are_summed
 
--- the hint is true of a section: it has no function symbol, or the sum of their sizes exceeds its size
-abbrev pub IsHintOf : Listed → Hint → Type 0
-IsHintOf listed hints.None = listed.entries ≡ []
-IsHintOf listed hints.Overlap = listed.section_size < sum_by (λ e. e.size) listed.entries
-IsHintOf listed hint = ⊥
+-- the hint is that on this section of a file, which has an answer
+abbrev pub IsHintOn : SymbolTable → (file section : List ℕ) → (are_summed : Bool) → Option Hint → Type 0
+IsHintOn which file section are_summed hint = (selected : SelectedSymbols) × (selected_answer which (Some section) file ≡ Some (Ok selected)) × (hint ≡ hint_in selected are_summed)
 
--- it is true of this section of a file
-abbrev pub IsHintOn : SymbolTable → (file section : List ℕ) → Hint → Type 0
-IsHintOn which file section hint = (listed : Listed) × (answer_in which file (Some section) ≡ Some (Ok listed)) × IsHintOf listed hint
+-- how many function symbols an answer has; without an answer there are none
+abbrev pub count_of : Option (Result SelectedSymbols Refusal) → ℕ
+count_of (Some (Ok selected)) = length selected.entries
+count_of (Some (Err refusal)) = 0
+count_of None = 0
+
+-- why a file of this format has no function symbol
+abbrev pub lack_of : SymbolTable → Format → Hint
+lack_of which formats.PE = hints.NoneOfPe
+lack_of which formats.Macho = hints.NoneOfMacho
+lack_of Dynsym format = hints.NoneDynamic
+lack_of Symtab format = hints.None
+
+-- the hint where none of the function symbols is there that are taken, by their count and by that of all sections
+abbrev pub lack_by : SymbolTable → Format → (count all : ℕ) → Option Hint
+lack_by which format zero zero = Some (lack_of which format)
+lack_by which format zero (suc n) = Some (hints.Others (suc n))
+lack_by which format (suc n) all = None
+
+abbrev pub lack_in : SymbolTable → (file : List ℕ) → (section : Option (List ℕ)) → Option Hint
+lack_in which file section = lack_by which (format_of file) (count_of (selected_answer which section file)) (count_of (selected_answer which None file))
+
+-- the hint where a file has dynamic function symbols
+abbrev pub dynamic_by : (count : ℕ) → Option Hint
+dynamic_by zero = None
+dynamic_by (suc n) = Some (hints.Dynamic (suc n))
+
+abbrev pub dynamic_in : (file : List ℕ) → Option Hint
+dynamic_in file = dynamic_by (count_of (selected_answer Dynsym None file))

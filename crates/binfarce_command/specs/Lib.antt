@@ -1,3 +1,4 @@
+pub mod Foreign
 pub mod Input
 pub mod Faults
 pub mod FaultWords

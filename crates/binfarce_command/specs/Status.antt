@@ -3,7 +3,8 @@ use Rattle.std.specs.Prelude.{ℕ, ◌-◌, nat_lt, Bool, true, false, Option, S
 use Rattle.std.specs.declared.io.ErrorKind.{ErrorKind}
 use Rattle.std.specs.declared.io.ErrorKind.TheVariants.{BrokenPipe}
 use Rattle.binfarce_command.specs.declared.fault.Fault.{Fault}
-use Rattle.binfarce_command.specs.declared.fault.Fault.TheVariants.{Write, Missing, Grown}
+use Rattle.binfarce_command.specs.Faults.{is_write}
+use Rattle.binfarce_command.specs.declared.fault.Fault.TheVariants.{Missing, Grown}
 use Rattle.binfarce_figures.specs.declared.diff.Growth.{Growth}
 use Rattle.binfarce_words.specs.declared.words.Wrong.{Wrong}
 use Rattle.binfarce_words.specs.declared.words.Wrong.TheVariants.{OutOfMemory}
@@ -38,5 +39,4 @@ fault_status fault = 1
 abbrev pub status_of : Result Bool Fault → Option ErrorKind → ℕ
 status_of (Ok true) reason = 0
 status_of (Ok false) reason = 1
-status_of (Err Write) reason = write_status reason
-status_of (Err fault) reason = fault_status fault
+status_of (Err fault) reason = if is_write fault then write_status reason else fault_status fault

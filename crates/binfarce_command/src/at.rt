@@ -1,16 +1,16 @@
 //! `binfarce at [OPTION..] FILE [ADDRESS..]`: the function symbol at each address, in lines or in a text.
 
-ghost use Rattle.std.specs.Prelude.{◌≡◌, ◌≢◌, ℕ, List, Option, true, false, map, Some, Err, IfErr};
+ghost use Rattle.std.specs.Prelude.{◌≡◌, ◌≢◌, ℕ, List, Option, true, false, map, Some, IfErr};
 ghost use Rattle.binfarce_addresses.specs.Lines.{AreLinesAt};
+ghost use Rattle.binfarce_tables.specs.Reading.{Reads};
 ghost use Rattle.binfarce_tools.specs.Listing.{ListingFits};
-ghost use Rattle.binfarce_tools.specs.Selection.{answer_in, share_in, MemoryIn};
+ghost use Rattle.binfarce_tools.specs.Answer.{addresses_are_shared, selected_answer, MemoryIn};
 ghost use Rattle.binfarce_tools.specs.Tables.{AreTablesOf};
 ghost use Rattle.binfarce_tools.specs.declared.SymbolTable.{SymbolTable};
-ghost use Rattle.binfarce_tools.specs.Writing.{ProgramEndsAs, Takes, Fails, Leaves};
-ghost use Rattle.binfarce_command.specs.At.{AnswersInput, HasPlaces, IsShared, lines_outcome, addresses_of, share_addresses};
-ghost use Rattle.binfarce_command.specs.Faults.{outcome_of};
+ghost use Rattle.binfarce_tools.specs.Writing.{ProgramEndsAs, Takes, Fails, Leaves, write_failed};
+ghost use Rattle.binfarce_command.specs.At.{AnswersInput, HasPlaces, IsShared, lines_outcome, addresses_of, is_elf, linked_and_origin, share_addresses};
+ghost use Rattle.binfarce_command.specs.Faults.{failure, outcome_of};
 ghost use Rattle.binfarce_command.specs.Show.{MemoryFor, answer_for};
-ghost use Rattle.binfarce_command.specs.declared.fault.Fault.TheVariants.{Input, Write as Unwritten};
 ghost use Rattle.binfarce_words.specs.WordViews.{Gives};
 
 use crate::fault::Fault;
@@ -19,7 +19,11 @@ use binfarce_addresses::annotate::annotate_stream;
 use binfarce_addresses::at::{Places, write_lines};
 use binfarce_addresses::stream::answer_lines;
 use binfarce_addresses::{Lookup, parse_address};
+use binfarce_bytes::format::Format;
 use binfarce_bytes::source::Source;
+use binfarce_tables::ReadError;
+use binfarce_tables::format::read_format;
+use binfarce_tables::loading::read_load_address;
 use binfarce_tools::list::Sink;
 use binfarce_tools::tables::Tables;
 use binfarce_words::words::Wrong;
@@ -72,7 +76,6 @@ pub fn answer_all<S: Source<Log = ()>, K: Sink>(
     ensures takes { (file : List ℕ) → S.bytes source.now ≡ Some file
         → Takes (AreLinesAt lookup.entry addresses.now)
         (answer_for symbols.now file) (K.taken out.old) (K.taken out.new) (outcome_of result) }
-    ensures of_file { result ≢ Err Input }
     ensures fails { Fails (K.has_failed out.old) (K.has_failed out.new) (outcome_of result) }
     ensures leaves { Leaves out.old out.new (outcome_of result) }
 {
@@ -81,13 +84,41 @@ pub fn answer_all<S: Source<Log = ()>, K: Sink>(
     Ok(write_lines(alloc, &places, lookup, addresses, out)?)
 }
 
+/// The address that the file itself says it is loaded at, which is that of the base, 0 if it says none; and the address
+/// in the file that an offset of 0 after its name means. Of the source it reads headers alone.
+///
+/// # Errors
+///
+/// Those of `read_format` and `read_load_address`.
+pub fn load_addresses_of<S: Source<Log = ()>>(
+    alloc: Global,
+    source: &S,
+) -> Result<(u64, u64), ReadError>
+    ensures { (file : List ℕ) → S.bytes source.now ≡ Some file
+        → Reads (S.may_fail source.now) (λ both. both) (linked_and_origin file) result }
+{
+    let format = read_format(alloc, source, &mut ())?;
+    let elf = is_elf(&format);
+    let address = read_load_address(alloc, source, &mut (), format)?;
+    let linked = address.unwrap_or(0);
+    Ok((linked, if elf { 0 } else { linked }))
+}
+
+fn is_elf(format: &Format) -> bool
+    ensures { result ≡ is_elf format.now }
+{
+    match format {
+        Format::Elf32 { .. } | Format::Elf64 { .. } => true,
+        _ => false,
+    }
+}
+
 // The places of the function symbols.
 fn places_of<'a>(alloc: Global, tables: &'a Tables<'_>) -> Result<Places<'a>, Fault>
     ensures has { (which : SymbolTable) (file : List ℕ) (section : Option (List ℕ))
         → AreTablesOf which file section tables.entry.now
-        → HasPlaces (share_in which file section) (MemoryIn file section) (answer_in which file section) result }
-    ensures of_file { IfErr result (λ e. e ≢ Input) }
-    ensures unwritten { IfErr result (λ e. e ≢ Unwritten) }
+        → HasPlaces (addresses_are_shared (selected_answer which section file)) (MemoryIn file section) (selected_answer which section file) result }
+    ensures unwritten { IfErr result (λ e. failure e ≢ write_failed) }
 {
     let places = Places::of_tables(alloc, tables)?;
     if tables.shares_addresses() {

@@ -2,7 +2,9 @@
 
 ghost use Rattle.std.specs.Prelude.{◌≡◌};
 ghost use Rattle.std.specs.IoError.{error_kind};
+ghost use Rattle.binfarce_command.specs.Faults.{is_of_file, is_write};
 
+use crate::foreign::Foreign;
 use binfarce_bytes::ParseError;
 use binfarce_filtering::stream::StreamError;
 use binfarce_sections::error::SectionError;
@@ -11,38 +13,48 @@ use binfarce_tools::list::ListError;
 use binfarce_tools::report::ReportError;
 use std::alloc::AllocError;
 use std::error::Error;
-use std::fmt;
-use std::io::{self, ErrorKind};
+use std::{fmt, io};
 
 /// Why a file's result was not written, or not all of it.
-#[derive(Debug, Clone, Copy, PartialEq)]
+#[derive(Debug, PartialEq, Drop)]
 pub enum Fault {
-    /// The file can't be opened or read.
-    Unreadable,
-    /// Standard input can't be read.
-    Input,
-    /// An allocation failed.
-    OutOfMemory,
-    /// A write failed.
-    Write,
-    /// The file's first bytes name no supported format.
-    Unknown,
-    /// The reader of the file's format refused it.
-    Parse(ParseError),
-    /// The sum of all sizes exceeds 64 bits.
-    TooLarge,
-    /// No section has this name.
-    NoSection,
-    /// The section has no bytes in the file.
-    NoBytes,
-    /// The section's bytes end past the file.
-    PastEnd,
+    /// The function symbols were not listed or summed.
+    Report(ReportError),
+    /// The file was not read, or its sections were not written.
+    Section(SectionError),
+    /// Standard input was not passed on.
+    Stream(StreamError),
+    /// The file is recognized, and no reader reads it.
+    Unsupported(Foreign),
+    /// The name of the file isn't UTF-8.
+    NotUtf8,
     /// The sections of an object file share addresses, so one has to be named.
     SharedAddresses,
     /// This many lines of standard input have no address; all lines were answered.
     Missing(u64),
     /// The sum grew by so many bytes, more than is allowed.
     Grown(u64),
+}
+
+impl Fault {
+    /// Whether a write failed.
+    pub fn is_write(&self) -> bool
+        ensures { result ≡ is_write self.now }
+    {
+        matches!(
+            self,
+            Fault::Report(ReportError::Write)
+                | Fault::Section(SectionError::Write)
+                | Fault::Stream(StreamError::Write)
+        )
+    }
+
+    /// Whether a file is refused for it: not a failed write, and no fault of the whole call.
+    pub fn is_of_file(&self) -> bool
+        ensures { result ≡ is_of_file self.now }
+    {
+        !self.is_write() && !matches!(self, Fault::Missing(_) | Fault::Grown(_))
+    }
 }
 
 impl fmt::Display for Fault {
@@ -53,28 +65,13 @@ impl fmt::Display for Fault {
 
     fn fmt<W: fmt::Write>(&self, f: &mut fmt::Formatter<W>) -> fmt::Result {
         match self {
-            Fault::Unreadable => write!(f, "{}", SectionError::Unreadable),
-            Fault::Input => write!(f, "read failed"),
-            Fault::OutOfMemory => write!(f, "{}", ReportError::OutOfMemory),
-            Fault::Write => write!(f, "{}", ReportError::Write),
-            Fault::Unknown => write!(f, "{}", ReportError::Unknown),
-            Fault::Parse(ParseError::SectionIsMissing(".symtab")) => write!(
-                f,
-                "no symbol table (.symtab); --dynamic lists its dynamic symbols"
-            ),
-            Fault::Parse(ParseError::SectionIsMissing(".dynsym")) => write!(
-                f,
-                "no dynamic symbol table (.dynsym)"
-            ),
-            Fault::Parse(ParseError::SymbolsSectionIsMissing) => write!(
-                f,
-                "no such section; binfarce section lists those of an ELF file; in others .text is the code"
-            ),
-            Fault::Parse(e) => write!(f, "{e}"),
-            Fault::TooLarge => write!(f, "{}", ReportError::TooLarge),
-            Fault::NoSection => write!(f, "{}", SectionError::NoSection),
-            Fault::NoBytes => write!(f, "{}", SectionError::NoBytes),
-            Fault::PastEnd => write!(f, "{}", SectionError::PastEnd),
+            Fault::Report(ReportError::Parse(e)) => write!(f, "{}", Refused(*e)),
+            Fault::Section(SectionError::Parse(e)) => write!(f, "{}", Refused(*e)),
+            Fault::Report(e) => write!(f, "{e}"),
+            Fault::Section(e) => write!(f, "{e}"),
+            Fault::Stream(e) => write!(f, "{e}"),
+            Fault::Unsupported(kind) => write!(f, "{kind}"),
+            Fault::NotUtf8 => write!(f, "not UTF-8"),
             Fault::SharedAddresses => write!(
                 f,
                 "its sections share addresses; --section=NAME takes one of them"
@@ -88,13 +85,43 @@ impl fmt::Display for Fault {
 
 impl Error for Fault {}
 
+// A refusal of a reader, in words that say what would help.
+#[derive(Debug, Clone, Copy)]
+struct Refused(ParseError);
+
+impl fmt::Display for Refused {
+    ghost use Rattle.std.specs.Prelude.{Some};
+    ghost use Rattle.binfarce_bytes.specs.Refusal.{refusal_of};
+    ghost use Rattle.binfarce_command.specs.FaultWords.{refused_words};
+
+    ghost output = { λ r. Some (refused_words (refusal_of r.0)) };
+
+    fn fmt<W: fmt::Write>(&self, f: &mut fmt::Formatter<W>) -> fmt::Result {
+        match self.0 {
+            ParseError::SectionIsMissing(".symtab") => write!(
+                f,
+                "no symbol table (.symtab): it is stripped"
+            ),
+            ParseError::SectionIsMissing(".dynsym") => write!(
+                f,
+                "no dynamic symbol table (.dynsym)"
+            ),
+            ParseError::SymbolsSectionIsMissing => write!(
+                f,
+                "no such section; binfarce section lists those of an ELF file; in others .text is the code"
+            ),
+            e => write!(f, "{e}"),
+        }
+    }
+}
+
 impl From<AllocError> for Fault {
-    ghost use Rattle.binfarce_command.specs.declared.fault.Fault.TheVariants.{OutOfMemory};
+    ghost use Rattle.binfarce_command.specs.Faults.{no_memory_fault};
 
-    ghost from_gives = { λ _ f. f ≡ OutOfMemory };
+    ghost from_gives = { λ _ f. f ≡ no_memory_fault };
 
-    fn from(_: AllocError) -> Self {
-        Fault::OutOfMemory
+    fn from(e: AllocError) -> Self {
+        Fault::Report(ReportError::from(e))
     }
 }
 
@@ -103,12 +130,8 @@ impl From<io::Error> for Fault {
 
     ghost from_gives = { λ e f. f ≡ io_fault (error_kind e) };
 
-    /// A failed allocation becomes `OutOfMemory`, and any other error becomes `Unreadable`.
     fn from(e: io::Error) -> Self {
-        match e.kind() {
-            ErrorKind::OutOfMemory => Fault::OutOfMemory,
-            _ => Fault::Unreadable,
-        }
+        Fault::from(ReadError::from(e))
     }
 }
 
@@ -118,11 +141,7 @@ impl From<ReadError> for Fault {
     ghost from_gives = { λ e f. f ≡ read_fault e };
 
     fn from(e: ReadError) -> Self {
-        match e {
-            ReadError::Refused(e) => Fault::Parse(e),
-            ReadError::Unreadable => Fault::Unreadable,
-            ReadError::OutOfMemory => Fault::OutOfMemory,
-        }
+        Fault::Section(SectionError::from(e))
     }
 }
 
@@ -132,55 +151,36 @@ impl From<ListError> for Fault {
     ghost from_gives = { λ e f. f ≡ list_fault e };
 
     fn from(e: ListError) -> Self {
-        Fault::from(ReportError::from(e))
+        Fault::Report(ReportError::from(e))
     }
 }
 
 impl From<ReportError> for Fault {
-    ghost use Rattle.binfarce_command.specs.Faults.{report_fault};
+    ghost use Rattle.binfarce_command.specs.declared.fault.Fault.TheVariants.{Report};
 
-    ghost from_gives = { λ e f. f ≡ report_fault e };
+    ghost from_gives = { λ e f. f ≡ Report e };
 
     fn from(e: ReportError) -> Self {
-        match e {
-            ReportError::Unknown => Fault::Unknown,
-            ReportError::Parse(e) => Fault::Parse(e),
-            ReportError::OutOfMemory => Fault::OutOfMemory,
-            ReportError::TooLarge => Fault::TooLarge,
-            ReportError::Write => Fault::Write,
-        }
+        Fault::Report(e)
     }
 }
 
 impl From<SectionError> for Fault {
-    ghost use Rattle.binfarce_command.specs.Faults.{section_fault};
+    ghost use Rattle.binfarce_command.specs.declared.fault.Fault.TheVariants.{Section};
 
-    ghost from_gives = { λ e f. f ≡ section_fault e };
+    ghost from_gives = { λ e f. f ≡ Section e };
 
     fn from(e: SectionError) -> Self {
-        match e {
-            SectionError::Unknown => Fault::Unknown,
-            SectionError::Parse(e) => Fault::Parse(e),
-            SectionError::NoSection => Fault::NoSection,
-            SectionError::NoBytes => Fault::NoBytes,
-            SectionError::PastEnd => Fault::PastEnd,
-            SectionError::OutOfMemory => Fault::OutOfMemory,
-            SectionError::Write => Fault::Write,
-            SectionError::Unreadable => Fault::Unreadable,
-        }
+        Fault::Section(e)
     }
 }
 
 impl From<StreamError> for Fault {
-    ghost use Rattle.binfarce_command.specs.Faults.{stream_fault};
+    ghost use Rattle.binfarce_command.specs.declared.fault.Fault.TheVariants.{Stream};
 
-    ghost from_gives = { λ e f. f ≡ stream_fault e };
+    ghost from_gives = { λ e f. f ≡ Stream e };
 
     fn from(e: StreamError) -> Self {
-        match e {
-            StreamError::Read => Fault::Input,
-            StreamError::Write => Fault::Write,
-            StreamError::OutOfMemory => Fault::OutOfMemory,
-        }
+        Fault::Stream(e)
     }
 }

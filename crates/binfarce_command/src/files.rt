@@ -1,16 +1,18 @@
 //! Runs a command on files, one after the other.
 
-ghost use Rattle.std.specs.Prelude.{◌≡◌, [], ◌∷◌, ℕ, Bool, List, true, Option, Some, None, map, nat_lt, length, IfErr, IfOk, IfSome, MatchOption};
-ghost use Rattle.binfarce_command.specs.Files.{Refused, Reports, AreHeld, asked_files, IsUnreadable, ReportsWhy, ShowsAll, ShowsSource, ShowsOne, heading};
+ghost use Rattle.std.specs.Prelude.{◌≡◌, ◌⊎◌, [], ◌∷◌, ℕ, Bool, List, true, Option, Some, None, map, nat_lt, length, IfErr, IfOk, IfSome, MatchOption};
+ghost use Rattle.binfarce_command.specs.Files.{Refused, Reports, AreHeld, asked_files, ReportsWhy, ShowsAll, ShowsSource, ShowsOne, heading};
 ghost use Rattle.binfarce_command.specs.Output.{pending, state_of, taken, writer_of};
-ghost use Rattle.binfarce_command.specs.Input.{IsReadOf, bytes_of, may_fail_of};
+ghost use Rattle.binfarce_command.specs.Foreign.{foreign_in};
+ghost use Rattle.binfarce_command.specs.Input.{IsForeign, IsReadOf, IsUnreadable, bytes_of, may_fail_of};
 
 use crate::fault::Fault;
-use crate::hint::{Hint, completed, refusal_hint};
+use crate::hint::{Hint, completed, refusal_hints};
 use crate::input::OpenFile;
 use crate::output::Output;
 use crate::show::{Request, show};
 use binfarce_bytes::source::Source;
+use binfarce_sections::error::SectionError;
 use std::alloc::{AllocError, Global};
 use std::io::{self, Error, Read, Write};
 
@@ -96,9 +98,15 @@ fn show_file<F: Read + Source<Log = ()> + Drop, Y: System<F>, W: Write>(
     };
     let mut hint = None;
     let shown = show_source(alloc, asked, path, &input, &mut hint, out);
-    if let Some(hint) = hint.filter(|_| shown.is_ok()) {
-        system.hint(path, completed(alloc, &input, asked.symbols.which, hint));
-    }
+    let hint = completed(
+        alloc,
+        &input,
+        &asked.symbols,
+        hint,
+        shown.is_ok(),
+        out.len(),
+    );
+    give(system, path, hint);
     reported(alloc, system, path, &input, shown)
 }
 
@@ -130,17 +138,19 @@ fn show_source<S: Source<Log = ()>, W: Write>(
     out.end()
 }
 
-/// Opens the file at this path, and loads it. `None` where it can't be opened or read, which is reported.
+/// Opens the file at this path, and loads it. `None` where it can't be opened or read, or where its first bytes name
+/// what no reader reads, which is reported.
 pub fn open_input<F: Read + Source<Log = ()> + Drop, Y: System<F>>(
     alloc: Global,
     system: &mut Y,
     path: &str,
 ) -> Option<OpenFile<F>>
     ensures input { (file : List ℕ) → Y.bytes_at system.old path.now ≡ Some file → MatchOption result
-        ((fault : Fault) × IsUnreadable (Y.may_fail_at system.old path.now) file fault
+        ((fault : Fault) × (IsForeign file fault ⊎ IsUnreadable (Y.may_fail_at system.old path.now) file fault)
         × Reports (Y.reports system.old) (Y.reports system.new) ((path.now, fault) ∷ []))
         (λ input. (bytes : List ℕ) × IsReadOf file bytes × (bytes_of F.bytes input ≡ Some bytes)
-        × (may_fail_of F.may_fail input ≡ true → Y.may_fail_at system.old path.now ≡ true)) }
+        × (may_fail_of F.may_fail input ≡ true → Y.may_fail_at system.old path.now ≡ true)
+        × (foreign_in file ≡ None)) }
     ensures unchanged { IfSome result (λ _. system.new ≡ system.old) }
     ensures bytes { Y.bytes_at system.new ≡ Y.bytes_at system.old }
     ensures may_fail { Y.may_fail_at system.new ≡ Y.may_fail_at system.old }
@@ -148,7 +158,7 @@ pub fn open_input<F: Read + Source<Log = ()> + Drop, Y: System<F>>(
     let mut input = match system.open(path) {
         Ok(file) => OpenFile::new(file),
         Err(e) => {
-            system.report(path, Fault::Unreadable, Some(e));
+            system.report(path, Fault::Section(SectionError::Unreadable), Some(e));
             return None;
         }
     };
@@ -159,11 +169,23 @@ pub fn open_input<F: Read + Source<Log = ()> + Drop, Y: System<F>>(
     Some(input)
 }
 
+// Gives the hint, if there is one.
+fn give<F: Read + Source<Log = ()>, Y: System<F>>(system: &mut Y, path: &str, hint: Option<Hint>)
+    ensures reports { Y.reports system.new ≡ Y.reports system.old }
+    ensures bytes { Y.bytes_at system.new ≡ Y.bytes_at system.old }
+    ensures may_fail { Y.may_fail_at system.new ≡ Y.may_fail_at system.old }
+{
+    match hint {
+        Some(hint) => system.hint(path, hint),
+        None => {}
+    }
+}
+
 /// Whether the work on a file is done. Why the file is refused is reported.
 ///
 /// # Errors
 ///
-/// Faults that aren't the file's: `Write` and `Missing`.
+/// Faults that aren't the file's.
 pub fn reported<F: Read + Source<Log = ()>, Y: System<F>>(
     alloc: Global,
     system: &mut Y,
@@ -177,14 +199,13 @@ pub fn reported<F: Read + Source<Log = ()>, Y: System<F>>(
 {
     match done {
         Ok(()) => Ok(true),
-        Err(Fault::Write | Fault::Missing(_)) => done.map(|()| true),
-        Err(Fault::Input) => Ok(false),
-        Err(fault) => {
+        Err(fault) if fault.is_of_file() => {
+            let (dynamic, debug) = refusal_hints(alloc, input, &fault);
             system.report(path, fault, input.take_reason());
-            if let Some(hint) = refusal_hint(alloc, input, fault) {
-                system.hint(path, hint);
-            }
+            give(system, path, dynamic);
+            give(system, path, debug);
             Ok(false)
         }
+        Err(fault) => Err(fault),
     }
 }

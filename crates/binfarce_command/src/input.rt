@@ -1,20 +1,22 @@
 //! The input of a command: files and standard input.
 
 ghost use Rattle.std.specs.Prelude.{◌≡◌, ℕ, List, [], Some, None, Ok, is_ok, MatchResult, IfErr};
+ghost use Rattle.binfarce_tables.specs.Reading.{Reads};
+ghost use Rattle.binfarce_command.specs.Foreign.{first_bytes, named_by};
 ghost use Rattle.std.specs.IoError.{error_kind};
-ghost use Rattle.binfarce_command.specs.Input.{Loads, ReadsFirst, ReadsJudged, ReadsRest, bytes_of, file_of, loaded, may_fail_of};
+ghost use Rattle.binfarce_command.specs.Input.{Judges, Loads, ReadsFirst, ReadsJudged, ReadsRest, bytes_of, file_of, loaded, may_fail_of};
 
 use crate::fault::Fault;
+use crate::foreign::{FIRST_LENGTH, named_by};
 use binfarce_bytes::format::{Format, detect_format};
 use binfarce_bytes::source::Source;
+use binfarce_sections::error::SectionError;
+use binfarce_tables::{ReadError, part};
 use binfarce_tools::program::is_read_at_offsets;
 use std::alloc::Global;
 use std::cell::Cell;
 use std::fs::File;
 use std::io::{self, Error, ErrorKind, Read, Stdin};
-
-// How many of a file's first bytes name its format.
-const MAGIC_LENGTH: usize = 8;
 
 /// A file, or standard input.
 #[derive(Drop)]
@@ -67,6 +69,8 @@ impl Source for FileOrStdin {
 pub struct OpenFile<F> {
     file: F,
     bytes: Option<Vec<u8>>,
+    // How many bytes were read of it in order.
+    len: u64,
     reason: Cell<Option<Error>>,
 }
 
@@ -78,8 +82,14 @@ impl<F> OpenFile<F> {
         OpenFile {
             file,
             bytes: None,
+            len: 0,
             reason: Cell::new(None),
         }
+    }
+
+    /// How many bytes were read of it in order.
+    pub fn len(&self) -> u64 {
+        self.len
     }
 
     /// The reason of the last failed read, if any.
@@ -102,12 +112,13 @@ impl<F> OpenFile<F> {
 }
 
 impl<F: Read + Source<Log = ()>> OpenFile<F> {
-    /// Loads the file unless it can be read at offsets: to its end, or only the first 8 bytes where these name no
-    /// format.
+    /// Loads the file unless it can be read at offsets: to its end, or only the first `FIRST_LENGTH` bytes where these
+    /// name no format.
     ///
     /// # Errors
     ///
-    /// `Unreadable` where a read fails, and `OutOfMemory` where an allocation fails.
+    /// `Unsupported` exactly where the first `FIRST_LENGTH` bytes name what no reader reads, and no other byte is read
+    /// then; `Unreadable` where a read fails, and `OutOfMemory` where an allocation fails.
     pub fn load(&mut self, alloc: Global) -> Result<(), Fault>
         ensures { (bytes : List ℕ) → bytes_of F.bytes self.old ≡ Some bytes
             → F.remaining (file_of self.old) ≡ Some bytes
@@ -115,7 +126,7 @@ impl<F: Read + Source<Log = ()>> OpenFile<F> {
             (may_fail_of F.may_fail self.new) result }
     {
         if is_read_at_offsets(self) {
-            return Ok(());
+            return refuse_foreign(&first_bytes(alloc, self)?);
         }
         self.bytes = Some(read_judged(alloc, self)?);
         Ok(())
@@ -129,6 +140,9 @@ impl<F: Read> Read for OpenFile<F> {
 
     fn read(&mut self, buf: &mut [u8]) -> io::Result<usize> {
         let read = self.file.read(buf);
+        if let Ok(count) = read {
+            self.len = self.len.saturating_add(count as u64);
+        }
         self.keep(read)
     }
 }
@@ -157,19 +171,40 @@ impl<F: Source<Log = ()>> Source for OpenFile<F> {
     }
 }
 
-/// The bytes up to the reader's end; only the first 8, with no further read, where these name no format.
+/// The bytes up to the reader's end; only the first `FIRST_LENGTH`, with no further read, where these name no format.
 ///
 /// # Errors
 ///
-/// As `load`.
+/// As `load`, by the same bytes.
 pub fn read_judged<R: Read>(alloc: Global, reader: &mut R) -> Result<Vec<u8>, Fault>
     ensures { ReadsJudged (R.remaining reader.old) (R.remaining reader.new) result }
 {
     let mut bytes = Vec::new(alloc);
     read_first(reader, &mut bytes)?;
+    refuse_foreign(&bytes)?;
     match detect_format(&bytes) {
         Format::Unknown => Ok(bytes),
         _ => read_rest(reader, bytes),
+    }
+}
+
+// The first `FIRST_LENGTH` bytes of a source, or all of a shorter one.
+fn first_bytes<S: Source<Log = ()>>(alloc: Global, source: &S) -> Result<Vec<u8>, ReadError>
+    ensures { (file : List ℕ) → S.bytes source.now ≡ Some file
+        → Reads (S.may_fail source.now) (λ v. v.items) (Ok (first_bytes file)) result }
+{
+    let len = source.length()?;
+    let size = (FIRST_LENGTH as u64).min(len);
+    part(alloc, source, &mut (), 0, size)
+}
+
+// Refuses a file that no reader reads, by its first bytes.
+fn refuse_foreign(first: &[u8]) -> Result<(), Fault>
+    ensures { Judges (named_by first.now) result }
+{
+    match named_by(first) {
+        Some(kind) => Err(Fault::Unsupported(kind)),
+        None => Ok(()),
     }
 }
 
@@ -181,14 +216,15 @@ fn read_rest<R: Read>(reader: &mut R, mut bytes: Vec<u8>) -> Result<Vec<u8>, Fau
     Ok(bytes)
 }
 
-// Reads the first 8 bytes, or all where there are fewer.
+// Reads the first `FIRST_LENGTH` bytes, or all where there are fewer.
+#[tactic(auto, using(crate::proofs::Streams::short_are, crate::proofs::Streams::byte_more))]
 fn read_first<R: Read>(reader: &mut R, bytes: &mut Vec<u8>) -> Result<(), Fault>
     requires { bytes.old.items ≡ [] }
     ensures { ReadsFirst (R.remaining reader.old) (R.remaining reader.new) bytes.new.items result }
 {
     let mut byte = [0; 1];
     for _ in 0..u64::MAX {
-        if bytes.len() >= MAGIC_LENGTH {
+        if bytes.len() >= FIRST_LENGTH {
             return Ok(());
         }
         match reader.read(&mut byte) {
@@ -198,5 +234,5 @@ fn read_first<R: Read>(reader: &mut R, bytes: &mut Vec<u8>) -> Result<(), Fault>
             Err(e) => return Err(Fault::from(e)),
         }
     }
-    Err(Fault::Unreadable)
+    Err(Fault::Section(SectionError::Unreadable))
 }

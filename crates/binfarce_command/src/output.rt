@@ -3,10 +3,12 @@
 ghost use Rattle.std.specs.Prelude.{◌≡◌, [], true, false, IfErr, IfSome, IfNone, OnOk};
 ghost use Rattle.std.specs.Io.KnownBytes.{Keeps};
 ghost use Rattle.binfarce_command.specs.Output.{writer_of, pending, has_failed, taken};
-ghost use Rattle.binfarce_command.specs.declared.fault.Fault.TheVariants.{Write as Unwritten};
+ghost use Rattle.binfarce_command.specs.Faults.{failure};
+ghost use Rattle.binfarce_tools.specs.Writing.{write_failed};
 
 use crate::fault::Fault;
 use binfarce_tools::list::Sink;
+use binfarce_tools::report::ReportError;
 use std::alloc::Global;
 use std::io::{self, Error, ErrorKind, Write};
 
@@ -18,6 +20,8 @@ pub struct Output<W> {
     heading: Vec<u8>,
     // How much of the heading is written.
     done: usize,
+    // How many bytes were written after it.
+    len: u64,
     reason: Option<Error>,
 }
 
@@ -32,6 +36,7 @@ impl<W: Write> Output<W> {
             writer,
             heading: Vec::new(alloc),
             done: 0,
+            len: 0,
             reason: None,
         }
     }
@@ -44,6 +49,12 @@ impl<W: Write> Output<W> {
     {
         self.heading = heading;
         self.done = 0;
+        self.len = 0;
+    }
+
+    /// How many bytes the sink has taken since the last heading.
+    pub fn len(&self) -> u64 {
+        self.len
     }
 
     /// Writes the rest of the heading.
@@ -54,9 +65,10 @@ impl<W: Write> Output<W> {
     pub fn end(&mut self) -> Result<(), Fault>
         ensures kept { Keeps (taken W.contents self.old) (taken W.contents self.new) }
         ensures written { OnOk result ((pending self.new ≡ []) × (has_failed self.new ≡ has_failed self.old)) }
-        ensures fails { IfErr result (λ e. (e ≡ Unwritten) × (has_failed self.new ≡ true)) }
+        ensures fails { IfErr result (λ e. (failure e ≡ write_failed) × (has_failed self.new ≡ true)) }
     {
-        self.write_heading().ok_or(Fault::Write)
+        self.write_heading()
+            .ok_or(Fault::Report(ReportError::Write))
     }
 
     // Writes the rest of the heading.
@@ -100,7 +112,10 @@ impl<W: Write> Sink for Output<W> {
     fn write(&mut self, bytes: &[u8]) -> Option<usize> {
         self.write_heading()?;
         match self.writer.write(bytes) {
-            Ok(n) if n > 0 => Some(n),
+            Ok(n) if n > 0 => {
+                self.len = self.len.saturating_add(n as u64);
+                Some(n)
+            }
             Ok(_) => {
                 self.reason = Some(Error::from(ErrorKind::WriteZero));
                 None

@@ -1,16 +1,15 @@
 //! Shows the function symbols of a file: as a listing, as sums by crate, or as a picture.
 
-ghost use Rattle.std.specs.Prelude.{◌≡◌, ◌≢◌, ℕ, List, Option, true, Some, Err, IfOk, IfSome};
+ghost use Rattle.std.specs.Prelude.{◌≡◌, ℕ, List, Option, true, Some, IfOk};
 ghost use Rattle.binfarce_bytes.specs.Selection.{section_of};
 ghost use Rattle.binfarce_tools.specs.Json.{style_of};
-ghost use Rattle.binfarce_tools.specs.Selection.{answer_in, MemoryIn};
+ghost use Rattle.binfarce_tools.specs.Answer.{selected_answer, MemoryIn};
 ghost use Rattle.binfarce_tools.specs.Tables.{AreTablesOf, ReadsAs};
 ghost use Rattle.binfarce_tools.specs.declared.SymbolTable.{SymbolTable};
 ghost use Rattle.binfarce_tools.specs.Writing.{EndsAs, Takes, Fails, Leaves};
 ghost use Rattle.binfarce_command.specs.Faults.{outcome_of};
 ghost use Rattle.binfarce_command.specs.Hints.{IsHintOn};
-ghost use Rattle.binfarce_command.specs.Show.{AreTablesFor, Fits, IsTextOf, MayEnd, TakesText, answer_for, is_taken, style_for};
-ghost use Rattle.binfarce_command.specs.declared.fault.Fault.TheVariants.{Input};
+ghost use Rattle.binfarce_command.specs.Show.{AreTablesFor, Fits, IsTextOf, MayEnd, TakesText, answer_for, is_summed, is_taken, style_for};
 
 use crate::fault::Fault;
 use crate::hint::{Hint, hint_on};
@@ -46,6 +45,15 @@ pub enum Kind {
     Picture,
     /// As stacks.
     Stacks,
+}
+
+impl Kind {
+    // Whether whole sizes are summed, so that symbols which overlap count twice.
+    fn is_summed(self) -> bool
+        ensures { result ≡ is_summed self }
+    {
+        matches!(self, Kind::Sums)
+    }
 }
 
 /// Which function symbols of a file are taken.
@@ -139,7 +147,6 @@ pub fn show<S: Source<Log = ()>, K: Sink>(
         → MayEnd (S.may_fail source.now ≡ true) asked.now file (outcome_of result) }
     ensures takes { (file : List ℕ) → S.bytes source.now ≡ Some file
         → TakesText asked.now path.now file (K.taken out.old) (K.taken out.new) (outcome_of result) }
-    ensures of_file { result ≢ Err Input }
     ensures fails { Fails (K.has_failed out.old) (K.has_failed out.new) (outcome_of result) }
     ensures leaves { Leaves out.old out.new (outcome_of result) }
 {
@@ -162,20 +169,19 @@ fn show_section<K: Sink>(
     out: &mut K,
 ) -> Result<(), Fault>
     ensures outcome { (which : SymbolTable) (file name : List ℕ) → AreTablesOf which file (Some name) tables.now
-        → EndsAs (Fits kind) (MemoryIn file (Some name)) (answer_in which file (Some name)) (outcome_of result) }
+        → EndsAs (Fits kind) (MemoryIn file (Some name)) (selected_answer which (Some name) file) (outcome_of result) }
     ensures takes { (which : SymbolTable) (file name : List ℕ) → AreTablesOf which file (Some name) tables.now
-        → Takes (IsTextOf kind path.now (style_of form.entry) which file (Some name))
-        (answer_in which file (Some name)) (K.taken out.old) (K.taken out.new) (outcome_of result) }
+        → Takes (IsTextOf kind path.now (style_of form.entry))
+        (selected_answer which (Some name) file) (K.taken out.old) (K.taken out.new) (outcome_of result) }
     ensures hint { (which : SymbolTable) (file name : List ℕ) → AreTablesOf which file (Some name) tables.now
-        → IfOk result (λ _. IfSome hint.new (IsHintOn which file name)) }
-    ensures of_file { result ≢ Err Input }
+        → IfOk result (λ _. IsHintOn which file name (is_summed kind) hint.new) }
     ensures fails { Fails (K.has_failed out.old) (K.has_failed out.new) (outcome_of result) }
     ensures leaves { Leaves out.old out.new (outcome_of result) }
 {
     let (functions, size) = tables.functions(alloc)?.into_list();
     let list: Vec<SectionFunction<'_>> = functions.all.collect(alloc)?;
     let size = size.unwrap_or(0);
-    *hint = hint_on(&list, size, kind == Kind::Sums);
+    *hint = hint_on(&list, size, kind.is_summed());
     let made = Tables::Made {
         functions: list,
         size,
@@ -194,12 +200,11 @@ fn show_tables<K: Sink>(
 ) -> Result<(), Fault>
     ensures outcome { (which : SymbolTable) (file : List ℕ) (section : Option (List ℕ))
         → AreTablesOf which file section tables.now
-        → EndsAs (Fits kind) (MemoryIn file section) (answer_in which file section) (outcome_of result) }
+        → EndsAs (Fits kind) (MemoryIn file section) (selected_answer which section file) (outcome_of result) }
     ensures takes { (which : SymbolTable) (file : List ℕ) (section : Option (List ℕ))
         → AreTablesOf which file section tables.now
-        → Takes (IsTextOf kind path.now (style_of form.entry) which file section)
-        (answer_in which file section) (K.taken out.old) (K.taken out.new) (outcome_of result) }
-    ensures of_file { result ≢ Err Input }
+        → Takes (IsTextOf kind path.now (style_of form.entry))
+        (selected_answer which section file) (K.taken out.old) (K.taken out.new) (outcome_of result) }
     ensures fails { Fails (K.has_failed out.old) (K.has_failed out.new) (outcome_of result) }
     ensures leaves { Leaves out.old out.new (outcome_of result) }
 {

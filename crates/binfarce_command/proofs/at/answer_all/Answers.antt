@@ -13,14 +13,15 @@ use Rattle.binfarce_command.proofs.at.answer_all.Goals as goal
 pub returns-in_err-tables-clause-shared : goal.returns-in_err-tables-clause-shared
 returns-in_err-tables-clause-shared g c = λ file is shared.
     let symbols = c.args.symbols.now in
-    shared_unread (AreTablesFor symbols file) (g.S.Source.may_fail c.args.source.now ≡ true) symbols.which file (section_of symbols.selection) c.in_err-tables.field-0.0 c.from_residual.result
+    shared_unread (AreTablesFor symbols file) (g.S.Source.may_fail c.args.source.now ≡ true) (answer_for symbols file) c.in_err-tables.field-0.0 c.from_residual.result
     shared (c.in_err-tables.ensures file is) c.from_residual.ensures.1
 
 pub returns-in_err-places-clause-shared : goal.returns-in_err-places-clause-shared
 returns-in_err-places-clause-shared g c = λ file is shared.
     let symbols = c.args.symbols.now in
-    shared_places (g.S.Source.may_fail c.args.source.now ≡ true) symbols.which file (section_of symbols.selection) (MemoryFor symbols file) c.in_err-places.field-0.0 c.from_residual-in_err-places.result
-    shared (c.in_err-places.ensures.has symbols.which file (section_of symbols.selection) (c.in_ok-tables.ensures file is).0) c.from_residual-in_err-places.ensures.1
+    let are = c.in_ok-tables.ensures file is in
+    shared_places (g.S.Source.may_fail c.args.source.now ≡ true) (MemoryFor symbols file) (answer_for symbols file) c.in_err-places.field-0.0 c.from_residual-in_err-places.result
+    shared (places_for symbols file c.in_ok-tables.tables (Err c.in_err-places.field-0.0) are (c.in_err-places.ensures.has symbols.which file (section_of symbols.selection) are.0)) c.from_residual-in_err-places.ensures.1
 
 pub returns-in_err-places-clause-fails : goal.returns-in_err-places-clause-fails
 returns-in_err-places-clause-fails g c = still_so (g.K.Sink.has_failed c.args.out.now) c.in_err-places.field-0.0 c.from_residual-in_err-places.result c.from_residual-in_err-places.ensures.1 c.in_err-places.ensures.unwritten

@@ -4,7 +4,6 @@ use Rattle.binfarce_command.specs.Output.{pending, state_of, taken, writer_of}
 use Rattle.binfarce_command.specs.Input.{may_fail_of}
 use Rattle.binfarce_command.proofs.FileFates.{came_to, unopened}
 use Rattle.binfarce_command.proofs.files.show_file.Goals as goal
-use Rattle.binfarce_command.proofs.files.show_file.Goals.{in-Some-filter, in_default-filter}
 
 pub returns-clause-shows : goal.returns-clause-shows
 returns-clause-shows g c = λ held is.
@@ -14,12 +13,9 @@ returns-clause-shows g c = λ held is.
     let new = state_of g.W.Write.contents c.show_source-shown.new.out (g.Y.System.reports c.reported.new.system) in
     let old = taken g.W.Write.contents c.args.out.now in
     let read = c.in-Some.ensures.input (held path) is in
-    let kept : g.Y.System.reports c.match-filter.system ≡ g.Y.System.reports c.open_input.new.system = elim c.match-filter.branch [
-      | in-Some-filter w ↦ ap g.Y.System.reports w.system-is ∙ w.hint.ensures.reports
-      | in_default-filter w ↦ ap g.Y.System.reports w.system-is
-    ] in
+    let kept : g.Y.System.reports c.give.new.system ≡ g.Y.System.reports c.open_input.new.system = c.give.ensures.reports in
     let one = came_to files path (record { bytes = g.W.Write.contents (writer_of begun); taken = old; reports = g.Y.System.reports c.open_input.new.system }) new read.0 (pending begun)
-    (may_fail_of g.F.Source.may_fail c.in-Some.input ≡ true) read.1 read.3 (c.begin.ensures.pending ∙ c.in_ok-heading.ensures) c.show_source-shown.result c.reported.result (c.show_source-shown.ensures read.0 read.2)
+    (may_fail_of g.F.Source.may_fail c.in-Some.input ≡ true) read.1 read.3 (c.begin.ensures.pending ∙ c.in_ok-heading.ensures) read.4 c.show_source-shown.result c.reported.result (c.show_source-shown.ensures read.0 read.2)
     (subst (λ (before : Option (List Refused)). ReportsWhy path before (g.Y.System.reports c.reported.new.system) c.show_source-shown.result c.reported.result) kept c.reported.ensures.reports) in
     subst (λ (before : Option (List Refused)). ShowsOne files path (record { bytes = g.W.Write.contents (writer_of c.args.out.now); taken = old; reports = before }) new c.reported.result) (ap g.Y.System.reports c.in-Some.ensures.unchanged)
     (subst (λ (bytes : Option (List ℕ)). ShowsOne files path (record { bytes = bytes; taken = old; reports = g.Y.System.reports c.open_input.new.system }) new c.reported.result) (ap g.W.Write.contents c.begin.ensures.writer) one)

@@ -101,6 +101,7 @@ outputs = {command: pathlib.Path(f"crates/binfarce_{command}/stdout").read_text(
 unknown, ended, unread, exhausted = "unknown file format", "unexpected end of file", "cannot read file", "out of memory"
 no_section = "no such section; binfarce section lists those of an ELF file; in others .text is the code"
 lacks, not_there, is_folder = "symbols section is missing", "No such file or directory", "Is a directory"
+is_text = "a text; `binfarce filter <FILE` shows it with readable names"
 for command, output in outputs.items():
     program = f"binfarce-{command}"
     fails(f"{program}: write failed", 1, f"{program}: write failed", program, sample)
@@ -129,7 +130,7 @@ for command, output in outputs.items():
     fails(full, 0, "", *call, sample)
     reads(output, *call)
     ends(0, output, "", *call, "--", "-", given=sample)
-    for path, line in ((scratch, is_folder), (missing, not_there), (of_sys, unknown), ("/dev/null", unknown), ("/dev/zero", unknown)):
+    for path, line in ((scratch, is_folder), (missing, not_there), (of_sys, is_text), ("/dev/null", unknown), ("/dev/zero", unknown)):
         ends(1, "", f"binfarce: {path}: {line}", *call, path)
     usage = printed(folder / "binfarce", command, "--help")
     ends(0, usage, "", "binfarce", "help", command)
@@ -142,6 +143,9 @@ for command, output in outputs.items():
         ends(0, shown * 2, "", *call, sample, sample)
         ends(1, f"{shown}\n{blanks}:\n{output}", f"{lost}\nbinfarce: {begun}: {ended}", *call, missing, sample, begun, blanks)
         ends(1, shown, f"binfarce: {scratch}: {is_folder}", *call, sample, scratch)
+        # A name that isn't UTF-8 is refused by its position.
+        ends(1, f"{shown}\n{blanks}:\n{output}", "binfarce: argument 3: not UTF-8", *call, sample, b"\xff" * 9_000, blanks)
+        ends(1, '{"file":"argument 3","error":"not UTF-8"}\n', "binfarce: argument 3: not UTF-8", *call, "--json", b"\xff")
         for error, line in ((errno.EIO, "Input/output error"), (errno.ENOMEM, exhausted)):
             lines, under = f"binfarce: /dev/null: {unknown}\nbinfarce: {sample}: {line}", broken(READ=4, PREADS=0, ERROR=error)
             ends(1, "", lines, *call, "/dev/null", sample, under=under)
@@ -156,8 +160,14 @@ version = re.search(r'^version = "(.*)"$', pathlib.Path("rust/Cargo.toml").read_
 ends(0, f"binfarce {version}\n", "", "binfarce", "--version")
 ends(0, printed(folder / "binfarce", "--help"), "", "binfarce", "help")
 # Wrong calls, one of each place that refuses them: the texts have contracts.
-for line, *words in (("no command lst; the nearest is list", "lst", sample), ("an argument is not UTF-8", "list", b"\xff"),
-                     ("not an address: 10g", "at", sample, "1000", "10g")):
+for line, *words in (("no command lst; the nearest is list", "lst", sample), ("argument 1 is not UTF-8", b"\xff"),
+                     ("argument 3 is not UTF-8", "list", "--section", b"\xff", sample), ("argument 2 is not UTF-8", "at", b"\xff", "1"),
+                     ("argument 2 is not UTF-8", "filter", b"\xff"), ("argument 2 is not UTF-8", "list", b"--all\xff", "--frob"),
+                     ("not an address: 10g", "at", sample, "1000", "10g"), ("no option --srot of list; the nearest is --sort", "list", "--srot", sample),
+                     ("--by takes crate, function, generic or section, and not crates", "size", "--by=crates", sample),
+                     ("--first takes a number, and not x", "list", "-nx", sample), ("no option -é of list; binfarce list --help shows them", "list", "-é", sample),
+                     ("--percent and --json exclude each other", "size", "--percent", "--json", sample),
+                     ("--json lists sections, and has no form for the bytes of one", "section", "--json", sample, ".text")):
     ends(2, "", f"binfarce: {line}", "binfarce", *words)
 
 # The bytes of a section; a file without its end.
@@ -180,7 +190,7 @@ at = ("binfarce", "at", "--section=.text")
 base, returned = (*at, "--base", "400000", sample), (*at, "--return", "--base=400000", sample)
 found = ((0x1000, "foo+0x0"), (0x1005, "foo+0x5"), (0x100f, "foo+0xf"), (0x1010, "??"), (0xfff, "??"))
 output, moved = ("".join(f"{base + address:016x} {answer}\n" for address, answer in found) for base in (0, 0x400000))
-back = f"{0x401010:016x} foo+0x10\n{0x401001:016x} foo+0x1\n{0x401000:016x} ??\n{0x400000:016x} ??\n"
+back = f"{0x401010:016x} foo+0x10\n{0x401001:016x} foo+0x1\n{0x401000:016x} foo+0x0\n{0x400000:016x} ??\n"
 fails(full, 0, "", *at, sample, "1000")
 ends(0, output, "", *at, "-", "1000", "0x1005", "100f", "1010", "0fff", given=sample)
 rows = [(base, "", ""), *(((*at, path), output, "1000\n0X1005\r\n 100f\n1010\n0fff") for path in same)]
@@ -197,8 +207,38 @@ for under in ((), broken(MOST=1)):
     ends(0, noted, "", *base, "--annotate", given=text, under=under)
     ends(0, noted + b" <foo+0x10>", "", *returned, "--annotate", given=text, under=under)
 fails(full, 0, "", *base, "--annotate", given=text)
+# Where no address that is found is one of a function symbol, it says so.
+missed = f"binfarce: {sample}: no address in a function symbol was found; is --base right?"
+ends(0, f"{0x1000:016x} ??\n{0x1005:016x} ??\n", missed, *base, "1000", "1005")
+ends(0, b"at 0x1000\n", missed, *base, "--annotate", given=b"at 0x1000\n")
+ends(0, "", "", *base, "--annotate", given=b"")
 answers(f"{0x1000:016x} foo+0x0\n", b"1000\n", "at", "--section=.text", sample)
 answers("at 0x401000 <foo+0x0>\n", b"at 0x401000\n", *base[1:], "--annotate")
+# Where a program's own maps load the file, by its name or another; bare words; and offsets, of this file alone.
+maps, text = f"{scratch}/maps", "".join(f"{start}-{start[:-4]}9000 r-xp 00000000 fe:00 110{path}\n" for start, path in
+    (("7f0000001000", "  /lib/other"), ("000000401000", f"  /x/{os.path.basename(sample)}"), ("000000400000", f"  /y z/{os.path.basename(sample)}"), ("7ffc26ab1000", " [stack]"), ("7ffd26ab1000", "")))
+pathlib.Path(maps).write_text(text)
+mapped, renamed = (*at, sample, "--maps", maps), (*at, sample, f"--maps={maps}", "--as=/lib/other")
+ends(0, f"{0x401005:016x} foo+0x5\n", "", *mapped, "401005")
+ends(0, f"{0x7f0000002005:016x} foo+0x5\n", "", *renamed, "7f0000002005")
+ends(2, "", f"binfarce: {maps} maps no file named as {sample}; --as=NAME takes another name", *mapped, "--as=sampl", "401005")
+ends(2, "", f"binfarce: no line of {sample} is one of /proc/PID/maps", *at, sample, "--maps", sample, "401005")
+ends(1, "", f"binfarce: {scratch}/none: No such file or directory", *at, sample, f"--maps={scratch}/none", "401005")
+ends(0, "00401005 <foo+0x5> other+0x1005 other(x+0x1005) libother+0x1005\n".replace("other+0x1005 ", "other+0x1005 <foo+0x5> ", 1), "",
+    *at, sample, "--annotate", "--bare", "--base=400000", "--as=other", given=b"00401005 other+0x1005 other(x+0x1005) libother+0x1005\n")
+ends(2, "", "binfarce: --base and --maps exclude each other", *mapped, "--base=0", "1000")
+ends(2, "", "binfarce: --bare needs --annotate", *at, sample, "--bare", "1000")
+# A file whose segment is in the page at 0x1000 is loaded there; its program headers are read only where that is needed.
+linked, data = f"{scratch}/linked", bytearray(pathlib.Path(sample).read_bytes())
+data[32:40], data[54:58] = len(data).to_bytes(8, "little"), bytes((56, 0, 1, 0))
+data += b"\1" + bytes(15) + 0x1010.to_bytes(8, "little") + bytes(32)
+pathlib.Path(linked).write_bytes(data)
+ends(0, f"{0x400005:016x} foo+0x5\n", "", *at, "--base=400000", linked, "400005")
+ends(0, "linked+0x1005 <foo+0x5> 0x1005 <foo+0x5>\n", "", *at, "--annotate", linked, given=b"linked+0x1005 0x1005\n")
+data[56] = 2
+pathlib.Path(linked).write_bytes(data)
+ends(0, f"{0x1005:016x} foo+0x5\n", "", *at, linked, "1005")
+ends(1, "", f"binfarce: {linked}: {ended}", *at, "--base=400000", linked, "400005")
 for option in ((), ("--annotate",)):
     ends(1, "", "binfarce: standard input: Is a directory", *at, *option, sample, given=scratch)
     ends(1, "", lost, "binfarce", "at", *option, missing, given=b"1000\n")
@@ -214,8 +254,17 @@ for option, starts in (((), [it[0] for it in symbols if names[int(it[2])] == ".t
     assert [it.split()[0] for it in lines] == starts, "other dynamic symbols than those of readelf"
 build_id = re.search("Build ID: (..)(.*)", printed("readelf", "-n", stripped))
 printed("objcopy", "--remove-section=.gnu_debuglink", stripped)
-line = f"{stripped}: no symbol table (.symtab); --dynamic lists its dynamic symbols\nbinfarce: {stripped}: its debug symbols may be in"
-ends(1, "", f"binfarce: {line} /usr/lib/debug/.build-id/{build_id[1]}/{build_id[2]}.debug", "binfarce", "list", stripped)
+line = f"{stripped}: no symbol table (.symtab): it is stripped\nbinfarce: {stripped}: --dynamic --all takes {len(symbols)} function symbols\n"
+line += f"binfarce: {stripped}: its debug symbols may be in /usr/lib/debug/.build-id/{build_id[1]}/{build_id[2]}.debug"
+for words in (["list"], ["size", "--all"], ["map"], ["diff", sample], ["at", "--base=1"]):
+    ends(1, "", f"binfarce: {line}", "binfarce", *words, stripped)
+# With a debug link, and of a program without dynamic function symbols.
+program, line = f"{scratch}/program", f"{scratch}/program: no symbol table (.symtab): it is stripped"
+printed("gcc", "-Wl,--build-id=0x0123456789", "-o", program, "-x", "c", "-", given="int main() { return 0; }")
+printed("strip", program)
+printed("objcopy", f"--add-gnu-debuglink={sample}", program)
+line += f"\nbinfarce: {program}: its debug symbols may be in /usr/lib/debug/.build-id/01/23456789.debug, or in a file {sample.split('/')[-1]}"
+ends(1, "", f"binfarce: {line}", "binfarce", "list", program)
 
 # Listings in an order, of the first lines, and with stored names, as nm has the symbols.
 rows = re.findall(r"(?m)^(\w+) (\w+) [TtWwi] ([^@\s]+)", printed("nm", "-D", "-S", library))
@@ -224,7 +273,7 @@ for order, key in (("address", lambda row: row[0]), ("size", lambda row: (-int(r
     listed = [(it[0], f"{int(it[1]):016x}", it[3]) for it in map(str.split, lines) if it[1] != "0"]
     assert sorted(listed) == sorted(rows) and [*map(key, listed)] == sorted(map(key, rows)), f"another order by {order} than that of nm"
     ends(0, "".join(lines[:9]), "", "binfarce", "list", "--dynamic", "--all", "--raw", f"--sort={order}", "-n", "9", library)
-for name, words in (("foo", "--no-total"), ("foo", "-n 1"), ("_ZN3foo3barE", "--first=9 --raw"), ("foo::bar", "--sort name --full"), ("", "-n 0")):
+for name, words in (("foo", "--no-total"), ("foo", "-n 1"), ("foo", "-n1"), ("foo", "-n=1"), ("_ZN3foo3barE", "--first=9 --raw"), ("foo::bar", "--sort name --full"), ("", "-n 0")):
     ends(0, f"{0x1000:016x} {16:10} {name}\n" if name else "", "", "binfarce", "list", *words.split(), sample)
 
 # The symbols of all sections, in an object file with a section for each function, as nm has them.
@@ -245,11 +294,45 @@ for option in ((), ("--all",)):
 hint = f"binfarce: {file}: no function symbols in the section; --all takes 3 of other sections"
 for command, output in (("list", "text 0\n"), ("size", "sum 0\ntext 0\n")):
     ends(0, output, hint, "binfarce", command, file)
-for magic, line, hint in ((b"!<arch>\n", unknown, "an archive; `ar x FILE` extracts its members"),
-                          (b"\xce\xfa\xed\xfe", no_section, "a Mach-O file of 32 bits"),
-                          (b"\xca\xfe\xba\xbe\0\0\0\2", no_section, "a universal Mach-O file; `lipo -thin ARCHITECTURE FILE` extracts a part")):
-    pathlib.Path(cut_off := f"{scratch}/other").write_bytes(magic + bytes(64))
-    ends(1, "", f"binfarce: {cut_off}: {line}\nbinfarce: {cut_off}: {hint}", "binfarce", "list", cut_off)
+# Of files without a function symbol: an object file, a program by its dynamic symbols, a Mach-O and a PE file without symbols.
+printed("gcc", "-c", "-o", empty := f"{scratch}/empty.o", "-x", "c", "-", given="int x = 3;")
+others = [("no function symbols", empty), ("no function symbols in .dynsym", program, "--dynamic")]
+for name, hint, places in (("macho", "those of a stripped program may be in its .dSYM bundle", [0xc4]), ("pe-image", "those of an MSVC program are in its .pdb file", [0xae, 0xc0])):
+    image = bytearray(pathlib.Path(f"rust/samples/{name}.bin").read_bytes())
+    for place in places:
+        image[place] = 0
+    pathlib.Path(path := f"{scratch}/{name}").write_bytes(image)
+    others.append((f"no function symbols; {hint}", path))
+for hint, path, *option in others:
+    for words, output in ((["list", "--all"], ""), (["list", "--json", "--all"], ""), (["size", "--all"], "sum 0\n"), (["size", "--by=section"], "sum 0\n"),
+                          (["map", "--folded", "--all"], ""), (["list", "-n", "0"], ""), (["list", "--json"], "")):
+        ends(0, output, f"binfarce: {path}: {hint}", "binfarce", *words, *option, path)
+ends(0, f"{1:016x} ??\n", f"binfarce: {program}: no function symbols in .dynsym", "binfarce", "at", "--dynamic", program, "1")
+
+# What no reader reads is refused by every command, by its first bytes, also from a pipe that doesn't end, and as a JSON object.
+thumb, wrapped = b"\xc4\1\1" + bytes(17), b"\xde\xc0\x17\x0b"
+universal, is_32, is_java = "a universal Mach-O file; `lipo -thin ARCHITECTURE FILE` extracts a part", "a Mach-O file of 32 bits; those of 64 are read", "a Java class file; `javap -v FILE` shows it"
+is_coff, is_bitcode = "a COFF object file; the PE file that it is linked into is read", "LLVM bitcode; the file that it is linked into is read"
+foreign = [(universal, b"\xca\xfe\xba\xbe\0\0\0\2"), (universal, b"\xca\xfe\xba\xbe\0\0\0\x2c"), (universal, b"\xca\xfe\xba\xbf\0\0\0\1"),
+           (is_java, b"\xca\xfe\xba\xbe\0\0\0\x2d"), (is_java, b"\xca\xfe\xba\xbe\0\1\0\0"), (is_32, b"\xce\xfa\xed\xfe"), (is_32, b"\xfe\xed\xfa\xce"),
+           ("a big-endian Mach-O file; little-endian ones are read", b"\xfe\xed\xfa\xcf"),
+           ("an archive; `ar x FILE` extracts its members", b"!<arch>\n"),
+           ("a thin archive; its members, which `ar t FILE` lists, are files of their own", b"!<thin>\n"),
+           (is_coff, b"\x64\x86\1\0"), (is_coff, b"\x4c\1"), (is_coff, b"\x64\xaa"), (is_coff, b"\xc0\1"), (is_coff, thumb),
+           ("a PDB file; `llvm-pdbutil dump --publics FILE` shows its symbols", b"Microsoft C/C++ MSF 7.00\r\n\x1aDS"),
+           ("a WebAssembly module; `wasm-objdump -x FILE` shows it", b"\0asm\1"), (is_bitcode, b"BC\xc0\xde"), (is_bitcode, wrapped),
+           ("a script; its first line names the program that runs it", b"#!/bin/sh\n"),
+           (unknown, thumb[:16] + b"\1"), (unknown, b"a text that isn't one\n")]
+calls = [it.split() for it in ("list", "list --all", "list --dynamic --json", "size", "size --by=section", "size --all --json", "map", "map --folded --all",
+                               "at --all {} 1", "section", "section {} .text", "section --json", f"diff {{}} {sample}", f"diff --json {sample}")]
+for line, magic in foreign:
+    pathlib.Path(path := f"{scratch}/other").write_bytes(magic + bytes(600))
+    for command, *words in calls:
+        words = [it.format(path) for it in words] + [path] * ("{}" not in words)
+        object = json.dumps({"file": path, "error": line}, separators=(",", ":")) + "\n" if "--json" in words else ""
+        ends(1, object, f"binfarce: {path}: {line}", "binfarce", command, *words)
+    ends(1, "", f"binfarce: -: {line}", "binfarce", "list", "-", given=magic + bytes(600))
+ends(1, "", f"binfarce: {scratch}/names: {is_text}", "binfarce", "list", "--all", f"{scratch}/names")
 
 # Sums by a key, in which each byte counts once: of functions that overlap, and of a generic function.
 rows = [("_RNvC1a1f", 0, 16), ("_RNvC1a1g", 8, 16), ("_RNvC3std1h", 24, 4), ("c", 28, 2), ("_RINvC1b1fhE", 30, 4), ("_RINvC1b1ftE", 34, 5)]
@@ -261,6 +344,12 @@ for lines, *words in (("24 a|9 b|4 std|2 [unknown]", "--by=crate"), ("39 text", 
     lines = "".join(f"{size:>10} {name}\n" for size, name in (it.split(" ", 1) for it in lines.split("|")))
     ends(0, lines + "sum 39\ntext 40\n", "", "binfarce", "size", *words, old)
 ends(0, f"{39:10} .text\nsum 39\n", "", "binfarce", "size", "--by=section", old)
+# The crates that Rust's standard library alone has, and those that a program may have of its own.
+crates = ("std", "core", "alloc", "proc_macro", "test", "std_detect", "compiler_builtins", "unwind", "panic_abort", "panic_unwind",
+          "rustc_std_workspace_core", "rustc_std_workspace_alloc", "rustc_std_workspace_std", "hashbrown", "libc", "memchr", "object", "gimli")
+many = assembled("crates", 18, *((f"_RNvC{len(name)}{name}1f", at, 1) for at, name in enumerate(crates)))
+lines = "".join(f"{size:10} {name}\n" for size, name in ((13, "[std]"), *((1, name) for name in sorted(crates[13:]))))
+ends(0, lines + "sum 18\ntext 18\n", "", "binfarce", "size", "--std", many)
 lines = "".join(f"{size:10} {name}\n" for size, name in ((2, "[unknown]"), (32, "a"), (9, "b"), (4, "std"))) + "sum 47\ntext 40\n"
 ends(0, lines, f"binfarce: {old}: symbols overlap; --by=crate counts each byte once", "binfarce", "size", old)
 # The same of a library by section, from readelf's rows.
@@ -279,7 +368,11 @@ for words, percent in (((), "{0:.0}"), (("--percent",), "{0:>10} ")):
 lines = f"{0:10} {9:10} {'+9':>11} b\n{32:10} {26:10} {'-6':>11} [2 others]\n{36:10} {39:10} {'+3':>11} [total]\n"
 for limit, status, line in ((3, 0, ""), (2, 3, "binfarce: the sum grew by 3 bytes")):
     ends(status, lines, line, "binfarce", "diff", "-n", "1", "--fail-above", str(limit), new, old)
-for line, path in ((lost, missing), (f"binfarce: {of_sys}: {unknown}", of_sys)):
+# Both files that are refused are reported, in their order.
+for *paths, lines in ((missing, of_sys, f"{lost}\nbinfarce: {of_sys}: {is_text}"), ("/dev/null", missing, f"{lost}\nbinfarce: /dev/null: {unknown}"),
+                      ("/dev/null", byte, f"binfarce: /dev/null: {unknown}\nbinfarce: {byte}: {unknown}")):
+    ends(1, "", lines, "binfarce", "diff", *paths)
+for line, path in ((lost, missing), (f"binfarce: {of_sys}: {is_text}", of_sys)):
     ends(1, "", line, "binfarce", "diff", old, path)
     ends(1, "", line, "binfarce", "diff", path, old)
 
@@ -300,7 +393,7 @@ assert objects("diff", old, new)[0] == {"file": new, "name": "b", "old": 9, "new
 at = ("at", "--section=.text", "--base=0x40", old)
 assert objects(*at, "0x41") == [{"file": old, "address": f"0x{0x41:016x}", "name": "a::f", "offset": 1}]
 assert objects(*at) == [{"file": old, "address": it, "name": None, "offset": None} for it in (f"0x{1:016x}", None)]
-reasons = [{"file": missing, "error": lost.split(": ")[-1]}, {"file": of_sys, "error": unknown}]
+reasons = [{"file": missing, "error": lost.split(": ")[-1]}, {"file": of_sys, "error": is_text}]
 several = ((command, missing, old, of_sys, reasons[:1] + objects(command, old) + reasons[1:]) for command in ("list", "size"))
 for *words, wanted in (*several, ("diff", old, missing, reasons[:1]), ("at", missing, "1", reasons[:1]), ("section", of_sys, reasons[1:])):
     assert objects(*words) == wanted, f"{words}: other refusals in JSON, or in another order"

@@ -1,7 +1,7 @@
 ghost use Rattle.std.specs.Prelude.{◌≡◌, IfOk, Ok, Some, codes};
-ghost use Rattle.binfarce.specs.Symbol.{Listed};
+ghost use Rattle.binfarce.specs.SectionEntries.{SelectedSymbols};
 ghost use Rattle.binfarce_addresses.specs.Lines.{IsLineAt};
-ghost use Rattle.binfarce_tools.specs.Answer.{file_answer};
+ghost use Rattle.binfarce_tools.specs.Answer.{entries_of, file_answer};
 
 use binfarce_addresses::Lookup;
 use binfarce_addresses::at::Places;
@@ -16,8 +16,8 @@ pub fn line_of(
     address: u64,
 ) -> Result<Vec<u8>, ListError>
     ensures { IfOk result
-        (λ line. (listed : Listed) × (file_answer file.now (codes ".text") ≡ Some (Ok listed))
-        × IsLineAt listed.entries lookup.entry address line.items) }
+        (λ line. (selected : SelectedSymbols) × (file_answer file.now (codes ".text") ≡ Some (Ok selected))
+        × IsLineAt (entries_of selected) lookup.entry address line.items) }
 {
     let places = places_of(alloc, file)?;
     let mut line = Vec::new(alloc);
@@ -28,9 +28,9 @@ pub fn line_of(
 /// The places of a file's text.
 pub fn places_of(alloc: Global, file: &[u8]) -> Result<Places<'_>, ListError>
     ensures { IfOk result
-        (λ places. (listed : Listed)
-        × (file_answer file.entry.now (codes ".text") ≡ Some (Ok listed))
-        × (places ≡ listed.entries)) }
+        (λ places. (selected : SelectedSymbols)
+        × (file_answer file.entry.now (codes ".text") ≡ Some (Ok selected))
+        × (places ≡ entries_of selected)) }
 {
     Places::of_file(alloc, file, ".text")
 }

@@ -1,5 +1,5 @@
 ghost use Rattle.std.specs.Prelude.{◌≡◌, IfOk, Ok, Some, codes};
-ghost use Rattle.binfarce.specs.Symbol.{Listed};
+ghost use Rattle.binfarce.specs.SectionEntries.{SelectedSymbols};
 ghost use Rattle.binfarce_tools.specs.Answer.{file_answer};
 ghost use Rattle.binfarce_tools.specs.Listing.{IsListingOf};
 
@@ -9,8 +9,8 @@ use std::alloc::Global;
 /// The listing of the function symbols in `.text`.
 pub fn listing(alloc: Global, file: &[u8]) -> Result<Vec<u8>, ListError>
     ensures { IfOk result
-        (λ text. (listed : Listed) × (file_answer file.now (codes ".text") ≡ Some (Ok listed))
-        × IsListingOf listed text.items) }
+        (λ text. (selected : SelectedSymbols) × (file_answer file.now (codes ".text") ≡ Some (Ok selected))
+        × IsListingOf selected text.items) }
 {
     let mut out = Out::new(Vec::new(alloc));
     list(alloc, file, ".text", &mut out)?;

@@ -360,25 +360,28 @@ macro_rules! reader {
                 Ok((Functions(self.bounded(functions)), size))
             }
 
-            /// Returns an iterator over the function symbols of all sections, each with the index of its section, in the
-            /// order of this symbol table, with their names as the file stores them. Indirect functions (`STT_GNU_IFUNC`)
-            /// count too. Nothing is allocated.
+            /// Returns the function symbols of all sections, each with the index of its section, in the order of this
+            /// symbol table: at their addresses and with their sizes in memory, with their names as the file stores them.
+            /// Indirect functions (`STT_GNU_IFUNC`) count too. A function of size 0, such as `_start`, ends at the next
+            /// greater address of a symbol of its section, or with the section. In a file for Arm, bit 0 of a function's
+            /// value, which marks Thumb code, is cleared.
             ///
             /// # Errors
             ///
             /// In this order: [`ParseError::UnexpectedEof`] where the section header table doesn't begin in the file or a
-            /// section header is truncated; those of `functions` or `dynamic_functions` from the missing symbol table on.
+            /// section header is truncated; those of `functions` or `dynamic_functions` from the missing symbol table on;
+            /// [`Error::OutOfMemory`] where an allocation failed.
             ///
             /// # Examples
             ///
             /// ```
             #[doc = crate::elf::opened!($erased)]
             /// let functions = elf.all_functions(binfarce::SymbolTable::Symtab)?;
-            /// assert_eq!(functions.map(|it| (it.section, it.function.name)).collect::<Vec<_>>(), [(1, "_ZN3foo3barE"), (2, "bad")]);
+            /// assert_eq!(functions.iter().map(|it| (it.section, it.function.size)).collect::<Vec<_>>(), [(1, 16), (2, 16), (1, 0)]);
             /// # Ok::<(), Box<dyn std::error::Error>>(())
             /// ```
-            pub fn all_functions(&self, table: SymbolTable) -> Result<AllFunctions<'a>, ParseError> {
-                Ok(AllFunctions(self.bounded(self.0.all_functions(table.into_erased())?)))
+            pub fn all_functions(&self, table: SymbolTable) -> Result<Vec<SectionFunction<'a>>, Error> {
+                Ok(self.0.all_functions(Global, table.into_erased())?.into_std())
             }
 
             /// The rows of a symbol table in the file, each of 16 bytes or more.
@@ -421,24 +424,7 @@ macro_rules! reader {
             }
         }
 
-        /// An iterator over the function symbols of all sections.
-        #[must_use = "iterators are lazy and do nothing unless consumed"]
-        #[derive(Clone)]
-        pub struct AllFunctions<'a>(Bounded<erased::AllFunctions<'a>>);
-
-        impl<'a> Iterator for AllFunctions<'a> {
-            type Item = SectionFunction<'a>;
-
-            fn next(&mut self) -> Option<Self::Item> {
-                self.0.next()
-            }
-
-            fn size_hint(&self) -> (usize, Option<usize>) {
-                self.0.size_hint()
-            }
-        }
-
-        of_iterators!(Sections, Functions, AllFunctions);
+        of_iterators!(Sections, Functions);
     };
 }
 

@@ -133,7 +133,7 @@ impl<'a> Tables<'a> {
     /// # let path = concat!(env!("CARGO_MANIFEST_DIR"), "/samples/elf64-little.bin");
     /// let file = std::fs::read(path)?;
     /// let tables = Tables::new(&file, Selection::All, SymbolTable::Symtab)?;
-    /// assert_eq!(tables.functions()?.map(|function| function.name).collect::<Vec<_>>(), ["_ZN3foo3barE", "bad"]);
+    /// assert_eq!(tables.functions()?.map(|function| function.name).collect::<Vec<_>>(), ["_ZN3foo3barE", "bad", "bad"]);
     /// # Ok::<(), Box<dyn std::error::Error>>(())
     /// ```
     pub fn functions(&self) -> Result<Functions<'_>, Error> {
@@ -157,13 +157,13 @@ impl<'a> Tables<'a> {
     /// let tables = Tables::new(&file, Selection::All, SymbolTable::Symtab)?;
     /// let symbols = tables.all_functions()?.into_iter().flatten();
     /// let sections = symbols.map(|symbol| tables.section_name(symbol.section)).collect::<Vec<_>>();
-    /// assert_eq!(sections, [Some(".text"), Some(".symtab")]);
+    /// assert_eq!(sections, [Some(".text"), Some(".symtab"), Some(".text")]);
     /// # Ok::<(), Box<dyn std::error::Error>>(())
     /// ```
     pub fn all_functions(&self) -> Result<Option<AllFunctions<'_>>, Error> {
         match self.0.functions(Global)? {
-            Selected::Section(..) => Ok(None),
-            Selected::All(functions) => Ok(Some(AllFunctions::new(functions)?)),
+            Selected { size: Some(_), .. } => Ok(None),
+            Selected { functions, size: None } => Ok(Some(AllFunctions::new(functions)?)),
         }
     }
 
@@ -221,7 +221,7 @@ impl<'a> Tables<'a> {
     /// let tables = Tables::new(&file, Selection::All, SymbolTable::Symtab)?;
     /// let mut text = Vec::new();
     /// tables.list_to(&mut text)?;
-    /// assert_eq!(text, b"0000000000001000         16 .text foo\n0000000000001010         16 .symtab bad\n");
+    /// assert_eq!(text, b"0000000000001000         16 .text foo\n0000000000001010         16 .symtab bad\n0000000000001010          0 .text bad\n");
     /// # Ok::<(), Box<dyn std::error::Error>>(())
     /// ```
     pub fn list_to<W: Write>(&self, output: W) -> io::Result<()> {
@@ -293,7 +293,7 @@ impl<'a> Tables<'a> {
     /// let shown = Shown::new().with_order(Order::Name);
     /// let mut text = Vec::new();
     /// tables.rows_to(&shown, Layout::Lines, &mut text)?;
-    /// assert_eq!(text, b"0000000000001010         16 .symtab bad\n0000000000001000         16 .text foo\n");
+    /// assert_eq!(text, b"0000000000001010         16 .symtab bad\n0000000000001010          0 .text bad\n0000000000001000         16 .text foo\n");
     /// # Ok::<(), Box<dyn std::error::Error>>(())
     /// ```
     pub fn rows_to<W: Write>(&self, shown: &Shown, layout: Layout<'_>, output: W) -> io::Result<()> {
@@ -381,7 +381,7 @@ impl<'a> Tables<'a> {
     /// let tables = Tables::new(&file, Selection::All, SymbolTable::Symtab)?;
     /// let mut text = Vec::new();
     /// tables.stacks_to(&mut text)?;
-    /// assert_eq!(text, b"foo 16\n[unknown];bad 16\n");
+    /// assert_eq!(text, b"foo 16\n[unknown];bad 16\n[unknown];bad 0\n");
     /// # Ok::<(), Box<dyn std::error::Error>>(())
     /// ```
     pub fn stacks_to<W: Write>(&self, output: W) -> io::Result<()> {
@@ -522,7 +522,7 @@ impl Tables<'static> {
     ///
     /// # let path = concat!(env!("CARGO_MANIFEST_DIR"), "/samples/elf64-little.bin");
     /// let tables = Tables::read(std::fs::File::open(path)?, Selection::All, SymbolTable::Symtab)?;
-    /// assert_eq!(tables.functions()?.count(), 2);
+    /// assert_eq!(tables.functions()?.count(), 3);
     /// # Ok::<(), Box<dyn std::error::Error>>(())
     /// ```
     pub fn read<R: Read + Seek>(file: R, selection: Selection<'_>, table: SymbolTable) -> io::Result<Self> {
@@ -705,7 +705,8 @@ impl<'a> Symbolizer<'a> {
     }
 
     /// Returns the function symbol whose call has this return address, and the offset of the return address into it: the
-    /// symbol at the address before, since a call that doesn't return may be the last instruction of its function.
+    /// symbol at the address before, since a call that doesn't return may be the last instruction of its function. If there
+    /// is none, the symbol at the address: a signal may have interrupted its first instruction.
     ///
     /// # Examples
     ///
@@ -718,6 +719,8 @@ impl<'a> Symbolizer<'a> {
     /// let symbolizer = Symbolizer::new(&tables)?;
     /// // `foo` ends at 0x1010, and its last instruction may be the call.
     /// assert_eq!(symbolizer.find_return(0x1010).map(|(function, _)| function.name), Some("_ZN3foo3barE"));
+    /// // A signal came before its first instruction.
+    /// assert_eq!(symbolizer.find_return(0x1000).map(|(_, offset)| offset), Some(0));
     /// # Ok::<(), Box<dyn std::error::Error>>(())
     /// ```
     pub fn find_return(&self, address: u64) -> Option<(FunctionSymbol<'_>, u64)> {
@@ -725,15 +728,25 @@ impl<'a> Symbolizer<'a> {
     }
 
     fn look_up(&self, address: u64, is_return: bool) -> Option<(FunctionSymbol<'_>, u64)> {
-        let lookup = Lookup { base: self.base, is_return, form: Form::Lines };
+        let lookup = Lookup {
+            base: Some(self.base),
+            linked: 0,
+            origin: 0,
+            is_return,
+            form: Form::Lines,
+            is_bare: false,
+            name: &[],
+        };
         match &self.functions {
             Arranged::Borrowed(places) => places.find(lookup, address),
             Arranged::Owned { names, rows, ranges } => {
                 // As `Places::find` does it.
-                let place = ranges.find(lookup.in_file(address)?)?;
+                let address = lookup.in_file(address)?;
+                let before = if is_return { ranges.find(address.saturating_sub(1)) } else { None };
+                let place = before.or_else(|| ranges.find(address))?;
                 let OwnedRow { name, address: first, size } = &rows[place];
                 let function = FunctionSymbol { name: &names[name.clone()], address: *first, size: *size };
-                Some((function, lookup.offset_in(address, *first)))
+                Some((function, address.saturating_sub(*first)))
             }
         }
     }

@@ -63,7 +63,7 @@ fn read(file: impl Read + Seek) -> io::Result<Tables<'static>> {
 #[test]
 fn tables() -> Result<(), Box<dyn Error>> {
     let (file, base, address) = (std::fs::read(SAMPLE)?, 0x5000, 0x6004);
-    assert_eq!(Tables::new(&file, Selection::All, SymbolTable::Symtab)?.functions()?.count(), 2);
+    assert_eq!(Tables::new(&file, Selection::All, SymbolTable::Symtab)?.functions()?.count(), 3);
     assert!(Tables::new(&file, Selection::All, SymbolTable::Dynsym).is_err());
     let tables = read(File::open(SAMPLE)?)?;
     let symbolizer = Symbolizer::new(&tables)?.with_base(base);

@@ -19,8 +19,10 @@ binfarce_fuzz::fuzz_target!(|data| {
         let wanted = symbol_at(&functions, address).map(|function| (function, address - function.address));
         assert_eq!(symbolizer.find(base + address), wanted);
         assert_eq!(owned.find(base + address), wanted);
-        let of_call = wanted.map(|(function, offset)| (function, offset + 1));
+        let here = || symbol_at(&functions, address + 1).map(|function| (function, address + 1 - function.address));
+        let of_call = wanted.map(|(function, offset)| (function, offset + 1)).or_else(here);
         assert_eq!(symbolizer.find_return(base + address + 1), of_call);
     }
-    assert!(base == 0 || symbolizer.find(base - 1).is_none() && symbolizer.find_return(base).is_none());
+    assert_eq!(symbolizer.find_return(base), symbol_at(&functions, 0).map(|function| (function, 0)));
+    assert!(base == 0 || symbolizer.find(base - 1).is_none() && symbolizer.find_return(base - 1).is_none());
 });

@@ -7,10 +7,13 @@ pub mod annotate;
 pub mod at;
 pub(crate) mod digits;
 pub mod lookup;
+pub mod maps;
+pub(crate) mod module;
 pub(crate) mod names;
 pub mod ranges;
 pub(crate) mod slices;
 pub mod stream;
+pub(crate) mod word;
 
 pub use crate::erased::binfarce_addresses::address::parse_address;
 pub use crate::erased::binfarce_addresses::lookup::Lookup;

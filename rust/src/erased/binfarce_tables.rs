@@ -6,9 +6,11 @@ pub(crate) mod beginning;
 pub mod elf;
 pub(crate) mod error;
 pub mod format;
+pub mod loading;
 pub mod macho;
 pub mod pe;
 pub(crate) mod sections;
+pub(crate) mod segments;
 
 pub use crate::erased::binfarce_tables::beginning::Beginning;
 pub use crate::erased::binfarce_tables::elf::part;

@@ -63,8 +63,9 @@ fn answer(alloc: Global, question: &str, text: &mut Vec<u8>) -> io::Result<()> {
         "address" => addresses::push_address(words, text)?,
         "input" => addresses::push_answers(alloc, words, false, text)?,
         "return-input" => addresses::push_answers(alloc, words, true, text)?,
-        "annotate" => addresses::push_annotated_text(alloc, words, false, text)?,
-        "return-annotate" => addresses::push_annotated_text(alloc, words, true, text)?,
+        "annotate" => addresses::push_annotated_text(alloc, words, false, false, text)?,
+        "bare-annotate" => addresses::push_annotated_text(alloc, words, false, true, text)?,
+        "return-annotate" => addresses::push_annotated_text(alloc, words, true, false, text)?,
         _ => ranges::answer(alloc, verb, words, text)?,
     }
     end_line(text, 0)
@@ -105,6 +106,7 @@ fn answer_of_files(
             "at" => addresses::push_lines(&asking, false, text)?,
             "return" => addresses::push_lines(&asking, true, text)?,
             "names" => sections::push_names(&asking, text)?,
+            "loaded" => readings::push_loaded(&asking, text)?,
             "cut" => sections::push_cut(&asking, text)?,
             "each" => sections::push_each(&asking, text)?,
             _ => readings::answer(&asking, verb, text)?,

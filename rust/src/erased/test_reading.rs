@@ -103,15 +103,31 @@ fn functions(alloc: Global, kind: File, file: &[u8], name: Option<&str>) -> Text
     match kind {
         File::Elf(layout) if layout.is_64() => {
             let elf = elf64::parse(file, layout.order())?;
-            let functions = elf.selected_functions(SYMTAB, selection)?;
-            let size = functions.section_size();
-            Ok(text_of(alloc, functions, size)?)
+            match name {
+                Some(name) => {
+                    let functions = elf.section_functions(SYMTAB, name)?;
+                    let size = functions.section_size();
+                    Ok(text_of(alloc, functions, size)?)
+                }
+                None => {
+                    let functions = elf.all_functions(alloc, SYMTAB)?;
+                    Ok(text_of(alloc, functions.into_iter(), None)?)
+                }
+            }
         }
         File::Elf(layout) => {
             let elf = elf32::parse(file, layout.order())?;
-            let functions = elf.selected_functions(SYMTAB, selection)?;
-            let size = functions.section_size();
-            Ok(text_of(alloc, functions, size)?)
+            match name {
+                Some(name) => {
+                    let functions = elf.section_functions(SYMTAB, name)?;
+                    let size = functions.section_size();
+                    Ok(text_of(alloc, functions, size)?)
+                }
+                None => {
+                    let functions = elf.all_functions(alloc, SYMTAB)?;
+                    Ok(text_of(alloc, functions.into_iter(), None)?)
+                }
+            }
         }
         File::Macho => {
             let (functions, size) = macho::parse(file)?.selected_functions(alloc, selection)?;

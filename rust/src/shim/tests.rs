@@ -2,6 +2,7 @@
 
 use super::alloc::{AllocError, Global};
 use super::collections::BTreeMap;
+use super::env::{Env, FillError};
 use super::simd::u8x16;
 use super::test::{printed, refusing};
 use super::{CollectIn, HostRuntime, String, TrimAscii, Vec, env, fs, io};
@@ -315,6 +316,12 @@ fn streams() {
     let rt = HostRuntime::new();
     let words: std::vec::Vec<_> = env::args(&rt).unwrap().map(String::into_std).collect();
     assert_eq!(words, std::env::args().collect::<std::vec::Vec<_>>());
+    let name = words[0].as_bytes();
+    let mut buffer = [0; 4096];
+    assert_eq!(rt.arg(0, &mut buffer), Ok(name.len()));
+    assert_eq!(&buffer[..name.len()], name);
+    assert_eq!(rt.arg(0, &mut buffer[..1]), Err(FillError::TooLong));
+    assert_eq!(rt.arg(words.len(), &mut buffer), Err(FillError::NotPresent));
 }
 
 // The deepest name that is printed, in the stack that a thread has.

@@ -4,9 +4,10 @@
 
 use crate::shim::Vec;
 use crate::erased::binfarce::symbols::symbols_of_elf;
-use crate::erased::binfarce_bytes::functions::{FunctionSymbol, Selection};
+use crate::erased::binfarce_bytes::functions::{FunctionSymbol, SectionFunction};
 use crate::erased::binfarce_bytes::{ByteOrder, ParseError};
 use crate::erased::binfarce_elf::class::Class;
+use crate::erased::binfarce_elf::ends::kind_of;
 use crate::erased::binfarce_elf::header::{Header, parse_header};
 use crate::erased::binfarce_elf::sections::{self, HasSections, Section, Sections, Table};
 use crate::erased::binfarce_elf::symbol_table::SymbolTable;
@@ -101,8 +102,7 @@ impl<'a, C: Class> Elf<'a, C> {
     /// that isn't of type 3 (`SHT_STRTAB`); `MalformedInput` where the string table's bytes end past `usize`, and
     /// `UnexpectedEof` past the file; the same for the symbol table's bytes; `UnexpectedEof` for a truncated last row.
     pub fn functions(&self, section_name: &str) -> Result<(Functions<'a>, u64), ParseError> {
-        let section = Selection::Section(section_name);
-        let functions = self.selected_functions(SymbolTable::Symtab, section)?;
+        let functions = self.section_functions(SymbolTable::Symtab, section_name)?;
         Ok(of_section(functions))
     }
 
@@ -114,37 +114,43 @@ impl<'a, C: Class> Elf<'a, C> {
     /// Those of `functions`, but `SectionIsMissing` is of `.dynsym` (the first section of type 11, `SHT_DYNSYM`) and of
     /// `.dynstr` (the section that it links to).
     pub fn dynamic_functions(&self, section_name: &str) -> Result<(Functions<'a>, u64), ParseError> {
-        let section = Selection::Section(section_name);
-        let functions = self.selected_functions(SymbolTable::Dynsym, section)?;
+        let functions = self.section_functions(SymbolTable::Dynsym, section_name)?;
         Ok(of_section(functions))
     }
 
-    /// The function symbols of all sections as the file stores them, each with the index of its section, in the order
-    /// of this symbol table. Nothing is allocated, and names stay mangled.
+    /// The function symbols of all sections, each with the index of its section, at their addresses and with their sizes
+    /// in memory: a list in the order of this symbol table. Names stay mangled.
     ///
-    /// It keeps the rows that `dynamic_functions` would keep for some section of the file, from either symbol table:
-    /// indirect functions too, none without a section (`SHN_UNDEF`), and none with a reserved index such as `SHN_ABS`.
+    /// It keeps rows of type function (`STT_FUNC`, `STT_GNU_IFUNC`) that have a name: none without a section
+    /// (`SHN_UNDEF`), and none with a reserved index such as `SHN_ABS`. A function of size 0, such as `_start`, ends at
+    /// the next greater address of a symbol of its section, or with the section. In a file for Arm (`EM_ARM`), bit 0 of a
+    /// function's value is its instruction set, and is cleared.
     ///
     /// # Errors
     ///
     /// In this order: `UnexpectedEof` where the section header table doesn't begin in the file, or a section header is
-    /// truncated; those of `functions`, or `dynamic_functions`, from the missing symbol table on.
-    pub fn all_functions(&self, which: SymbolTable) -> Result<AllFunctions<'a>, ParseError> {
-        self.selected_functions(which, Selection::All)
+    /// truncated; those of `functions`, or `dynamic_functions`, from the missing symbol table on; `OutOfMemory` where an
+    /// allocation failed.
+    pub fn all_functions(
+        &self,
+        alloc: Global,
+        which: SymbolTable,
+    ) -> Result<Vec<SectionFunction<'a>>, ParseError> {
+        symbols::all_functions::<C>(alloc, self.section_table(), kind_of(&self.header), which)
     }
 
-    /// The function symbols of a section as `functions` or `dynamic_functions` gives them, or those of all sections as
-    /// `all_functions` does, by this symbol table: each with the index of its section.
+    /// The function symbols of a section as `functions` or `dynamic_functions` gives them, each with the section's
+    /// index, by this symbol table. Nothing is allocated.
     ///
     /// # Errors
     ///
     /// Those of these calls.
-    pub fn selected_functions(
+    pub fn section_functions(
         &self,
         which: SymbolTable,
-        selection: Selection<'_>,
+        name: &str,
     ) -> Result<AllFunctions<'a>, ParseError> {
-        symbols::selected_functions::<C>(self.section_table(), which, selection)
+        symbols::section_functions::<C>(self.section_table(), which, name)
     }
 
     /// The functions of the symbol table as symbols with readable names, and the section's size in bytes.

@@ -10,7 +10,7 @@ pub fn parse_address(word: &[u8]) -> Option<u64> {
 }
 
 // The number that 1 to 16 digits write.
-fn hex_number(digits: &[u8]) -> Option<u64> {
+pub(crate) fn hex_number(digits: &[u8]) -> Option<u64> {
     if digits.is_empty() || digits.len() > 16 {
         return None;
     }
@@ -19,4 +19,9 @@ fn hex_number(digits: &[u8]) -> Option<u64> {
         number = 16 * number + u64::from(char::from(*digit).to_digit(16)?);
     }
     Some(number)
+}
+
+/// Whether the word begins with `0x` or `0X`.
+pub(crate) fn has_prefix(word: &[u8]) -> bool {
+    word.starts_with(b"0x") || word.starts_with(b"0X")
 }

@@ -8,7 +8,8 @@ use crate::erased::binfarce_addresses::at::Places;
 use crate::erased::binfarce_addresses::digits::push_offset;
 use crate::erased::binfarce_addresses::lookup::Lookup;
 use crate::erased::binfarce_addresses::names::Names;
-use crate::erased::binfarce_addresses::stream::{CHUNK, LONGEST};
+use crate::erased::binfarce_addresses::stream::CHUNK;
+use crate::erased::binfarce_addresses::word::{address_len, is_decided, others_len};
 use crate::erased::binfarce_text::streams::{Pass, StreamError, pass_stream};
 use crate::erased::binfarce_tools::list::Sink;
 use crate::erased::binfarce_tools::writing::write_whole;
@@ -16,8 +17,11 @@ use crate::shim::alloc::{AllocError, Global};
 use crate::shim::io::Read;
 
 /// Appends the text with ` <name+0x1f>` after each address that a function symbol holds: its readable name, and the
-/// offset of the address into it, by this lookup. An address is `0x` and 4 to 16 hexadecimal digits, in upper or lower
-/// case, up to the next other byte. All other bytes stay as they are, and need not be UTF-8.
+/// offset of the address into it, by this lookup. An address is `0x` or `0X` and 4 to 16 hexadecimal digits, in upper or
+/// lower case, up to the next other byte; of bare words also 8 to 16 digits that no letter, digit or `_` comes before or
+/// after. After `+` the number is an offset, which is looked up only behind the file's name: `NAME+0x1f`, `NAME(+0x1f)`
+/// or `NAME + 0x1f`, after `/`, `[`, a blank, a line feed or nothing, and in the first form also after a blank and a
+/// parenthesis. All other bytes stay as they are, and need not be UTF-8.
 ///
 /// # Errors
 ///
@@ -29,13 +33,13 @@ pub fn push_annotated(
     text: &[u8],
     out: &mut Vec<u8>,
 ) -> Result<(), AllocError> {
-    Names::new(alloc, places, lookup, 0)?.push_decided(true, text, out)?;
+    Names::new(alloc, places, lookup, 0)?.push_decided(true, text, 0, out)?;
     Ok(())
 }
 
 /// Annotates a stream: writes what `push_annotated` gives for all that the reader gives. Each line is written as soon
-/// as its line feed has come: of an unfinished line at most 18 bytes at its end are kept, an address that may go on. A
-/// read that was interrupted is tried again.
+/// as its line feed has come: of an unfinished line at most 18 bytes at its end wait, an address that may go on. A read
+/// that was interrupted is tried again.
 ///
 /// # Errors
 ///
@@ -52,6 +56,7 @@ pub fn annotate_stream<R: Read, S: Sink>(
         alloc,
         names: Names::new(alloc, places, lookup, places.functions.len())?,
         kept: Vec::new(alloc),
+        from: 0,
     };
     pass_stream(alloc, &mut pass, CHUNK, input, out)
 }
@@ -60,32 +65,44 @@ pub fn annotate_stream<R: Read, S: Sink>(
 struct Annotating<'b, 'a> {
     alloc: Global,
     names: Names<'b, 'a>,
-    // The address at the text's end that may go on.
+    // The end of the text: what may matter of what was shown, and an address that may go on.
     kept: Vec<u8>,
+    // How much of it was shown.
+    from: usize,
 }
 
 impl Annotating<'_, '_> {
     // Annotates the kept text and the next part, and keeps an address at its end that may go on, unless the text ends.
     fn push(&mut self, is_last: bool, part: &[u8], out: &mut Vec<u8>) -> Result<(), AllocError> {
+        let from = self.from.min(self.kept.len());
         self.kept.extend_from_slice(part)?;
-        let at = self.names.push_decided(is_last, &self.kept, out)?;
-        self.kept = Vec::from_slice(self.alloc, &self.kept[at..])?;
+        let at = self.names.push_decided(is_last, &self.kept, from, out)?;
+        let reach = self.names.reach();
+        self.from = at.min(reach);
+        self.kept = Vec::from_slice(self.alloc, &self.kept[at - self.from..])?;
         Ok(())
     }
 }
 
 impl Names<'_, '_> {
-    // Appends the annotated text before an address at its end that may go on, and returns where that begins. With
-    // nothing after the text, this is its end.
+    // How many bytes before an address can matter: a name, and what may come before and after it.
+    fn reach(&self) -> usize {
+        self.lookup.name.len() + 5
+    }
+
+    // Appends the annotated text from a position on, before an address at the text's end that may go on, and returns
+    // where that begins. With nothing after the text, this is its end.
     fn push_decided(
         &mut self,
         is_last: bool,
         text: &[u8],
+        from: usize,
         out: &mut Vec<u8>,
     ) -> Result<usize, AllocError> {
-        let mut at = 0;
-        while at < text.len() && is_decided(is_last, &text[at..]) {
-            let len = self.push_first(&text[at..], out)?;
+        let is_bare = self.lookup.is_bare;
+        let mut at = from;
+        while at < text.len() && is_decided(is_bare, is_last, &text[at..]) {
+            let len = self.push_first(&text[..at], &text[at..], out)?;
             at += len;
         }
         Ok(at)
@@ -93,22 +110,35 @@ impl Names<'_, '_> {
 
     // Appends the annotated text of an address that the text begins with, or of bytes before the next one. Returns how
     // many bytes these are.
-    fn push_first(&mut self, text: &[u8], out: &mut Vec<u8>) -> Result<usize, AllocError> {
-        let len = address_len(text);
+    fn push_first(
+        &mut self,
+        before: &[u8],
+        text: &[u8],
+        out: &mut Vec<u8>,
+    ) -> Result<usize, AllocError> {
+        let is_bare = self.lookup.is_bare;
+        let len = address_len(is_bare, before, text);
         if len == 0 {
-            let others = others_len(text);
+            let others = others_len(is_bare, text);
             out.extend_from_slice(&text[..others])?;
             return Ok(others);
         }
         out.extend_from_slice(&text[..len])?;
-        self.push_added(parse_address(&text[..len]), out)?;
+        self.push_added(before, &text[..len], out)?;
         Ok(len)
     }
 
     // Appends what is added after an address: the readable name of its function symbol and the offset, in angle
     // brackets.
-    fn push_added(&mut self, address: Option<u64>, out: &mut Vec<u8>) -> Result<(), AllocError> {
-        let Some((place, offset)) = self.answer_to(address).found else {
+    fn push_added(
+        &mut self,
+        before: &[u8],
+        word: &[u8],
+        out: &mut Vec<u8>,
+    ) -> Result<(), AllocError> {
+        let lookup = self.lookup;
+        let address = lookup.meant(before, parse_address(word));
+        let Some((place, offset)) = self.places.find_in(lookup.is_return, address) else {
             return Ok(());
         };
         out.extend_from_slice(b" <")?;
@@ -129,37 +159,4 @@ impl<S: Sink> Pass<S> for Annotating<'_, '_> {
     fn write(out: &mut S, bytes: &[u8]) -> Result<(), StreamError> {
         write_whole(out, bytes).map_err(|_| StreamError::Write)
     }
-}
-
-// Whether the address that the text begins with, or that it begins with none, stays whatever comes after the text.
-// Nothing comes after the last text.
-fn is_decided(is_last: bool, text: &[u8]) -> bool {
-    if is_last {
-        return true;
-    }
-    if text.len() > LONGEST {
-        return true;
-    }
-    if text.len() == 1 {
-        return text[0] != b'0';
-    }
-    !text.starts_with(b"0x") || digits_len(&text[2..]) < text.len() - 2
-}
-
-// The length of the address that the text begins with, or 0.
-fn address_len(text: &[u8]) -> usize {
-    match text.strip_prefix(b"0x").map_or(0, digits_len) {
-        digits @ 4..=16 => 2 + digits,
-        _ => 0,
-    }
-}
-
-// How many hexadecimal digits the text begins with.
-fn digits_len(text: &[u8]) -> usize {
-    text.iter().take_while(|b| b.is_ascii_hexdigit()).count()
-}
-
-// How many bytes the first one and those before the next `0` are.
-fn others_len(text: &[u8]) -> usize {
-    1 + text[1..].iter().take_while(|b| **b != b'0').count()
 }

@@ -56,10 +56,33 @@ impl<'a> Places<'a> {
     // What an address symbolizes to; nothing without an address.
     #[cfg_attr(not(debug_assertions), inline(always))]
     pub(crate) fn find_place(&self, lookup: Lookup<'_>, address: Option<u64>) -> Option<Found> {
+        self.find_in(lookup.is_return, lookup.in_file(address?))
+    }
+
+    // What an address in the file symbolizes to; nothing without an address.
+    #[cfg_attr(not(debug_assertions), inline(always))]
+    pub(crate) fn find_in(&self, is_return: bool, address: Option<u64>) -> Option<Found> {
         let address = address?;
-        let place = self.ranges.find(lookup.in_file(address)?)?;
-        let offset = lookup.offset_in(address, self.functions[place].address);
+        let place = self.place_for(is_return, address)?;
+        let offset = address.saturating_sub(self.at(place).address);
         Some((place, offset))
+    }
+
+    // The place of the function symbol that an address in the file symbolizes to.
+    #[cfg_attr(not(debug_assertions), inline(always))]
+    fn place_for(&self, is_return: bool, address: u64) -> Option<usize> {
+        let here = self.place_of(address);
+        if !is_return {
+            return here;
+        }
+        let before = self.place_of(address.saturating_sub(1));
+        before.or(here)
+    }
+
+    // The place of the function symbol that holds an address in the file.
+    #[cfg_attr(not(debug_assertions), inline(always))]
+    fn place_of(&self, address: u64) -> Option<usize> {
+        self.ranges.find(address)
     }
 
     // The function symbol at a place.
@@ -103,11 +126,11 @@ fn places_of(alloc: Global, listed: Functions<'_>) -> Result<Places<'_>, AllocEr
 /// Symbolizes addresses in an executable: a line for each, in their order.
 ///
 /// The format and the section are as in `list`. A line is `{address:016x} {name}+0x{offset:x}`: the address, the
-/// readable name of its function symbol, and the offset into it. The base is subtracted first, and from a return
-/// address 1 more for the lookup, but not for the offset. A symbol holds the addresses of its range, or of size 0 its
-/// own. Of several that hold an address, it is the one of greatest address, and of several there the first in the order
-/// of the listing. The line is `{address:016x} ??` for an address that none holds, for one below the base, and for a
-/// return address at the base.
+/// readable name of its function symbol, and the offset into it. With a base, the address in the file is as far behind
+/// `linked` as the address is behind the base. Of a return address the one before is looked up, but the offset is that
+/// of the address. A symbol holds the addresses of its range, or of size 0 its own. Of several that hold an address, it
+/// is the one of greatest address, and of several there the first in the order of the listing. The line is
+/// `{address:016x} ??` for an address that none holds, and for one below the base.
 ///
 /// # Errors
 ///

@@ -2,30 +2,50 @@
 
 //! How an address is looked up, and the form of the answer.
 
+use crate::erased::binfarce_addresses::module::{ends_with_plus, names_module};
 use crate::erased::binfarce_tools::json::Form;
 
 /// How addresses are looked up and answered.
 #[derive(Debug, Clone, Copy, PartialEq)]
 pub struct Lookup<'a> {
-    /// Where the file is loaded: it is subtracted from each address.
-    pub base: u64,
+    /// Where the file is loaded. Without a base addresses are the file's own.
+    pub base: Option<u64>,
+    /// Where the file itself says that it is loaded: its address for the base.
+    pub linked: u64,
+    /// The address in the file that an offset of 0 after its name means. Of ELF 0, since glibc and sanitizers take off
+    /// what the loader added; of Mach-O and PE `linked`, from which their offsets count.
+    pub origin: u64,
     /// Whether the addresses are return addresses, as in a backtrace. The one before it is looked up, which is in the
-    /// call: a call that doesn't return may be the last instruction of its function.
+    /// call: a call that doesn't return may be the last instruction of its function. Where that has no function symbol,
+    /// the address itself is: a signal may have interrupted the first instruction of a function.
     pub is_return: bool,
     /// How the answers are written. Objects don't have the section.
     pub form: Form<'a>,
+    /// Whether words of 8 to 16 hexadecimal digits without `0x` are addresses in a text, too.
+    pub is_bare: bool,
+    /// The file's name in a text. An offset after it, as in `name+0x1f`, is one from the origin.
+    pub name: &'a [u8],
 }
 
 impl Lookup<'_> {
-    /// The address in the file that is looked up. `None` for an address below the base, and for the return address 0 in
-    /// the file.
+    /// The address in the file of an address. `None` below the base, and past 64 bits.
     pub(crate) fn in_file(self, address: u64) -> Option<u64> {
-        let given = address.checked_sub(self.base)?;
-        given.checked_sub(u64::from(self.is_return))
+        match self.base {
+            Some(base) => address.checked_sub(base)?.checked_add(self.linked),
+            None => Some(address),
+        }
     }
 
-    /// The offset of the address in the file from `start`, or 0 if `start` is greater.
-    pub(crate) fn offset_in(self, address: u64, start: u64) -> u64 {
-        address.saturating_sub(self.base).saturating_sub(start)
+    /// The address in the file that a number in a text means, which comes after `before`. `None` for an offset into
+    /// another module.
+    pub(crate) fn meant(self, before: &[u8], number: Option<u64>) -> Option<u64> {
+        let number = number?;
+        if !ends_with_plus(before) {
+            return self.in_file(number);
+        }
+        if !names_module(self.name, before) {
+            return None;
+        }
+        number.checked_add(self.origin)
     }
 }

@@ -9,7 +9,11 @@ use crate::erased::binfarce_addresses::annotate::annotate_stream;
 use crate::erased::binfarce_addresses::at::{Places, write_lines};
 use crate::erased::binfarce_addresses::stream::answer_lines;
 use crate::erased::binfarce_addresses::{Lookup, parse_address};
+use crate::erased::binfarce_bytes::format::Format;
 use crate::erased::binfarce_bytes::source::Source;
+use crate::erased::binfarce_tables::ReadError;
+use crate::erased::binfarce_tables::format::read_format;
+use crate::erased::binfarce_tables::loading::read_load_address;
 use crate::erased::binfarce_tools::list::Sink;
 use crate::erased::binfarce_tools::tables::Tables;
 use crate::erased::binfarce_words::words::Wrong;
@@ -53,6 +57,30 @@ pub fn answer_all<S: Source<Log = ()>, K: Sink>(
     let tables = tables_of(alloc, source, symbols)?;
     let places = places_of(alloc, &tables)?;
     Ok(write_lines(alloc, &places, lookup, addresses, out)?)
+}
+
+/// The address that the file itself says it is loaded at, which is that of the base, 0 if it says none; and the address
+/// in the file that an offset of 0 after its name means. Of the source it reads headers alone.
+///
+/// # Errors
+///
+/// Those of `read_format` and `read_load_address`.
+pub fn load_addresses_of<S: Source<Log = ()>>(
+    alloc: Global,
+    source: &S,
+) -> Result<(u64, u64), ReadError> {
+    let format = read_format(alloc, source, &mut ())?;
+    let elf = is_elf(&format);
+    let address = read_load_address(alloc, source, &mut (), format)?;
+    let linked = address.unwrap_or(0);
+    Ok((linked, if elf { 0 } else { linked }))
+}
+
+fn is_elf(format: &Format) -> bool {
+    match format {
+        Format::Elf32 { .. } | Format::Elf64 { .. } => true,
+        _ => false,
+    }
 }
 
 // The places of the function symbols.

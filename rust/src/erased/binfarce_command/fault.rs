@@ -2,6 +2,7 @@
 
 //! Why a file's result was not written, or not all of it.
 
+use crate::erased::binfarce_command::foreign::Foreign;
 use crate::erased::binfarce_bytes::ParseError;
 use crate::erased::binfarce_filtering::stream::StreamError;
 use crate::erased::binfarce_sections::error::SectionError;
@@ -11,31 +12,21 @@ use crate::erased::binfarce_tools::report::ReportError;
 use crate::shim::alloc::AllocError;
 use std::error::Error;
 use std::fmt;
-use crate::shim::io::{self, ErrorKind};
+use crate::shim::io;
 
 /// Why a file's result was not written, or not all of it.
-#[derive(Debug, Clone, Copy, PartialEq)]
+#[derive(Debug, PartialEq)]
 pub enum Fault {
-    /// The file can't be opened or read.
-    Unreadable,
-    /// Standard input can't be read.
-    Input,
-    /// An allocation failed.
-    OutOfMemory,
-    /// A write failed.
-    Write,
-    /// The file's first bytes name no supported format.
-    Unknown,
-    /// The reader of the file's format refused it.
-    Parse(ParseError),
-    /// The sum of all sizes exceeds 64 bits.
-    TooLarge,
-    /// No section has this name.
-    NoSection,
-    /// The section has no bytes in the file.
-    NoBytes,
-    /// The section's bytes end past the file.
-    PastEnd,
+    /// The function symbols were not listed or summed.
+    Report(ReportError),
+    /// The file was not read, or its sections were not written.
+    Section(SectionError),
+    /// Standard input was not passed on.
+    Stream(StreamError),
+    /// The file is recognized, and no reader reads it.
+    Unsupported(Foreign),
+    /// The name of the file isn't UTF-8.
+    NotUtf8,
     /// The sections of an object file share addresses, so one has to be named.
     SharedAddresses,
     /// This many lines of standard input have no address; all lines were answered.
@@ -44,31 +35,33 @@ pub enum Fault {
     Grown(u64),
 }
 
+impl Fault {
+    /// Whether a write failed.
+    pub fn is_write(&self) -> bool {
+        matches!(
+            self,
+            Fault::Report(ReportError::Write)
+                | Fault::Section(SectionError::Write)
+                | Fault::Stream(StreamError::Write)
+        )
+    }
+
+    /// Whether a file is refused for it: not a failed write, and no fault of the whole call.
+    pub fn is_of_file(&self) -> bool {
+        !self.is_write() && !matches!(self, Fault::Missing(_) | Fault::Grown(_))
+    }
+}
+
 impl fmt::Display for Fault {
     fn fmt(&self, f: &mut fmt::Formatter<'_>) -> fmt::Result {
         match self {
-            Fault::Unreadable => write!(f, "{}", SectionError::Unreadable),
-            Fault::Input => write!(f, "read failed"),
-            Fault::OutOfMemory => write!(f, "{}", ReportError::OutOfMemory),
-            Fault::Write => write!(f, "{}", ReportError::Write),
-            Fault::Unknown => write!(f, "{}", ReportError::Unknown),
-            Fault::Parse(ParseError::SectionIsMissing(".symtab")) => write!(
-                f,
-                "no symbol table (.symtab); --dynamic lists its dynamic symbols"
-            ),
-            Fault::Parse(ParseError::SectionIsMissing(".dynsym")) => write!(
-                f,
-                "no dynamic symbol table (.dynsym)"
-            ),
-            Fault::Parse(ParseError::SymbolsSectionIsMissing) => write!(
-                f,
-                "no such section; binfarce section lists those of an ELF file; in others .text is the code"
-            ),
-            Fault::Parse(e) => write!(f, "{e}"),
-            Fault::TooLarge => write!(f, "{}", ReportError::TooLarge),
-            Fault::NoSection => write!(f, "{}", SectionError::NoSection),
-            Fault::NoBytes => write!(f, "{}", SectionError::NoBytes),
-            Fault::PastEnd => write!(f, "{}", SectionError::PastEnd),
+            Fault::Report(ReportError::Parse(e)) => write!(f, "{}", Refused(*e)),
+            Fault::Section(SectionError::Parse(e)) => write!(f, "{}", Refused(*e)),
+            Fault::Report(e) => write!(f, "{e}"),
+            Fault::Section(e) => write!(f, "{e}"),
+            Fault::Stream(e) => write!(f, "{e}"),
+            Fault::Unsupported(kind) => write!(f, "{kind}"),
+            Fault::NotUtf8 => write!(f, "not UTF-8"),
             Fault::SharedAddresses => write!(
                 f,
                 "its sections share addresses; --section=NAME takes one of them"
@@ -82,71 +75,68 @@ impl fmt::Display for Fault {
 
 impl Error for Fault {}
 
+// A refusal of a reader, in words that say what would help.
+#[derive(Debug, Clone, Copy)]
+struct Refused(ParseError);
+
+impl fmt::Display for Refused {
+    fn fmt(&self, f: &mut fmt::Formatter<'_>) -> fmt::Result {
+        match self.0 {
+            ParseError::SectionIsMissing(".symtab") => write!(
+                f,
+                "no symbol table (.symtab): it is stripped"
+            ),
+            ParseError::SectionIsMissing(".dynsym") => write!(
+                f,
+                "no dynamic symbol table (.dynsym)"
+            ),
+            ParseError::SymbolsSectionIsMissing => write!(
+                f,
+                "no such section; binfarce section lists those of an ELF file; in others .text is the code"
+            ),
+            e => write!(f, "{e}"),
+        }
+    }
+}
+
 impl From<AllocError> for Fault {
-    fn from(_: AllocError) -> Self {
-        Fault::OutOfMemory
+    fn from(e: AllocError) -> Self {
+        Fault::Report(ReportError::from(e))
     }
 }
 
 impl From<io::Error> for Fault {
-    /// A failed allocation becomes `OutOfMemory`, and any other error becomes `Unreadable`.
     fn from(e: io::Error) -> Self {
-        match e.kind() {
-            ErrorKind::OutOfMemory => Fault::OutOfMemory,
-            _ => Fault::Unreadable,
-        }
+        Fault::from(ReadError::from(e))
     }
 }
 
 impl From<ReadError> for Fault {
     fn from(e: ReadError) -> Self {
-        match e {
-            ReadError::Refused(e) => Fault::Parse(e),
-            ReadError::Unreadable => Fault::Unreadable,
-            ReadError::OutOfMemory => Fault::OutOfMemory,
-        }
+        Fault::Section(SectionError::from(e))
     }
 }
 
 impl From<ListError> for Fault {
     fn from(e: ListError) -> Self {
-        Fault::from(ReportError::from(e))
+        Fault::Report(ReportError::from(e))
     }
 }
 
 impl From<ReportError> for Fault {
     fn from(e: ReportError) -> Self {
-        match e {
-            ReportError::Unknown => Fault::Unknown,
-            ReportError::Parse(e) => Fault::Parse(e),
-            ReportError::OutOfMemory => Fault::OutOfMemory,
-            ReportError::TooLarge => Fault::TooLarge,
-            ReportError::Write => Fault::Write,
-        }
+        Fault::Report(e)
     }
 }
 
 impl From<SectionError> for Fault {
     fn from(e: SectionError) -> Self {
-        match e {
-            SectionError::Unknown => Fault::Unknown,
-            SectionError::Parse(e) => Fault::Parse(e),
-            SectionError::NoSection => Fault::NoSection,
-            SectionError::NoBytes => Fault::NoBytes,
-            SectionError::PastEnd => Fault::PastEnd,
-            SectionError::OutOfMemory => Fault::OutOfMemory,
-            SectionError::Write => Fault::Write,
-            SectionError::Unreadable => Fault::Unreadable,
-        }
+        Fault::Section(e)
     }
 }
 
 impl From<StreamError> for Fault {
     fn from(e: StreamError) -> Self {
-        match e {
-            StreamError::Read => Fault::Input,
-            StreamError::Write => Fault::Write,
-            StreamError::OutOfMemory => Fault::OutOfMemory,
-        }
+        Fault::Stream(e)
     }
 }

@@ -4,11 +4,12 @@
 
 use crate::shim::{String, Vec};
 use crate::erased::binfarce_command::fault::Fault;
-use crate::erased::binfarce_command::hint::{Hint, completed, refusal_hint};
+use crate::erased::binfarce_command::hint::{Hint, completed, refusal_hints};
 use crate::erased::binfarce_command::input::OpenFile;
 use crate::erased::binfarce_command::output::Output;
 use crate::erased::binfarce_command::show::{Request, show};
 use crate::erased::binfarce_bytes::source::Source;
+use crate::erased::binfarce_sections::error::SectionError;
 use crate::shim::alloc::{AllocError, Global};
 use crate::shim::io::{self, Error, Read, Write};
 
@@ -61,9 +62,15 @@ fn show_file<F: Read + Source<Log = ()>, Y: System<F>, W: Write>(
     };
     let mut hint = None;
     let shown = show_source(alloc, asked, path, &input, &mut hint, out);
-    if let Some(hint) = hint.filter(|_| shown.is_ok()) {
-        system.hint(path, completed(alloc, &input, asked.symbols.which, hint));
-    }
+    let hint = completed(
+        alloc,
+        &input,
+        &asked.symbols,
+        hint,
+        shown.is_ok(),
+        out.len(),
+    );
+    give(system, path, hint);
     reported(alloc, system, path, &input, shown)
 }
 
@@ -89,7 +96,8 @@ fn show_source<S: Source<Log = ()>, W: Write>(
     out.end()
 }
 
-/// Opens the file at this path, and loads it. `None` where it can't be opened or read, which is reported.
+/// Opens the file at this path, and loads it. `None` where it can't be opened or read, or where its first bytes name
+/// what no reader reads, which is reported.
 pub fn open_input<F: Read + Source<Log = ()>, Y: System<F>>(
     alloc: Global,
     system: &mut Y,
@@ -98,7 +106,7 @@ pub fn open_input<F: Read + Source<Log = ()>, Y: System<F>>(
     let mut input = match system.open(path) {
         Ok(file) => OpenFile::new(file),
         Err(e) => {
-            system.report(path, Fault::Unreadable, Some(e));
+            system.report(path, Fault::Section(SectionError::Unreadable), Some(e));
             return None;
         }
     };
@@ -109,11 +117,19 @@ pub fn open_input<F: Read + Source<Log = ()>, Y: System<F>>(
     Some(input)
 }
 
+// Gives the hint, if there is one.
+fn give<F: Read + Source<Log = ()>, Y: System<F>>(system: &mut Y, path: &str, hint: Option<Hint>) {
+    match hint {
+        Some(hint) => system.hint(path, hint),
+        None => {}
+    }
+}
+
 /// Whether the work on a file is done. Why the file is refused is reported.
 ///
 /// # Errors
 ///
-/// Faults that aren't the file's: `Write` and `Missing`.
+/// Faults that aren't the file's.
 pub fn reported<F: Read + Source<Log = ()>, Y: System<F>>(
     alloc: Global,
     system: &mut Y,
@@ -123,14 +139,13 @@ pub fn reported<F: Read + Source<Log = ()>, Y: System<F>>(
 ) -> Result<bool, Fault> {
     match done {
         Ok(()) => Ok(true),
-        Err(Fault::Write | Fault::Missing(_)) => done.map(|()| true),
-        Err(Fault::Input) => Ok(false),
-        Err(fault) => {
+        Err(fault) if fault.is_of_file() => {
+            let (dynamic, debug) = refusal_hints(alloc, input, &fault);
             system.report(path, fault, input.take_reason());
-            if let Some(hint) = refusal_hint(alloc, input, fault) {
-                system.hint(path, hint);
-            }
+            give(system, path, dynamic);
+            give(system, path, debug);
             Ok(false)
         }
+        Err(fault) => Err(fault),
     }
 }

@@ -105,8 +105,11 @@ it. Without an ADDRESS the addresses are the lines of standard input.
   --return         the addresses are return addresses, as RUST_BACKTRACE=full prints:
                    the call before each is looked up
   --annotate       copies standard input, with <name+0x1f> after each address in it,
-                   which is 0x and 4 to 16 digits
-  --base=ADDRESS   is subtracted from each address: where the file is loaded
+                   which is 0x and 4 to 16 digits, or an offset in FILE: FILE+0x1f2e
+  --bare           with --annotate: words of 8 to 16 digits without 0x, too
+  --base=ADDRESS   where the file is loaded; without it addresses are the file's own
+  --maps=MAPS      takes the base from a copy of /proc/PID/maps
+  --as=NAME        the file's name in MAPS and in a text
   --dynamic        by the dynamic symbol table of an ELF file (.dynsym)
   --section=NAME   the symbols of a section of an ELF file; of Mach-O and PE files
                    .text is the code section, and there is no other name

@@ -3,14 +3,17 @@
 //! Hints on files: what a person may want to know beside the result. Standard output and the status don't depend on
 //! them.
 
-use crate::shim::{String, Vec};
+use crate::shim::{CollectIn, String, Vec};
 use crate::erased::binfarce_command::fault::Fault;
+use crate::erased::binfarce_command::show::Symbols;
 use crate::erased::binfarce_bytes::ParseError;
+use crate::erased::binfarce_bytes::format::Format;
 use crate::erased::binfarce_bytes::functions::SectionFunction;
 use crate::erased::binfarce_bytes::source::Source;
 use crate::erased::binfarce_sections::bytes::write_section_of;
+use crate::erased::binfarce_sections::error::SectionError;
+use crate::erased::binfarce_tables::format::read_format;
 use crate::erased::binfarce_tools::SymbolTable;
-use crate::erased::binfarce_tools::functions::Selected;
 use crate::erased::binfarce_tools::list::Out;
 use crate::erased::binfarce_tools::tables::{Selection, read};
 use crate::shim::alloc::Global;
@@ -21,59 +24,53 @@ use std::fmt;
 pub enum Hint {
     /// The sizes in the section add up to more than the section's.
     Overlap,
-    /// The section has no function symbol.
+    /// The file has no function symbol.
     None,
+    /// The dynamic symbol table of the file has no function symbol.
+    NoneDynamic,
+    /// The PE file has no function symbol.
+    NoneOfPe,
+    /// The Mach-O file has no function symbol.
+    NoneOfMacho,
     /// The section has no function symbol, and all sections have so many.
     Others(usize),
-    /// The file is an archive.
-    Archive,
-    /// The file is a universal Mach-O file.
-    Universal,
-    /// The file is a Mach-O file of 32 bits.
-    Macho32,
+    /// The dynamic symbol table has so many function symbols.
+    Dynamic(usize),
     /// The file is stripped, and its debug symbols may be there.
     Stripped(String),
+    /// No address in a function symbol was found.
+    Missed,
 }
 
 impl fmt::Display for Hint {
     fn fmt(&self, f: &mut fmt::Formatter<'_>) -> fmt::Result {
         match self {
             Hint::Overlap => write!(f, "symbols overlap; --by=crate counts each byte once"),
-            Hint::None => write!(
+            Hint::None => write!(f, "no function symbols"),
+            Hint::NoneDynamic => write!(f, "no function symbols in .dynsym"),
+            Hint::NoneOfPe => write!(
                 f,
                 "no function symbols; those of an MSVC program are in its .pdb file"
+            ),
+            Hint::NoneOfMacho => write!(
+                f,
+                "no function symbols; those of a stripped program may be in its .dSYM bundle"
             ),
             Hint::Others(count) => write!(
                 f,
                 "no function symbols in the section; --all takes {count} of other sections"
             ),
-            Hint::Archive => write!(f, "an archive; `ar x FILE` extracts its members"),
-            Hint::Universal => write!(
-                f,
-                "a universal Mach-O file; `lipo -thin ARCHITECTURE FILE` extracts a part"
-            ),
-            Hint::Macho32 => write!(f, "a Mach-O file of 32 bits"),
+            Hint::Dynamic(count) => write!(f, "--dynamic --all takes {count} function symbols"),
             Hint::Stripped(places) => write!(f, "its debug symbols may be in {places}"),
+            Hint::Missed => write!(
+                f,
+                "no address in a function symbol was found; is --base right?"
+            ),
         }
     }
 }
 
-/// The hint that the first 8 bytes give on a file in no supported format, if any.
-pub fn named_by(magic: &[u8]) -> Option<Hint> {
-    if magic.starts_with(b"!<arch>\n") {
-        return Some(Hint::Archive);
-    }
-    // The same magic number begins a Java class file; its version, at least 45, follows.
-    if magic.starts_with(b"\xca\xfe\xba\xbe\0\0\0") && magic.len() > 7 && magic[7] < 45 {
-        return Some(Hint::Universal);
-    }
-    if magic.starts_with(b"\xfe\xed\xfa\xce") || magic.starts_with(b"\xce\xfa\xed\xfe") {
-        return Some(Hint::Macho32);
-    }
-    None
-}
-
-/// A hint on a section of this size with these function symbols, which is shown: it has none; or if sizes are summed,
+/// The hint on a section of this size with these function symbols, which is shown: it has none; or if sizes are summed,
 /// their sum exceeds its size.
 pub fn hint_on(functions: &[SectionFunction<'_>], size: u64, are_summed: bool) -> Option<Hint> {
     if functions.is_empty() {
@@ -93,44 +90,100 @@ fn sum_of(functions: &[SectionFunction<'_>]) -> u128 {
         .sum()
 }
 
-/// The hint, with the number of function symbols of all sections where the section has none.
+// As many bytes are written at least of a file that has function symbols, where it is shown whole.
+const LEAST: u64 = 20;
+
+/// The hint on a file of which so many bytes are written, if it was shown: the reason that it has no function symbol,
+/// if it has none, or that hint. It is left out where a read or an allocation fails.
 pub fn completed<S: Source<Log = ()>>(
     alloc: Global,
     source: &S,
-    which: SymbolTable,
-    hint: Hint,
-) -> Hint {
-    if !matches!(hint, Hint::None) {
-        return hint;
-    }
-    let Ok(tables) = read(alloc, source, &mut (), which, Selection::All) else {
-        return hint;
-    };
-    match tables.functions(alloc) {
-        Ok(Selected::All(functions)) => {
-            others(functions.fold(0usize, |count, _| count.saturating_add(1)))
-        }
-        _ => hint,
+    symbols: &Symbols<'_>,
+    hint: Option<Hint>,
+    is_shown: bool,
+    len: u64,
+) -> Option<Hint> {
+    match hint {
+        _ if !is_shown => None,
+        Some(Hint::None) => lack(alloc, source, symbols).unwrap_or(None),
+        None if len < LEAST => lack(alloc, source, symbols).unwrap_or(None),
+        hint => hint,
     }
 }
 
-// The hint where all sections have so many.
-fn others(count: usize) -> Hint {
-    match count {
-        0 => Hint::None,
-        _ => Hint::Others(count),
-    }
+/// The reason that a file has none of the function symbols that are taken: exactly where it has none.
+///
+/// # Errors
+///
+/// Where a read or an allocation fails, or the file is refused.
+pub fn lack<S: Source<Log = ()>>(
+    alloc: Global,
+    source: &S,
+    symbols: &Symbols<'_>,
+) -> Result<Option<Hint>, Fault> {
+    let count = count_in(alloc, source, symbols.which, symbols.selection)?;
+    let all = count_in(alloc, source, symbols.which, Selection::All)?;
+    let format = read_format(alloc, source, &mut ())?;
+    Ok(lack_by(symbols.which, &format, count, all))
 }
 
-/// A hint on a file that is refused for this reason: where the debug symbols of a stripped one may be, or what its
-/// first bytes name.
-pub fn refusal_hint<S: Source<Log = ()>>(alloc: Global, source: &S, fault: Fault) -> Option<Hint> {
-    match fault {
-        Fault::Parse(ParseError::SectionIsMissing(".symtab")) => {
-            Some(Hint::Stripped(debug_files(alloc, source)?))
-        }
-        Fault::Unknown | Fault::Parse(_) => format_hint(source),
+// The same of a file of this format, by how many of these function symbols it has, and how many of all sections.
+fn lack_by(which: SymbolTable, format: &Format, count: usize, all: usize) -> Option<Hint> {
+    match (count, all) {
+        (0, 0) => Some(lack_of(which, format)),
+        (0, _) => Some(Hint::Others(all)),
         _ => None,
+    }
+}
+
+fn lack_of(which: SymbolTable, format: &Format) -> Hint {
+    match (format, which) {
+        (Format::PE, _) => Hint::NoneOfPe,
+        (Format::Macho, _) => Hint::NoneOfMacho,
+        (_, SymbolTable::Dynsym) => Hint::NoneDynamic,
+        _ => Hint::None,
+    }
+}
+
+// How many function symbols a selection has.
+fn count_in<S: Source<Log = ()>>(
+    alloc: Global,
+    source: &S,
+    which: SymbolTable,
+    selection: Selection<'_>,
+) -> Result<usize, Fault> {
+    let tables = read(alloc, source, &mut (), which, selection)?;
+    let selected = tables.functions(alloc)?;
+    let list: Vec<SectionFunction<'_>> = selected.functions.collect_in(alloc)?;
+    Ok(list.len())
+}
+
+/// The hints on a file that is refused for this reason: of a stripped one how many dynamic function symbols it has, and
+/// where its debug symbols may be.
+pub fn refusal_hints<S: Source<Log = ()>>(
+    alloc: Global,
+    source: &S,
+    fault: &Fault,
+) -> (Option<Hint>, Option<Hint>) {
+    match fault {
+        Fault::Section(SectionError::Parse(ParseError::SectionIsMissing(".symtab"))) => (
+            dynamic(alloc, source).unwrap_or(None),
+            debug_files(alloc, source).map(Hint::Stripped),
+        ),
+        _ => (None, None),
+    }
+}
+
+// How many dynamic function symbols the file has, if it has any.
+fn dynamic<S: Source<Log = ()>>(alloc: Global, source: &S) -> Result<Option<Hint>, Fault> {
+    let count = count_in(alloc, source, SymbolTable::Dynsym, Selection::All)?;
+    Ok(dynamic_by(count))
+}
+
+fn dynamic_by(count: usize) -> Option<Hint> {
+    match count {
+        0 => None,
+        _ => Some(Hint::Dynamic(count)),
     }
 }
 
@@ -157,13 +210,4 @@ fn section_bytes_of<S: Source<Log = ()>>(alloc: Global, source: &S, name: &str) 
     let mut out = Out::new(Vec::new(alloc));
     write_section_of(alloc, source, &mut (), name, &mut out).ok()?;
     Some(out.into_inner())
-}
-
-// The hint that the first 8 bytes of a file give, if any.
-fn format_hint<S: Source<Log = ()>>(source: &S) -> Option<Hint> {
-    let mut magic = [0; 8];
-    match source.fill_at(&mut (), 0, &mut magic) {
-        Ok(()) => named_by(&magic),
-        Err(_) => None,
-    }
 }

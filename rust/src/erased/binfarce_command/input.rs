@@ -4,16 +4,16 @@
 
 use crate::shim::Vec;
 use crate::erased::binfarce_command::fault::Fault;
+use crate::erased::binfarce_command::foreign::{FIRST_LENGTH, named_by};
 use crate::erased::binfarce_bytes::format::{Format, detect_format};
 use crate::erased::binfarce_bytes::source::Source;
+use crate::erased::binfarce_sections::error::SectionError;
+use crate::erased::binfarce_tables::{ReadError, part};
 use crate::erased::binfarce_tools::program::is_read_at_offsets;
 use crate::shim::alloc::Global;
 use std::cell::Cell;
 use crate::shim::fs::File;
 use crate::shim::io::{self, Error, ErrorKind, Read, Stdin};
-
-// How many of a file's first bytes name its format.
-const MAGIC_LENGTH: usize = 8;
 
 /// A file, or standard input.
 pub enum FileOrStdin {
@@ -64,6 +64,8 @@ impl Source for FileOrStdin {
 pub struct OpenFile<F> {
     file: F,
     bytes: Option<Vec<u8>>,
+    // How many bytes were read of it in order.
+    len: u64,
     reason: Cell<Option<Error>>,
 }
 
@@ -73,8 +75,14 @@ impl<F> OpenFile<F> {
         OpenFile {
             file,
             bytes: None,
+            len: 0,
             reason: Cell::new(None),
         }
+    }
+
+    /// How many bytes were read of it in order.
+    pub fn len(&self) -> u64 {
+        self.len
     }
 
     /// The reason of the last failed read, if any.
@@ -93,15 +101,16 @@ impl<F> OpenFile<F> {
 }
 
 impl<F: Read + Source<Log = ()>> OpenFile<F> {
-    /// Loads the file unless it can be read at offsets: to its end, or only the first 8 bytes where these name no
-    /// format.
+    /// Loads the file unless it can be read at offsets: to its end, or only the first `FIRST_LENGTH` bytes where these
+    /// name no format.
     ///
     /// # Errors
     ///
-    /// `Unreadable` where a read fails, and `OutOfMemory` where an allocation fails.
+    /// `Unsupported` exactly where the first `FIRST_LENGTH` bytes name what no reader reads, and no other byte is read
+    /// then; `Unreadable` where a read fails, and `OutOfMemory` where an allocation fails.
     pub fn load(&mut self, alloc: Global) -> Result<(), Fault> {
         if is_read_at_offsets(self) {
-            return Ok(());
+            return refuse_foreign(&first_bytes(alloc, self)?);
         }
         self.bytes = Some(read_judged(alloc, self)?);
         Ok(())
@@ -111,6 +120,9 @@ impl<F: Read + Source<Log = ()>> OpenFile<F> {
 impl<F: Read> Read for OpenFile<F> {
     fn read(&mut self, buf: &mut [u8]) -> io::Result<usize> {
         let read = self.file.read(buf);
+        if let Ok(count) = read {
+            self.len = self.len.saturating_add(count as u64);
+        }
         self.keep(read)
     }
 }
@@ -133,17 +145,33 @@ impl<F: Source<Log = ()>> Source for OpenFile<F> {
     }
 }
 
-/// The bytes up to the reader's end; only the first 8, with no further read, where these name no format.
+/// The bytes up to the reader's end; only the first `FIRST_LENGTH`, with no further read, where these name no format.
 ///
 /// # Errors
 ///
-/// As `load`.
+/// As `load`, by the same bytes.
 pub fn read_judged<R: Read>(alloc: Global, reader: &mut R) -> Result<Vec<u8>, Fault> {
     let mut bytes = Vec::new(alloc);
     read_first(reader, &mut bytes)?;
+    refuse_foreign(&bytes)?;
     match detect_format(&bytes) {
         Format::Unknown => Ok(bytes),
         _ => read_rest(reader, bytes),
+    }
+}
+
+// The first `FIRST_LENGTH` bytes of a source, or all of a shorter one.
+fn first_bytes<S: Source<Log = ()>>(alloc: Global, source: &S) -> Result<Vec<u8>, ReadError> {
+    let len = source.length()?;
+    let size = (FIRST_LENGTH as u64).min(len);
+    part(alloc, source, &mut (), 0, size)
+}
+
+// Refuses a file that no reader reads, by its first bytes.
+fn refuse_foreign(first: &[u8]) -> Result<(), Fault> {
+    match named_by(first) {
+        Some(kind) => Err(Fault::Unsupported(kind)),
+        None => Ok(()),
     }
 }
 
@@ -153,11 +181,11 @@ fn read_rest<R: Read>(reader: &mut R, mut bytes: Vec<u8>) -> Result<Vec<u8>, Fau
     Ok(bytes)
 }
 
-// Reads the first 8 bytes, or all where there are fewer.
+// Reads the first `FIRST_LENGTH` bytes, or all where there are fewer.
 fn read_first<R: Read>(reader: &mut R, bytes: &mut Vec<u8>) -> Result<(), Fault> {
     let mut byte = [0; 1];
     for _ in 0..u64::MAX {
-        if bytes.len() >= MAGIC_LENGTH {
+        if bytes.len() >= FIRST_LENGTH {
             return Ok(());
         }
         match reader.read(&mut byte) {
@@ -167,5 +195,5 @@ fn read_first<R: Read>(reader: &mut R, bytes: &mut Vec<u8>) -> Result<(), Fault>
             Err(e) => return Err(Fault::from(e)),
         }
     }
-    Err(Fault::Unreadable)
+    Err(Fault::Section(SectionError::Unreadable))
 }

@@ -5,6 +5,7 @@
 use crate::shim::Vec;
 use crate::erased::binfarce_command::fault::Fault;
 use crate::erased::binfarce_tools::list::Sink;
+use crate::erased::binfarce_tools::report::ReportError;
 use crate::shim::alloc::Global;
 use crate::shim::io::{self, Error, ErrorKind, Write};
 
@@ -15,6 +16,8 @@ pub struct Output<W> {
     heading: Vec<u8>,
     // How much of the heading is written.
     done: usize,
+    // How many bytes were written after it.
+    len: u64,
     reason: Option<Error>,
 }
 
@@ -25,6 +28,7 @@ impl<W: Write> Output<W> {
             writer,
             heading: Vec::new(alloc),
             done: 0,
+            len: 0,
             reason: None,
         }
     }
@@ -33,6 +37,12 @@ impl<W: Write> Output<W> {
     pub fn begin(&mut self, heading: Vec<u8>) {
         self.heading = heading;
         self.done = 0;
+        self.len = 0;
+    }
+
+    /// How many bytes the sink has taken since the last heading.
+    pub fn len(&self) -> u64 {
+        self.len
     }
 
     /// Writes the rest of the heading.
@@ -41,7 +51,8 @@ impl<W: Write> Output<W> {
     ///
     /// `Write` where a write fails.
     pub fn end(&mut self) -> Result<(), Fault> {
-        self.write_heading().ok_or(Fault::Write)
+        self.write_heading()
+            .ok_or(Fault::Report(ReportError::Write))
     }
 
     // Writes the rest of the heading.
@@ -72,7 +83,10 @@ impl<W: Write> Sink for Output<W> {
     fn write(&mut self, bytes: &[u8]) -> Option<usize> {
         self.write_heading()?;
         match self.writer.write(bytes) {
-            Ok(n) if n > 0 => Some(n),
+            Ok(n) if n > 0 => {
+                self.len = self.len.saturating_add(n as u64);
+                Some(n)
+            }
             Ok(_) => {
                 self.reason = Some(Error::from(ErrorKind::WriteZero));
                 None

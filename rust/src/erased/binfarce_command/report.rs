@@ -5,6 +5,7 @@
 use crate::shim::{HostRuntime, String};
 use crate::erased::binfarce_command::fault::Fault;
 use crate::erased::binfarce_figures::diff::Growth;
+use crate::erased::binfarce_sections::error::SectionError;
 use crate::erased::binfarce_tools::json::{push_start, push_text_member};
 use crate::erased::binfarce_words::words::Wrong;
 use crate::shim::alloc::{AllocError, Global};
@@ -25,21 +26,21 @@ pub fn refuse(rt: &HostRuntime, wrong: &Wrong<'_>) -> u8 {
 pub fn ended(rt: &HostRuntime, done: Result<bool, Fault>, reason: Option<Error>) -> u8 {
     match done {
         Ok(is_done) => u8::from(!is_done),
-        Err(Fault::Write) if is_broken_pipe(&reason) => 0,
-        Err(Fault::Write) => {
-            let message = message_of(rt.alloc(), Fault::Write, reason);
+        Err(fault) if !fault.is_write() => {
+            let _ = rt.eprintln(format_args!("binfarce: {fault}"));
+            status(&fault)
+        }
+        Err(_) if is_broken_pipe(&reason) => 0,
+        Err(fault) => {
+            let message = message_of(rt.alloc(), fault, reason);
             report(rt, "standard output", &message);
             1
-        }
-        Err(fault) => {
-            let _ = rt.eprintln(format_args!("binfarce: {fault}"));
-            status(fault)
         }
     }
 }
 
 // The program's exit status for a fault other than a failed write.
-fn status(fault: Fault) -> u8 {
+fn status(fault: &Fault) -> u8 {
     match fault {
         Fault::Missing(_) => 2,
         Fault::Grown(_) => 3,
@@ -86,12 +87,17 @@ impl fmt::Display for Message {
 /// Why a file is refused: the system's reason, where a read or a write failed.
 pub fn message_of(alloc: Global, fault: Fault, reason: Option<Error>) -> Message {
     match reason {
-        Some(e) if matches!(fault, Fault::Unreadable | Fault::Write) => match words_of(alloc, &e) {
+        Some(e) if is_of_system(&fault) => match words_of(alloc, &e) {
             Ok(words) => Message::Reason(words),
-            Err(_) => Message::Fault(Fault::OutOfMemory),
+            Err(e) => Message::Fault(Fault::from(e)),
         },
         _ => Message::Fault(fault),
     }
+}
+
+// Whether the system has a reason for it: a failed read or write.
+fn is_of_system(fault: &Fault) -> bool {
+    fault.is_write() || *fault == Fault::Section(SectionError::Unreadable)
 }
 
 /// Prints why a file is refused.

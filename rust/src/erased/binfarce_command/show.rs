@@ -39,6 +39,13 @@ pub enum Kind {
     Stacks,
 }
 
+impl Kind {
+    // Whether whole sizes are summed, so that symbols which overlap count twice.
+    fn is_summed(self) -> bool {
+        matches!(self, Kind::Sums)
+    }
+}
+
 /// Which function symbols of a file are taken.
 #[derive(Debug, Clone, Copy)]
 pub struct Symbols<'a> {
@@ -140,7 +147,7 @@ fn show_section<K: Sink>(
     let (functions, size) = tables.functions(alloc)?.into_list();
     let list: Vec<SectionFunction<'_>> = functions.all.collect_in(alloc)?;
     let size = size.unwrap_or(0);
-    *hint = hint_on(&list, size, kind == Kind::Sums);
+    *hint = hint_on(&list, size, kind.is_summed());
     let made = Tables::Made {
         functions: list,
         size,

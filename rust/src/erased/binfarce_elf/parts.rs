@@ -2,25 +2,31 @@
 
 //! The section header table of a file of either class, and the sections found in it alone.
 
+use crate::shim::Vec;
 use crate::erased::binfarce_elf::class::{Class, Half, Width, Word};
+use crate::erased::binfarce_elf::ends::{FileKind, keys_of, kind_of, sizes_of};
 use crate::erased::binfarce_elf::header::parse_header;
 use crate::erased::binfarce_elf::sections::{
     self, Section, Sections, Table, is_named, name_at, names_bytes, section_table, sections_of,
 };
 use crate::erased::binfarce_elf::symbol_table::SymbolTable;
-use crate::erased::binfarce_elf::symbols::{Needed, needed_of};
+use crate::erased::binfarce_elf::symbols::{Needed, Rows, Taken, needed_of};
 use crate::erased::binfarce_bytes::functions::Selection;
 use crate::erased::binfarce_bytes::parser::UnexpectedEof;
 use crate::erased::binfarce_bytes::{ByteOrder, ParseError};
+use crate::shim::alloc::{AllocError, Global};
 
-/// The file header's fields for the section headers and the file's type, and the file's byte order.
+/// The file header's fields for the section headers, the file's type and machine, and its byte order.
 #[derive(Clone, Copy)]
 pub struct HeaderTable {
     pub byte_order: ByteOrder,
     pub shoff: u64,
     pub shnum: Half,
     pub shstrndx: Half,
-    pub elf_type: Half,
+    pub kind: FileKind,
+    /// Where the program headers begin, and their number.
+    pub phoff: u64,
+    pub phnum: Half,
 }
 
 /// These fields of the header of a file of this class. `UnexpectedEof` where the header is truncated.
@@ -38,7 +44,9 @@ fn place_of<C: Class>(file: &[u8], byte_order: ByteOrder) -> Result<HeaderTable,
         shoff: header.shoff.widened(),
         shnum: header.shnum,
         shstrndx: header.shstrndx,
-        elf_type: header.elf_type,
+        kind: kind_of(&header),
+        phoff: header.phoff.widened(),
+        phnum: header.phnum,
     })
 }
 
@@ -74,6 +82,36 @@ pub fn needed_in(
         Width::Bits32 => needed_of::<u32>(table, names, which, selection),
         Width::Bits64 => needed_of::<u64>(table, names, which, selection),
     }
+}
+
+/// The sizes in memory of all rows of a symbol table, for a selection of all sections: for one section none. The rows'
+/// names are in these strings. The only error is a failed allocation.
+pub fn sizes_in(
+    alloc: Global,
+    headers: &[u8],
+    width: Width,
+    place: HeaderTable,
+    taken: Taken,
+    rows: &[u8],
+    strings: &[u8],
+) -> Result<Vec<u64>, AllocError> {
+    if taken.size.is_some() {
+        return Ok(Vec::new(alloc));
+    }
+    let table = headers_alone(headers, place.byte_order, place.shnum);
+    let found = Rows { strings, rows };
+    let keys = match width {
+        Width::Bits32 => keys_of::<u32>(alloc, table, place.kind, found)?,
+        Width::Bits64 => keys_of::<u64>(alloc, table, place.kind, found)?,
+    };
+    sizes_of(
+        alloc,
+        &keys,
+        width,
+        place.byte_order,
+        place.kind.has_modes(),
+        rows,
+    )
 }
 
 /// An iterator over the sections of a file of either class, in file order, with values of the wider class's types.

@@ -1,8 +1,10 @@
 // From crates/binfarce_elf/src/symbols.rt, by tools/erase.
 
-//! The function symbols of one section, or of all sections.
+//! The function symbols of one section, or of all sections with their addresses and sizes in memory.
 
+use crate::shim::Vec;
 use crate::erased::binfarce_elf::class::{Class, Half, SymbolRow, Width, Word, row_at};
+use crate::erased::binfarce_elf::ends::{FileKind, address_of, keys_of, row_size};
 use crate::erased::binfarce_elf::sections::{
     Section, Table, first_section, names_bytes, section_data, section_named,
 };
@@ -12,6 +14,7 @@ use crate::erased::binfarce_bytes::functions::{
 };
 use crate::erased::binfarce_bytes::parser::{UnexpectedEof, parse_null_string};
 use crate::erased::binfarce_bytes::{ByteOrder, ParseError};
+use crate::shim::alloc::{AllocError, Global};
 
 // The index of no section, and the first of the reserved indices.
 const SHN_UNDEF: Half = 0;
@@ -47,31 +50,90 @@ pub struct Needed {
 
 // The strings and the rows of a symbol table.
 #[derive(Clone, Copy)]
-struct Rows<'a> {
-    strings: &'a [u8],
-    rows: &'a [u8],
+pub(crate) struct Rows<'a> {
+    pub(crate) strings: &'a [u8],
+    pub(crate) rows: &'a [u8],
 }
 
-/// The function symbols of a selection, by this symbol table.
-pub fn selected_functions<'a, C: Class>(
+/// The function symbols of the section with this name, by this symbol table. Nothing is allocated.
+pub fn section_functions<'a, C: Class>(
     table: Table<'a>,
     which: SymbolTable,
-    selection: Selection<'_>,
+    name: &str,
 ) -> Result<Functions<'a>, ParseError> {
-    let width = C::width();
+    let selection = Selection::Section(name);
     let needed = needed_of::<C>(table, names_bytes::<C>(table), which, selection)?;
-    let Rows { strings, rows } = rows_at(table.data, width, needed.table)?;
-    Ok(functions_in(rows, strings, width, table.byte_order, needed.taken))
+    let Rows { strings, rows } = rows_at(table.data, C::width(), needed.table)?;
+    Ok(functions_in(
+        rows,
+        strings,
+        C::width(),
+        table.byte_order,
+        needed.taken,
+        false,
+        &[],
+    ))
+}
+
+/// The function symbols of all sections of a file of this kind, by this symbol table: a list in table order. Every
+/// refusal comes before the first allocation.
+pub fn all_functions<'a, C: Class>(
+    alloc: Global,
+    table: Table<'a>,
+    kind: FileKind,
+    which: SymbolTable,
+) -> Result<Vec<SectionFunction<'a>>, ParseError> {
+    let needed = needed_of::<C>(table, names_bytes::<C>(table), which, Selection::All)?;
+    let found = rows_at(table.data, C::width(), needed.table)?;
+    let has_modes = kind.has_modes();
+    let keys = keys_of::<C>(alloc, table, kind, found)?;
+    let width = C::width();
+    let functions = list_in(
+        alloc,
+        &keys,
+        width,
+        table.byte_order,
+        has_modes,
+        needed.taken,
+        found,
+    )?;
+    Ok(functions)
+}
+
+// The function symbols that a selection takes of these rows, by the keys of the ends of their sections.
+fn list_in<'a>(
+    alloc: Global,
+    keys: &[u128],
+    width: Width,
+    byte_order: ByteOrder,
+    has_modes: bool,
+    taken: Taken,
+    found: Rows<'a>,
+) -> Result<Vec<SectionFunction<'a>>, AllocError> {
+    let length = width.symbol_length();
+    let mut functions = Vec::new(alloc);
+    for k in 0..found.rows.len() / length {
+        let row = row_at(width, found.rows, k * length, byte_order).unwrap();
+        let size = row_size(keys, has_modes, row);
+        match function_of(found.strings, taken, has_modes, row, size) {
+            None => {}
+            Some(function) => functions.push(function)?,
+        }
+    }
+    Ok(functions)
 }
 
 /// The function symbols that a selection takes of the rows of a symbol table of this class, whose names are in these
-/// strings.
+/// strings. For all sections, `sizes` has the sizes of all rows in memory, and `has_modes` says whether bit 0 of a
+/// function's value is its instruction set.
 pub fn functions_in<'a>(
     rows: &'a [u8],
     strings: &'a [u8],
     width: Width,
     byte_order: ByteOrder,
     taken: Taken,
+    has_modes: bool,
+    sizes: &'a [u64],
 ) -> Functions<'a> {
     Functions {
         rows,
@@ -79,6 +141,8 @@ pub fn functions_in<'a>(
         width,
         byte_order,
         taken,
+        has_modes,
+        sizes,
         next: 0,
     }
 }
@@ -227,6 +291,8 @@ pub struct Functions<'a> {
     width: Width,
     byte_order: ByteOrder,
     taken: Taken,
+    has_modes: bool,
+    sizes: &'a [u64],
     next: usize,
 }
 
@@ -264,7 +330,8 @@ impl<'a> Functions<'a> {
         let length = width.symbol_length();
         for k in self.next..self.rows.len() / length {
             let row = row_at(width, self.rows, k * length, self.byte_order).unwrap();
-            match function_of(self.strings, self.taken, row) {
+            let size = size_at(self.sizes, k);
+            match function_of(self.strings, self.taken, self.has_modes, row, size) {
                 None => continue,
                 Some(function) => return Some((function, k + 1)),
             }
@@ -284,16 +351,44 @@ impl<'a> Iterator for Functions<'a> {
     }
 }
 
-// The function of a row with its section, where it is taken.
+// The size of row k among these; 0 where they have none.
 #[cfg_attr(not(debug_assertions), inline(always))]
-fn function_of(strings: &[u8], taken: Taken, row: SymbolRow) -> Option<SectionFunction<'_>> {
+fn size_at(sizes: &[u64], k: usize) -> u64 {
+    if k < sizes.len() { sizes[k] } else { 0 }
+}
+
+// The function of a row of this size in memory with its section, where it is taken.
+#[cfg_attr(not(debug_assertions), inline(always))]
+fn function_of(
+    strings: &[u8],
+    taken: Taken,
+    has_modes: bool,
+    row: SymbolRow,
+    size: u64,
+) -> Option<SectionFunction<'_>> {
+    match taken.size {
+        None => function_with(strings, taken, row, address_of(has_modes, row), size),
+        Some(_) if row.size == 0 => None,
+        Some(_) => function_with(strings, taken, row, row.value, row.size),
+    }
+}
+
+// The function of a row with its section, of this address and size.
+#[cfg_attr(not(debug_assertions), inline(always))]
+fn function_with(
+    strings: &[u8],
+    taken: Taken,
+    row: SymbolRow,
+    address: u64,
+    size: u64,
+) -> Option<SectionFunction<'_>> {
     let name = function_name(strings, taken, row)?;
     Some(SectionFunction {
         section: u32::from(row.section),
         function: FunctionSymbol {
             name,
-            address: row.value,
-            size: row.size,
+            address,
+            size,
         },
     })
 }
@@ -301,11 +396,7 @@ fn function_of(strings: &[u8], taken: Taken, row: SymbolRow) -> Option<SectionFu
 // The name of a row's function, where it is taken.
 #[cfg_attr(not(debug_assertions), inline(always))]
 fn function_name(strings: &[u8], taken: Taken, row: SymbolRow) -> Option<&str> {
-    if accepts(taken, row.section)
-        && row.size != 0
-        && row.name != 0
-        && is_function(taken.indirect, row)
-    {
+    if accepts(taken, row.section) && row.name != 0 && is_function(taken.indirect, row) {
         parse_null_string(strings, row.name as usize)
     } else {
         None
@@ -320,7 +411,7 @@ fn accepts(taken: Taken, index: Half) -> bool {
 
 // Whether a row's type is that of a function; of an indirect one where these count.
 #[inline]
-fn is_function(indirect: bool, row: SymbolRow) -> bool {
+pub(crate) fn is_function(indirect: bool, row: SymbolRow) -> bool {
     const STT_FUNC: u8 = 2;
     const STT_GNU_IFUNC: u8 = 10;
     let kind = row.info & 0xf;

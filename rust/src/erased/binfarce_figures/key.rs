@@ -30,7 +30,7 @@ pub enum Key {
 pub struct Grouping {
     /// What they are summed by.
     pub key: Key,
-    /// Whether the functions of Rust's standard library, and of the crates that it is built of, have the key `[std]`.
+    /// Whether the functions of Rust's standard library have the key `[std]`: those of the crates that it alone has.
     pub joins_std: bool,
 }
 
@@ -103,13 +103,13 @@ fn key_of(
     Ok(key)
 }
 
-// Whether a crate is one of Rust's standard library, or of those that it is built of.
+// Whether a crate is one of Rust's standard library, and of nothing else.
 fn is_std(crate_name: &str) -> bool {
     match crate_name {
-        "std" | "core" | "alloc" | "compiler_builtins" | "std_detect" | "panic_unwind" => true,
-        "hashbrown" | "gimli" | "addr2line" | "rustc_demangle" | "miniz_oxide" | "object" => true,
-        "memchr" | "libc" | "cfg_if" | "adler" | "adler2" | "unwind" | "panic_abort" => true,
-        "rustc_std_workspace_core" => true,
+        "std" | "core" | "alloc" | "proc_macro" | "test" | "std_detect" => true,
+        "compiler_builtins" | "unwind" | "panic_abort" | "panic_unwind" => true,
+        "rustc_std_workspace_core" | "rustc_std_workspace_alloc" => true,
+        "rustc_std_workspace_std" => true,
         _ => false,
     }
 }

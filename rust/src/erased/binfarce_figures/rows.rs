@@ -11,7 +11,7 @@ use crate::erased::binfarce_tools::head::push_head;
 use crate::erased::binfarce_tools::json::{
     Form, push_address_member, push_number_member, push_start, push_text_member,
 };
-use crate::erased::binfarce_tools::list::{ListError, Sink, push_section};
+use crate::erased::binfarce_tools::list::{ListError, Sink, push_section_part};
 use crate::erased::binfarce_tools::report::put_crate;
 use crate::erased::binfarce_tools::tables::Tables;
 use crate::erased::binfarce_tools::writing::write_whole;
@@ -151,10 +151,7 @@ impl Listing<'_, '_> {
         match self.form {
             Form::Lines => {
                 push_head(text, row.address, row.size)?;
-                if self.size.is_none() {
-                    push_section(text, self.tables, row.section)?;
-                    text.push_str(" ")?;
-                }
+                push_section_part(text, self.tables, self.size, row.section)?;
                 text.push_str(row.name)?;
                 text.push_str("\n")
             }
@@ -199,18 +196,11 @@ pub(crate) fn count_of(first: Option<usize>, all: usize) -> usize {
     first.map_or(all, |first| first.min(all))
 }
 
-/// The function symbols of a selection as one list, and the section's size. Those of one section have the section
-/// number 0.
+/// The function symbols of a selection as one list, and the size of the selected section, if one is selected.
 pub(crate) fn list_of<'a>(
     alloc: Global,
     selected: Selected<'a>,
 ) -> Result<(Vec<SectionFunction<'a>>, Option<u64>), AllocError> {
-    match selected {
-        Selected::Section(functions, size) => {
-            let section = 0;
-            let list = functions.map(|function| SectionFunction { section, function });
-            Ok((list.collect_in(alloc)?, Some(size)))
-        }
-        Selected::All(functions) => Ok((functions.collect_in(alloc)?, None)),
-    }
+    let list = selected.functions.collect_in(alloc)?;
+    Ok((list, selected.size))
 }

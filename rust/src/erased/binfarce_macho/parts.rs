@@ -1,14 +1,14 @@
 // From crates/binfarce_macho/src/parts.rt, by tools/erase.
 
-//! The end of a file's load commands, and whether a prefix of the file holds them.
+//! The end of a file's load commands, whether a prefix of the file holds them, and where the file is loaded.
 
 use crate::erased::binfarce_macho::commands::{
-    COMMAND_HEAD, Command, LC_SEGMENT_64, LC_SYMTAB, command_at,
+    COMMAND_HEAD, Command, LC_SEGMENT_64, LC_SYMTAB, command_at, commands,
 };
 use crate::erased::binfarce_macho::header::{HEADER_LENGTH, MachoHeader};
-use crate::erased::binfarce_macho::sections::SECTION_LENGTH;
-use crate::erased::binfarce_bytes::ByteOrder;
-use crate::erased::binfarce_bytes::parser::{number_at, to_index};
+use crate::erased::binfarce_macho::sections::{SECTION_LENGTH, name_in};
+use crate::erased::binfarce_bytes::parser::{Stream, UnexpectedEof, number_at, to_index};
+use crate::erased::binfarce_bytes::{ByteOrder, ParseError};
 
 /// Where the load commands end, as the header states (`sizeofcmds`).
 pub fn commands_end(header: MachoHeader) -> u64 {
@@ -52,5 +52,49 @@ fn holds_sections(bytes: &[u8], body: usize) -> bool {
         Ok(count) => {
             (body + 64) as u64 + u64::from(count) * SECTION_LENGTH as u64 <= bytes.len() as u64
         }
+    }
+}
+
+/// Where a file with this header is loaded unless the loader slides it: the address of its first segment `__TEXT`.
+/// `None` without one, as in an object file. `MalformedInput` for a bad command before it.
+pub fn load_address(file: &[u8], header: MachoHeader) -> Result<Option<u64>, ParseError> {
+    for item in commands(file, header) {
+        let command = item?;
+        match text_address(file, command) {
+            None => {}
+            Some(address) => return Ok(Some(address)),
+        }
+    }
+    Ok(None)
+}
+
+// The address of the segment of a command, where it is named `__TEXT` and its name and address lie in the file.
+fn text_address(bytes: &[u8], command: Command) -> Option<u64> {
+    if command.kind != LC_SEGMENT_64 {
+        return None;
+    }
+    match text_place(bytes, command) {
+        Err(_) => None,
+        Ok(address) => address,
+    }
+}
+
+// The same, of a command of a segment; refused where its name and address don't lie in the file.
+fn text_place(bytes: &[u8], command: Command) -> Result<Option<u64>, UnexpectedEof> {
+    let body = command.offset.checked_add(8).ok_or(UnexpectedEof {})?;
+    let mut s = Stream::new_at(bytes, body, ByteOrder::LittleEndian)?;
+    let name = s.read_bytes(16)?;
+    let address = s.read()?;
+    if is_text_name(name_in(name)) {
+        Ok(Some(address))
+    } else {
+        Ok(None)
+    }
+}
+
+fn is_text_name(name: Option<&str>) -> bool {
+    match name {
+        None => false,
+        Some(name) => name == "__TEXT",
     }
 }

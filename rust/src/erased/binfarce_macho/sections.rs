@@ -232,7 +232,7 @@ pub(crate) fn section_at(bytes: &[u8], start: usize) -> Result<Option<Section<'_
 }
 
 // The name in a field's bytes: those up to the first NUL, or all where there is none.
-fn name_in(bytes: &[u8]) -> Option<&str> {
+pub(crate) fn name_in(bytes: &[u8]) -> Option<&str> {
     let name = up_to_nul(bytes);
     if name.is_empty() {
         return None;

@@ -108,13 +108,15 @@ pub fn functions_of<'a>(
     sections: SelectedSections<'_>,
     symbols: SymbolTable<'a>,
 ) -> Result<Vec<SectionFunction<'a>>, AllocError> {
-    let mut kept = kept_by_section(alloc, sections, symbols)?;
-    let (first, _) = span_of(sections);
     let mut functions = Vec::new(alloc);
-    let held = kept.len();
-    for at in 0..held {
-        let rows = mem::replace(&mut kept[at], nothing_kept(alloc));
-        push_functions(alloc, &mut functions, sections, first + at as u32, rows)?;
+    if !keeps_some(sections, symbols) {
+        return Ok(functions);
+    }
+    let mut held = rows_by_section(alloc, sections, symbols)?;
+    let (first, count) = span_of(sections);
+    for at in 0..count {
+        let rows = mem::replace(&mut held[at as usize], no_rows(alloc));
+        push_functions(alloc, &mut functions, sections, first + at, rows)?;
     }
     Ok(functions)
 }
@@ -127,15 +129,92 @@ fn span_of(sections: SelectedSections<'_>) -> (u32, u32) {
     }
 }
 
-// Whether a row is kept of the section that it names, if that is selected.
+// Whether a row is a function that is kept of the section that it names, if that is selected and its name can be read.
 fn accepts(sections: SelectedSections<'_>, row: SymbolRow) -> bool {
-    let class = row.storage_class;
     let is_kept = match sections {
-        SelectedSections::Text(_) => class == IMAGE_SYM_CLASS_EXTERNAL,
-        SelectedSections::All(_, _) => class == IMAGE_SYM_CLASS_EXTERNAL
-            || class == IMAGE_SYM_CLASS_STATIC,
+        SelectedSections::Text(_) => row.storage_class == IMAGE_SYM_CLASS_EXTERNAL,
+        SelectedSections::All(_, _) => is_external_or_static(row),
     };
     is_function(row) && is_kept
+}
+
+// Whether a row ends sizes in the section that it names, if that is selected, even where it isn't kept.
+fn ends_sizes(sections: SelectedSections<'_>, row: SymbolRow) -> bool {
+    match sections {
+        SelectedSections::Text(_) => false,
+        SelectedSections::All(_, _) => is_external_or_static(row),
+    }
+}
+
+// Whether a row's value is the offset of a symbol in its section. A code label lies within a function.
+fn is_external_or_static(row: SymbolRow) -> bool {
+    let class = row.storage_class;
+    class == IMAGE_SYM_CLASS_EXTERNAL || class == IMAGE_SYM_CLASS_STATIC
+}
+
+// The position among the selected sections of the one that a row names.
+fn position_of(sections: SelectedSections<'_>, row: SymbolRow) -> Option<u32> {
+    let (first, count) = span_of(sections);
+    let number = u32::from(row.section_number);
+    if first < number && number - first <= count {
+        Some(number - first - 1)
+    } else {
+        None
+    }
+}
+
+// The position among the selected sections of the one in which a row ends sizes, and the row's name where it is kept.
+fn ending_of<'a>(
+    sections: SelectedSections<'_>,
+    symbols: SymbolTable<'a>,
+    number: usize,
+    row: SymbolRow,
+) -> Option<(u32, Option<&'a str>)> {
+    let at = match position_of(sections, row) {
+        None => return None,
+        Some(at) => at,
+    };
+    match function_name(sections, symbols, number, row) {
+        Some(name) => Some((at, Some(name))),
+        None => {
+            if ends_sizes(sections, row) {
+                Some((at, None))
+            } else {
+                None
+            }
+        }
+    }
+}
+
+// The position among the selected sections of the one that a row is kept of.
+fn kept_in(
+    sections: SelectedSections<'_>,
+    symbols: SymbolTable<'_>,
+    number: usize,
+    row: SymbolRow,
+) -> Option<u32> {
+    let at = match position_of(sections, row) {
+        None => return None,
+        Some(at) => at,
+    };
+    match function_name(sections, symbols, number, row) {
+        None => None,
+        Some(_) => Some(at),
+    }
+}
+
+// The name of a row that is kept of the section that it names, if that is selected.
+fn function_name<'a>(
+    sections: SelectedSections<'_>,
+    symbols: SymbolTable<'a>,
+    number: usize,
+    row: SymbolRow,
+) -> Option<&'a str> {
+    if accepts(sections, row) {
+        name_of(symbols, number, row)
+    } else {
+        None
+    }
 }
 
 // The size that sizes end at in the section of this index.
@@ -177,105 +256,91 @@ fn memory_address(image_base: Option<u64>, sections: Table<'_>, index: u32) -> u
     }
 }
 
-// The rows that are kept of a section, in table order: the address of each and its index among them, and its name.
-struct Kept<'a> {
+// The rows that end sizes in a section, in table order: the address of each and its index among them, and its name where
+// it is kept.
+struct Held<'a> {
     rows: Vec<RowAddress>,
-    names: Vec<&'a str>,
+    names: Vec<Option<&'a str>>,
 }
 
-// The rows that are kept of each selected section; nothing where none is kept of any.
-fn kept_by_section<'a>(
+// Whether a row is kept of a selected section. Nothing is allocated.
+fn keeps_some(sections: SelectedSections<'_>, symbols: SymbolTable<'_>) -> bool {
+    let row_count = symbols.rows.len() / SYMBOL_LENGTH;
+    let mut next = 0;
+    while next < row_count {
+        let number = next;
+        let row = symbol_of(symbols, number);
+        next = number + 1 + row.number_of_aux_symbols as usize;
+        match kept_in(sections, symbols, number, row) {
+            None => {}
+            Some(_) => return true,
+        }
+    }
+    false
+}
+
+// The rows that end sizes in each selected section.
+fn rows_by_section<'a>(
     alloc: Global,
     sections: SelectedSections<'_>,
     symbols: SymbolTable<'a>,
-) -> Result<Vec<Kept<'a>>, AllocError> {
+) -> Result<Vec<Held<'a>>, AllocError> {
     let (_, count) = span_of(sections);
     let row_count = symbols.rows.len() / SYMBOL_LENGTH;
-    let mut kept = Vec::new(alloc);
+    let mut held = no_rows_of(alloc, count)?;
     let mut next = 0;
     while next < row_count {
         let number = next;
         let row = symbol_of(symbols, number);
         next += 1 + row.number_of_aux_symbols as usize;
-        let at = match position_of(sections, row) {
-            None => continue,
-            Some(at) => at,
-        };
-        let name = match name_of(symbols, number, row) {
-            None => continue,
-            Some(name) => name,
-        };
-        push_kept(alloc, &mut kept, count, at, u64::from(row.value), name)?;
+        match ending_of(sections, symbols, number, row) {
+            None => {}
+            Some((at, name)) => push_row(&mut held[at as usize], u64::from(row.value), name)?,
+        }
     }
-    Ok(kept)
-}
-
-// The position among the selected sections of the one that this row is kept of.
-fn position_of(sections: SelectedSections<'_>, row: SymbolRow) -> Option<u32> {
-    let (first, count) = span_of(sections);
-    let number = u32::from(row.section_number);
-    if accepts(sections, row) && first < number && number - first <= count {
-        Some(number - first - 1)
-    } else {
-        None
-    }
-}
-
-// Keeps a row of this address and name of the section at this position among so many.
-fn push_kept<'a>(
-    alloc: Global,
-    kept: &mut Vec<Kept<'a>>,
-    count: u32,
-    at: u32,
-    address: u64,
-    name: &'a str,
-) -> Result<(), AllocError> {
-    if kept.is_empty() {
-        *kept = nothing_kept_of(alloc, count)?;
-    }
-    push_row(&mut kept[at as usize], address, name)
+    Ok(held)
 }
 
 // No rows so far, for each of as many sections.
-fn nothing_kept_of<'a>(alloc: Global, count: u32) -> Result<Vec<Kept<'a>>, AllocError> {
-    let mut kept = Vec::new(alloc);
+fn no_rows_of<'a>(alloc: Global, count: u32) -> Result<Vec<Held<'a>>, AllocError> {
+    let mut held = Vec::new(alloc);
     for _index in 0..count {
-        kept.push(nothing_kept(alloc))?;
+        held.push(no_rows(alloc))?;
     }
-    Ok(kept)
+    Ok(held)
 }
 
-fn nothing_kept<'a>(alloc: Global) -> Kept<'a> {
-    Kept {
+fn no_rows<'a>(alloc: Global) -> Held<'a> {
+    Held {
         rows: Vec::new(alloc),
         names: Vec::new(alloc),
     }
 }
 
-fn push_row<'a>(kept: &mut Kept<'a>, address: u64, name: &'a str) -> Result<(), AllocError> {
-    kept.rows.push(RowAddress {
+fn push_row<'a>(held: &mut Held<'a>, address: u64, name: Option<&'a str>) -> Result<(), AllocError> {
+    held.rows.push(RowAddress {
         address,
-        index: kept.names.len(),
+        index: held.names.len(),
     })?;
-    kept.names.push(name)?;
+    held.names.push(name)?;
     Ok(())
 }
 
-// Adds the function symbols of the kept rows of the section of this index.
+// Adds the function symbols of the section of this index, of whose rows these are held.
 fn push_functions<'a>(
     alloc: Global,
     functions: &mut Vec<SectionFunction<'a>>,
     sections: SelectedSections<'_>,
     index: u32,
-    kept: Kept<'a>,
+    held: Held<'a>,
 ) -> Result<(), AllocError> {
-    let arranged = arrange(alloc, kept.rows)?;
+    let arranged = arrange(alloc, held.rows)?;
     push_rows(
         functions,
         sections,
         index,
         &arranged.rows,
-        &kept.names,
+        &held.names,
         &arranged.above,
     )
 }
@@ -286,30 +351,51 @@ fn push_rows<'a>(
     sections: SelectedSections<'_>,
     index: u32,
     rows: &[RowAddress],
-    names: &[&'a str],
+    names: &[Option<&'a str>],
     above: &[Option<u64>],
 ) -> Result<(), AllocError> {
-    let size = u64::from(bound_of(sections, index));
+    let bound = u64::from(bound_of(sections, index));
     for at in 0..rows.len() {
         let row = rows[at];
+        let name = match names[row.index] {
+            None => continue,
+            Some(name) => name,
+        };
         functions.push(SectionFunction {
             section: index + 1,
             function: FunctionSymbol {
-                name: names[row.index],
+                name,
                 address: address_of(sections, index, row.address),
-                size: size_up_to(row.address, above[at], size),
+                size: size_at(sections, row.address, above[at], bound),
             },
         })?;
     }
     Ok(())
 }
 
-// The distance from the address to the least of the section's size and `above` that is greater; 0 where neither is.
-fn size_up_to(address: u64, above: Option<u64>, section_size: u64) -> u64 {
+// The size at an address, given the least greater address that ends sizes and the size that sizes end at.
+fn size_at(sections: SelectedSections<'_>, address: u64, above: Option<u64>, bound: u64) -> u64 {
+    match sections {
+        SelectedSections::Text(_) => size_up_to(address, above, bound),
+        SelectedSections::All(_, _) => size_within(address, above, bound),
+    }
+}
+
+// The distance from the address to the least of the text's size and `above` that is greater; 0 where neither is.
+fn size_up_to(address: u64, above: Option<u64>, text_size: u64) -> u64 {
+    let end = match above {
+        None => text_size,
+        Some(next) if address < text_size => next.min(text_size),
+        Some(next) => next,
+    };
+    end.saturating_sub(address)
+}
+
+// The distance from the address to `above`, and to the section's end at the latest; 0 at and past that end.
+fn size_within(address: u64, above: Option<u64>, section_size: u64) -> u64 {
     let end = match above {
         None => section_size,
-        Some(next) if address < section_size => next.min(section_size),
-        Some(next) => next,
+        Some(next) => next.min(section_size),
     };
     end.saturating_sub(address)
 }

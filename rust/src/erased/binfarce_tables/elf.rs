@@ -10,13 +10,13 @@ use crate::erased::binfarce_bytes::parser::to_index;
 use crate::erased::binfarce_bytes::source::{Source, read_part};
 use crate::erased::binfarce_bytes::{ByteOrder, ParseError};
 use crate::erased::binfarce_elf::class::{Half, Width};
-use crate::erased::binfarce_elf::parts::{HeaderTable, needed_in, place_in, section_at};
+use crate::erased::binfarce_elf::parts::{HeaderTable, needed_in, place_in, section_at, sizes_in};
 use crate::erased::binfarce_elf::sections::Section;
 use crate::erased::binfarce_elf::symbol_table::SymbolTable;
 use crate::erased::binfarce_elf::symbols::{
     Functions, Needed, TableSections, Taken, functions_in, whole_rows,
 };
-use crate::shim::alloc::Global;
+use crate::shim::alloc::{AllocError, Global};
 
 /// `ET_REL`, the type of an object file.
 const RELOCATABLE: Half = 1;
@@ -27,6 +27,8 @@ pub struct Parts {
     rows: Vec<u8>,
     strings: Vec<u8>,
     taken: Taken,
+    // For all sections, the size of each row in memory.
+    sizes: Vec<u64>,
 }
 
 impl Parts {
@@ -39,6 +41,8 @@ impl Parts {
             self.sections.width,
             self.sections.place.byte_order,
             self.taken,
+            self.sections.place.kind.has_modes(),
+            &self.sizes,
         )
     }
 
@@ -50,7 +54,7 @@ impl Parts {
 
     /// Whether the selected sections share addresses: all those of an object file (`ET_REL`) do.
     pub fn shares_addresses(&self) -> bool {
-        self.taken.size.is_none() && self.sections.place.elf_type == RELOCATABLE
+        self.taken.size.is_none() && self.sections.place.kind.elf_type == RELOCATABLE
     }
 }
 
@@ -78,12 +82,32 @@ pub fn read<S: Source>(
     let needed = needed_of(&sections, which, selection)?;
     let len = sections.file_length;
     let table = read_rows(alloc, source, log, len, sections.width, needed.table)?;
+    let sizes = sizes_of(alloc, &sections, needed.taken, &table)?;
     Ok(Parts {
         sections,
         rows: table.rows,
         strings: table.strings,
         taken: needed.taken,
+        sizes,
     })
+}
+
+// For all sections, the sizes in memory of these rows.
+fn sizes_of(
+    alloc: Global,
+    sections: &SectionParts,
+    taken: Taken,
+    table: &TableParts,
+) -> Result<Vec<u64>, AllocError> {
+    sizes_in(
+        alloc,
+        &sections.headers,
+        sections.width,
+        sections.place,
+        taken,
+        &table.rows,
+        &table.strings,
+    )
 }
 
 // What a selection needs of these sections.

@@ -12,7 +12,7 @@ use crate::erased::binfarce_bytes::source::Source;
 use crate::erased::binfarce_macho::functions::functions_of;
 use crate::erased::binfarce_macho::header::{MachoHeader, parse_header};
 use crate::erased::binfarce_macho::numbered::{SelectedSections, is_object, selected_sections};
-use crate::erased::binfarce_macho::parts::{commands_end, holds_commands};
+use crate::erased::binfarce_macho::parts::{commands_end, holds_commands, load_address};
 use crate::erased::binfarce_macho::symbols::{SYMBOL_LENGTH, SymbolBytes, SymbolTable, symbol_table};
 use crate::shim::alloc::Global;
 
@@ -177,6 +177,33 @@ pub fn read_sections<S: Source>(
     }
     let bytes = read_commands(alloc, source, log, file_length)?;
     Ok(Beginning { bytes, file_length })
+}
+
+/// Where the file is loaded unless the loader slides it: the address of its first segment `__TEXT`. `None` without one,
+/// as in an object file. It reads what `read_sections` reads. The magic number isn't checked.
+///
+/// # Errors
+///
+/// `Refused` with `UnexpectedEof` for fewer than 28 bytes, and with `MalformedInput` for a bad load command before that
+/// segment; `Unreadable` where the source can't be read at offsets, or a read of it fails, and never for a source that
+/// can't fail, such as bytes in memory; `OutOfMemory` where an allocation fails.
+pub fn read_load_address<S: Source>(
+    alloc: Global,
+    source: &S,
+    log: &mut S::Log,
+) -> Result<Option<u64>, ReadError> {
+    let len = source.length()?;
+    if len < HEADER {
+        return Err(ReadError::Refused(ParseError::UnexpectedEof));
+    }
+    let commands = read_commands(alloc, source, log, len)?;
+    address_in(&commands)
+}
+
+// Where the file is loaded, of which these bytes hold the load commands.
+fn address_in(commands: &[u8]) -> Result<Option<u64>, ReadError> {
+    let header = header_in(commands)?;
+    Ok(load_address(commands, header)?)
 }
 
 // The prefix of the file that has the load commands.

@@ -176,6 +176,42 @@ pub fn read_sections<S: Source>(
     Ok(Beginning { bytes, file_length })
 }
 
+/// Where the file is loaded unless the loader chooses another address: its image base (`ImageBase`). `None` without one,
+/// as in an object file. The offset of the signature, the signature and the file header, which are 24 bytes, and up to
+/// 32 bytes of the optional header are read, and no other byte. The signature isn't checked.
+///
+/// # Errors
+///
+/// `Refused` with `UnexpectedEof` where the file is too short for its file header, or for these bytes of the optional
+/// header; `Unreadable` where the source can't be read at offsets, or a read of it fails, and never for a source that
+/// can't fail, such as bytes in memory; `OutOfMemory` where an allocation fails.
+pub fn read_load_address<S: Source>(
+    alloc: Global,
+    source: &S,
+    log: &mut S::Log,
+) -> Result<Option<u64>, ReadError> {
+    let len = source.length()?;
+    let places = read_places(alloc, source, log, len)?;
+    read_base(alloc, source, log, len, places)
+}
+
+// The image base, in the optional header's first bytes.
+fn read_base<S: Source>(
+    alloc: Global,
+    source: &S,
+    log: &mut S::Log,
+    len: u64,
+    places: TableOffsets,
+) -> Result<Option<u64>, ReadError> {
+    let offset = places.optional_header;
+    let size = places.optional_header_size as u64;
+    if offset > len || size > len - offset {
+        return Err(ReadError::Refused(ParseError::UnexpectedEof));
+    }
+    let header = part(alloc, source, log, offset, size)?;
+    Ok(image_base(&header))
+}
+
 // The places that the file header states.
 fn read_places<S: Source>(
     alloc: Global,

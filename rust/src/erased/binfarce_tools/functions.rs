@@ -29,7 +29,7 @@ impl<'a> Iterator for Functions<'a> {
     }
 }
 
-/// An iterator over the function symbols of a file with their sections, in the order of its listing.
+/// An iterator over the function symbols of a selection with their sections, in the order of the listing.
 pub enum AllFunctions<'a> {
     Elf(symbols::Functions<'a>),
     Arranged(Arranged<'a>),
@@ -79,20 +79,18 @@ impl<'a> Lent<'a> {
 }
 
 /// The function symbols of a selection.
-pub enum Selected<'a> {
-    /// Those of a section, and the section's size.
-    Section(Functions<'a>, u64),
-    /// Those of all sections.
-    All(AllFunctions<'a>),
+pub struct Selected<'a> {
+    /// The function symbols with their sections, in the order of the listing.
+    pub functions: AllFunctions<'a>,
+    /// The size of the selected section; `None` for all sections.
+    pub size: Option<u64>,
 }
 
 impl<'a> Selected<'a> {
-    /// The function symbols as one list, and the section's size: `None` for all sections.
+    /// The function symbols without their sections, and the section's size: `None` for all sections.
     pub fn into_list(self) -> (Functions<'a>, Option<u64>) {
-        match self {
-            Selected::Section(functions, size) => (functions, Some(size)),
-            Selected::All(all) => (Functions { all }, None),
-        }
+        let Selected { functions, size } = self;
+        (Functions { all: functions }, size)
     }
 }
 
@@ -107,6 +105,16 @@ pub fn functions_of_file<'a>(
     file: &'a [u8],
     section: &str,
 ) -> Result<(Functions<'a>, u64), ListError> {
+    let (functions, size) = section_functions(alloc, file, section)?.into_list();
+    Ok((functions, size.unwrap_or(0)))
+}
+
+// Those of a section of a file, as a selection.
+pub(crate) fn section_functions<'a>(
+    alloc: Global,
+    file: &'a [u8],
+    section: &str,
+) -> Result<Selected<'a>, ListError> {
     match detect_format(file) {
         Format::Elf32 { byte_order } => Ok(functions_of_elf::<u32>(file, byte_order, section)?),
         Format::Elf64 { byte_order } => Ok(functions_of_elf::<u64>(file, byte_order, section)?),
@@ -121,19 +129,20 @@ fn functions_of_elf<'a, C: Class>(
     file: &'a [u8],
     byte_order: ByteOrder,
     section: &str,
-) -> Result<(Functions<'a>, u64), ParseError> {
+) -> Result<Selected<'a>, ParseError> {
     let header = parse_header::<C>(file, byte_order)?;
     let table = section_table(file, byte_order, &header);
-    let selection = Selection::Section(section);
-    let functions = symbols::selected_functions::<C>(table, SymbolTable::Symtab, selection)?;
-    Ok(of_section(functions))
+    let functions = symbols::section_functions::<C>(table, SymbolTable::Symtab, section)?;
+    Ok(of_elf(functions))
 }
 
-// The functions of a section of an ELF file, with its size.
-fn of_section(functions: symbols::Functions<'_>) -> (Functions<'_>, u64) {
-    let size = functions.section_size().unwrap_or(0);
-    let all = AllFunctions::Elf(functions);
-    (Functions { all }, size)
+// The function symbols of a selection of an ELF file.
+pub(crate) fn of_elf(functions: symbols::Functions<'_>) -> Selected<'_> {
+    let size = functions.section_size();
+    Selected {
+        functions: AllFunctions::Elf(functions),
+        size,
+    }
 }
 
 // Those of the text of a Mach-O file, whichever the section.
@@ -141,11 +150,9 @@ fn functions_of_macho<'a>(
     alloc: Global,
     file: &'a [u8],
     section: &str,
-) -> Result<(Functions<'a>, u64), ParseError> {
-    let (functions, size) = macho::parse(file)?.selected_functions(
-        alloc,
-        Selection::Section(section),
-    )?;
+) -> Result<Selected<'a>, ParseError> {
+    let selection = Selection::Section(section);
+    let (functions, size) = macho::parse(file)?.selected_functions(alloc, selection)?;
     Ok(listed(functions, size))
 }
 
@@ -154,35 +161,24 @@ fn functions_of_pe<'a>(
     alloc: Global,
     file: &'a [u8],
     section: &str,
-) -> Result<(Functions<'a>, u64), ParseError> {
-    let (functions, size) = pe::parse(file)?.selected_functions(
-        alloc,
-        Selection::Section(section),
-    )?;
+) -> Result<Selected<'a>, ParseError> {
+    let selection = Selection::Section(section);
+    let (functions, size) = pe::parse(file)?.selected_functions(alloc, selection)?;
     Ok(listed(functions, size))
 }
 
-// The functions of a list with the size of their section.
-fn listed(functions: Vec<SectionFunction<'_>>, size: Option<u64>) -> (Functions<'_>, u64) {
-    let all = from_list(functions);
-    (Functions { all }, size.unwrap_or(0))
-}
-
-// All functions of a list.
-pub(crate) fn from_list(functions: Vec<SectionFunction<'_>>) -> AllFunctions<'_> {
-    AllFunctions::Arranged(Arranged { functions, next: 0 })
+// The function symbols of a list, with the size of their section, if one is selected.
+pub(crate) fn listed(functions: Vec<SectionFunction<'_>>, size: Option<u64>) -> Selected<'_> {
+    Selected {
+        functions: AllFunctions::Arranged(Arranged { functions, next: 0 }),
+        size,
+    }
 }
 
 // Those of a list that is lent, as those of a section of this size.
-pub(crate) fn lent_section<'a>(functions: &'a [SectionFunction<'a>], size: u64) -> Selected<'a> {
-    let all = AllFunctions::Lent(Lent { functions, next: 0 });
-    Selected::Section(Functions { all }, size)
-}
-
-// The functions as those of a section, where they have its size.
-pub(crate) fn selection(functions: AllFunctions<'_>, size: Option<u64>) -> Selected<'_> {
-    match size {
-        Some(size) => Selected::Section(Functions { all: functions }, size),
-        None => Selected::All(functions),
+pub(crate) fn section_lent<'a>(functions: &'a [SectionFunction<'a>], size: u64) -> Selected<'a> {
+    Selected {
+        functions: AllFunctions::Lent(Lent { functions, next: 0 }),
+        size: Some(size),
     }
 }

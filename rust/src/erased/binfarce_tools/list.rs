@@ -3,11 +3,11 @@
 //! Lists the function symbols of an executable, a line each.
 
 use crate::shim::String;
-use crate::erased::binfarce_tools::functions::{AllFunctions, Functions, Selected};
+use crate::erased::binfarce_tools::functions::Selected;
 use crate::erased::binfarce_tools::head::push_head;
 use crate::erased::binfarce_tools::tables::Tables;
 use crate::erased::binfarce_tools::writing::write_whole;
-use crate::erased::binfarce::{FunctionSymbol, ParseError, SectionFunction};
+use crate::erased::binfarce::{ParseError, SectionFunction};
 use crate::erased::binfarce_names::demangle::Demangler;
 use crate::shim::alloc::{AllocError, Global};
 use std::error::Error;
@@ -145,60 +145,48 @@ pub fn list_tables<S: Sink>(
 
 // The whole listing of a selection.
 fn listing(alloc: Global, tables: &Tables<'_>, selected: Selected<'_>) -> Result<String, AllocError> {
-    match selected {
-        Selected::Section(functions, size) => section_listing(alloc, functions, size),
-        Selected::All(functions) => sections_listing(alloc, functions, tables),
-    }
-}
-
-// The whole listing of a section.
-fn section_listing(alloc: Global, functions: Functions<'_>, size: u64) -> Result<String, AllocError> {
+    let Selected { functions, size } = selected;
     let mut text = String::new(alloc);
     let mut demangler = Demangler::new(alloc);
     for function in functions {
-        push_line(&mut demangler, &mut text, function)?;
+        push_line(&mut demangler, &mut text, tables, size, function)?;
     }
-    writeln!(text, "text {size}")?;
+    push_last_line(&mut text, size)?;
     Ok(text)
 }
 
-// Appends the line of a function to the text.
+// Appends the line of a function symbol to the text, with its section where there is no size.
 fn push_line(
     demangler: &mut Demangler,
     text: &mut String,
-    function: FunctionSymbol<'_>,
-) -> Result<(), AllocError> {
-    push_head(text, function.address, function.size)?;
-    demangler.push_trimmed(text, function.name)?;
-    text.push_str("\n")
-}
-
-// The whole listing of all sections.
-fn sections_listing(
-    alloc: Global,
-    functions: AllFunctions<'_>,
     tables: &Tables<'_>,
-) -> Result<String, AllocError> {
-    let mut text = String::new(alloc);
-    let mut demangler = Demangler::new(alloc);
-    for function in functions {
-        push_section_line(&mut demangler, &mut text, tables, function)?;
-    }
-    Ok(text)
-}
-
-// Appends the line of a function symbol, with its section, to the text.
-fn push_section_line(
-    demangler: &mut Demangler,
-    text: &mut String,
-    tables: &Tables<'_>,
+    size: Option<u64>,
     function: SectionFunction<'_>,
 ) -> Result<(), AllocError> {
     push_head(text, function.function.address, function.function.size)?;
-    push_section(text, tables, function.section)?;
-    text.push_str(" ")?;
+    push_section_part(text, tables, size, function.section)?;
     demangler.push_trimmed(text, function.function.name)?;
     text.push_str("\n")
+}
+
+/// Appends a section and a blank to the text where all sections are selected, which have no size; else nothing.
+///
+/// # Errors
+///
+/// `AllocError` where an allocation failed. The text is then unspecified.
+pub fn push_section_part(
+    text: &mut String,
+    tables: &Tables<'_>,
+    size: Option<u64>,
+    number: u32,
+) -> Result<(), AllocError> {
+    match size {
+        Some(_) => Ok(()),
+        None => {
+            push_section(text, tables, number)?;
+            text.push_str(" ")
+        }
+    }
 }
 
 /// Appends a section's name, or its number in brackets where it has none, to the text.
@@ -210,5 +198,13 @@ pub fn push_section(text: &mut String, tables: &Tables<'_>, number: u32) -> Resu
     match tables.section_name(number) {
         Some(name) => text.push_str(name),
         None => write!(text, "[{number}]"),
+    }
+}
+
+// Appends the last line to the text: that of the selected section's size; nothing where all sections are selected.
+pub(crate) fn push_last_line(text: &mut String, size: Option<u64>) -> Result<(), AllocError> {
+    match size {
+        Some(size) => writeln!(text, "text {size}"),
+        None => Ok(()),
     }
 }

@@ -4,7 +4,7 @@
 
 use crate::shim::String;
 use crate::erased::binfarce_tools::functions::Functions;
-use crate::erased::binfarce_tools::list::{ListError, Sink};
+use crate::erased::binfarce_tools::list::{ListError, Sink, push_last_line};
 use crate::erased::binfarce_tools::tables::Tables;
 use crate::erased::binfarce_tools::writing::write_whole;
 use crate::erased::binfarce::{FunctionSymbol, ParseError};
@@ -211,22 +211,14 @@ pub fn write_made<S: Sink>(out: &mut S, made: Result<String, AllocError>) -> Res
     Ok(())
 }
 
-// The whole report, with the section's size, or of all sections without one.
+// The whole report, where the selected section has this size.
 fn report_text(alloc: Global, sums: &CrateSums, size: Option<u64>) -> Result<String, AllocError> {
-    let mut text = sums_text(alloc, sums)?;
-    if let Some(size) = size {
-        writeln!(text, "text {size}")?;
-    }
-    Ok(text)
-}
-
-// The lines of the crates, and that of the sum of all sizes.
-fn sums_text(alloc: Global, sums: &CrateSums) -> Result<String, AllocError> {
     let mut text = String::new(alloc);
     for (name, sum) in sums.crates.iter() {
         push_crate_line(&mut text, name.as_str(), *sum)?;
     }
     writeln!(text, "sum {}", sums.total)?;
+    push_last_line(&mut text, size)?;
     Ok(text)
 }
 

@@ -4,7 +4,7 @@
 
 use crate::shim::Vec;
 use crate::erased::binfarce_tools::functions::{
-    AllFunctions, Selected, from_list, functions_of_file, lent_section, selection,
+    Selected, listed, of_elf, section_functions, section_lent,
 };
 use crate::erased::binfarce_tools::list::ListError;
 use crate::erased::binfarce::{Format, ParseError, SectionFunction, SymbolTable};
@@ -52,25 +52,12 @@ impl<'a> Tables<'a> {
     /// As `functions_of_file`: for all sections, `Parse` where a Mach-O file's rows are refused.
     pub fn functions(&self, alloc: Global) -> Result<Selected<'_>, ListError> {
         match self {
-            Tables::Elf(parts) => {
-                let functions = parts.functions();
-                let size = functions.section_size();
-                Ok(selection(AllFunctions::Elf(functions), size))
-            }
-            Tables::Macho(parts) => {
-                let functions = from_list(parts.functions(alloc)?);
-                Ok(selection(functions, parts.section_size()))
-            }
-            Tables::Pe(parts) => {
-                let functions = from_list(parts.functions(alloc)?);
-                Ok(selection(functions, parts.section_size()))
-            }
+            Tables::Elf(parts) => Ok(of_elf(parts.functions())),
+            Tables::Macho(parts) => Ok(listed(parts.functions(alloc)?, parts.section_size())),
+            Tables::Pe(parts) => Ok(listed(parts.functions(alloc)?, parts.section_size())),
             Tables::Unknown => Err(ListError::Unknown),
-            Tables::Whole { file, section } => {
-                let (functions, size) = functions_of_file(alloc, file, section)?;
-                Ok(Selected::Section(functions, size))
-            }
-            Tables::Made { functions, size } => Ok(lent_section(functions, *size)),
+            Tables::Whole { file, section } => section_functions(alloc, file, section),
+            Tables::Made { functions, size } => Ok(section_lent(functions, *size)),
         }
     }
 

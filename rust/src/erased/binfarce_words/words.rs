@@ -5,8 +5,8 @@
 use crate::shim::{String, Vec};
 use crate::erased::binfarce_words::named::{Named, find_named, nearest};
 use crate::erased::binfarce_words::words::Flag::{
-    All, Annotate, Base, By, Dynamic, FailAbove, First, Folded, Full, Help, Json, NoTotal, Percent,
-    Raw, Return, Section, Sort, Std,
+    All, Annotate, As, Bare, Base, By, Dynamic, FailAbove, First, Folded, Full, Help, Json, Maps,
+    NoTotal, Percent, Raw, Return, Section, Sort, Std,
 };
 use crate::erased::binfarce_addresses::address::parse_address;
 use crate::erased::binfarce_figures::key::Key;
@@ -67,12 +67,18 @@ pub enum Flag {
     Section,
     /// Keeps hashes.
     Full,
-    /// Is subtracted from each address.
+    /// Where the file is loaded.
     Base,
+    /// Names a file in the form of `/proc/PID/maps`, which says where the file is loaded.
+    Maps,
+    /// The file's name in maps and in a text.
+    As,
     /// The addresses are return addresses.
     Return,
     /// Annotates the addresses in standard input.
     Annotate,
+    /// Annotates bare words of hexadecimal digits, too.
+    Bare,
     /// Reads the dynamic symbol table of an ELF file.
     Dynamic,
     /// Takes the function symbols of all sections.
@@ -138,6 +144,18 @@ fn key_named(name: &str) -> Option<Key> {
 }
 
 impl Takes {
+    // The values that it takes, in words.
+    fn values(self) -> &'static str {
+        match self {
+            Takes::Nothing => "no value",
+            Takes::Text => "a text",
+            Takes::Address => "an address",
+            Takes::Count => "a number",
+            Takes::Order => "address, size or name",
+            Takes::Key => "crate, function, generic or section",
+        }
+    }
+
     // Whether it takes this value.
     fn is_met_by(self, value: &str) -> bool {
         match self {
@@ -163,8 +181,11 @@ impl Flag {
             Section => ("--section", "", Takes::Text),
             Full => ("--full", "", Takes::Nothing),
             Base => ("--base", "", Takes::Address),
+            Maps => ("--maps", "", Takes::Text),
+            As => ("--as", "", Takes::Text),
             Return => ("--return", "", Takes::Nothing),
             Annotate => ("--annotate", "", Takes::Nothing),
+            Bare => ("--bare", "", Takes::Nothing),
             Dynamic => ("--dynamic", "", Takes::Nothing),
             All => ("--all", "", Takes::Nothing),
             Sort => ("--sort", "", Takes::Order),
@@ -193,20 +214,22 @@ impl Named for Flag {
 }
 
 impl Command {
-    // Its options.
+    // Its options: first those that not all commands on function symbols have.
     fn flags(self) -> &'static [Flag] {
         match self {
             Command::List => &[
-                Help, Section, Dynamic, All, Sort, First, NoTotal, Raw, Full, Json,
+                Sort, First, NoTotal, Raw, Full, Json, Section, Dynamic, All, Help,
             ],
-            Command::Size => &[Help, Section, Dynamic, All, By, First, Percent, Std, Json],
-            Command::Map => &[Help, Section, Dynamic, All, Folded],
+            Command::Size => &[By, First, Percent, Std, Json, Section, Dynamic, All, Help],
+            Command::Map => &[Folded, Section, Dynamic, All, Help],
             Command::Diff => &[
-                Help, Section, Dynamic, All, By, First, Percent, Std, Json, FailAbove,
+                By, First, Percent, Std, Json, FailAbove, Section, Dynamic, All, Help,
             ],
-            Command::Filter => &[Help, Full],
-            Command::At => &[Help, Section, Return, Annotate, Base, Dynamic, All, Json],
-            Command::Section => &[Help, Json],
+            Command::Filter => &[Full, Help],
+            Command::At => &[
+                Return, Annotate, Bare, Base, Maps, As, Json, Section, Dynamic, All, Help,
+            ],
+            Command::Section => &[Json, Help],
         }
     }
 }
@@ -224,8 +247,14 @@ pub enum Wrong<'a> {
     NoValue(Flag),
     /// Two options that exclude each other.
     Exclusive(Flag, Flag),
+    /// The first option needs the second.
+    Needs(Flag, Flag),
     /// The word isn't an address.
     NoAddress(&'a str),
+    /// The file at this path has no line that is a mapping.
+    NotMaps(&'a str),
+    /// The first file isn't mapped by the second.
+    NotMapped(&'a str, &'a str),
     /// The option doesn't take this value.
     BadValue(Flag, &'a str),
     /// The command has no file.
@@ -234,8 +263,10 @@ pub enum Wrong<'a> {
     NoSecondFile,
     /// A word more than the command takes.
     TooMany(&'a str),
-    /// A word isn't UTF-8.
-    NotUtf8,
+    /// The bytes of a section can't be written as JSON.
+    BytesAsJson,
+    /// The argument at this position isn't UTF-8.
+    NotUtf8(usize),
     /// An allocation failed.
     OutOfMemory,
 }
@@ -273,10 +304,21 @@ impl<'a> fmt::Display for Wrong<'a> {
                 let second = other.name();
                 write!(f, "{first} and {second} exclude each other")
             }
+            Wrong::Needs(one, other) => {
+                let first = one.name();
+                let second = other.name();
+                write!(f, "{first} needs {second}")
+            }
             Wrong::NoAddress(word) => write!(f, "not an address: {word}"),
+            Wrong::NotMaps(path) => write!(f, "no line of {path} is one of /proc/PID/maps"),
+            Wrong::NotMapped(file, path) => write!(
+                f,
+                "{path} maps no file named as {file}; --as=NAME takes another name"
+            ),
             Wrong::BadValue(flag, word) => {
                 let name = flag.name();
-                write!(f, "{name} does not take {word}")
+                let taken = flag.form().2.values();
+                write!(f, "{name} takes {taken}, and not {word}")
             }
             Wrong::NoFile(command) => {
                 let name = command.name();
@@ -284,7 +326,11 @@ impl<'a> fmt::Display for Wrong<'a> {
             }
             Wrong::NoSecondFile => write!(f, "diff compares two files, and has one"),
             Wrong::TooMany(word) => write!(f, "one argument too many: {word}"),
-            Wrong::NotUtf8 => write!(f, "an argument is not UTF-8"),
+            Wrong::BytesAsJson => write!(
+                f,
+                "--json lists sections, and has no form for the bytes of one"
+            ),
+            Wrong::NotUtf8(at) => write!(f, "argument {at} is not UTF-8"),
             Wrong::OutOfMemory => write!(f, "out of memory"),
         }
     }
@@ -450,6 +496,18 @@ fn check<'a>(command: Command, given: &Arguments<'a>) -> Result<(), Wrong<'a>> {
     if are_given(given, Flag::Annotate, Flag::Json) {
         return Err(Wrong::Exclusive(Flag::Annotate, Flag::Json));
     }
+    if are_given(given, Flag::Percent, Flag::Json) {
+        return Err(Wrong::Exclusive(Flag::Percent, Flag::Json));
+    }
+    if is_of_bytes(command, given.operands.as_slice()) && given.has(Flag::Json) {
+        return Err(Wrong::BytesAsJson);
+    }
+    if are_given(given, Flag::Base, Flag::Maps) {
+        return Err(Wrong::Exclusive(Flag::Base, Flag::Maps));
+    }
+    if given.has(Flag::Bare) && !given.has(Flag::Annotate) {
+        return Err(Wrong::Needs(Flag::Bare, Flag::Annotate));
+    }
     check_operands(
         command,
         given.has(Flag::Annotate),
@@ -460,6 +518,11 @@ fn check<'a>(command: Command, given: &Arguments<'a>) -> Result<(), Wrong<'a>> {
 // Whether both options are given.
 fn are_given(given: &Arguments<'_>, one: Flag, other: Flag) -> bool {
     given.has(one) && given.has(other)
+}
+
+// Whether the bytes of a section are asked for.
+fn is_of_bytes(command: Command, operands: &[&str]) -> bool {
+    command == Command::Section && operands.len() == 2
 }
 
 // What is wrong with the operands of a command.
@@ -548,10 +611,21 @@ fn is_option(word: &str) -> bool {
     matches!(word.as_bytes(), [b'-', _, ..])
 }
 
-// The parts of the word before and after its first `=`, or the word alone.
+// The option and the value of a word: `-n3`; the parts before and after its first `=`; or the word alone.
 fn parts_of(word: &str) -> (&str, Option<&str>) {
+    if let Some(value) = after_short(word) {
+        return ("-n", Some(value));
+    }
     match word.split_once('=') {
         Some((name, value)) => (name, Some(value)),
         None => (word, None),
+    }
+}
+
+// The value directly after `-n`.
+fn after_short(word: &str) -> Option<&str> {
+    match word.strip_prefix("-n") {
+        Some(value) if !value.is_empty() && !value.starts_with('=') => Some(value),
+        _ => None,
     }
 }

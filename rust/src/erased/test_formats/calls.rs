@@ -14,7 +14,7 @@ use crate::erased::binfarce_tools::head::push_head;
 use crate::erased::binfarce_tools::json::{
     push_address_member, push_number_member, push_start, push_text_member,
 };
-use crate::erased::binfarce_tools::list::{Out, push_section};
+use crate::erased::binfarce_tools::list::{Out, push_section, push_section_part};
 use crate::erased::binfarce_tools::report::{
     CrateSums, add_size, put_crate, sums_of_file, sums_of_tables, write_made,
 };
@@ -63,7 +63,7 @@ pub fn answer(alloc: Global, call: &str) -> Result<String, AllocError> {
     }
 }
 
-// An object, the head of a line, a section without a name, the sum of 1 and 2, and the crate of a name.
+// An object, the head of a line, sections without a name, the sum of 1 and 2, and the crate of a name.
 fn texts(alloc: Global) -> Result<String, AllocError> {
     let mut text = String::new(alloc);
     push_start(&mut text, "a\"b")?;
@@ -73,6 +73,8 @@ fn texts(alloc: Global) -> Result<String, AllocError> {
     text.push_str("} ")?;
     push_head(&mut text, 0x1000, 16)?;
     push_section(&mut text, &Tables::Unknown, 7)?;
+    push_section_part(&mut text, &Tables::Unknown, None, 8)?;
+    push_section_part(&mut text, &Tables::Unknown, Some(32), 9)?;
     let mut sums = BTreeMap::new(alloc);
     add_size(alloc, &mut sums, "a", 1)?;
     add_size(alloc, &mut sums, "a", 2)?;

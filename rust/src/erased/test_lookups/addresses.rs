@@ -37,15 +37,28 @@ pub(crate) fn push_address(words: &str, text: &mut Vec<u8>) -> io::Result<()> {
     }
 }
 
-/// Adds the lines of addresses after a base is subtracted, from a file's bytes, and from the tables that are read of
-/// it.
-pub(crate) fn push_lines(of: &Asking<'_>, is_return: bool, text: &mut Vec<u8>) -> io::Result<()> {
-    let (base, words) = of.words.split_once(' ').unwrap_or((of.words, ""));
-    let lookup = Lookup {
-        base: number(base, true)?,
+// How addresses are looked up: by no base (`-`), or by a base, and after a colon where the file says that it is loaded.
+fn lookup_of(words: &str, is_return: bool) -> io::Result<Lookup<'static>> {
+    let (base, linked) = words.split_once(':').unwrap_or((words, "0"));
+    Ok(Lookup {
+        base: if base == "-" {
+            None
+        } else {
+            Some(number(base, true)?)
+        },
+        linked: number(linked, true)?,
+        origin: number(linked, true)?,
         is_return,
         form: Form::Lines,
-    };
+        is_bare: false,
+        name: b"app",
+    })
+}
+
+/// Adds the lines of addresses by a base, from a file's bytes, and from the tables that are read of it.
+pub(crate) fn push_lines(of: &Asking<'_>, is_return: bool, text: &mut Vec<u8>) -> io::Result<()> {
+    let (base, words) = of.words.split_once(' ').unwrap_or((of.words, ""));
+    let lookup = lookup_of(base, is_return)?;
     let mut addresses = Vec::new(of.alloc);
     for word in words.split_whitespace() {
         addresses.push(number(word, true)?)?;
@@ -73,7 +86,7 @@ pub(crate) fn push_lines(of: &Asking<'_>, is_return: bool, text: &mut Vec<u8>) -
     Ok(())
 }
 
-// The text of a question, in which `/` is a line feed, `^` a carriage return and `~` a tab.
+// The text of a question, in which `/` is a line feed, `^` a carriage return, `~` a tab and `|` a slash.
 fn typed(alloc: Global, words: &str) -> io::Result<Vec<u8>> {
     let mut text = Vec::new(alloc);
     for byte in words.bytes() {
@@ -81,6 +94,7 @@ fn typed(alloc: Global, words: &str) -> io::Result<Vec<u8>> {
             b'/' => b'\n',
             b'^' => b'\r',
             b'~' => b'\t',
+            b'|' => b'/',
             _ => byte,
         })?;
     }
@@ -113,11 +127,7 @@ pub(crate) fn push_answers(
     let input = Input {
         alloc,
         places: &places,
-        lookup: Lookup {
-            base: number(base, true)?,
-            is_return,
-            form: Form::Lines,
-        },
+        lookup: lookup_of(base, is_return)?,
         annotates: false,
         text: &lines,
     };
@@ -145,6 +155,7 @@ pub(crate) fn push_annotated_text(
     alloc: Global,
     words: &str,
     is_return: bool,
+    is_bare: bool,
     text: &mut Vec<u8>,
 ) -> io::Result<()> {
     let (base, words) = known(words.split_once(' '))?;
@@ -153,9 +164,8 @@ pub(crate) fn push_annotated_text(
         return known(None);
     };
     let lookup = Lookup {
-        base: number(base, true)?,
-        is_return,
-        form: Form::Lines,
+        is_bare,
+        ..lookup_of(base, is_return)?
     };
     let input = Input {
         alloc,

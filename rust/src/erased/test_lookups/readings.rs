@@ -7,10 +7,12 @@ use crate::erased::test_lookups::Asking;
 use crate::erased::test_lookups::sections::{push_shown, push_writes};
 use crate::erased::test_lookups::sources::Faulty;
 use crate::erased::test_lookups::words::{
-    known, numbers, push_number, push_runs, push_words, words_of,
+    known, numbers, push_hex, push_number, push_runs, push_words, words_of,
 };
+use crate::erased::binfarce_bytes::format::Format;
 use crate::erased::binfarce_bytes::source::Source;
 use crate::erased::binfarce_sections::error::SectionError;
+use crate::erased::binfarce_tables::loading::read_load_address;
 use crate::erased::binfarce_tables::{elf, macho, pe};
 use crate::erased::binfarce_tools::SymbolTable;
 use crate::erased::binfarce_tools::tables::{Selection, read as read_tables};
@@ -25,6 +27,8 @@ use crate::erased::test_samples::{first_bytes, patched};
 pub(crate) enum Reading<'a> {
     // The sections, by the reader of the format.
     Sections,
+    // Where the file is loaded.
+    LoadAddress,
     // What is asked of whole files too.
     Asked(Asked<'a>),
     // The function symbols of a selection by a symbol table, of a file of any format.
@@ -36,6 +40,7 @@ pub(crate) fn reading_of(words: &str) -> io::Result<Reading<'_>> {
     let (verb, name) = words.split_once(' ').unwrap_or((words, ""));
     known(match verb {
         "sections" => Some(Reading::Sections),
+        "address" => Some(Reading::LoadAddress),
         "lines" => Some(Reading::Asked(Asked::Lines)),
         "bytes" => Some(Reading::Asked(Asked::Bytes(name))),
         "functions" => Some(Reading::Asked(Asked::Functions(Some(name)))),
@@ -78,6 +83,9 @@ fn read<S: Source>(
 ) -> Result<(), SectionError> {
     match reading {
         Reading::Sections => read_sections(of, source, log)?,
+        Reading::LoadAddress => {
+            let _ = read_load_address(of.alloc, source, log, format_of(of.kind))?;
+        }
         Reading::Asked(asked) => return parts(of.alloc, of.kind, source, log, asked).ended,
         Reading::Functions(which, selection) => {
             let _ = read_tables(of.alloc, source, log, which, selection)?;
@@ -104,6 +112,29 @@ fn read_sections<S: Source>(
         }
     }
     Ok(())
+}
+
+// The format of a sample.
+fn format_of(kind: File) -> Format {
+    match kind {
+        File::Elf(layout) if layout.is_64() => Format::Elf64 {
+            byte_order: layout.order(),
+        },
+        File::Elf(layout) => Format::Elf32 {
+            byte_order: layout.order(),
+        },
+        File::Macho => Format::Macho,
+        File::Pe => Format::PE,
+    }
+}
+
+/// Adds the address at which the file is loaded.
+pub(crate) fn push_loaded(of: &Asking<'_>, text: &mut Vec<u8>) -> io::Result<()> {
+    match read_load_address(of.alloc, &of.file, &mut (), format_of(of.kind)) {
+        Ok(Some(address)) => push_hex(text, address),
+        Ok(None) => push_words(text, "none"),
+        Err(e) => write!(text, "{}", SectionError::from(e)),
+    }
 }
 
 // How the reading of a source ends.

@@ -23,15 +23,23 @@ const OBJECTS: &str = "\
 
 // Addresses of the file.
 const AS_THEY_ARE: Lookup<'static> = Lookup {
-    base: 0,
+    base: None,
+    linked: 0,
+    origin: 0,
     is_return: false,
     form: Form::Lines,
+    is_bare: false,
+    name: b"a",
 };
 
 const AS_OBJECTS: Lookup<'static> = Lookup {
-    base: 0,
+    base: None,
+    linked: 0,
+    origin: 0,
     is_return: false,
     form: Form::Objects("a", ""),
+    is_bare: false,
+    name: b"a",
 };
 
 fn are_lines(alloc: Global) -> Row {

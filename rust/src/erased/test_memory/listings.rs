@@ -147,7 +147,7 @@ const ALL: [(&str, All, &str); 3] = [
     (
         "a listing of all sections",
         All::List,
-        "0000000000001000         16 .text foo\n0000000000001010         16 .symtab bad\n",
+        "0000000000001000         16 .text foo\n0000000000001010         16 .symtab bad\n0000000000001010          0 .text bad\n",
     ),
     (
         "a report of all sections",

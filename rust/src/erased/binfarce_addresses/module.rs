@@ -1,0 +1,35 @@
+// From crates/binfarce_addresses/src/module.rt, by tools/erase.
+
+//! Offsets into modules in a text.
+
+// Whether an offset into this module comes after the text.
+pub(crate) fn names_module(name: &[u8], text: &[u8]) -> bool {
+    ends_with_mark(name, b"+", text)
+        || ends_with_mark(name, b"(+", text)
+        || ends_with_mark(name, b" + ", text)
+}
+
+// Whether an offset comes after the text.
+pub(crate) fn ends_with_plus(text: &[u8]) -> bool {
+    text.ends_with(b"+") || text.ends_with(b"+ ")
+}
+
+// Whether the text ends with the name of this module, and a mark.
+fn ends_with_mark(name: &[u8], mark: &[u8], text: &[u8]) -> bool {
+    text.ends_with(mark) && ends_with_name(name, &text[..text.len() - mark.len()])
+}
+
+// Whether the text ends with the name of this module.
+fn ends_with_name(name: &[u8], text: &[u8]) -> bool {
+    text.ends_with(name) && may_begin_name(&text[..text.len() - name.len()])
+}
+
+// Whether the name of a module may begin after the text.
+fn may_begin_name(text: &[u8]) -> bool {
+    text.is_empty()
+        || text.ends_with(b"/")
+        || text.ends_with(b"[")
+        || text.ends_with(b" ")
+        || text.ends_with(b"\n")
+        || text.ends_with(b" (")
+}

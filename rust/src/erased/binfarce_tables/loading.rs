@@ -1,0 +1,39 @@
+// From crates/binfarce_tables/src/loading.rt, by tools/erase.
+
+//! Where a file of any format is loaded.
+
+use crate::erased::binfarce_tables::error::ReadError;
+use crate::erased::binfarce_tables::{macho, pe, segments};
+use crate::erased::binfarce_bytes::format::Format;
+use crate::erased::binfarce_bytes::source::Source;
+use crate::erased::binfarce_elf::class::Width;
+use crate::shim::alloc::Global;
+
+/// The address that a file of this format says it is loaded at, unless the loader chooses another: of ELF the page of
+/// 4096 bytes of its lowest loaded segment, of Mach-O the address of its first segment `__TEXT`, of PE its image base.
+/// `None` where there is none, as in an object file, and for an unknown format. Only what states it is read.
+///
+/// # Errors
+///
+/// `Refused` with `UnexpectedEof` where the file is too short for its header, or what states the address ends past it,
+/// and with `MalformedInput` for a bad Mach-O load command before that segment; `Unreadable` where the source can't be
+/// read at offsets, or a read of it fails, and never for a source that can't fail, such as bytes in memory;
+/// `OutOfMemory` where an allocation fails.
+pub fn read_load_address<S: Source>(
+    alloc: Global,
+    source: &S,
+    log: &mut S::Log,
+    format: Format,
+) -> Result<Option<u64>, ReadError> {
+    match format {
+        Format::Elf32 { byte_order } => {
+            segments::read_load_address(alloc, source, log, Width::Bits32, byte_order)
+        }
+        Format::Elf64 { byte_order } => {
+            segments::read_load_address(alloc, source, log, Width::Bits64, byte_order)
+        }
+        Format::Macho => macho::read_load_address(alloc, source, log),
+        Format::PE => pe::read_load_address(alloc, source, log),
+        Format::Unknown => Ok(None),
+    }
+}

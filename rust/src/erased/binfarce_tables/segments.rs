@@ -1,0 +1,50 @@
+// From crates/binfarce_tables/src/segments.rt, by tools/erase.
+
+//! Where an ELF file is loaded, read from its program headers.
+
+use crate::erased::binfarce_tables::elf::{part, read_place};
+use crate::erased::binfarce_tables::error::ReadError;
+use crate::erased::binfarce_bytes::source::Source;
+use crate::erased::binfarce_bytes::{ByteOrder, ParseError};
+use crate::erased::binfarce_elf::class::Width;
+use crate::erased::binfarce_elf::parts::HeaderTable;
+use crate::erased::binfarce_elf::segments::load_page;
+use crate::shim::alloc::Global;
+
+/// Where a file of this class is loaded unless the loader chooses another address, numbers in the given order: the page
+/// of 4096 bytes of its lowest loaded segment. `None` without one, as in an object file. The file header of 52 or 64
+/// bytes and the program headers are read, and no other byte. The magic number isn't checked.
+///
+/// # Errors
+///
+/// `Refused` with `UnexpectedEof` where the file is too short for its header, or its program headers end past it;
+/// `Unreadable` where the source can't be read at offsets, or a read of it fails, and never for a source that can't
+/// fail, such as bytes in memory; `OutOfMemory` where an allocation fails.
+pub fn read_load_address<S: Source>(
+    alloc: Global,
+    source: &S,
+    log: &mut S::Log,
+    width: Width,
+    byte_order: ByteOrder,
+) -> Result<Option<u64>, ReadError> {
+    let len = source.length()?;
+    let place = read_place(alloc, source, log, len, width, byte_order)?;
+    read_page(alloc, source, log, len, width, place)
+}
+
+// The page of the lowest loaded segment, by the program headers at this place.
+fn read_page<S: Source>(
+    alloc: Global,
+    source: &S,
+    log: &mut S::Log,
+    len: u64,
+    width: Width,
+    place: HeaderTable,
+) -> Result<Option<u64>, ReadError> {
+    let size = u64::from(place.phnum) * width.program_length() as u64;
+    if place.phoff > len || size > len - place.phoff {
+        return Err(ReadError::Refused(ParseError::UnexpectedEof));
+    }
+    let headers = part(alloc, source, log, place.phoff, size)?;
+    Ok(load_page(&headers, width, place.byte_order))
+}

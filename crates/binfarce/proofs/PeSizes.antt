@@ -9,11 +9,11 @@ use Rattle.binfarce_bytes.specs.Refusal.{◌>>=◌, Refusal}
 use Rattle.binfarce_bytes.specs.Sizes.{RowAddress, arranged, addresses_of}
 use Rattle.binfarce_bytes.specs.Entries.{Answers, ListsSome}
 use Rattle.binfarce.specs.Symbol.{AreSymbolsOf, HoldsSymbols}
-use Rattle.binfarce_pe.specs.PeSymbols.{SymbolTable, SectionRules, text_rules, symbol_of, function_name, ending_rows, entry_of, entries_of, Located, located, pe_answer}
+use Rattle.binfarce_pe.specs.PeSymbols.{CoffTable, SectionRules, text_rules, symbol_of, function_name, ending_rows, entry_of, entries_of, Located, located, pe_answer}
 use Rattle.binfarce.specs.PeSizes.{EqualAddressesEqualSizes}
 
 -- each symbol's size is what its own address gives
-sizes_are : (table : SymbolTable) (rules : SectionRules) (addresses : List ℕ) (rows : List RowAddress) (symbols : List SymbolData) → AreSymbolsOf (filter_map (entry_of table rules addresses) rows) symbols
+sizes_are : (table : CoffTable) (rules : SectionRules) (addresses : List ℕ) (rows : List RowAddress) (symbols : List SymbolData) → AreSymbolsOf (filter_map (entry_of table rules addresses) rows) symbols
     → All (λ s. s.size ≡ rules.size addresses s.address) symbols
 sizes_are table rules addresses [] [] all = All-nil (λ s. s.size ≡ rules.size addresses s.address)
 sizes_are table rules addresses [] (y ∷ ys) all = absurd all
@@ -29,7 +29,7 @@ sizes_are table rules addresses (r ∷ rows) symbols all = by_name (function_nam
         All-cons (λ s. s.size ≡ rules.size addresses s.address) y ys (all.0.size ∙ ap (rules.size addresses) (sym all.0.address)) (rest ys all.1)
 
 -- symbols of equal address have equal sizes
-equal_sizes : (table : SymbolTable) (rules : SectionRules) (symbols : List SymbolData) → AreSymbolsOf (entries_of table rules) symbols → EqualAddressesEqualSizes symbols
+equal_sizes : (table : CoffTable) (rules : SectionRules) (symbols : List SymbolData) → AreSymbolsOf (entries_of table rules) symbols → EqualAddressesEqualSizes symbols
 unfolding entries_of
 equal_sizes table rules symbols all a b has_a has_b same =
     let addresses = addresses_of (ending_rows table rules) in

@@ -46,15 +46,16 @@ moved bytes order n k m s t at e sum = record {
 pub read_at : (bytes : List ℕ) (order : ByteOrder) (n k v : ℕ) (s : Stream) → IsAt bytes order n s → v ≡ number s.byte_order (bytes_at s.bytes.now s.offset k) → v ≡ number order (bytes_at bytes n k)
 read_at bytes order n k v s at e = e ∙ cc (at.bytes_are, at.order_is, at.offset_is)
 
-pub section_is : (class : ElfClass) (w : ℕ) (order : ByteOrder) (file : List ℕ) (start index name kind address offset size link entry_size : ℕ)
+pub section_is : (class : ElfClass) (w : ℕ) (order : ByteOrder) (file : List ℕ) (start index name kind flags address offset size link entry_size : ℕ)
     → class.section ≡ fields_of_section w
     → name ≡ number order (bytes_at file (start + 0) 4)
     → kind ≡ number order (bytes_at file (start + 4) 4)
+    → flags ≡ number order (bytes_at file (start + 8) w)
     → address ≡ number order (bytes_at file (start + (8 + w)) w)
     → offset ≡ number order (bytes_at file (start + (8 + 2 * w)) w)
     → size ≡ number order (bytes_at file (start + (8 + 3 * w)) w)
     → link ≡ number order (bytes_at file (start + (8 + 4 * w)) 4)
     → entry_size ≡ number order (bytes_at file (start + (16 + 5 * w)) w)
-    → (record { index = index; name_offset = name; kind = kind; address = address; link = link; offset = offset; size = size; entry_size = entry_size }) ≡ section_at class order file start index
+    → (record { index = index; name_offset = name; kind = kind; flags = flags; address = address; link = link; offset = offset; size = size; entry_size = entry_size }) ≡ section_at class order file start index
 unfolding section_at
-section_is class w order file start index name kind address offset size link entry_size layout is_name is_kind is_address is_offset is_size is_link is_entry_size = rw layout (cc)
+section_is class w order file start index name kind flags address offset size link entry_size layout is_name is_kind is_flags is_address is_offset is_size is_link is_entry_size = rw layout (cc)

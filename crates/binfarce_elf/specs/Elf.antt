@@ -1,5 +1,5 @@
 -- ELF files of both classes: the offsets and widths of fields, and their values (System V gABI, chapter 4).
-use Rattle.std.specs.Prelude.{◌≡◌, ℕ, ◌+◌, ◌-◌, ◌*◌, ◌/◌, ◌&&◌, List, length, map, Option, Some, None, nat_eq, nat_lt, nat_le, min, if◌then◌else◌}
+use Rattle.std.specs.Prelude.{◌≡◌, ℕ, ◌+◌, ◌-◌, ◌*◌, ◌/◌, ◌&&◌, List, length, map, Option, Some, None, nat_eq, nat_lt, nat_le, bit_and, min, if◌then◌else◌}
 use Rattle.std.specs.List.{range_with_len}
 use Rattle.binfarce_bytes.specs.declared.ByteOrder.{ByteOrder}
 use Rattle.binfarce_bytes.specs.Steps.{◌>>=◌}
@@ -165,6 +165,7 @@ pub record Section : Type 0 where
   pub index : ℕ
   pub name_offset : ℕ
   pub kind : ℕ
+  pub flags : ℕ
   pub address : ℕ
   pub link : ℕ
   pub offset : ℕ
@@ -181,12 +182,21 @@ section_at class order file start index = record {
   index = index;
   name_offset = value_at order file start class.section.name;
   kind = value_at order file start class.section.kind;
+  flags = value_at order file start class.section.flags;
   address = value_at order file start class.section.addr;
   link = value_at order file start class.section.link;
   offset = value_at order file start class.section.offset;
   size = value_at order file start class.section.size;
   entry_size = value_at order file start class.section.entry_size;
 }
+
+-- how many bytes the section has in the file: sh_size, but none where its type is SHT_NOBITS (8)
+abbrev pub file_size : Section → ℕ
+file_size s = if nat_eq s.kind 8 then 0 else s.size
+
+-- how many bytes it has in memory: sh_size where its flags have SHF_ALLOC (2), else none
+abbrev pub memory_size : Section → ℕ
+memory_size s = if nat_eq (bit_and s.flags 2) 0 then 0 else s.size
 
 -- a file's bytes, and the order that its numbers are read in
 pub record ElfFile : Type 0 where

@@ -18,7 +18,7 @@ use Rattle.binfarce_elf.specs.Elf as elf
 
 -- a `Section`
 abbrev pub section_view : {C : Type 0} → (C → ℕ) → Section C → elf.Section
-section_view number s = record { index = s.index; name_offset = s.name_offset; kind = s.kind; address = number s.address; link = s.link; offset = number s.offset; size = number s.size; entry_size = number s.entry_size }
+section_view number s = record { index = s.index; name_offset = s.name_offset; kind = s.kind; flags = number s.flags; address = number s.address; link = s.link; offset = number s.offset; size = number s.size; entry_size = number s.entry_size }
 
 -- an `Elf32Header` or `Elf64Header`
 abbrev pub header_view : {C : Type 0} → (C → ℕ) → Header C → elf.Header ℕ

@@ -15,6 +15,7 @@ fn worked_section()
           index = 5;
           name_offset = 11;
           kind = 1;
+          flags = 6;
           address = 0x1000;
           link = 7;
           offset = 0x34;

@@ -23,6 +23,7 @@ pub struct Section<C> {
     pub(crate) index: Half,
     pub(crate) name_offset: Word,
     pub(crate) kind: Word,
+    pub(crate) flags: C,
     pub(crate) address: C,
     pub(crate) link: Word,
     pub(crate) offset: C,
@@ -39,6 +40,7 @@ impl<C: Class> Section<C> {
             index: self.index,
             name_offset: self.name_offset,
             kind: self.kind,
+            flags: self.flags.widened(),
             address: self.address.widened(),
             link: self.link,
             offset: self.offset.widened(),
@@ -155,7 +157,7 @@ pub fn section_at<C: Class>(
     let mut s = Stream::new_at(bytes, start, byte_order)?;
     let name_offset = s.read()?;
     let kind = s.read()?;
-    s.skip_len(C::SIZE)?; // flags
+    let flags = s.read()?;
     let address = s.read()?;
     let offset = s.read()?;
     let size = s.read()?;
@@ -166,6 +168,7 @@ pub fn section_at<C: Class>(
         index,
         name_offset,
         kind,
+        flags,
         address,
         link,
         offset,

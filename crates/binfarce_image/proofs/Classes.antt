@@ -13,6 +13,7 @@ use Rattle.binfarce_image.proofs.Fields.{IsPut}
 pub record SectionPut (class : ElfClass) (place : ℕ) (part : Part) : Type 0 where
   pub name : IsPut class.section_length class.section.name (section_numbers class place part) (name_offset part) (2 ^ 32)
   pub kind : IsPut class.section_length class.section.kind (section_numbers class place part) (part_kind part) (2 ^ 32)
+  pub flags : IsPut class.section_length class.section.flags (section_numbers class place part) 0 (2 ^ 32)
   pub addr : IsPut class.section_length class.section.addr (section_numbers class place part) 0 (2 ^ 32)
   pub link : IsPut class.section_length class.section.link (section_numbers class place part) (part_link part) (2 ^ 32)
   pub offset : IsPut class.section_length class.section.offset (section_numbers class place part) place (2 ^ 32)
@@ -47,6 +48,7 @@ is_elf32 = record {
   section_put = λ place part. record {
     name = record { last = refl; room = refl };
     kind = record { last = refl; room = refl };
+    flags = record { last = refl; room = refl };
     addr = record { last = refl; room = refl };
     link = record { last = refl; room = refl };
     offset = record { last = refl; room = refl };
@@ -76,6 +78,7 @@ is_elf64 = record {
   section_put = λ place part. record {
     name = record { last = refl; room = refl };
     kind = record { last = refl; room = refl };
+    flags = record { last = refl; room = refl };
     addr = record { last = refl; room = refl };
     link = record { last = refl; room = refl };
     offset = record { last = refl; room = refl };

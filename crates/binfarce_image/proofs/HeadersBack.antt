@@ -20,6 +20,7 @@ section_of_part class place index part = record {
   index = index;
   name_offset = name_offset part;
   kind = part_kind part;
+  flags = 0;
   address = 0;
   link = part_link part;
   offset = place;
@@ -73,15 +74,16 @@ module _ (layout : ElfLayout) where
       same_section
       (field_of_section front behind start place part class.section.name (name_offset part) at fit.name put.name)
       (field_of_section front behind start place part class.section.kind (part_kind part) at fit.kind put.kind)
+      (field_of_section front behind start place part class.section.flags 0 at (omega arith) put.flags)
       (field_of_section front behind start place part class.section.addr 0 at (omega arith) put.addr)
       (field_of_section front behind start place part class.section.link (part_link part) at fit.link put.link)
       (field_of_section front behind start place part class.section.offset place at fit.offset put.offset)
       (field_of_section front behind start place part class.section.size (body_length class part) at fit.size put.size)
       (field_of_section front behind start place part class.section.entry_size (entry_length class part) at fit.entry_size put.entry_size)
     where
-      same_section : {index a b c d e f g a' b' c' d' e' f' g' : ℕ} → a ≡ a' → b ≡ b' → c ≡ c' → d ≡ d' → e ≡ e' → f ≡ f' → g ≡ g'
-          → Path Section (record { index = index; name_offset = a; kind = b; address = c; link = d; offset = e; size = f; entry_size = g }) (record { index = index; name_offset = a'; kind = b'; address = c'; link = d'; offset = e'; size = f'; entry_size = g' })
-      same_section p q r s t u v = cc
+      same_section : {index a b x c d e f g a' b' x' c' d' e' f' g' : ℕ} → a ≡ a' → b ≡ b' → x ≡ x' → c ≡ c' → d ≡ d' → e ≡ e' → f ≡ f' → g ≡ g'
+          → Path Section (record { index = index; name_offset = a; kind = b; flags = x; address = c; link = d; offset = e; size = f; entry_size = g }) (record { index = index; name_offset = a'; kind = b'; flags = x'; address = c'; link = d'; offset = e'; size = f'; entry_size = g' })
+      same_section p q o r s t u v = cc
 
   -- the headers that are found from this index on are those of the parts
   pub headers_back : (file front : List ℕ) (shoff place i : ℕ) (parts : List Part) → file ≡ front ++ section_headers class order place parts → length front ≡ shoff + i * class.section_length

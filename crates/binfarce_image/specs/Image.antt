@@ -93,6 +93,7 @@ abbrev pub section_numbers : ElfClass → ℕ → Part → List (Field × ℕ)
 section_numbers class place part =
     (class.section.name, name_offset part)
     ∷ (class.section.kind, part_kind part)
+    ∷ (class.section.flags, 0)
     ∷ (class.section.addr, 0)
     ∷ (class.section.offset, place)
     ∷ (class.section.size, body_length class part)

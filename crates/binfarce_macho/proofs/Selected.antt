@@ -12,7 +12,7 @@ use Rattle.binfarce_bytes.specs.Sizes.{arranged}
 use Rattle.binfarce_bytes.specs.SymbolViews.{function_view, section_function_view, HoldsFunctions, HoldsSectionFunctions, HoldsSized}
 use Rattle.binfarce_macho.specs.MachoSections.{NumberedSection, HasSection, section_starts, numbered_at, numbered_sections}
 use Rattle.binfarce_macho.specs.MachoSelection.{SelectedSections, the_text, all_sections, sections_in, selected_tables, is_object, entries_in, section_size, section_name, shares_addresses, symbols_of, selected_answer, all_answer, SomeAddress, NeedsMemory, FileNeedsMemory}
-use Rattle.binfarce_macho.specs.MachoSymbols.{SymbolTable, Extent, Symbols, Located, text_extent, table_of, symbols_by, located_by, located_at, located, entry_of, kept, row_addresses, answer_of, macho_answer, HasAddress}
+use Rattle.binfarce_macho.specs.MachoSymbols.{SymtabCommand, Extent, Symbols, Located, text_extent, table_of, symbols_by, located_by, located_at, located, entry_of, kept, row_addresses, answer_of, macho_answer, HasAddress}
 use Rattle.binfarce_macho.proofs.MachoAnswers.{refusal_answers, needs_address}
 use Rattle.binfarce_macho.proofs.SectionLists.{has_start}
 
@@ -50,7 +50,7 @@ module _ (section : Option (List ℕ)) (file : List ℕ) where
     unfolding selected_tables
     table_refused why is = rw (at, is) refl
 
-    module _ (table : Option (SymbolTable ℕ)) (tables : table_of file ≡ Ok table) where
+    module _ (table : Option (SymtabCommand ℕ)) (tables : table_of file ≡ Ok table) where
       pub symbols_refused : (why : Refusal) → symbols_by file table ≡ Err why → selected_answer section file ≡ Err why
       unfolding selected_tables
       symbols_refused why is = rw (at, tables, is) refl
@@ -156,7 +156,7 @@ module _ (name file : List ℕ) where
       by_symbols text (Err why) = refl
       by_symbols text (Ok symbols) = text_made text symbols (is_object file)
 
-      by_table : (text : Extent) (r : Result (Option (SymbolTable ℕ)) Refusal)
+      by_table : (text : Extent) (r : Result (Option (SymtabCommand ℕ)) Refusal)
           → ((r >>= λ table. symbols_by file table >>= λ symbols. Ok (record { sections = the_text text; symbols = symbols; is_object = is_object file })) >>= symbols_of)
           ≡ (((r >>= λ table. symbols_by file table >>= λ symbols. located_by text symbols) >>= answer_of) >>= as_selected)
       by_table text (Err why) = refl

@@ -1,5 +1,5 @@
 -- 64-bit little-endian Mach-O files (Apple's <mach-o/loader.h>): the offsets and widths of fields, and their values.
-use Rattle.std.specs.Prelude.{ℕ, zero, suc, ◌+◌, ◌-◌, ◌*◌, ◌/◌, Bool, ◌&&◌, List, [], ◌∷◌, length, Option, Some, None, Result, nat_eq, nat_lt, nat_le, min, if◌then◌else◌}
+use Rattle.std.specs.Prelude.{ℕ, zero, suc, ◌+◌, ◌-◌, ◌*◌, ◌/◌, Bool, ◌&&◌, ◌||◌, List, [], ◌∷◌, length, Option, Some, None, Result, nat_eq, nat_lt, nat_le, bit_and, min, if◌then◌else◌}
 use Rattle.std.specs.List.{range_with_len, filter_map}
 use Rattle.std.specs.Str.{bytes_eq}
 use Rattle.binfarce_bytes.specs.Steps.{◌>>=◌}
@@ -76,7 +76,7 @@ commands_from file (suc n) offset =
 abbrev pub commands : List ℕ → Walk Command
 commands file = commands_from file (header_of file).ncmds header_length
 
--- section_64: one A for each field that is read
+-- section_64: one A for each field that every section has
 pub record SectionHeader (A : Type 0) : Type 0 where
   pub section_name : A
   pub segment_name : A
@@ -93,20 +93,37 @@ section_fields = record {
   offset = field 48 4;
 }
 
--- section_64 has 80 bytes. The fields that are read end at 52; of the last structure of a file the 28 bytes after them may be missing
+-- section_64 has 80 bytes. These fields end at 52; of the last structure of a file the 28 bytes after them may be missing
 abbrev pub section_length : ℕ
 section_length = 80
 
 abbrev pub section_unread : ℕ
 section_unread = 28
 
--- a section: its two names, its address in memory, and the offset and the number of its bytes in the file
+-- flags of section_64; 0 in a structure that is truncated before their end
+unfoldable pub flags_at : List ℕ → ℕ → ℕ
+flags_at file start = if nat_le (start + 68) (length file) then number_in file start (field 64 4) else 0
+
+-- a section: its two names, its address in memory, the offset and the number of its bytes in the file, and its flags
 pub record Section : Type 0 where
   pub segment_name : List ℕ
   pub section_name : List ℕ
   pub address : ℕ
   pub offset : ℕ
   pub size : ℕ
+  pub flags : ℕ
+
+-- SECTION_TYPE: the low byte of the flags
+abbrev pub section_type : Section → ℕ
+section_type s = bit_and s.flags 0xFF
+
+-- S_ZEROFILL (1), S_GB_ZEROFILL (12) or S_THREAD_LOCAL_ZEROFILL (18): filled with zeros in memory
+abbrev pub is_zero_filled : Section → Bool
+is_zero_filled s = nat_eq (section_type s) 1 || (nat_eq (section_type s) 12 || nat_eq (section_type s) 18)
+
+-- how many bytes a section has in the file: its size, but none where it is filled with zeros, or its offset is 0
+abbrev pub file_size : Section → ℕ
+file_size s = if is_zero_filled s || nat_eq s.offset 0 then 0 else s.size
 
 -- a section's or a segment's name, from its own 16 bytes
 abbrev pub name_in : List ℕ → ℕ → Field → Option (List ℕ)
@@ -123,6 +140,7 @@ section_at file start = do
     address = number_in file start section_fields.address;
     offset = number_in file start section_fields.offset;
     size = number_in file start section_fields.size;
+    flags = flags_at file start;
   })
 
 -- segment_command_64, in its body: the number of its sections, after which 4 bytes of flags aren't read

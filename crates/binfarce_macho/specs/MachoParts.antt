@@ -5,9 +5,9 @@ use Rattle.std.specs.Str.{bytes_eq}
 use Rattle.binfarce_bytes.specs.Field.{field, number_in}
 use Rattle.binfarce_bytes.specs.Refusal.{◌>>=◌, Refusal, if_as_long_as}
 use Rattle.binfarce_bytes.specs.Walk.{first}
-use Rattle.binfarce_macho.specs.declared.symbols.SymbolTable as raw
+use Rattle.binfarce_macho.specs.declared.symbols.SymtabCommand as raw
 use Rattle.binfarce_macho.specs.Macho.{Command, header_of, header_length, least_length, command_length, command_at, commands, body_of, is_segment, name_in, section_count, section_offset}
-use Rattle.binfarce_macho.specs.MachoSymbols.{SymbolTable, symbol_table_length}
+use Rattle.binfarce_macho.specs.MachoSymbols.{SymtabCommand, symbol_table_length}
 
 -- what is read of a command's body lies in these bytes: the section structures of a segment command, the four numbers of a symbol table's
 abbrev pub holds_body : List ℕ → Command → Bool
@@ -28,8 +28,8 @@ holds_from bytes (suc n) offset =
 abbrev pub holds_commands : List ℕ → Bool
 holds_commands bytes = holds_from bytes (header_of bytes).ncmds header_length
 
--- a `SymbolTable`
-abbrev pub table_view : raw.SymbolTable → SymbolTable ℕ
+-- a `SymtabCommand`
+abbrev pub table_view : raw.SymtabCommand → SymtabCommand ℕ
 table_view t = record { symbol_offset = t.symbol_offset; row_count = t.row_count; strings_offset = t.strings_offset; strings_size = t.strings_size }
 
 -- segment_command_64, in its body: its name, and its address in memory (vmaddr), which end at 24

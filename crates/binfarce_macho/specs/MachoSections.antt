@@ -8,7 +8,7 @@ use Rattle.binfarce_bytes.specs.Field.{field, number_in}
 use Rattle.binfarce_bytes.specs.Entries.{Entry}
 use Rattle.binfarce_bytes.specs.SectionEntries.{SectionEntry, in_section, unless}
 use Rattle.binfarce_bytes.specs.Sizes.{RowAddress, arranged, addresses_of, least_above}
-use Rattle.binfarce_macho.specs.Macho.{Command, commands, body_of, is_segment, Section, section_at, section_count, section_offset, section_fields, walk}
+use Rattle.binfarce_macho.specs.Macho.{Command, commands, body_of, is_segment, Section, section_at, section_count, section_offset, section_fields, flags_at, walk}
 use Rattle.binfarce_macho.specs.MachoSymbols.{Extent, Symbols, SymbolRow, symbol_of, symbol_length}
 
 -- MAX_SECT: a row has the number of its section in one byte
@@ -35,9 +35,9 @@ section_starts file = unless (walk file).refusal (take greatest_section (starts_
 abbrev pub HasSection : List ℕ → Type 0
 HasSection file = starts_among file (commands file).items ≢ []
 
--- the section whose structure begins at start holds instructions: its flags have S_ATTR_PURE_INSTRUCTIONS (0x80000000) or S_ATTR_SOME_INSTRUCTIONS (0x400). Where they are truncated it holds none
+-- the section whose structure begins at start holds instructions: its flags have S_ATTR_PURE_INSTRUCTIONS (0x80000000) or S_ATTR_SOME_INSTRUCTIONS (0x400)
 unfoldable pub has_instructions : List ℕ → ℕ → Bool
-has_instructions file start = nat_le (start + 68) (length file) && not (nat_eq (bit_and (number_in file start (field 64 4)) 0x80000400) 0)
+has_instructions file start = not (nat_eq (bit_and (flags_at file start) 0x80000400) 0)
 
 -- where that section is in memory
 unfoldable pub extent_at : List ℕ → ℕ → Extent

@@ -11,13 +11,13 @@ use Rattle.binfarce_bytes.specs.Sizes.{RowAddress, arranged, addresses_of, least
 use Rattle.binfarce_bytes.specs.Entries.{Entry, Listed}
 
 -- symtab_command, in its body of 16 bytes: one A for each field
-pub record SymbolTable (A : Type 0) : Type 0 where
+pub record SymtabCommand (A : Type 0) : Type 0 where
   pub symbol_offset : A
   pub row_count : A
   pub strings_offset : A
   pub strings_size : A
 
-unfoldable pub symbol_table_fields : SymbolTable Field
+unfoldable pub symbol_table_fields : SymtabCommand Field
 symbol_table_fields = record {
   symbol_offset = field 0 4;
   row_count = field 4 4;
@@ -28,7 +28,7 @@ symbol_table_fields = record {
 abbrev pub symbol_table_length : ℕ
 symbol_table_length = 16
 
-unfoldable pub symbol_table_at : List ℕ → ℕ → SymbolTable ℕ
+unfoldable pub symbol_table_at : List ℕ → ℕ → SymtabCommand ℕ
 symbol_table_at file body = record {
   symbol_offset = number_in file body symbol_table_fields.symbol_offset;
   row_count = number_in file body symbol_table_fields.row_count;
@@ -95,16 +95,16 @@ abbrev pub symbol_command : List ℕ → Result (Option Command) Refusal
 symbol_command file = first (λ command. nat_eq command.kind 2) (commands file)
 
 -- the body of that command, whole
-abbrev pub whole_table : List ℕ → Command → Result (SymbolTable ℕ) Refusal
+abbrev pub whole_table : List ℕ → Command → Result (SymtabCommand ℕ) Refusal
 whole_table file command =
     if nat_le (body_of command + symbol_table_length) (length file) then Ok (symbol_table_at file (body_of command)) else Err unexpected_eof
 
-abbrev pub named_table : List ℕ → Option Command → Result (Option (SymbolTable ℕ)) Refusal
+abbrev pub named_table : List ℕ → Option Command → Result (Option (SymtabCommand ℕ)) Refusal
 named_table file None = Ok None
 named_table file (Some command) = whole_table file command >>= λ table. Ok (Some table)
 
 -- what the command of the symbol table names, where there is one
-abbrev pub table_of : List ℕ → Result (Option (SymbolTable ℕ)) Refusal
+abbrev pub table_of : List ℕ → Result (Option (SymtabCommand ℕ)) Refusal
 table_of file = symbol_command file >>= named_table file
 
 -- the string table, and the rows of the symbol table, of which none is truncated
@@ -113,7 +113,7 @@ pub record Symbols : Type 0 where
   pub rows : List ℕ
 
 -- the tables that the symbol table's command names, which have to lie in the file; None where there is no such command
-abbrev pub symbols_by : List ℕ → Option (SymbolTable ℕ) → Result (Option Symbols) Refusal
+abbrev pub symbols_by : List ℕ → Option (SymtabCommand ℕ) → Result (Option Symbols) Refusal
 symbols_by file None = Ok None
 symbols_by file (Some table) = do
   strings ← slice_at file table.strings_offset table.strings_size

@@ -6,7 +6,7 @@ use Rattle.binfarce_macho.specs.Macho as macho
 
 -- a `Section`
 abbrev pub section_view : Section → macho.Section
-section_view s = record { segment_name = s.segment_name.now; section_name = s.section_name.now; address = s.address; offset = s.offset; size = s.size }
+section_view s = record { segment_name = s.segment_name.now; section_name = s.section_name.now; address = s.address; offset = s.offset; size = s.size; flags = s.flags }
 
 -- a `MachoHeader`
 abbrev pub header_view : MachoHeader → macho.Header ℕ

@@ -14,17 +14,20 @@ fn worked_commands()
     ensures truncated { commands_from (1 ∷ 0 ∷ 0 ∷ 0 ∷ 7 ∷ 0 ∷ 0 ∷ []) 1 0 ≡ ended None }
 {}
 
-/// The section `__text` of `__TEXT`, at the address 0x1000, of 0x100 bytes, at the offset 0x200 of the file.
-#[tactic(auto, unfolding(crate::specs::Macho::section_at, crate::specs::Macho::section_fields, binfarce_bytes::proofs::Computing::computing))]
+/// The section `__text` of `__TEXT`, at the address 0x1000, of 0x100 bytes, at the offset 0x200 of the file, with some
+/// instructions and others.
+#[tactic(auto, unfolding(crate::specs::Macho::section_at, crate::specs::Macho::section_fields, crate::specs::Macho::flags_at, binfarce_bytes::proofs::Computing::computing))]
 fn worked_section()
     ensures { section_at (codes "__text" ++ (replicate 10 0 ++ (codes "__TEXT" ++ (replicate 10 0
-        ++ (0 ∷ 0x10 ∷ 0 ∷ 0 ∷ 0 ∷ 0 ∷ 0 ∷ 0 ∷ 0 ∷ 1 ∷ 0 ∷ 0 ∷ 0 ∷ 0 ∷ 0 ∷ 0 ∷ 0 ∷ 2 ∷ 0 ∷ 0 ∷ []))))) 0
+        ++ (0 ∷ 0x10 ∷ 0 ∷ 0 ∷ 0 ∷ 0 ∷ 0 ∷ 0 ∷ 0 ∷ 1 ∷ 0 ∷ 0 ∷ 0 ∷ 0 ∷ 0 ∷ 0 ∷ 0 ∷ 2 ∷ 0 ∷ 0 ∷ 4 ∷ 0 ∷ 0 ∷ 0 ∷ 0 ∷ 0 ∷ 0 ∷ 0 ∷ 0 ∷ 0 ∷ 0
+        ∷ 0 ∷ 0 ∷ 4 ∷ 0 ∷ 0x80 ∷ []))))) 0
         ≡ Some (record {
           segment_name = codes "__TEXT";
           section_name = codes "__text";
           address = 0x1000;
           offset = 0x200;
           size = 0x100;
+          flags = 0x80000400;
         }) }
 {}
 

@@ -12,7 +12,7 @@ ghost use Rattle.binfarce_macho.specs.MachoViews.{header_view, section_view};
 
 use crate::commands::{LC_SEGMENT_64, commands};
 use crate::header::MachoHeader;
-use crate::sections::{SECTION_LENGTH, Section, section_at};
+use crate::sections::{SECTION_LENGTH, Section, flags_at, section_at};
 use crate::symbols::{Extent, text_extent};
 use binfarce_bytes::functions::Selection;
 use binfarce_bytes::parser::number_at;
@@ -236,10 +236,7 @@ fn has_instructions(file: &[u8], start: usize) -> bool
     requires { start ≤ length file.now }
     ensures { result ≡ has_instructions file.now start }
 {
-    match number_at::<u32>(file, start + 64, ByteOrder::LittleEndian) {
-        Ok(flags) => flags & S_ATTR_INSTRUCTIONS != 0,
-        Err(_) => false,
-    }
+    flags_at(file, start) & S_ATTR_INSTRUCTIONS != 0
 }
 
 fn name_at(alloc: Global, file: &[u8], start: usize) -> Result<Option<String>, AllocError>

@@ -5,7 +5,7 @@ ghost use Rattle.std.specs.Option.{option_map};
 ghost use Rattle.binfarce_bytes.specs.Refusal.{Gives, refusal_of, malformed_input, unexpected_eof};
 ghost use Rattle.binfarce_bytes.specs.Text.{padded_name};
 ghost use Rattle.binfarce_bytes.specs.Walk.{MayBeAsked, FirstAccepted, YieldsNext, first, ended, ahead_of};
-ghost use Rattle.binfarce_macho.specs.Macho.{header_of, walk, segment, section_at, section_data, is_named};
+ghost use Rattle.binfarce_macho.specs.Macho.{header_of, walk, segment, section_at, flags_at, section_data, is_named};
 ghost use Rattle.binfarce_macho.specs.MachoViews.{header_view, section_view};
 ghost use Rattle.binfarce_macho.specs.machine.RawMacho.{damage_refusal, commands_left, section_count, segment_from, sections_left, IsWithin, StepsSegment};
 
@@ -20,8 +20,8 @@ use std::ops::Range;
 
 pub(crate) const SECTION_LENGTH: usize = 80;
 
-/// A section (`section_64`): its names, its address, and the offset and size of its bytes. The names are slices of the
-/// file.
+/// A section (`section_64`): its names, its address, the offset and size of its bytes, and its flags. The names are
+/// slices of the file.
 #[derive(Debug, Clone, Copy)]
 pub struct Section<'a> {
     pub(crate) segment_name: &'a str,
@@ -29,6 +29,7 @@ pub struct Section<'a> {
     pub(crate) address: u64,
     pub(crate) offset: u32,
     pub(crate) size: u64,
+    pub(crate) flags: u32,
 }
 
 impl Section<'_> {
@@ -306,9 +307,19 @@ pub(crate) fn section_at(bytes: &[u8], start: usize) -> Result<Option<Section<'_
                 address,
                 offset,
                 size,
+                flags: flags_at(bytes, start),
             })),
         },
     }
+}
+
+// The flags of the section whose structure begins at `start`; 0 where they are truncated.
+#[tactic(auto, unfolding(crate::specs::Macho::flags_at))]
+pub(crate) fn flags_at(bytes: &[u8], start: usize) -> u32
+    requires { start ≤ length bytes.now }
+    ensures { result ≡ flags_at bytes.now start }
+{
+    number_at(bytes, start + 64, ByteOrder::LittleEndian).unwrap_or(0)
 }
 
 // The name in a field's bytes: those up to the first NUL, or all where there is none.

@@ -56,7 +56,7 @@ fn text_section(file: &[u8], header: MachoHeader) -> Result<Section<'_>, ParseEr
 
 /// The tables that the first `LC_SYMTAB` command of a file with this header names; `None` without one. Refused as
 /// `functions` of a reader is, up to there.
-pub fn symbol_table(file: &[u8], header: MachoHeader) -> Result<Option<SymbolTable>, ParseError>
+pub fn symbol_table(file: &[u8], header: MachoHeader) -> Result<Option<SymtabCommand>, ParseError>
     requires { header_view header ≡ header_of file.now }
     ensures { Gives refusal_of (option_map table_view) (table_of file.now) result }
 {
@@ -64,7 +64,7 @@ pub fn symbol_table(file: &[u8], header: MachoHeader) -> Result<Option<SymbolTab
     named_table(file, command)
 }
 
-fn named_table(bytes: &[u8], command: Option<Command>) -> Result<Option<SymbolTable>, ParseError>
+fn named_table(bytes: &[u8], command: Option<Command>) -> Result<Option<SymtabCommand>, ParseError>
     ensures { Gives refusal_of (option_map table_view)
         (named_table bytes.now (option_map command_view command)) result }
 {
@@ -78,7 +78,7 @@ fn named_table(bytes: &[u8], command: Option<Command>) -> Result<Option<SymbolTa
 /// where they don't lie in the file.
 pub fn symbols_by(
     file: &[u8],
-    table: Option<SymbolTable>,
+    table: Option<SymtabCommand>,
 ) -> Result<Option<SymbolBytes<'_>>, ParseError>
     ensures { Gives refusal_of (option_map symbols_view) (symbols_by file.now (option_map table_view table)) result }
 {
@@ -121,7 +121,7 @@ fn some_size(section: Section<'_>) -> Result<Section<'_>, ParseError>
 /// The body of a symbol table's command (`symtab_command`): the offset and the number of rows of the symbol table, and
 /// the offset and the size in bytes of the string table.
 #[derive(Clone, Copy)]
-pub struct SymbolTable {
+pub struct SymtabCommand {
     pub symbol_offset: u32,
     pub row_count: u32,
     pub strings_offset: u32,
@@ -129,7 +129,7 @@ pub struct SymbolTable {
 }
 
 #[tactic(auto, unfolding(crate::specs::MachoSymbols::symbol_table_at, crate::specs::MachoSymbols::symbol_table_fields))]
-fn symbol_table_at(bytes: &[u8], command: Command) -> Result<SymbolTable, UnexpectedEof>
+fn symbol_table_at(bytes: &[u8], command: Command) -> Result<SymtabCommand, UnexpectedEof>
     ensures { let body = body_of (command_view command) in MatchResult result
         (λ t. (body + 16 ≤ length bytes.now) × (table_view t ≡ symbol_table_at bytes.now body))
         (λ _. length bytes.now < body + 16) }
@@ -140,7 +140,7 @@ fn symbol_table_at(bytes: &[u8], command: Command) -> Result<SymbolTable, Unexpe
     let row_count = s.read()?;
     let strings_offset = s.read()?;
     let strings_size = s.read()?;
-    Ok(SymbolTable {
+    Ok(SymtabCommand {
         symbol_offset,
         row_count,
         strings_offset,

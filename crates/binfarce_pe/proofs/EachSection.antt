@@ -17,7 +17,7 @@ use Rattle.binfarce_bytes.specs.RowViews.{row_view, rows_view}
 use Rattle.binfarce_bytes.proofs.Rows.{range_more}
 use Rattle.binfarce_pe.specs.declared.functions.Held.{Held}
 use Rattle.binfarce_pe.specs.PeSelection.{Rules, moved, section_entries, entries_by}
-use Rattle.binfarce_pe.specs.PeSymbols.{SymbolTable, SectionRules, record_count, symbol_of, row_numbers, function_name, ending_rows, entries_of}
+use Rattle.binfarce_pe.specs.PeSymbols.{CoffTable, SectionRules, record_count, symbol_of, row_numbers, function_name, ending_rows, entries_of}
 use Rattle.binfarce_pe.specs.machine.RawPe.{numbered, names_view, rows_at, names_at, IsNameOf, HoldsThese, HoldsRows, HoldsSections, ending_name}
 use Rattle.binfarce_pe.proofs.Rows.{AreBefore, HoldsOf, IsLeftOut, holds_none, goes_on, one_more_held, holds_all, no_entries, some_entry}
 
@@ -30,7 +30,7 @@ seen_below [] m all = All-nil (λ r. r.index < m)
 seen_below (r ∷ rows) m all = All-cons (λ r. r.index < m) r rows (all 0 (row_view r) (omega arith)) (seen_below rows m (λ k d lt. all (suc k) d (omega arith)))
 
 -- each row that is held has the number of a name
-pub held_named : (table : SymbolTable) (rules : SectionRules) (h : Held) → HoldsRows table rules h → All (λ r. r.index < length h.names.items) h.rows.items
+pub held_named : (table : CoffTable) (rules : SectionRules) (h : Held) → HoldsRows table rules h → All (λ r. r.index < length h.names.items) h.rows.items
 held_named table rules h is =
     let these = ending_rows table rules in
     let names = names_view h.names.items in
@@ -46,11 +46,11 @@ pub names_are : (held : List Held) (i : ℕ) (d : Held) → i < length held → 
 names_are held i d lt = get_or-map (λ h. names_view h.names.items) held i d [] lt
 
 -- of each selected section those of these rows that end sizes are held
-pub record HoldsEach (table : SymbolTable) (rules : Rules) (before : List ℕ) (held : List Held) : Type 0 where
+pub record HoldsEach (table : CoffTable) (rules : Rules) (before : List ℕ) (held : List Held) : Type 0 where
   pub long : length held ≡ rules.count
   pub each : (i : ℕ) → i < rules.count → HoldsOf table (rules.section (rules.first + i)) before (rows_at held i) (names_at held i)
 
-pub each_holds_none : (table : SymbolTable) (rules : Rules) (held : List Held) (count : ℕ) → count ≡ rules.count → length held ≡ count → All (λ h. (h.rows.items ≡ []) × (h.names.items ≡ [])) held → HoldsEach table rules [] held
+pub each_holds_none : (table : CoffTable) (rules : Rules) (held : List Held) (count : ℕ) → count ≡ rules.count → length held ≡ count → All (λ h. (h.rows.items ≡ []) × (h.names.items ≡ [])) held → HoldsEach table rules [] held
 each_holds_none table rules [] count is long all = record { long = long ∙ is; each = λ i lt. absurd (omega (arith, is, long)) }
 each_holds_none table rules (h ∷ others) count is long all = record {
   long = long ∙ is;
@@ -63,14 +63,14 @@ each_holds_none table rules (h ∷ others) count is long all = record {
 }
 
 -- a row that ends no size in these sections adds nothing
-pub each_goes_on : (table : SymbolTable) (rules : Rules) (before : List ℕ) (k : ℕ) (held : List Held) → ((i : ℕ) → i < rules.count → ending_name table (rules.section (rules.first + i)) k (symbol_of table k) ≡ None) → HoldsEach table rules before held → HoldsEach table rules (before ++ k ∷ []) held
+pub each_goes_on : (table : CoffTable) (rules : Rules) (before : List ℕ) (k : ℕ) (held : List Held) → ((i : ℕ) → i < rules.count → ending_name table (rules.section (rules.first + i)) k (symbol_of table k) ≡ None) → HoldsEach table rules before held → HoldsEach table rules (before ++ k ∷ []) held
 each_goes_on table rules before k held none h = record {
   long = h.long;
   each = λ i lt. goes_on table (rules.section (rules.first + i)) before k (rows_at held i) (names_at held i) (none i lt) (h.each i lt);
 }
 
 -- one that ends sizes in the section at this position is held there, with its name where it is kept
-module _ (table : SymbolTable) (rules : Rules) (before : List ℕ) (k at : ℕ) (held : List Held) (old new : Held) (address : ℕ) (name : Option (Bor (List ℕ))) (lt : at < rules.count) (is : old ≡ get_or held at old) (value : address ≡ (symbol_of table k).value)
+module _ (table : CoffTable) (rules : Rules) (before : List ℕ) (k at : ℕ) (held : List Held) (old new : Held) (address : ℕ) (name : Option (Bor (List ℕ))) (lt : at < rules.count) (is : old ≡ get_or held at old) (value : address ≡ (symbol_of table k).value)
     (added : new.rows.items ≡ old.rows.items ++ record { address = address; index = length old.names.items } ∷ []) (named : new.names.items ≡ old.names.items ++ name ∷ []) where
   row_here : rows_view old.rows.items ≡ rows_at held at → length old.names.items ≡ length (names_at held at) → rows_view new.rows.items ≡ rows_at held at ++ record { address = (symbol_of table k).value; row = length (names_at held at) } ∷ []
   row_here rows count =
@@ -114,15 +114,15 @@ module _ (table : SymbolTable) (rules : Rules) (before : List ℕ) (k at : ℕ) 
           (goes_on table (rules.section (rules.first + i)) before k (rows_at held i) (names_at held i) (here i ∙ rw (ne_eqb i at other) refl) before_is)
 
 -- where these are all rows, all that end sizes are held
-pub each_holds_all : (table : SymbolTable) (rules : Rules) (before : List ℕ) (held : List Held) → row_numbers table ≡ before → HoldsEach table rules before held → HoldsSections table rules 0 held
+pub each_holds_all : (table : CoffTable) (rules : Rules) (before : List ℕ) (held : List Held) → row_numbers table ≡ before → HoldsEach table rules before held → HoldsSections table rules 0 held
 each_holds_all table rules before held all h i low lt = holds_all table (rules.section (rules.first + i)) before (rows_at held i) (names_at held i) all (h.each i lt)
 
 -- the rows of a place
-pub held_at : (table : SymbolTable) (rules : Rules) (held : List Held) (at : ℕ) (d : Held) → at < length held → length held ≡ rules.count → HoldsSections table rules at held → HoldsRows table (rules.section (rules.first + at)) (get_or held at d)
+pub held_at : (table : CoffTable) (rules : Rules) (held : List Held) (at : ℕ) (d : Held) → at < length held → length held ≡ rules.count → HoldsSections table rules at held → HoldsRows table (rules.section (rules.first + at)) (get_or held at d)
 held_at table rules held at d lt long h = rw (rows_are held at d lt, names_are held at d lt) at (h at (omega arith) (omega arith))
 
 -- those that were taken aren't held any more
-pub others_held : (table : SymbolTable) (rules : Rules) (held : List Held) (at : ℕ) (nothing : Held) → HoldsSections table rules at held → HoldsSections table rules (at + 1) (set held at nothing)
+pub others_held : (table : CoffTable) (rules : Rules) (held : List Held) (at : ℕ) (nothing : Held) → HoldsSections table rules at held → HoldsSections table rules (at + 1) (set held at nothing)
 others_held table rules held at nothing h i low lt =
     let section = rules.section (rules.first + i) in
     subst (λ (rows : List RowAddress). HoldsThese table section.accepts (ending_rows table section) rows (names_at (set held at nothing) i)) (same (λ h. rows_view h.rows.items) i (omega arith))
@@ -166,23 +166,23 @@ none_listed f a (suc n) none =
     rw here (none_listed f (a + 1) n (λ i lt. subst (λ (m : ℕ). f m ≡ []) (omega arith) (none (suc i) (omega arith))))
 
 -- none of these rows is kept of a selected section
-abbrev pub NoneKept : SymbolTable → Rules → List ℕ → Type 0
+abbrev pub NoneKept : CoffTable → Rules → List ℕ → Type 0
 NoneKept table rules before = (i : ℕ) → i < rules.count → All (IsLeftOut table (rules.section (rules.first + i))) before
 
-pub none_more : (table : SymbolTable) (rules : Rules) (before : List ℕ) (k : ℕ) → ((i : ℕ) → i < rules.count → IsLeftOut table (rules.section (rules.first + i)) k) → NoneKept table rules before → NoneKept table rules (before ++ k ∷ [])
+pub none_more : (table : CoffTable) (rules : Rules) (before : List ℕ) (k : ℕ) → ((i : ℕ) → i < rules.count → IsLeftOut table (rules.section (rules.first + i)) k) → NoneKept table rules before → NoneKept table rules (before ++ k ∷ [])
 none_more table rules before k out none i lt =
     let P = IsLeftOut table (rules.section (rules.first + i)) in
     All-append P before (k ∷ []) (none i lt) (All-cons P k [] (out i lt) (All-nil P))
 
 -- where none of all rows is kept there is no entry
-pub none_selected : (table : SymbolTable) (rules : Rules) (before : List ℕ) → row_numbers table ≡ before → NoneKept table rules before → entries_by rules table ≡ []
+pub none_selected : (table : CoffTable) (rules : Rules) (before : List ℕ) → row_numbers table ≡ before → NoneKept table rules before → entries_by rules table ≡ []
 none_selected table rules before all none =
     none_listed (section_entries rules table) rules.first rules.count
     (λ i lt. ap (λ (es : List Entry). in_section (rules.first + i + 1) (map (moved (rules.address (rules.first + i))) es))
     (no_entries table (rules.section (rules.first + i)) (subst (λ (ks : List ℕ). All (IsLeftOut table (rules.section (rules.first + i))) ks) (sym all) (none i lt))))
 
 -- where one is kept there is an entry
-pub some_selected : (table : SymbolTable) (rules : Rules) (before : List ℕ) (k at : ℕ) → k < record_count table → AreBefore table k before → at < rules.count → is_some (function_name table (rules.section (rules.first + at)).accepts k (symbol_of table k)) ≡ true → entries_by rules table ≢ []
+pub some_selected : (table : CoffTable) (rules : Rules) (before : List ℕ) (k at : ℕ) → k < record_count table → AreBefore table k before → at < rules.count → is_some (function_name table (rules.section (rules.first + at)).accepts k (symbol_of table k)) ≡ true → entries_by rules table ≢ []
 some_selected table rules before k at within are lt kept = by_name (function_name table section.accepts k (symbol_of table k)) refl kept
   where
     section : SectionRules

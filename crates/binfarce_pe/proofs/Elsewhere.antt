@@ -2,7 +2,7 @@
 use Rattle.std.proofs.Common.{◌≡◌, ℕ, ◌+◌, Bool, true, false, ◌&&◌, ◌||◌, List, Option, Some, None, refl, ap, nat_eq, if◌then◌else◌}
 use Rattle.std.specs.Option.{option_map}
 use Rattle.binfarce_pe.specs.PeSelection.{SelectedSections, the_text, all_sections, rules_of}
-use Rattle.binfarce_pe.specs.PeSymbols.{SymbolTable, SymbolRow, SectionRules, function_name, is_function}
+use Rattle.binfarce_pe.specs.PeSymbols.{CoffTable, SymbolRow, SectionRules, function_name, is_function}
 use Rattle.binfarce_pe.specs.machine.RawPe.{ending_name}
 
 not_all : (a b c : Bool) → c ≡ false → (a && (b && c)) ≡ false
@@ -23,24 +23,9 @@ not_ending : (chosen : SelectedSections) (index : ℕ) (row : SymbolRow ℕ) →
 not_ending (the_text text) index row e = refl
 not_ending (all_sections base sections) index row e = not_both (nat_eq row.storage_class 2 || nat_eq row.storage_class 3) _ e
 
-pub no_name : (table : SymbolTable) (chosen : SelectedSections) (index k : ℕ) (row : SymbolRow ℕ) → nat_eq row.section_number (index + 1) ≡ false → function_name table ((rules_of chosen).section index).accepts k row ≡ None
+pub no_name : (table : CoffTable) (chosen : SelectedSections) (index k : ℕ) (row : SymbolRow ℕ) → nat_eq row.section_number (index + 1) ≡ false → function_name table ((rules_of chosen).section index).accepts k row ≡ None
 unfolding function_name
 no_name table chosen index k row e = rw (not_accepted chosen index row e) refl
 
-pub no_ending_name : (table : SymbolTable) (chosen : SelectedSections) (index k : ℕ) (row : SymbolRow ℕ) → nat_eq row.section_number (index + 1) ≡ false → ending_name table ((rules_of chosen).section index) k row ≡ None
+pub no_ending_name : (table : CoffTable) (chosen : SelectedSections) (index k : ℕ) (row : SymbolRow ℕ) → nat_eq row.section_number (index + 1) ≡ false → ending_name table ((rules_of chosen).section index) k row ≡ None
 no_ending_name table chosen index k row e = rw (not_ending chosen index row e, no_name table chosen index k row e) refl
-
--- one with a name ends sizes
-pub named_ends : (table : SymbolTable) (rules : SectionRules) (k : ℕ) (row : SymbolRow ℕ) (here : Bool) (name : List ℕ) → function_name table rules.accepts k row ≡ (if here then Some name else None) → (here ≡ false → rules.ends row ≡ false)
-    → ending_name table rules k row ≡ (if here then Some (Some name) else None)
-named_ends table rules k row here name is other = by_test (rules.ends row) here (function_name table rules.accepts k row) is other
-  where
-    by_test : (e h : Bool) (o : Option (List ℕ)) → o ≡ (if h then Some name else None) → (h ≡ false → e ≡ false) → (if e then Some o else option_map (λ (n : List ℕ). Some n) o) ≡ (if h then Some (Some name) else None)
-    by_test true true o is other = ap (λ (p : Option (List ℕ)). Some p) is
-    by_test false true o is other = ap (option_map (λ (n : List ℕ). Some n)) is
-    by_test true false o is other = let none : true ≡ false = other refl in absurd cc
-    by_test false false o is other = ap (option_map (λ (n : List ℕ). Some n)) is
-
--- one without ends them by its rule
-pub nameless_ends : (table : SymbolTable) (rules : SectionRules) (k : ℕ) (row : SymbolRow ℕ) (ends : Bool) → function_name table rules.accepts k row ≡ None → rules.ends row ≡ ends → ending_name table rules k row ≡ (if ends then Some None else None)
-nameless_ends table rules k row ends none is = rw (none, is) refl

@@ -13,7 +13,7 @@ use Rattle.binfarce_bytes.specs.Entries.{Entry}
 use Rattle.binfarce_bytes.specs.SectionEntries.{SectionEntry, in_section}
 use Rattle.binfarce_pe.specs.PeSelection.{SelectedSections, the_text, all_sections, Rules, rules_of, memory_size, moved, section_entries}
 use Rattle.binfarce_bytes.specs.RowViews.{row_view, rows_view}
-use Rattle.binfarce_pe.specs.PeSymbols.{SymbolTable, SymbolRow, SectionRules, symbol_of, function_name, ending_rows, size_among, entry_of, entries_of}
+use Rattle.binfarce_pe.specs.PeSymbols.{CoffTable, SymbolRow, SectionRules, symbol_of, function_name, ending_rows, size_among, entry_of, entries_of}
 use Rattle.binfarce_pe.specs.machine.RawPe.{numbered, names_view, IsNameOf, HoldsThese, function_in}
 use Rattle.binfarce_bytes.proofs.Above.{LeastAbove, arranged_above, least_above_is}
 use Rattle.binfarce_bytes.proofs.Arrangement.{Rising}
@@ -95,25 +95,25 @@ module _ (R : RowAddress → RowAddress → Type 0) (same_order : (x q y p : Row
 abbrev pub arranged_numbers : List RowAddress → List RowAddress
 arranged_numbers kept = arranged (numbered 0 (addresses_of kept))
 
-arranged_rows_same : (table : SymbolTable) (rules : SectionRules) → AllZip (IsNumbered (ending_rows table rules)) (arranged_numbers (ending_rows table rules)) (arranged (ending_rows table rules))
+arranged_rows_same : (table : CoffTable) (rules : SectionRules) → AllZip (IsNumbered (ending_rows table rules)) (arranged_numbers (ending_rows table rules)) (arranged (ending_rows table rules))
 arranged_rows_same table rules =
     let these = ending_rows table rules in
     arranged_pairs (IsNumbered these) (agree these (ending_rise table rules)) (numbered 0 (addresses_of these)) these (all_numbered these)
 
-name_at : (table : SymbolTable) (accepts : SymbolRow ℕ → Bool) (these : List RowAddress) (names : List (Option (List ℕ))) (k : ℕ) → AllZip (IsNameOf table accepts) these names → k < length these → IsNameOf table accepts (get_or these k none) (get_or names k None)
+name_at : (table : CoffTable) (accepts : SymbolRow ℕ → Bool) (these : List RowAddress) (names : List (Option (List ℕ))) (k : ℕ) → AllZip (IsNameOf table accepts) these names → k < length these → IsNameOf table accepts (get_or these k none) (get_or names k None)
 name_at table accepts [] [] k all lt = absurd (omega arith)
 name_at table accepts [] (n ∷ names) k all lt = absurd all
 name_at table accepts (r ∷ these) [] k all lt = absurd all
 name_at table accepts (r ∷ these) (n ∷ names) zero all lt = all.0
 name_at table accepts (r ∷ these) (n ∷ names) (suc k) all lt = name_at table accepts these names k all.1 (omega arith)
 
-one_entry : (table : SymbolTable) (rules : SectionRules) (addresses : List ℕ) (names : List (Option (List ℕ))) (r q : RowAddress) → IsNameOf table rules.accepts q (get_or names r.row None) → r.address ≡ q.address
+one_entry : (table : CoffTable) (rules : SectionRules) (addresses : List ℕ) (names : List (Option (List ℕ))) (r q : RowAddress) → IsNameOf table rules.accepts q (get_or names r.row None) → r.address ≡ q.address
     → entry_of table rules addresses q ≡ function_at rules.size names addresses r
 one_entry table rules addresses names r q is same =
     ap (option_map (λ (name : List ℕ). record { name = name; address = q.address; size = rules.size addresses q.address })) is
     ∙ ap (λ (a : ℕ). option_map (λ (name : List ℕ). record { name = name; address = a; size = rules.size addresses a }) (get_or names r.row None)) (sym same)
 
-entries_listed : (table : SymbolTable) (rules : SectionRules) (addresses : List ℕ) (these : List RowAddress) (names : List (Option (List ℕ))) → AllZip (IsNameOf table rules.accepts) these names
+entries_listed : (table : CoffTable) (rules : SectionRules) (addresses : List ℕ) (these : List RowAddress) (names : List (Option (List ℕ))) → AllZip (IsNameOf table rules.accepts) these names
     → (xs ys : List RowAddress) → AllZip (IsNumbered these) xs ys → filter_map (function_at rules.size names addresses) xs ≡ filter_map (entry_of table rules addresses) ys
 entries_listed table rules addresses these names named [] [] all = refl
 entries_listed table rules addresses these names named [] (q ∷ ys) all = absurd all
@@ -157,7 +157,7 @@ goes_by_above (the_text text) index a xs ys same =
     sym (size_is text.size a xs (least_above ys a) (sym same)) ∙ size_is text.size a ys (least_above ys a) refl
 goes_by_above (all_sections base sections) index a xs ys same = ap (λ (o : Option ℕ). least_of (memory_size sections index) o - a) same
 
-entries_same : (table : SymbolTable) (rules : SectionRules) (xs ys : List ℕ) → GoesByAbove rules.size → ((a : ℕ) → least_above xs a ≡ least_above ys a) → (rows : List RowAddress)
+entries_same : (table : CoffTable) (rules : SectionRules) (xs ys : List ℕ) → GoesByAbove rules.size → ((a : ℕ) → least_above xs a ≡ least_above ys a) → (rows : List RowAddress)
     → filter_map (entry_of table rules xs) rows ≡ filter_map (entry_of table rules ys) rows
 entries_same table rules xs ys goes same [] = refl
 entries_same table rules xs ys goes same (r ∷ rows) =
@@ -166,7 +166,7 @@ entries_same table rules xs ys goes same (r ∷ rows) =
     ap (λ (o : Option Entry). cons_option o (filter_map (entry_of table rules xs) rows)) first ∙ ap (cons_option (entry_of table rules ys r)) (entries_same table rules xs ys goes same rows)
 
 -- what is listed of the arranged rows is the entries
-entries_are : (table : SymbolTable) (rules : SectionRules) (held in_order : List RowAddress) (names : List (Option (List ℕ))) → GoesByAbove rules.size → HoldsThese table rules.accepts (ending_rows table rules) held names → in_order ≡ arranged held
+entries_are : (table : CoffTable) (rules : SectionRules) (held in_order : List RowAddress) (names : List (Option (List ℕ))) → GoesByAbove rules.size → HoldsThese table rules.accepts (ending_rows table rules) held names → in_order ≡ arranged held
     → filter_map (function_at rules.size names (addresses_of in_order)) in_order ≡ entries_of table rules
 unfolding entries_of
 entries_are table rules held in_order names goes h are =
@@ -190,7 +190,7 @@ in_a_section rules index names addresses (r ∷ rows) = by_name (get_or names r.
     by_name (Some name) rest = ap (λ (es : List SectionEntry). record { section = index + 1; entry = record { name = name; address = rules.address index r.address; size = size } } ∷ es) rest
 
 -- in a section, at its addresses
-pub section_entries_are : (table : SymbolTable) (chosen : SelectedSections) (index : ℕ) (held in_order : List RowAddress) (names : List (Option (List ℕ))) → let rules = rules_of chosen in
+pub section_entries_are : (table : CoffTable) (chosen : SelectedSections) (index : ℕ) (held in_order : List RowAddress) (names : List (Option (List ℕ))) → let rules = rules_of chosen in
     HoldsThese table (rules.section index).accepts (ending_rows table (rules.section index)) held names → in_order ≡ arranged held
     → filter_map (function_in rules index names (addresses_of in_order)) in_order ≡ section_entries rules table index
 section_entries_are table chosen index held in_order names h are =

@@ -9,25 +9,25 @@ use Rattle.std.proofs.lemmas.List.Elements.{All-nil, All-cons, All-head, All-tai
 use Rattle.std.proofs.lemmas.List.Sorted.{All-permutation, IsPermutation-sym}
 use Rattle.std.proofs.lemmas.Slice.Zip.{AllZip-long}
 use Rattle.binfarce_bytes.specs.Sizes.{RowAddress, arranged, addresses_of}
-use Rattle.binfarce_pe.specs.PeSymbols.{SymbolTable, SectionRules, record_count, symbol_of, rows_from, row_numbers, function_name, ending_row, ending_rows, entry_of, entries_of}
+use Rattle.binfarce_pe.specs.PeSymbols.{CoffTable, SectionRules, record_count, symbol_of, rows_from, row_numbers, function_name, ending_row, ending_rows, entry_of, entries_of}
 use Rattle.binfarce_pe.specs.machine.RawPe.{numbered, IsNameOf, HoldsThese, ending_name}
 use Rattle.binfarce_bytes.proofs.Arranging.{arranged_same}
 
 -- the number of the row after row k
-abbrev pub after : SymbolTable → ℕ → ℕ
+abbrev pub after : CoffTable → ℕ → ℕ
 after table k = k + 1 + (symbol_of table k).number_of_aux_symbols
 
-no_rows : (table : SymbolTable) (n k : ℕ) → record_count table ≤ k → rows_from table n k ≡ []
+no_rows : (table : CoffTable) (n k : ℕ) → record_count table ≤ k → rows_from table n k ≡ []
 unfolding rows_from
 no_rows table zero k past = refl
 no_rows table (suc n) k past = rw (le-ltb k (record_count table) past) refl
 
-one_row : (table : SymbolTable) (n k : ℕ) → k < record_count table → rows_from table (suc n) k ≡ k ∷ rows_from table n (after table k)
+one_row : (table : CoffTable) (n k : ℕ) → k < record_count table → rows_from table (suc n) k ≡ k ∷ rows_from table n (after table k)
 unfolding rows_from
 one_row table n k within = rw (lt-ltb k (record_count table) within) refl
 
 -- more steps find no more rows
-rows_enough : (table : SymbolTable) (n m k : ℕ) → record_count table ≤ k + n → record_count table ≤ k + m → rows_from table n k ≡ rows_from table m k
+rows_enough : (table : CoffTable) (n m k : ℕ) → record_count table ≤ k + n → record_count table ≤ k + m → rows_from table n k ≡ rows_from table m k
 rows_enough table zero m k enough also = no_rows table zero k (omega arith) ∙ sym (no_rows table m k (omega arith))
 rows_enough table (suc n) zero k enough also = no_rows table (suc n) k (omega arith) ∙ sym (no_rows table zero k (omega arith))
 rows_enough table (suc n) (suc m) k enough also = by_test (nat_lt k (record_count table)) refl (λ within. rows_enough table n m (after table k) (omega arith) (omega arith))
@@ -41,16 +41,16 @@ rows_enough table (suc n) (suc m) k enough also = by_test (nat_lt k (record_coun
         no_rows table (suc n) k past ∙ sym (no_rows table (suc m) k past)
 
 -- the numbers of the rows from row k on
-abbrev pub rows_left : SymbolTable → ℕ → List ℕ
+abbrev pub rows_left : CoffTable → ℕ → List ℕ
 rows_left table k = rows_from table (record_count table - k) k
 
-pub all_left : (table : SymbolTable) → row_numbers table ≡ rows_left table 0
+pub all_left : (table : CoffTable) → row_numbers table ≡ rows_left table 0
 all_left table = ap (λ (n : ℕ). rows_from table n 0) (omega arith)
 
-pub none_left : (table : SymbolTable) (k : ℕ) → record_count table ≤ k → rows_left table k ≡ []
+pub none_left : (table : CoffTable) (k : ℕ) → record_count table ≤ k → rows_left table k ≡ []
 none_left table k past = no_rows table (record_count table - k) k past
 
-pub one_left : (table : SymbolTable) (k : ℕ) → k < record_count table → rows_left table k ≡ k ∷ rows_left table (after table k)
+pub one_left : (table : CoffTable) (k : ℕ) → k < record_count table → rows_left table k ≡ k ∷ rows_left table (after table k)
 one_left table k within =
     let one : rows_from table (record_count table - k) k ≡ k ∷ rows_from table (record_count table - k - 1) (after table k) =
     ap (λ (n : ℕ). rows_from table n k) (omega arith) ∙ one_row table (record_count table - k - 1) k within in
@@ -59,24 +59,24 @@ one_left table k within =
     one ∙ ap (λ (ks : List ℕ). k ∷ ks) rest
 
 -- these rows come before row k, and all others from it on
-abbrev pub AreBefore : SymbolTable → ℕ → List ℕ → Type 0
+abbrev pub AreBefore : CoffTable → ℕ → List ℕ → Type 0
 AreBefore table k before = row_numbers table ≡ before ++ rows_left table k
 
 -- so does row k come before the next
-pub one_before : (table : SymbolTable) (k next : ℕ) (before : List ℕ) → k < record_count table → next ≡ after table k → AreBefore table k before → AreBefore table next (before ++ k ∷ [])
+pub one_before : (table : CoffTable) (k next : ℕ) (before : List ℕ) → k < record_count table → next ≡ after table k → AreBefore table k before → AreBefore table next (before ++ k ∷ [])
 one_before table k next before within follows are =
     are ∙ ap (λ (ks : List ℕ). before ++ ks) (one_left table k within ∙ ap (λ (n : ℕ). k ∷ rows_left table n) (sym follows)) ∙ sym (append_assoc before (k ∷ []) (rows_left table next))
 
 -- and past the last record all are
-pub all_before : (table : SymbolTable) (k : ℕ) (before : List ℕ) → record_count table ≤ k → AreBefore table k before → row_numbers table ≡ before
+pub all_before : (table : CoffTable) (k : ℕ) (before : List ℕ) → record_count table ≤ k → AreBefore table k before → row_numbers table ≡ before
 all_before table k before past are = are ∙ rw (none_left table k past) (append-nil before)
 
 -- row k, with its address
-abbrev pub row_at : SymbolTable → ℕ → RowAddress
+abbrev pub row_at : CoffTable → ℕ → RowAddress
 row_at table k = record { address = (symbol_of table k).value; row = k }
 
 -- a row that ends no size
-pub not_ending : (table : SymbolTable) (rules : SectionRules) (k : ℕ) → ending_name table rules k (symbol_of table k) ≡ None → (ending_row table rules k ≡ None) × (function_name table rules.accepts k (symbol_of table k) ≡ None)
+pub not_ending : (table : CoffTable) (rules : SectionRules) (k : ℕ) → ending_name table rules k (symbol_of table k) ≡ None → (ending_row table rules k ≡ None) × (function_name table rules.accepts k (symbol_of table k) ≡ None)
 not_ending table rules k e = by_test (rules.ends (symbol_of table k)) (function_name table rules.accepts k (symbol_of table k)) e
   where
     by_test : (b : Bool) (o : Option (List ℕ)) → (if b then Some o else option_map (λ (name : List ℕ). Some name) o) ≡ None → ((if b then Some (row_at table k) else option_map (λ _. row_at table k) o) ≡ None) × (o ≡ None)
@@ -85,7 +85,7 @@ not_ending table rules k e = by_test (rules.ends (symbol_of table k)) (function_
     by_test false (Some name) e = absurd cc
 
 -- one that ends sizes, with its name where it is kept
-pub ending : (table : SymbolTable) (rules : SectionRules) (k : ℕ) (name : Option (List ℕ)) → ending_name table rules k (symbol_of table k) ≡ Some name → (ending_row table rules k ≡ Some (row_at table k)) × (function_name table rules.accepts k (symbol_of table k) ≡ name)
+pub ending : (table : CoffTable) (rules : SectionRules) (k : ℕ) (name : Option (List ℕ)) → ending_name table rules k (symbol_of table k) ≡ Some name → (ending_row table rules k ≡ Some (row_at table k)) × (function_name table rules.accepts k (symbol_of table k) ≡ name)
 ending table rules k name e = by_test (rules.ends (symbol_of table k)) (function_name table rules.accepts k (symbol_of table k)) e
   where
     by_test : (b : Bool) (o : Option (List ℕ)) → (if b then Some o else option_map (λ (name : List ℕ). Some name) o) ≡ Some name → ((if b then Some (row_at table k) else option_map (λ _. row_at table k) o) ≡ Some (row_at table k)) × (o ≡ name)
@@ -94,7 +94,7 @@ ending table rules k name e = by_test (rules.ends (symbol_of table k)) (function
     by_test false (Some n) e = (refl, cc)
 
 -- a row that is kept ends sizes
-pub kept_ends : (table : SymbolTable) (rules : SectionRules) (k : ℕ) (name : List ℕ) → function_name table rules.accepts k (symbol_of table k) ≡ Some name → ending_row table rules k ≡ Some (row_at table k)
+pub kept_ends : (table : CoffTable) (rules : SectionRules) (k : ℕ) (name : List ℕ) → function_name table rules.accepts k (symbol_of table k) ≡ Some name → ending_row table rules k ≡ Some (row_at table k)
 kept_ends table rules k name e = by_test (rules.ends (symbol_of table k)) (function_name table rules.accepts k (symbol_of table k)) e
   where
     by_test : (b : Bool) (o : Option (List ℕ)) → o ≡ Some name → (if b then Some (row_at table k) else option_map (λ _. row_at table k) o) ≡ Some (row_at table k)
@@ -103,7 +103,7 @@ kept_ends table rules k name e = by_test (rules.ends (symbol_of table k)) (funct
     by_test false (Some n) e = refl
 
 -- a row that ends sizes has its number
-pub row_number : (table : SymbolTable) (rules : SectionRules) (k : ℕ) (r : RowAddress) → ending_row table rules k ≡ Some r → r.row ≡ k
+pub row_number : (table : CoffTable) (rules : SectionRules) (k : ℕ) (r : RowAddress) → ending_row table rules k ≡ Some r → r.row ≡ k
 row_number table rules k r e = by_test (rules.ends (symbol_of table k)) (function_name table rules.accepts k (symbol_of table k)) e
   where
     by_test : (b : Bool) (o : Option (List ℕ)) → (if b then Some (row_at table k) else option_map (λ _. row_at table k) o) ≡ Some r → r.row ≡ k
@@ -112,14 +112,14 @@ row_number table rules k r e = by_test (rules.ends (symbol_of table k)) (functio
     by_test false (Some n) e = let same : row_at table k ≡ r = cc in sym (ap (λ (s : RowAddress). s.row) same)
 
 -- those of these rows that end sizes are held
-abbrev pub HoldsOf : SymbolTable → SectionRules → List ℕ → List RowAddress → List (Option (List ℕ)) → Type 0
+abbrev pub HoldsOf : CoffTable → SectionRules → List ℕ → List RowAddress → List (Option (List ℕ)) → Type 0
 HoldsOf table rules before rows names = HoldsThese table rules.accepts (filter_map (ending_row table rules) before) rows names
 
-pub holds_none : (table : SymbolTable) (rules : SectionRules) → HoldsOf table rules [] [] []
+pub holds_none : (table : CoffTable) (rules : SectionRules) → HoldsOf table rules [] [] []
 holds_none table rules = record { rows_are = refl; names_are = tt }
 
 -- a row that ends no size adds nothing
-pub goes_on : (table : SymbolTable) (rules : SectionRules) (before : List ℕ) (k : ℕ) (rows : List RowAddress) (names : List (Option (List ℕ))) → ending_name table rules k (symbol_of table k) ≡ None → HoldsOf table rules before rows names → HoldsOf table rules (before ++ k ∷ []) rows names
+pub goes_on : (table : CoffTable) (rules : SectionRules) (before : List ℕ) (k : ℕ) (rows : List RowAddress) (names : List (Option (List ℕ))) → ending_name table rules k (symbol_of table k) ≡ None → HoldsOf table rules before rows names → HoldsOf table rules (before ++ k ∷ []) rows names
 goes_on table rules before k rows names none h =
     let same : filter_map (ending_row table rules) (before ++ k ∷ []) ≡ filter_map (ending_row table rules) before =
     filter_map-append (ending_row table rules) before (k ∷ []) ∙ rw (not_ending table rules k none).0 (append-nil (filter_map (ending_row table rules) before)) in
@@ -140,7 +140,7 @@ addresses_push [] x = refl
 addresses_push (y ∷ xs) x = ap (λ (addresses : List ℕ). y.address ∷ addresses) (addresses_push xs x)
 
 -- one that ends sizes is held after those so far
-pub one_more_held : (table : SymbolTable) (rules : SectionRules) (before : List ℕ) (k : ℕ) (name : Option (List ℕ)) (rows : List RowAddress) (names : List (Option (List ℕ))) (n : ℕ) → ending_name table rules k (symbol_of table k) ≡ Some name → n ≡ length names
+pub one_more_held : (table : CoffTable) (rules : SectionRules) (before : List ℕ) (k : ℕ) (name : Option (List ℕ)) (rows : List RowAddress) (names : List (Option (List ℕ))) (n : ℕ) → ending_name table rules k (symbol_of table k) ≡ Some name → n ≡ length names
     → HoldsOf table rules before rows names → HoldsOf table rules (before ++ k ∷ []) (rows ++ record { address = (symbol_of table k).value; row = n } ∷ []) (names ++ name ∷ [])
 one_more_held table rules before k name rows names n some long h =
     let these = filter_map (ending_row table rules) before in
@@ -159,15 +159,15 @@ one_more_held table rules before k name rows names n some long h =
     })
 
 -- where these are all rows, all that end sizes are held
-pub holds_all : (table : SymbolTable) (rules : SectionRules) (before : List ℕ) (rows : List RowAddress) (names : List (Option (List ℕ))) → row_numbers table ≡ before → HoldsOf table rules before rows names → HoldsThese table rules.accepts (ending_rows table rules) rows names
+pub holds_all : (table : CoffTable) (rules : SectionRules) (before : List ℕ) (rows : List RowAddress) (names : List (Option (List ℕ))) → row_numbers table ≡ before → HoldsOf table rules before rows names → HoldsThese table rules.accepts (ending_rows table rules) rows names
 unfolding ending_rows
 holds_all table rules before rows names all h = subst (λ (ks : List ℕ). HoldsOf table rules ks rows names) (sym all) h
 
 -- the row isn't kept
-abbrev pub IsLeftOut : SymbolTable → SectionRules → ℕ → Type 0
+abbrev pub IsLeftOut : CoffTable → SectionRules → ℕ → Type 0
 IsLeftOut table rules k = function_name table rules.accepts k (symbol_of table k) ≡ None
 
-left_out : (table : SymbolTable) (rules : SectionRules) (ks : List ℕ) → All (IsLeftOut table rules) ks → All (λ r. IsLeftOut table rules r.row) (filter_map (ending_row table rules) ks)
+left_out : (table : CoffTable) (rules : SectionRules) (ks : List ℕ) → All (IsLeftOut table rules) ks → All (λ r. IsLeftOut table rules r.row) (filter_map (ending_row table rules) ks)
 left_out table rules [] all = All-nil (λ r. IsLeftOut table rules r.row)
 left_out table rules (k ∷ ks) all = by_row (ending_row table rules k) refl (left_out table rules ks (All-tail (IsLeftOut table rules) k ks all))
   where
@@ -177,19 +177,19 @@ left_out table rules (k ∷ ks) all = by_row (ending_row table rules k) refl (le
         All-cons (λ r. IsLeftOut table rules r.row) r (filter_map (ending_row table rules) ks)
         (subst (IsLeftOut table rules) (sym (row_number table rules k r is)) (All-head (IsLeftOut table rules) k ks all)) rest
 
-no_entry : (table : SymbolTable) (rules : SectionRules) (addresses : List ℕ) (rows : List RowAddress) → All (λ r. IsLeftOut table rules r.row) rows → filter_map (entry_of table rules addresses) rows ≡ []
+no_entry : (table : CoffTable) (rules : SectionRules) (addresses : List ℕ) (rows : List RowAddress) → All (λ r. IsLeftOut table rules r.row) rows → filter_map (entry_of table rules addresses) rows ≡ []
 no_entry table rules addresses [] all = refl
 no_entry table rules addresses (r ∷ rows) all =
     rw (All-head (λ r. IsLeftOut table rules r.row) r rows all) (no_entry table rules addresses rows (All-tail (λ r. IsLeftOut table rules r.row) r rows all))
 
 -- where no row is kept there is no entry
-pub no_entries : (table : SymbolTable) (rules : SectionRules) → All (IsLeftOut table rules) (row_numbers table) → entries_of table rules ≡ []
+pub no_entries : (table : CoffTable) (rules : SectionRules) → All (IsLeftOut table rules) (row_numbers table) → entries_of table rules ≡ []
 unfolding entries_of ending_rows
 no_entries table rules all =
     no_entry table rules (addresses_of (ending_rows table rules)) (arranged (ending_rows table rules))
     (All-permutation (λ r. IsLeftOut table rules r.row) (ending_rows table rules) (arranged (ending_rows table rules)) (arranged_same (ending_rows table rules)) (left_out table rules (row_numbers table) all))
 
-no_entry_of : (table : SymbolTable) (rules : SectionRules) (addresses : List ℕ) (rows : List RowAddress) → filter_map (entry_of table rules addresses) rows ≡ [] → All (λ r. IsLeftOut table rules r.row) rows
+no_entry_of : (table : CoffTable) (rules : SectionRules) (addresses : List ℕ) (rows : List RowAddress) → filter_map (entry_of table rules addresses) rows ≡ [] → All (λ r. IsLeftOut table rules r.row) rows
 no_entry_of table rules addresses [] none = All-nil (λ r. IsLeftOut table rules r.row)
 no_entry_of table rules addresses (r ∷ rows) none = by_name (function_name table rules.accepts r.row (symbol_of table r.row)) refl none (no_entry_of table rules addresses rows)
   where
@@ -205,7 +205,7 @@ last_of P [] x ys all = All-head P x ys all
 last_of P (y ∷ xs) x ys all = last_of P xs x ys (All-tail P y (xs ++ x ∷ ys) all)
 
 -- where one is kept there is an entry
-pub some_entry : (table : SymbolTable) (rules : SectionRules) (before : List ℕ) (k : ℕ) (name : List ℕ) → k < record_count table → AreBefore table k before → function_name table rules.accepts k (symbol_of table k) ≡ Some name → entries_of table rules ≢ []
+pub some_entry : (table : CoffTable) (rules : SectionRules) (before : List ℕ) (k : ℕ) (name : List ℕ) → k < record_count table → AreBefore table k before → function_name table rules.accepts k (symbol_of table k) ≡ Some name → entries_of table rules ≢ []
 unfolding entries_of ending_rows
 some_entry table rules before k name within are some none =
     let these = ending_rows table rules in

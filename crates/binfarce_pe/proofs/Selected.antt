@@ -8,17 +8,17 @@ use Rattle.binfarce_bytes.specs.SectionEntries.{SelectedSymbols, in_section, unl
 use Rattle.binfarce_pe.specs.Pe.{Section}
 use Rattle.binfarce_pe.specs.PeParts.{TextPlace, SectionTable, places_of, section_table, table_walk, text_among}
 use Rattle.binfarce_pe.specs.PeSelection.{Rules, HasSection, the_text, all_sections, base_at, rules_of, moved, section_entries, entries_by, symbols_of, selected_answer}
-use Rattle.binfarce_pe.specs.PeSymbols.{SymbolTable, Located, text_section, symbol_table, located, text_rules, entries_of, pe_answer}
+use Rattle.binfarce_pe.specs.PeSymbols.{CoffTable, Located, text_section, symbol_table, located, text_rules, entries_of, pe_answer}
 use Rattle.binfarce_pe.proofs.Walks.{text_of}
 
 without_section : (n : ℕ) (es : List Entry) → map (λ e. e.entry) (in_section n (map (moved (λ value. value)) es) ++ []) ≡ es
 without_section n [] = refl
 without_section n (e ∷ es) = ap (λ (rest : List Entry). e ∷ rest) (without_section n es)
 
-text_entries : (text : TextPlace) (symbols : SymbolTable) → map (λ e. e.entry) (entries_by (rules_of (the_text text)) symbols) ≡ entries_of symbols (text_rules text.index text.size)
+text_entries : (text : TextPlace) (symbols : CoffTable) → map (λ e. e.entry) (entries_by (rules_of (the_text text)) symbols) ≡ entries_of symbols (text_rules text.index text.size)
 text_entries text symbols = without_section (text.index + 1) (entries_of symbols (text_rules text.index text.size))
 
-by_located : Result Section Refusal → Result SymbolTable Refusal → Result Listed Refusal
+by_located : Result Section Refusal → Result CoffTable Refusal → Result Listed Refusal
 by_located text table =
     (text >>= λ text. table >>= λ table. Ok (record { text = text; table = table }))
     >>= λ (found : Located). Ok (record { entries = entries_of found.table (text_rules found.text.index found.text.size_of_raw_data); section_size = found.text.size_of_raw_data })
@@ -27,12 +27,12 @@ by_located text table =
 abbrev pub listed_with : (SelectedSymbols → ℕ) → SelectedSymbols → Listed
 listed_with other selected = record { entries = map (λ e. e.entry) selected.entries; section_size = unwrap_or selected.section_size (other selected) }
 
-by_selected : (SelectedSymbols → ℕ) → Result Section Refusal → Result SymbolTable Refusal → Result Listed Refusal
+by_selected : (SelectedSymbols → ℕ) → Result Section Refusal → Result CoffTable Refusal → Result Listed Refusal
 by_selected other text table =
     (((text >>= λ text. Ok (record { index = text.index; size = text.size_of_raw_data })) >>= λ text. Ok (the_text text)) >>= λ chosen. table >>= λ symbols. Ok (symbols_of chosen symbols))
     >>= λ selected. Ok (listed_with other selected)
 
-same_listed : (other : SelectedSymbols → ℕ) (text : Result Section Refusal) (table : Result SymbolTable Refusal) → by_located text table ≡ by_selected other text table
+same_listed : (other : SelectedSymbols → ℕ) (text : Result Section Refusal) (table : Result CoffTable Refusal) → by_located text table ≡ by_selected other text table
 unfolding by_located by_selected
 same_listed other (Ok text) (Ok table) =
     let place : TextPlace = record { index = text.index; size = text.size_of_raw_data } in
@@ -55,10 +55,10 @@ listed_is other name file =
     ∙ ap (λ (text : Result Section Refusal). by_selected other text (symbol_table file)) (sym (text_of file (section_table file) refl)) ∙ selected_is other name file
 
 -- where there is an entry, there is a section
-none_of : (rules : Rules) (symbols : SymbolTable) → rules.count ≡ 0 → entries_by rules symbols ≡ []
+none_of : (rules : Rules) (symbols : CoffTable) → rules.count ≡ 0 → entries_by rules symbols ≡ []
 none_of rules symbols none = ap (λ (n : ℕ). flat_map (section_entries rules symbols) (range_with_len rules.first n)) none
 
-of_whole : (base : Option ℕ) (sections : SectionTable) (why : Option Refusal) (table : Result SymbolTable Refusal) (selected : SelectedSymbols)
+of_whole : (base : Option ℕ) (sections : SectionTable) (why : Option Refusal) (table : Result CoffTable Refusal) (selected : SelectedSymbols)
     → ((unless why sections >>= λ sections. Ok (all_sections base sections)) >>= λ chosen. table >>= λ symbols. Ok (symbols_of chosen symbols)) ≡ Ok selected → selected.entries ≢ [] → sections.count ≢ 0
 of_whole base sections (Some why) table selected is some none = absurd cc
 of_whole base sections None (Err e) selected is some none = absurd cc

@@ -5,15 +5,15 @@ use Rattle.std.proofs.lemmas.List.Elements.{All-nil, All-cons, All-weaker}
 use Rattle.binfarce_bytes.specs.Refusal.{◌>>=◌, Refusal}
 use Rattle.binfarce_bytes.specs.Sizes.{RowAddress, arranged}
 use Rattle.binfarce_bytes.specs.Entries.{Listed}
-use Rattle.binfarce_pe.specs.PeSymbols.{SymbolTable, SectionRules, Located, text_rules, record_count, rows_from, ending_row, ending_rows, entries_of, pe_answer, ArrangesRows}
+use Rattle.binfarce_pe.specs.PeSymbols.{CoffTable, SectionRules, Located, text_rules, record_count, rows_from, ending_row, ending_rows, entries_of, pe_answer, ArrangesRows}
 use Rattle.binfarce_bytes.proofs.Arrangement.{Rising, arrangement_of}
 use Rattle.binfarce_pe.proofs.Rows.{after, row_number}
 
 -- those that end sizes from row k on, by n steps
-abbrev ending_by : SymbolTable → SectionRules → ℕ → ℕ → List RowAddress
+abbrev ending_by : CoffTable → SectionRules → ℕ → ℕ → List RowAddress
 ending_by table rules n k = filter_map (ending_row table rules) (rows_from table n k)
 
-from_on : (table : SymbolTable) (rules : SectionRules) (n k : ℕ) → All (λ r. k ≤ r.row) (ending_by table rules n k) × Rising (ending_by table rules n k)
+from_on : (table : CoffTable) (rules : SectionRules) (n k : ℕ) → All (λ r. k ≤ r.row) (ending_by table rules n k) × Rising (ending_by table rules n k)
 unfolding rows_from
 from_on table rules zero k = (All-nil (λ r. k ≤ r.row), tt)
 from_on table rules (suc n) k = by_test (nat_lt k (record_count table)) (from_on table rules n (after table k))
@@ -34,7 +34,7 @@ from_on table rules (suc n) k = by_test (nat_lt k (record_count table)) (from_on
     by_test false up = (All-nil (λ r. k ≤ r.row), tt)
 
 -- the numbers of the rows that end sizes rise
-pub ending_rise : (table : SymbolTable) (rules : SectionRules) → Rising (ending_rows table rules)
+pub ending_rise : (table : CoffTable) (rules : SectionRules) → Rising (ending_rows table rules)
 unfolding ending_rows
 ending_rise table rules = (from_on table rules (record_count table) 0).1
 

@@ -20,7 +20,7 @@ pub record Header (A : Type 0) : Type 0 where
   pub size_of_optional_header : A
   pub characteristics : A
 
--- Section Header: one A for each field that is read
+-- Section Header: one A for each field that every section has
 pub record SectionHeader (A : Type 0) : Type 0 where
   pub name : A
   pub virtual_size : A
@@ -49,7 +49,7 @@ section_fields = record {
   pointer_to_raw_data = field 20 4;
 }
 
--- a section header has 40 bytes. The fields that are read end at 24; of the last header of a file the 16 bytes after them may be missing
+-- a section header has 40 bytes. These fields end at 24; of the last header of a file the 16 bytes after them may be missing
 abbrev pub section_length : ℕ
 section_length = 40
 
@@ -100,6 +100,10 @@ image_base header =
     else if nat_eq magic 0x20B then Some (number_in header 0 (field 24 8))
     else None
 
+-- Characteristics, the section's flags; 0 in a header that is truncated before their end
+unfoldable pub characteristics_at : List ℕ → ℕ → ℕ
+characteristics_at file start = if nat_le (start + 40) (length file) then number_in file start (field 36 4) else 0
+
 -- the values of a section header, and the section's index
 pub record Section : Type 0 where
   pub name : List ℕ
@@ -107,7 +111,16 @@ pub record Section : Type 0 where
   pub virtual_address : ℕ
   pub size_of_raw_data : ℕ
   pub pointer_to_raw_data : ℕ
+  pub characteristics : ℕ
   pub index : ℕ
+
+-- how many bytes the section has in the file: SizeOfRawData, but none where PointerToRawData is 0
+abbrev pub file_size : Section → ℕ
+file_size s = if nat_eq s.pointer_to_raw_data 0 then 0 else s.size_of_raw_data
+
+-- how many bytes it has in memory: VirtualSize; where that is 0, as in object files, SizeOfRawData
+abbrev pub memory_size : Section → ℕ
+memory_size s = if nat_eq s.virtual_size 0 then s.size_of_raw_data else s.virtual_size
 
 -- the section of this index, whose header begins at start; none where its name isn't UTF-8
 unfoldable pub section_at : List ℕ → ℕ → ℕ → Option Section
@@ -119,6 +132,7 @@ section_at file start index =
       virtual_address = number_in file start section_fields.virtual_address;
       size_of_raw_data = number_in file start section_fields.size_of_raw_data;
       pointer_to_raw_data = number_in file start section_fields.pointer_to_raw_data;
+      characteristics = characteristics_at file start;
       index = index;
     })
     (padded_text (bytes_at file (start + section_fields.name.offset) section_fields.name.width))

@@ -6,9 +6,9 @@ use Rattle.binfarce_bytes.specs.Walk.{Walk, first}
 use Rattle.binfarce_pe.specs.declared.parts.TableOffsets.{TableOffsets}
 use Rattle.binfarce_pe.specs.declared.parts.Text.{Text}
 use Rattle.binfarce_pe.specs.declared.sections.Table.{Table}
-use Rattle.binfarce_pe.specs.declared.symbols.SymbolTable as code
+use Rattle.binfarce_pe.specs.declared.symbols.CoffTable as code
 use Rattle.binfarce_pe.specs.Pe.{Header, header_of, headers_length, optional_header_length, signature_offset, sections_offset, Section, section_at, section_length, section_unread, is_named}
-use Rattle.binfarce_pe.specs.PeSymbols.{SymbolTable, symbol_length}
+use Rattle.binfarce_pe.specs.PeSymbols.{CoffTable, symbol_length}
 
 -- where the optional header begins, and how many bytes of it state the image base; where the section table begins, and how many headers it has; where the
 -- symbol table begins, and how many bytes its records have
@@ -87,6 +87,6 @@ text_view t = record { index = t.index; size = t.size }
 abbrev pub text_place : SectionTable → Result TextPlace Refusal
 text_place table = text_among table >>= λ text. Ok (record { index = text.index; size = text.size_of_raw_data })
 
--- a `SymbolTable`
-abbrev pub table_view : code.SymbolTable → SymbolTable
+-- a `CoffTable`
+abbrev pub table_view : code.CoffTable → CoffTable
 table_view t = record { rows = t.rows.now; strings = t.strings.now }

@@ -12,7 +12,7 @@ use Rattle.binfarce_pe.specs.declared.functions.SelectedSections as code
 use Rattle.binfarce_pe.specs.declared.functions.SelectedSections.TheVariants.{Text, All}
 use Rattle.binfarce_pe.specs.Pe.{header_of, image_base, least_length, section_fields, section_length}
 use Rattle.binfarce_pe.specs.PeParts.{TablePlaces, TextPlace, SectionTable, headers_view, places_of, section_table, section_in, table_walk, text_place, text_view, whole_in}
-use Rattle.binfarce_pe.specs.PeSymbols.{SymbolRow, SymbolTable, SectionRules, symbol_table, is_function, text_rules, entries_of}
+use Rattle.binfarce_pe.specs.PeSymbols.{SymbolRow, CoffTable, SectionRules, symbol_table, is_function, text_rules, entries_of}
 
 -- the image base of a file with tables at these places
 abbrev pub base_at : List ℕ → TablePlaces → Option ℕ
@@ -94,12 +94,12 @@ abbrev pub moved : (ℕ → ℕ) → Entry → Entry
 moved address entry = record { name = entry.name; address = address entry.address; size = entry.size }
 
 -- the entries of the section of this index, whose number is one more
-abbrev pub section_entries : Rules → SymbolTable → ℕ → List SectionEntry
+abbrev pub section_entries : Rules → CoffTable → ℕ → List SectionEntry
 section_entries rules symbols index =
     in_section (index + 1) (map (moved (rules.address index)) (entries_of symbols (rules.section index)))
 
 -- the entries of the chosen sections, in the order of their numbers; also of a section whose name isn't UTF-8
-abbrev pub entries_by : Rules → SymbolTable → List SectionEntry
+abbrev pub entries_by : Rules → CoffTable → List SectionEntry
 entries_by rules symbols = flat_map (section_entries rules symbols) (range_with_len rules.first rules.count)
 
 -- the name of the section of this number, where there is one and its name is UTF-8
@@ -125,7 +125,7 @@ shares_addresses (the_text text) = false
 shares_addresses (all_sections base sections) = is_none base
 
 -- the function symbols of chosen sections
-abbrev pub symbols_of : SelectedSections → SymbolTable → SelectedSymbols
+abbrev pub symbols_of : SelectedSections → CoffTable → SelectedSymbols
 symbols_of chosen symbols =
     record { entries = entries_by (rules_of chosen) symbols; section_size = section_size chosen; section_name = section_name chosen; shares_addresses = shares_addresses chosen }
 

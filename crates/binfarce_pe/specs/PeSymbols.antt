@@ -49,29 +49,29 @@ abbrev pub symbol_length : ℕ
 symbol_length = 18
 
 -- a symbol table: its records, and the file from the string table on, which comes after them
-pub record SymbolTable : Type 0 where
+pub record CoffTable : Type 0 where
   pub rows : List ℕ
   pub strings : List ℕ
 
-abbrev pub record_count : SymbolTable → ℕ
+abbrev pub record_count : CoffTable → ℕ
 record_count table = length table.rows / symbol_length
 
 -- record k of the table
-abbrev pub symbol_of : SymbolTable → ℕ → SymbolRow ℕ
+abbrev pub symbol_of : CoffTable → ℕ → SymbolRow ℕ
 symbol_of table k = symbol_at table.rows (k * symbol_length)
 
 -- the rows' numbers from k on, in at most n steps: a row is followed by its auxiliary records, and then by the next row
-unfoldable pub rows_from : SymbolTable → ℕ → ℕ → List ℕ
+unfoldable pub rows_from : CoffTable → ℕ → ℕ → List ℕ
 rows_from table zero k = []
 rows_from table (suc n) k =
     if nat_lt k (record_count table) then k ∷ rows_from table n (k + 1 + (symbol_of table k).number_of_aux_symbols) else []
 
 -- the numbers of the rows: the first record is one, and no more steps are needed than there are records
-abbrev pub row_numbers : SymbolTable → List ℕ
+abbrev pub row_numbers : CoffTable → List ℕ
 row_numbers table = rows_from table (record_count table) 0
 
 -- the name of row k, with this record, where it can be read: the short name in its 8 bytes, or the text in the string table at its offset
-unfoldable pub name_of : SymbolTable → ℕ → SymbolRow ℕ → Option (List ℕ)
+unfoldable pub name_of : CoffTable → ℕ → SymbolRow ℕ → Option (List ℕ)
 name_of table k row =
     if nat_eq row.zeroes 0 then text_at table.strings row.offset
     else padded_text (bytes_at table.rows (k * symbol_length) 8)
@@ -85,11 +85,11 @@ abbrev pub is_function_of : ℕ → SymbolRow ℕ → Bool
 is_function_of index row = is_function row && nat_eq row.storage_class 2 && nat_eq row.section_number (index + 1)
 
 -- the name of a row that is accepted
-unfoldable pub function_name : SymbolTable → (SymbolRow ℕ → Bool) → ℕ → SymbolRow ℕ → Option (List ℕ)
+unfoldable pub function_name : CoffTable → (SymbolRow ℕ → Bool) → ℕ → SymbolRow ℕ → Option (List ℕ)
 function_name table accepts k row = if accepts row then name_of table k row else None
 
 -- the address and the number of a row that is kept: one that is accepted, and whose name can be read
-abbrev pub kept_row : SymbolTable → (SymbolRow ℕ → Bool) → ℕ → Option RowAddress
+abbrev pub kept_row : CoffTable → (SymbolRow ℕ → Bool) → ℕ → Option RowAddress
 kept_row table accepts k = option_map (λ _. record { address = (symbol_of table k).value; row = k }) (function_name table accepts k (symbol_of table k))
 
 -- how the rows of a section are listed: which are accepted; which end sizes even where they aren't kept; and the size at an address, given the addresses of
@@ -100,25 +100,25 @@ pub record SectionRules : Type 0 where
   pub size : List ℕ → ℕ → ℕ
 
 -- the address and the number of a row that ends sizes: one that is kept, or another
-abbrev pub ending_row : SymbolTable → SectionRules → ℕ → Option RowAddress
+abbrev pub ending_row : CoffTable → SectionRules → ℕ → Option RowAddress
 ending_row table rules k =
     if rules.ends (symbol_of table k) then Some (record { address = (symbol_of table k).value; row = k }) else kept_row table rules.accepts k
 
 -- the rows that end sizes, in table order
-unfoldable pub ending_rows : SymbolTable → SectionRules → List RowAddress
+unfoldable pub ending_rows : CoffTable → SectionRules → List RowAddress
 ending_rows table rules = filter_map (ending_row table rules) (row_numbers table)
 
 -- the entry of such a row, where it is kept, by the addresses of all of them
-abbrev pub entry_of : SymbolTable → SectionRules → List ℕ → RowAddress → Option Entry
+abbrev pub entry_of : CoffTable → SectionRules → List ℕ → RowAddress → Option Entry
 entry_of table rules addresses at =
     option_map (λ name. record { name = name; address = at.address; size = rules.size addresses at.address }) (function_name table rules.accepts at.row (symbol_of table at.row))
 
 -- the entries of such rows in this order
-abbrev pub entries_in : SymbolTable → SectionRules → List RowAddress → List Entry
+abbrev pub entries_in : CoffTable → SectionRules → List RowAddress → List Entry
 entries_in table rules in_order = filter_map (entry_of table rules (addresses_of (ending_rows table rules))) in_order
 
 -- the entries of the kept rows, in the order of (address, row number)
-unfoldable pub entries_of : SymbolTable → SectionRules → List Entry
+unfoldable pub entries_of : CoffTable → SectionRules → List Entry
 entries_of table rules = entries_in table rules (arranged (ending_rows table rules))
 
 -- the size at an address: up to the least member above it, and 0 where there is none
@@ -141,7 +141,7 @@ abbrev pub table_size : List ℕ → ℕ
 table_size file = (header_of file).number_of_symbols * symbol_length
 
 -- the symbol table, which has to begin in the file even where it is empty, and to end there
-unfoldable pub symbol_table : List ℕ → Result SymbolTable Refusal
+unfoldable pub symbol_table : List ℕ → Result CoffTable Refusal
 symbol_table file =
     if nat_le (length file) (table_offset file) then Err unexpected_eof
     else if_as_long_as (table_offset file + table_size file) file (Ok (record { rows = bytes_at file (table_offset file) (table_size file); strings = drop (table_offset file + table_size file) file }))
@@ -149,7 +149,7 @@ symbol_table file =
 -- the text, and the symbol table
 pub record Located : Type 0 where
   pub text : Section
-  pub table : SymbolTable
+  pub table : CoffTable
 
 -- the refusals in order; else where the symbols are
 unfoldable pub located : List ℕ → Result Located Refusal

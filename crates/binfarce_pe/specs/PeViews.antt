@@ -6,7 +6,7 @@ use Rattle.binfarce_pe.specs.Pe as pe
 
 -- a `Section`
 abbrev pub section_view : Section → pe.Section
-section_view s = record { name = s.name.now; virtual_size = s.virtual_size; virtual_address = s.virtual_address; size_of_raw_data = s.size_of_raw_data; pointer_to_raw_data = s.pointer_to_raw_data; index = s.index }
+section_view s = record { name = s.name.now; virtual_size = s.virtual_size; virtual_address = s.virtual_address; size_of_raw_data = s.size_of_raw_data; pointer_to_raw_data = s.pointer_to_raw_data; characteristics = s.characteristics; index = s.index }
 
 -- a `PeHeader`
 abbrev pub header_view : PeHeader → pe.Header ℕ

@@ -21,7 +21,7 @@ use crate::header::image_base;
 use crate::parts::{SECTION_LENGTH, TableOffsets, Text, text_in};
 use crate::sections::{Table, section_at, section_table};
 use crate::symbols::{
-    SYMBOL_LENGTH, SymbolRow, SymbolTable, is_function, name_of, symbol_of, symbol_table,
+    CoffTable, SYMBOL_LENGTH, SymbolRow, is_function, name_of, symbol_of, symbol_table,
 };
 use binfarce_bytes::functions::{FunctionSymbol, SectionFunction, Selection};
 use binfarce_bytes::parser::{number_at, slice_at, to_index};
@@ -141,7 +141,7 @@ pub fn section_name<'a>(sections: Table<'a>, number: u32) -> Option<&'a str>
 pub fn functions_of<'a>(
     alloc: Global,
     sections: SelectedSections<'_>,
-    symbols: SymbolTable<'a>,
+    symbols: CoffTable<'a>,
 ) -> Result<Vec<SectionFunction<'a>>, AllocError>
     requires { IsWhole (sections_view sections) }
     ensures functions { IfOk result (λ v. map section_function_view v.items
@@ -225,7 +225,7 @@ fn position_of(sections: SelectedSections<'_>, row: SymbolRow) -> Option<u32>
 // The position among the selected sections of the one in which a row ends sizes, and the row's name where it is kept.
 fn ending_of<'a>(
     sections: SelectedSections<'_>,
-    symbols: SymbolTable<'a>,
+    symbols: CoffTable<'a>,
     number: usize,
     row: SymbolRow,
 ) -> Option<(u32, Option<&'a str>)>
@@ -256,7 +256,7 @@ fn ending_of<'a>(
 // The position among the selected sections of the one that a row is kept of.
 fn kept_in(
     sections: SelectedSections<'_>,
-    symbols: SymbolTable<'_>,
+    symbols: CoffTable<'_>,
     number: usize,
     row: SymbolRow,
 ) -> Option<u32>
@@ -281,7 +281,7 @@ fn kept_in(
 #[tactic(auto, unfolding(crate::specs::PeSymbols::function_name))]
 fn function_name<'a>(
     sections: SelectedSections<'_>,
-    symbols: SymbolTable<'a>,
+    symbols: CoffTable<'a>,
     number: usize,
     row: SymbolRow,
 ) -> Option<&'a str>
@@ -362,7 +362,7 @@ struct Held<'a> {
 }
 
 // Whether a row is kept of a selected section. Nothing is allocated.
-fn keeps_some(sections: SelectedSections<'_>, symbols: SymbolTable<'_>) -> bool
+fn keeps_some(sections: SelectedSections<'_>, symbols: CoffTable<'_>) -> bool
     ensures some { result ≡ true
         → entries_by (rules_of (sections_view sections.entry)) (table_view symbols.entry) ≢ [] }
     ensures none { result ≡ false
@@ -386,7 +386,7 @@ fn keeps_some(sections: SelectedSections<'_>, symbols: SymbolTable<'_>) -> bool
 fn rows_by_section<'a>(
     alloc: Global,
     sections: SelectedSections<'_>,
-    symbols: SymbolTable<'a>,
+    symbols: CoffTable<'a>,
 ) -> Result<Vec<Held<'a>>, AllocError>
     ensures held { IfOk result
         (λ v. HoldsSections (table_view symbols.entry) (rules_of (sections_view sections.entry)) 0 v.items) }
@@ -456,7 +456,7 @@ fn push_functions<'a>(
     requires whole { IsWhole (sections_view sections) }
     requires within { (index < 65536)
         × (index < (rules_of (sections_view sections)).first + (rules_of (sections_view sections)).count) }
-    ensures { let rules = rules_of (sections_view sections.entry) in (table : pe_symbols.SymbolTable)
+    ensures { let rules = rules_of (sections_view sections.entry) in (table : pe_symbols.CoffTable)
         → HoldsRows table (rules.section index) held.entry → IfOk result
         (λ _. map section_function_view functions.new.items
         ≡ map section_function_view functions.old.items ++ section_entries rules table index) }

@@ -6,16 +6,18 @@ ghost use Rattle.binfarce_pe.specs.PeSelection.{size_within};
 ghost use Rattle.binfarce_pe.specs.PeSymbols.{symbol_at, row_numbers, size_among};
 
 /// The section `.text`, of 0x1F bytes in memory at 0x1000 and 0x200 in the file, from 0x400 on.
-#[tactic(auto, unfolding(crate::specs::Pe::section_at, crate::specs::Pe::section_fields, binfarce_bytes::proofs::Computing::computing))]
+#[tactic(auto, unfolding(crate::specs::Pe::section_at, crate::specs::Pe::section_fields, crate::specs::Pe::characteristics_at, binfarce_bytes::proofs::Computing::computing))]
 fn worked_section()
     ensures { section_at
-        (codes ".text" ++ (0 ∷ 0 ∷ 0 ∷ 0x1F ∷ 0 ∷ 0 ∷ 0 ∷ 0 ∷ 0x10 ∷ 0 ∷ 0 ∷ 0 ∷ 2 ∷ 0 ∷ 0 ∷ 0 ∷ 4 ∷ 0 ∷ 0 ∷ [])) 0 0
+        (codes ".text" ++ (0 ∷ 0 ∷ 0 ∷ 0x1F ∷ 0 ∷ 0 ∷ 0 ∷ 0 ∷ 0x10 ∷ 0 ∷ 0 ∷ 0 ∷ 2 ∷ 0 ∷ 0 ∷ 0 ∷ 4 ∷ 0 ∷ 0 ∷ 0
+        ∷ 0 ∷ 0 ∷ 0 ∷ 0 ∷ 0 ∷ 0 ∷ 0 ∷ 0 ∷ 0 ∷ 0 ∷ 0 ∷ 0x20 ∷ 0 ∷ 0 ∷ 0x60 ∷ [])) 0 0
         ≡ Some (record {
           name = codes ".text";
           virtual_size = 0x1F;
           virtual_address = 0x1000;
           size_of_raw_data = 0x200;
           pointer_to_raw_data = 0x400;
+          characteristics = 0x60000020;
           index = 0;
         }) }
 {}

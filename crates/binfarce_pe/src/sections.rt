@@ -5,14 +5,14 @@ ghost use Rattle.std.specs.Option.{option_map};
 ghost use Rattle.binfarce_bytes.specs.Refusal.{Gives, refusal_of, unexpected_eof};
 ghost use Rattle.binfarce_bytes.specs.Text.{padded_text};
 ghost use Rattle.binfarce_bytes.specs.Walk.{MayBeAsked, FirstAccepted, first, ended, ahead_of};
-ghost use Rattle.binfarce_pe.specs.Pe.{section_at, section_data, walk, is_named};
+ghost use Rattle.binfarce_pe.specs.Pe.{section_at, characteristics_at, section_data, walk, is_named};
 ghost use Rattle.binfarce_pe.specs.PeParts.{headers_view, section_table, table_walk, places_of, places_view};
 ghost use Rattle.binfarce_pe.specs.PeViews.{section_view};
 ghost use Rattle.binfarce_pe.specs.machine.RawPe.{header_count, walk_from};
 
 use crate::parts::{SECTION_LENGTH, TableOffsets};
 use binfarce_bytes::parser::{
-    Stream, UnexpectedEof, range, slice_at, to_index, up_to_nul, utf8_text,
+    Stream, UnexpectedEof, number_at, range, slice_at, to_index, up_to_nul, utf8_text,
 };
 use binfarce_bytes::{ByteOrder, ParseError};
 use std::marker::Model;
@@ -28,6 +28,7 @@ pub struct Section<'a> {
     pub(crate) virtual_address: u32,
     pub(crate) size_of_raw_data: u32,
     pub(crate) pointer_to_raw_data: u32,
+    pub(crate) characteristics: u32,
     pub(crate) index: u16,
 }
 
@@ -259,9 +260,19 @@ pub(crate) fn section_at(
             virtual_address,
             size_of_raw_data,
             pointer_to_raw_data,
+            characteristics: characteristics_at(bytes, start),
             index,
         })),
     }
+}
+
+// The flags of the section whose header begins at `start`; 0 where they are truncated.
+#[tactic(auto, unfolding(crate::specs::Pe::characteristics_at))]
+fn characteristics_at(bytes: &[u8], start: usize) -> u32
+    requires { start ≤ length bytes.now }
+    ensures { result ≡ characteristics_at bytes.now start }
+{
+    number_at(bytes, start + 36, ByteOrder::LittleEndian).unwrap_or(0)
 }
 
 // The bytes up to the first NUL, or all where there is none, as UTF-8.

@@ -20,7 +20,7 @@ const IMAGE_SYM_DTYPE_FUNCTION: u16 = 2;
 
 /// The records of a symbol table, and the bytes from the string table on, which comes after them.
 #[derive(Clone, Copy)]
-pub struct SymbolTable<'a> {
+pub struct CoffTable<'a> {
     pub rows: &'a [u8],
     pub strings: &'a [u8],
 }
@@ -41,7 +41,7 @@ pub(crate) struct SymbolRow {
 pub(crate) fn symbol_table<'a>(
     file: &'a [u8],
     places: TableOffsets,
-) -> Result<SymbolTable<'a>, ParseError>
+) -> Result<CoffTable<'a>, ParseError>
     requires { places_view places ≡ places_of file.now }
     ensures { Gives refusal_of table_view (symbol_table file.now) result }
 {
@@ -51,7 +51,7 @@ pub(crate) fn symbol_table<'a>(
     }
     let rows = slice_at(file, to_index(offset), to_index(places.symbols_size))?;
     let strings = &file[to_index(offset + places.symbols_size)..];
-    Ok(SymbolTable { rows, strings })
+    Ok(CoffTable { rows, strings })
 }
 
 #[inline]
@@ -63,7 +63,7 @@ pub(crate) fn is_function(row: SymbolRow) -> bool
 
 // A row's name: its own 8 bytes, or the text in the string table.
 #[tactic(auto, unfolding(crate::specs::PeSymbols::name_of))]
-pub(crate) fn name_of<'a>(table: SymbolTable<'a>, number: usize, row: SymbolRow) -> Option<&'a str>
+pub(crate) fn name_of<'a>(table: CoffTable<'a>, number: usize, row: SymbolRow) -> Option<&'a str>
     requires { number < record_count (table_view table) }
     ensures { option_map (λ t. t.now) result ≡ name_of (table_view table.entry) number (symbol_view row) }
 {
@@ -75,7 +75,7 @@ pub(crate) fn name_of<'a>(table: SymbolTable<'a>, number: usize, row: SymbolRow)
     }
 }
 
-pub(crate) fn symbol_of(table: SymbolTable<'_>, number: usize) -> SymbolRow
+pub(crate) fn symbol_of(table: CoffTable<'_>, number: usize) -> SymbolRow
     requires { number < record_count (table_view table) }
     ensures { symbol_view result ≡ symbol_of (table_view table.entry) number }
 {

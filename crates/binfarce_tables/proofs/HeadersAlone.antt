@@ -52,6 +52,7 @@ pub record HasWithin (class : ElfClass) : Type 0 where
   pub shstrndx : Within class.header_length class.header.shstrndx
   pub name : Within class.section_length class.section.name
   pub kind : Within class.section_length class.section.kind
+  pub flags : Within class.section_length class.section.flags
   pub addr : Within class.section_length class.section.addr
   pub link : Within class.section_length class.section.link
   pub offset : Within class.section_length class.section.offset
@@ -69,6 +70,7 @@ within_class class w header_fields header_len fields len = record {
   shstrndx = rw (header_fields, header_len) (omega arith);
   name = rw (fields, len) (omega arith);
   kind = rw (fields, len) (omega arith);
+  flags = rw (fields, len) (omega arith);
   addr = rw (fields, len) (omega arith);
   link = rw (fields, len) (omega arith);
   offset = rw (fields, len) (omega arith);
@@ -95,6 +97,7 @@ unfolding section_at
 section_in class order file start len k index within h = cc (
   value_in order file start len k class.section.name (omega (arith, h, within.name)),
   value_in order file start len k class.section.kind (omega (arith, h, within.kind)),
+  value_in order file start len k class.section.flags (omega (arith, h, within.flags)),
   value_in order file start len k class.section.addr (omega (arith, h, within.addr)),
   value_in order file start len k class.section.link (omega (arith, h, within.link)),
   value_in order file start len k class.section.offset (omega (arith, h, within.offset)),

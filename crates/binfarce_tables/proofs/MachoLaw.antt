@@ -9,7 +9,7 @@ use Rattle.binfarce_bytes.specs.Refusal.{◌>>=◌, Refusal, unexpected_eof}
 use Rattle.binfarce_macho.specs.Macho.{header_of, header_length}
 use Rattle.binfarce_macho.specs.MachoParts.{holds_commands}
 use Rattle.binfarce_macho.specs.MachoSelection.{SelectedTables, selected_file_tables, selected_file_answer, symbols_of}
-use Rattle.binfarce_macho.specs.MachoSymbols.{SymbolTable, Symbols, Extent, symbol_length, slice_at, symbols_by, text_extent, table_of, Located, located_by, located, answer_of, macho_answer, macho_file_answer, HasAddress}
+use Rattle.binfarce_macho.specs.MachoSymbols.{SymtabCommand, Symbols, Extent, symbol_length, slice_at, symbols_by, text_extent, table_of, Located, located_by, located, answer_of, macho_answer, macho_file_answer, HasAddress}
 use Rattle.binfarce_tables.specs.MachoReads.{said_end, command_bytes, macho_section_parts, macho_parts, table_parts}
 use Rattle.binfarce_tables.specs.machine.MachoPlaces.{CommandParts, selected_commands}
 use Rattle.binfarce_tables.proofs.MachoLocated.{commands_same, after_commands, steps_are}
@@ -67,7 +67,7 @@ slice_same file other offset size long same =
 
 -- what is made of a table's strings and rows
 module _ (file other : List ℕ) (long : length file ≡ length other) where
-  both_same : {X : Type 0} (table : SymbolTable ℕ) (next : List ℕ → List ℕ → Result X Refusal) → All (SameIn file other) (table_parts file table)
+  both_same : {X : Type 0} (table : SymtabCommand ℕ) (next : List ℕ → List ℕ → Result X Refusal) → All (SameIn file other) (table_parts file table)
       → (slice_at other table.strings_offset table.strings_size >>= λ strings. slice_at other table.symbol_offset (symbol_length * table.row_count) >>= next strings)
       ≡ (slice_at file table.strings_offset table.strings_size >>= λ strings. slice_at file table.symbol_offset (symbol_length * table.row_count) >>= next strings)
   both_same table next same =
@@ -77,12 +77,12 @@ module _ (file other : List ℕ) (long : length file ≡ length other) where
       (slice_same file other table.strings_offset table.strings_size long (front (SameIn file other) strings rows same))
       (slice_same file other table.symbol_offset (symbol_length * table.row_count) long (back (SameIn file other) strings rows same))
 
-  symbols_same : (table : Option (SymbolTable ℕ)) → All (SameIn file other) (parts_if table (table_parts file)) → symbols_by other table ≡ symbols_by file table
+  symbols_same : (table : Option (SymtabCommand ℕ)) → All (SameIn file other) (parts_if table (table_parts file)) → symbols_by other table ≡ symbols_by file table
   symbols_same None same = refl
   symbols_same (Some table) same = both_same table (λ strings rows. Ok (Some (record { strings = strings; rows = rows }))) same
 
 -- where the symbols of the text are, by the steps to them
-located_by_steps : List ℕ → Result Extent Refusal → Result (Option (SymbolTable ℕ)) Refusal → Result (Option Located) Refusal
+located_by_steps : List ℕ → Result Extent Refusal → Result (Option (SymtabCommand ℕ)) Refusal → Result (Option Located) Refusal
 located_by_steps file text table = text >>= λ text. table >>= λ table. symbols_by file table >>= located_by text
 
 located_is : (file : List ℕ) → located file ≡ located_by_steps file (text_extent file) (table_of file)

@@ -9,7 +9,7 @@ use Rattle.binfarce_bytes.specs.SectionEntries.{SectionEntry, SelectedSymbols}
 use Rattle.binfarce_bytes.specs.SymbolViews.{HoldsSectionFunctions, HoldsSelected}
 use Rattle.binfarce_bytes.specs.declared.functions.SectionFunction.{SectionFunction}
 use Rattle.binfarce_macho.specs.MachoSelection.{SelectedSections, SelectedTables, sections_in, is_object, selected_tables, selected_file_tables, entries_in, section_size, section_name, shares_addresses, symbols_of}
-use Rattle.binfarce_macho.specs.MachoSymbols.{SymbolTable, symbols_by, table_of}
+use Rattle.binfarce_macho.specs.MachoSymbols.{SymtabCommand, symbols_by, table_of}
 use Rattle.binfarce_tables.specs.declared.error.ReadError.{ReadError}
 use Rattle.binfarce_tables.specs.declared.error.ReadError.TheVariants.{Refused, Unreadable, OutOfMemory}
 use Rattle.binfarce_tables.specs.Reading.{Reads}
@@ -40,7 +40,7 @@ module _ (section : Option (List ℕ)) (file : List ℕ) where
   unfolding selected_tables
   tables_are = by_steps (sections_in section file) (table_of file)
     where
-      by_steps : (r : Result SelectedSections Refusal) (t : Result (Option (SymbolTable ℕ)) Refusal)
+      by_steps : (r : Result SelectedSections Refusal) (t : Result (Option (SymtabCommand ℕ)) Refusal)
           → (r >>= λ sections. t >>= λ table. symbols_by file table >>= λ symbols. Ok (record { sections = sections; symbols = symbols; is_object = is_object file }))
           ≡ ((r >>= λ sections. t >>= λ table. Ok (record { sections = sections; table = table; is_object = is_object file })) >>= after_commands file)
       by_steps (Err why) t = refl

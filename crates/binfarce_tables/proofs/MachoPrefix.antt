@@ -13,10 +13,10 @@ use Rattle.binfarce_bytes.specs.Number.{bytes_at, number}
 use Rattle.binfarce_bytes.specs.Refusal.{◌>>=◌, Refusal, required, symbols_section_is_missing}
 use Rattle.binfarce_bytes.specs.SectionEntries.{unless}
 use Rattle.binfarce_bytes.specs.Walk.{Walk, first, found_or_end, ahead_of, and_then}
-use Rattle.binfarce_macho.specs.Macho.{Command, Section, header_of, header_fields, header_length, command_at, body_of, commands_from, commands, section_at, section_fields, section_offset, section_count, whole_headers, sections_below, segment, is_segment, sections_of, walk, is_named}
+use Rattle.binfarce_macho.specs.Macho.{Command, Section, header_of, header_fields, header_length, command_at, body_of, commands_from, commands, section_at, section_fields, flags_at, section_offset, section_count, whole_headers, sections_below, segment, is_segment, sections_of, walk, is_named}
 use Rattle.binfarce_macho.specs.MachoSections.{NumberedSection, first_starts, starts_in, starts_among, section_starts, has_instructions, extent_at, numbered_at, numbered_sections}
 use Rattle.binfarce_macho.specs.MachoSelection.{the_text, all_sections, sections_in, is_object}
-use Rattle.binfarce_macho.specs.MachoSymbols.{SymbolTable, symbol_table_at, symbol_table_fields, Extent, some_size, text_extent, symbol_command, whole_table, named_table, table_of}
+use Rattle.binfarce_macho.specs.MachoSymbols.{SymtabCommand, symbol_table_at, symbol_table_fields, Extent, some_size, text_extent, symbol_command, whole_table, named_table, table_of}
 use Rattle.binfarce_macho.specs.MachoParts.{holds_body, holds_from, holds_commands, segment_address, is_text_segment, load_address}
 use Rattle.binfarce_macho.proofs.AllWalks.{each_start}
 use Rattle.binfarce_macho.proofs.CommandWalks.{bad, given}
@@ -104,20 +104,23 @@ module _ (file bytes : List ℕ) (short : length bytes ≤ length file) (same : 
       by_head true is again held = absurd cc
       by_head false is again held = by_size (ltb (command_at bytes offset).size 8) refl (ltb-false (length bytes) (offset + 8) is) again held
 
-  section_same : (start : ℕ) → start + 52 ≤ length bytes → section_at bytes start ≡ section_at file start
-  unfolding section_at section_fields
+  section_same : (start : ℕ) → start + 80 ≤ length bytes → section_at bytes start ≡ section_at file start
+  unfolding section_at section_fields flags_at
   section_same start h = rw (
     same (start + 0) 16 (omega (arith, h)),
     same (start + 16) 16 (omega (arith, h)),
     same (start + 32) 8 (omega (arith, h)),
     same (start + 40) 8 (omega (arith, h)),
     same (start + 48) 4 (omega (arith, h)),
+    le-leb (start + 68) (length bytes) (omega (arith, h)),
+    le-leb (start + 68) (length file) (omega (arith, h, short)),
+    same (start + 64) 4 (omega (arith, h)),
   ) refl
 
   -- a segment whose sections the bytes hold
-  segment_same : (body : ℕ) → body + 60 ≤ length bytes → section_count bytes body ≤ whole_headers bytes body → segment bytes body ≡ segment file body
+  segment_same : (body : ℕ) → body + 60 ≤ length bytes → section_offset body (section_count bytes body) ≤ length bytes → section_count bytes body ≤ whole_headers bytes body → segment bytes body ≡ segment file body
   unfolding segment
-  segment_same body whole all =
+  segment_same body whole held all =
       let count : section_count bytes body ≡ section_count file body = number_same body (field 56 4) (omega (arith, whole)) in
       let room = div-mul-le_self (length bytes + 28 - (body + 64)) 80 in
       let more : section_count bytes body ≤ whole_headers file body = le-div (section_count bytes body) (length file + 28 - (body + 64)) 80 (omega arith) (omega (arith, all, room, short)) in
@@ -125,7 +128,7 @@ module _ (file bytes : List ℕ) (short : length bytes ≤ length file) (same : 
       let theirs : min (section_count file body) (whole_headers file body) ≡ section_count bytes body = omega (arith, more, count) in
       let items : sections_below bytes body (section_count bytes body) ≡ sections_below file body (section_count bytes body) =
       filter_map_same (λ i. section_at bytes (section_offset body i)) (λ i. section_at file (section_offset body i)) 0 (section_count bytes body)
-      (λ i lt. section_same (section_offset body i) (omega (arith, lt, all, room))) in
+      (λ i lt. section_same (section_offset body i) (omega (arith, lt, held))) in
       rw (
         le-ltb (length bytes) (body + 60) whole,
         le-ltb (length file) (body + 60) (omega (arith, whole, short)),
@@ -144,7 +147,7 @@ module _ (file bytes : List ℕ) (short : length bytes ≤ length file) (same : 
   segment_held : (command : Command) → is_segment command ≡ true → holds_body bytes command ≡ true → segment bytes (body_of command) ≡ segment file (body_of command)
   segment_held command is held =
       let whole = structures_held command is held in
-      segment_same (body_of command) (omega (arith, whole)) (le-div (section_count bytes (body_of command)) (length bytes + 28 - (body_of command + 64)) 80 (omega arith) (omega (arith, whole)))
+      segment_same (body_of command) (omega (arith, whole)) whole (le-div (section_count bytes (body_of command)) (length bytes + 28 - (body_of command + 64)) 80 (omega arith) (omega (arith, whole)))
 
   sections_same : (commands : List Command) (refusal : Option Refusal) → AreHeld commands → sections_of bytes commands refusal ≡ sections_of file commands refusal
   unfolding sections_of AreHeld
@@ -188,7 +191,7 @@ module _ (file bytes : List ℕ) (short : length bytes ≤ length file) (same : 
       → (found_or_end found end >>= named_table bytes) ≡ (found_or_end found end >>= named_table file)
   named_same None None each = refl
   named_same None (Some refusal) each = refl
-  named_same (Some command) end each = ap (λ (r : Result (SymbolTable ℕ) Refusal). r >>= λ table. Ok (Some table)) (each command refl)
+  named_same (Some command) end each = ap (λ (r : Result (SymtabCommand ℕ) Refusal). r >>= λ table. Ok (Some table)) (each command refl)
 
   -- a section structure lies in the bytes
   abbrev IsHeld : ℕ → Type 0
@@ -231,7 +234,7 @@ module _ (file bytes : List ℕ) (short : length bytes ≤ length file) (same : 
 
   -- what is read of a section
   numbered_same : (start : ℕ) → start + 80 ≤ length bytes → numbered_at bytes start ≡ numbered_at file start
-  unfolding numbered_at extent_at has_instructions section_fields
+  unfolding numbered_at extent_at has_instructions section_fields flags_at
   numbered_same start h = rw (
     number_same start section_fields.address (omega (arith, h)),
     number_same start section_fields.size (omega (arith, h)),

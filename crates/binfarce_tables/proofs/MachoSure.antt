@@ -7,7 +7,7 @@ use Rattle.binfarce_bytes.specs.Part.{Part, part, parts_if}
 use Rattle.binfarce_bytes.specs.Refusal.{◌>>=◌, Refusal}
 use Rattle.binfarce_macho.specs.MachoSelection.{SelectedSections, sections_in, is_object}
 use Rattle.binfarce_macho.specs.MachoParts.{holds_commands}
-use Rattle.binfarce_macho.specs.MachoSymbols.{SymbolTable, table_of}
+use Rattle.binfarce_macho.specs.MachoSymbols.{SymtabCommand, table_of}
 use Rattle.binfarce_tables.specs.MachoReads.{said_end, whole_file, macho_section_parts, table_parts, found_parts, macho_parts}
 use Rattle.binfarce_tables.specs.machine.MachoPlaces.{CommandParts, selected_commands}
 use Rattle.binfarce_tables.proofs.Sure.{front, back, only}
@@ -32,15 +32,15 @@ module _ (P : Part → Type 0) (file : List ℕ) where
   unfolding macho_parts
   section_parts all = front P (macho_section_parts file) (found_parts file (table_of file)) all
 
-  pub symbol_parts : (table : Option (SymbolTable ℕ)) → table_of file ≡ Ok table → All P (macho_parts file) → All P (parts_if table (table_parts file))
+  pub symbol_parts : (table : Option (SymtabCommand ℕ)) → table_of file ≡ Ok table → All P (macho_parts file) → All P (parts_if table (table_parts file))
   unfolding macho_parts
-  symbol_parts table is all = subst (λ (r : Result (Option (SymbolTable ℕ)) Refusal). All P (found_parts file r)) is (back P (macho_section_parts file) (found_parts file (table_of file)) all)
+  symbol_parts table is all = subst (λ (r : Result (Option (SymtabCommand ℕ)) Refusal). All P (found_parts file r)) is (back P (macho_section_parts file) (found_parts file (table_of file)) all)
 
 -- the table that is found with the sections is the one that the commands name
 pub commands_table : (section : Option (List ℕ)) (file : List ℕ) (found : CommandParts) → selected_commands section file ≡ Ok found → table_of file ≡ Ok found.table
 commands_table section file found is = by_sections (sections_in section file) (table_of file) is
   where
-    by_sections : (r : Result SelectedSections Refusal) (table : Result (Option (SymbolTable ℕ)) Refusal)
+    by_sections : (r : Result SelectedSections Refusal) (table : Result (Option (SymtabCommand ℕ)) Refusal)
         → (r >>= λ s. table >>= λ t. Ok (record { sections = s; table = t; is_object = is_object file })) ≡ Ok found → table ≡ Ok found.table
     by_sections (Ok s) (Ok t) is = cc
     by_sections (Ok s) (Err why) is = absurd cc

@@ -1,14 +1,15 @@
 -- What the file header and the section headers say, read from their bytes alone.
 use Rattle.std.proofs.Common.{◌≡◌, ℕ, zero, suc, ◌+◌, ◌*◌, ◌-◌, ◌/◌, ◌<◌, ◌≤◌, leb, List, length, drop, min, Option, Result, Ok, Err, refl, ap, ap₂, ◌∙◌, arith, inl, inr, length-drop, codes}
-use Rattle.std.proofs.lemmas.Bool.{cases_lt, lt-ltb, le-ltb, le-leb}
+use Rattle.std.proofs.lemmas.Bool.{cases_lt, lt-ltb, le-ltb, lt-leb, le-leb}
 use Rattle.std.proofs.lemmas.List.{length-take-le}
 use Rattle.std.proofs.lemmas.Nat.{le-div, div_below}
 use Rattle.std.specs.List.{range_with_len, filter_map, cons_option}
 use Rattle.binfarce_bytes.specs.declared.ByteOrder.TheVariants.{LittleEndian}
+use Rattle.binfarce_bytes.specs.Field.{field}
 use Rattle.binfarce_bytes.specs.Number.{bytes_at}
 use Rattle.binfarce_bytes.specs.Refusal.{◌>>=◌, Refusal, required, symbols_section_is_missing, unexpected_eof}
 use Rattle.binfarce_bytes.specs.Walk.{Walk, first}
-use Rattle.binfarce_pe.specs.Pe.{header_after, header_fields, Section, section_at, section_fields, section_length, is_named}
+use Rattle.binfarce_pe.specs.Pe.{header_after, header_fields, Section, section_at, section_fields, characteristics_at, section_length, is_named}
 use Rattle.binfarce_pe.specs.PeParts.{TablePlaces, SectionTable, TextPlace, headers_alone, section_in, whole_in, table_walk, text_place}
 use Rattle.binfarce_tables.specs.machine.PePlaces.{headers_at, text_at}
 use Rattle.binfarce_tables.proofs.HeadersAlone.{bytes_in, value_in, turned}
@@ -30,15 +31,29 @@ header_alone file signature = cc (
   value_in LittleEndian file signature 24 4 header_fields.characteristics (omega arith),
 )
 
+-- the flags of a section header within a part, of which no byte is missing that the file has
+flags_part : (file : List ℕ) (start len k : ℕ) → length (bytes_at file start len) ≡ len → (len < k + 40 → length file < start + k + 40) → (k + 40 ≤ len → start + k + 40 ≤ length file)
+    → characteristics_at (bytes_at file start len) k ≡ characteristics_at file (start + k)
+unfolding characteristics_at
+flags_part file start len k long cut whole = elim (cases_lt len (k + 40)) [
+  | inl short ↦ rw (lt-leb (k + 40) (length (bytes_at file start len)) (omega (arith, short, long)), lt-leb (start + k + 40) (length file) (cut short)) refl
+  | inr room ↦ rw (
+    le-leb (k + 40) (length (bytes_at file start len)) (omega (arith, room, long)),
+    le-leb (start + k + 40) (length file) (whole room),
+  ) (value_in LittleEndian file start len k (field 36 4) (omega (arith, room)))
+]
+
 -- a section header within a part
-section_part : (file : List ℕ) (start len k index : ℕ) → k + 24 ≤ len → section_at (bytes_at file start len) k index ≡ section_at file (start + k) index
+section_part : (file : List ℕ) (start len k index : ℕ) → k + 24 ≤ len → characteristics_at (bytes_at file start len) k ≡ characteristics_at file (start + k)
+    → section_at (bytes_at file start len) k index ≡ section_at file (start + k) index
 unfolding section_at section_fields
-section_part file start len k index h = rw (
+section_part file start len k index h flags = rw (
   bytes_in file start len (k + 0) 8 (omega (arith, h)) ∙ ap (λ n. bytes_at file n 8) (turned start k 0),
   value_in LittleEndian file start len k section_fields.virtual_size (omega (arith, h)),
   value_in LittleEndian file start len k section_fields.virtual_address (omega (arith, h)),
   value_in LittleEndian file start len k section_fields.size_of_raw_data (omega (arith, h)),
   value_in LittleEndian file start len k section_fields.pointer_to_raw_data (omega (arith, h)),
+  flags,
 ) refl
 
 -- functions that agree on so many numbers
@@ -89,7 +104,8 @@ module _ (file : List ℕ) (places : TablePlaces) (inside : places.sections < le
   pub same_header : (i : ℕ) → i < min count (whole_in table) → section_in alone i ≡ section_in table i
   same_header i lt =
       let short : (i + 1) * 40 ≤ length file + 16 - places.sections = fits i (length file + 16 - places.sections) (omega (arith, lt)) in
-      ap (λ k. section_at (headers_of file places) k i) (from_start (i * 40)) ∙ section_part file places.sections size (i * 40) i (omega (arith, lt, short, inside))
+      let flags = flags_part file places.sections size (i * 40) headers_long (λ cut. omega (arith, cut, lt, inside)) (λ room. omega (arith, room, inside)) in
+      ap (λ k. section_at (headers_of file places) k i) (from_start (i * 40)) ∙ section_part file places.sections size (i * 40) i (omega (arith, lt, short, inside)) flags
     where
       from_start : (n : ℕ) → 0 + n ≡ n
       from_start n = omega arith

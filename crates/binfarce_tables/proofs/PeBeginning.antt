@@ -5,10 +5,10 @@ use Rattle.std.proofs.lemmas.List.{take_all}
 use Rattle.std.proofs.lemmas.Nat.{le-div}
 use Rattle.std.specs.List.{range_with_len, filter_map}
 use Rattle.binfarce_bytes.specs.declared.ByteOrder.TheVariants.{LittleEndian}
-use Rattle.binfarce_bytes.specs.Field.{Field, number_in}
+use Rattle.binfarce_bytes.specs.Field.{Field, field, number_in}
 use Rattle.binfarce_bytes.specs.Number.{bytes_at, number}
 use Rattle.binfarce_bytes.specs.Refusal.{Refusal, unexpected_eof}
-use Rattle.binfarce_pe.specs.Pe.{Header, header_after, header_of, header_fields, least_length, signature_offset, sections_offset, section_at, section_of, section_fields, whole_headers, walk}
+use Rattle.binfarce_pe.specs.Pe.{Header, header_after, header_of, header_fields, least_length, signature_offset, sections_offset, section_at, section_of, section_fields, characteristics_at, whole_headers, walk}
 use Rattle.binfarce_pe.specs.PeParts.{TablePlaces, places_of}
 use Rattle.binfarce_tables.specs.BeginningReading.{pe_sections}
 use Rattle.binfarce_tables.specs.machine.PePlaces.{places_step}
@@ -28,14 +28,17 @@ module _ (file : List ℕ) (n : ℕ) (inside : n ≤ length file) where
   number_same : (start : ℕ) (f : Field) → start + f.offset + f.width ≤ n → number_in first start f ≡ number_in file start f
   number_same start f h = ap (number LittleEndian) (bytes_same (start + f.offset) f.width h)
 
-  section_same : (start index : ℕ) → start + 24 ≤ n → section_at first start index ≡ section_at file start index
-  unfolding section_at section_fields
+  section_same : (start index : ℕ) → start + 40 ≤ n → section_at first start index ≡ section_at file start index
+  unfolding section_at section_fields characteristics_at
   section_same start index h = rw (
     bytes_same (start + 0) 8 (omega (arith, h)),
     number_same start section_fields.virtual_size (omega (arith, h)),
     number_same start section_fields.virtual_address (omega (arith, h)),
     number_same start section_fields.size_of_raw_data (omega (arith, h)),
     number_same start section_fields.pointer_to_raw_data (omega (arith, h)),
+    le-leb (start + 40) (length first) (omega (arith, h, long)),
+    le-leb (start + 40) (length file) (omega (arith, h, inside)),
+    number_same start (field 36 4) (omega (arith, h)),
   ) refl
 
   -- they hold the stub and the file header

@@ -11,7 +11,7 @@ use Rattle.binfarce_bytes.specs.SectionEntries.{unless}
 use Rattle.binfarce_pe.specs.Pe.{header_after, header_of, image_base, least_length, signature_offset}
 use Rattle.binfarce_pe.specs.PeSelection.{SelectedSections, the_text, all_sections, base_at, symbols_of, selected_file_answer}
 use Rattle.binfarce_pe.specs.PeParts.{TablePlaces, TextPlace, SectionTable, headers_alone, places_after, places_of, table_walk, text_place}
-use Rattle.binfarce_pe.specs.PeSymbols.{SymbolTable}
+use Rattle.binfarce_pe.specs.PeSymbols.{CoffTable}
 use Rattle.binfarce_tables.specs.PeReads.{pointer_part, header_part, headers_part, table_parts, optional_header_part, selected_parts, pe_parts}
 use Rattle.binfarce_tables.specs.machine.PePlaces.{places_step, headers_at, text_at, whole_at, chosen_at, table_at}
 use Rattle.binfarce_tables.proofs.PeAlone.{headers_of, header_alone, text_alone, text_of_none, text_outside}
@@ -65,7 +65,7 @@ module _ (file other : List ℕ) (long : length file ≡ length other) where
     abbrev strings_part : Part
     strings_part = part end (length file - end)
 
-    abbrev table_of : List ℕ → List ℕ → Result SymbolTable Refusal
+    abbrev table_of : List ℕ → List ℕ → Result CoffTable Refusal
     table_of rows strings = Ok (record { rows = rows; strings = strings })
 
     inside_same : places.symbols < length file → end ≤ length file → All (SameIn file other) (rows_part ∷ strings_part ∷ []) → table_at other places ≡ table_at file places
@@ -118,7 +118,7 @@ module _ (section : Option (List ℕ)) (file other : List ℕ) (same : SameParts
       steps_are section other
       ∙ ap (λ (r : Result TablePlaces Refusal). r >>= after_places section other) step
       ∙ after_same (places_step file) (after_places section other) (after_places section file)
-      (λ places is. ap₂ (λ (chosen : Result SelectedSections Refusal) (table : Result SymbolTable Refusal). chosen >>= λ chosen. table >>= λ symbols. Ok (symbols_of chosen symbols))
+      (λ places is. ap₂ (λ (chosen : Result SelectedSections Refusal) (table : Result CoffTable Refusal). chosen >>= λ chosen. table >>= λ symbols. Ok (symbols_of chosen symbols))
       (chosen_same file other same.lengths places section (selected_sure P file section same.each places is))
       (table_same file other same.lengths places (table_sure P file section same.each places is)))
       ∙ sym (steps_are section file)

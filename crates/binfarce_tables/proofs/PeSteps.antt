@@ -8,7 +8,7 @@ use Rattle.binfarce_bytes.specs.SectionEntries.{SelectedSymbols, unless}
 use Rattle.binfarce_pe.specs.Pe.{least_length, signature_offset, header_after, header_of}
 use Rattle.binfarce_pe.specs.PeParts.{TablePlaces, places_after, places_of, table_walk}
 use Rattle.binfarce_pe.specs.PeSelection.{SelectedSections, all_sections, base_at, sections_in, symbols_of, selected_answer, selected_file_answer, load_address_at, file_load_address}
-use Rattle.binfarce_pe.specs.PeSymbols.{SymbolTable, symbol_table}
+use Rattle.binfarce_pe.specs.PeSymbols.{CoffTable, symbol_table}
 use Rattle.binfarce_tables.specs.declared.error.ReadError.{ReadError}
 use Rattle.binfarce_tables.specs.Reading.{Reads}
 use Rattle.binfarce_tables.specs.machine.PePlaces.{signature_step, places_step, headers_at, alone_at, chosen_at, table_at}
@@ -23,11 +23,11 @@ symbols_at file places chosen = table_at file places >>= λ symbols. Ok (symbols
 abbrev pub after_places : Option (List ℕ) → List ℕ → TablePlaces → Result SelectedSymbols Refusal
 after_places section file places = chosen_at section file places >>= symbols_at file places
 
-by_steps : Result SelectedSections Refusal → Result SymbolTable Refusal → Result SelectedSymbols Refusal
+by_steps : Result SelectedSections Refusal → Result CoffTable Refusal → Result SelectedSymbols Refusal
 by_steps chosen symbols = chosen >>= λ chosen. symbols >>= λ symbols. Ok (symbols_of chosen symbols)
 
 -- all sections say the same by their headers alone
-by_refusal : (file : List ℕ) (places : TablePlaces) (why : Option Refusal) (symbols : Result SymbolTable Refusal) → (table_walk (headers_at file places)).refusal ≡ why
+by_refusal : (file : List ℕ) (places : TablePlaces) (why : Option Refusal) (symbols : Result CoffTable Refusal) → (table_walk (headers_at file places)).refusal ≡ why
     → by_steps (unless why (headers_at file places) >>= λ sections. Ok (all_sections (base_at file places) sections)) symbols
     ≡ by_steps (unless why (alone_at file places) >>= λ sections. Ok (all_sections (base_at file places) sections)) symbols
 unfolding by_steps

@@ -5,7 +5,7 @@ use Rattle.binfarce_bytes.specs.Part.{Part, part, whole_part, parts_if}
 use Rattle.binfarce_bytes.specs.Refusal.{Refusal}
 use Rattle.binfarce_macho.specs.Macho.{header_of, header_length, least_length}
 use Rattle.binfarce_macho.specs.MachoParts.{holds_commands}
-use Rattle.binfarce_macho.specs.MachoSymbols.{SymbolTable, symbol_length, table_of}
+use Rattle.binfarce_macho.specs.MachoSymbols.{SymtabCommand, symbol_length, table_of}
 
 -- where the commands end, as the header states, but within the file
 abbrev pub said_end : List ℕ → ℕ
@@ -24,11 +24,11 @@ unfoldable pub macho_section_parts : List ℕ → List Part
 macho_section_parts file = part 0 least_length ∷ part 0 (said_end file) ∷ whole_file file
 
 -- the string table and the symbol table, each where it lies in the file
-abbrev pub table_parts : List ℕ → SymbolTable ℕ → List Part
+abbrev pub table_parts : List ℕ → SymtabCommand ℕ → List Part
 table_parts file table = whole_part file table.strings_offset table.strings_size ++ whole_part file table.symbol_offset (symbol_length * table.row_count)
 
 -- those of a file's symbol table, where it has one
-abbrev pub found_parts : List ℕ → Result (Option (SymbolTable ℕ)) Refusal → List Part
+abbrev pub found_parts : List ℕ → Result (Option (SymtabCommand ℕ)) Refusal → List Part
 found_parts file (Ok table) = parts_if table (table_parts file)
 found_parts file (Err why) = []
 

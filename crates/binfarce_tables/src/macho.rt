@@ -31,7 +31,7 @@ use binfarce_macho::functions::functions_of;
 use binfarce_macho::header::{MachoHeader, parse_header};
 use binfarce_macho::numbered::{SelectedSections, is_object, selected_sections};
 use binfarce_macho::parts::{commands_end, holds_commands, load_address};
-use binfarce_macho::symbols::{SYMBOL_LENGTH, SymbolBytes, SymbolTable, symbol_table};
+use binfarce_macho::symbols::{SYMBOL_LENGTH, SymbolBytes, SymtabCommand, symbol_table};
 use std::alloc::Global;
 
 // The number of the header's bytes that are read.
@@ -148,7 +148,7 @@ pub fn read<S: Source>(
 #[derive(Drop)]
 struct Found {
     sections: SelectedSections,
-    table: Option<SymbolTable>,
+    table: Option<SymtabCommand>,
     is_object: bool,
 }
 
@@ -187,7 +187,7 @@ fn read_symbols<S: Source>(
     source: &S,
     log: &mut S::Log,
     len: u64,
-    table: Option<SymbolTable>,
+    table: Option<SymtabCommand>,
 ) -> Result<Option<SymbolParts>, ReadError>
     ensures answer { (file : List ℕ) → Known (S.bytes source.now) len file
         → Reads (S.may_fail source.now) (option_map symbols_view) (symbols_by file (option_map table_view table))

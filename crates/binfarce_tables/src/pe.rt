@@ -29,7 +29,7 @@ use binfarce_pe::parts::{
     text_in,
 };
 use binfarce_pe::sections::Table;
-use binfarce_pe::symbols::SymbolTable;
+use binfarce_pe::symbols::CoffTable;
 use std::alloc::Global;
 use std::marker::Model;
 
@@ -75,7 +75,7 @@ impl Parts {
     pub fn functions(&self, alloc: Global) -> Result<Vec<SectionFunction<'_>>, ParseError>
         ensures { Answers HoldsSelected SelectsSome (Ok (selected_view self.entry.now)) result }
     {
-        let symbols = SymbolTable {
+        let symbols = CoffTable {
             rows: &self.records.rows,
             strings: &self.records.strings,
         };

@@ -4,13 +4,13 @@ use Rattle.std.specs.Option.{option_map}
 use Rattle.binfarce_bytes.specs.Refusal.{◌>>=◌, Refusal}
 use Rattle.binfarce_macho.specs.MachoParts.{table_view}
 use Rattle.binfarce_macho.specs.MachoSelection.{SelectedSections, sections_in, is_object, sections_view}
-use Rattle.binfarce_macho.specs.MachoSymbols.{SymbolTable, table_of}
+use Rattle.binfarce_macho.specs.MachoSymbols.{SymtabCommand, table_of}
 use Rattle.binfarce_tables.specs.declared.macho.Found.{Found}
 
 -- what the load commands say that the function symbols of a selection need
 pub record CommandParts : Type 0 where
   pub sections : SelectedSections
-  pub table : Option (SymbolTable ℕ)
+  pub table : Option (SymtabCommand ℕ)
   pub is_object : Bool
 
 abbrev pub selected_commands : Option (List ℕ) → List ℕ → Result CommandParts Refusal

@@ -6,7 +6,7 @@ use Rattle.binfarce_bytes.specs.SectionEntries.{unless}
 use Rattle.binfarce_pe.specs.Pe.{least_length, signature_offset, section_length}
 use Rattle.binfarce_pe.specs.PeParts.{TablePlaces, places_of, SectionTable, headers_alone, table_walk, TextPlace, text_place, text_view}
 use Rattle.binfarce_pe.specs.PeSelection.{SelectedSections, the_text, all_sections, base_at}
-use Rattle.binfarce_pe.specs.PeSymbols.{SymbolTable}
+use Rattle.binfarce_pe.specs.PeSymbols.{CoffTable}
 use Rattle.binfarce_tables.specs.declared.pe.Records.{Records}
 use Rattle.binfarce_tables.specs.declared.pe.Sections.{Sections}
 use Rattle.binfarce_tables.specs.declared.pe.Sections.TheVariants.{Text, All}
@@ -27,7 +27,7 @@ abbrev pub text_at : List ℕ → TablePlaces → Result TextPlace Refusal
 text_at file places = text_place (headers_at file places)
 
 -- the symbol table at its place
-abbrev pub table_at : List ℕ → TablePlaces → Result SymbolTable Refusal
+abbrev pub table_at : List ℕ → TablePlaces → Result CoffTable Refusal
 table_at file places =
     if nat_le (length file) places.symbols then Err unexpected_eof
     else if_as_long_as (places.symbols + places.symbols_size) file (Ok (record { rows = bytes_at file places.symbols places.symbols_size; strings = drop (places.symbols + places.symbols_size) file }))
@@ -51,5 +51,5 @@ read_view (Text text) = the_text (text_view text)
 read_view (All base headers count) = all_sections base (headers_alone headers.items count)
 
 -- the symbol table that was read
-abbrev pub records_view : Records → SymbolTable
+abbrev pub records_view : Records → CoffTable
 records_view r = record { rows = r.rows.items; strings = r.strings.items }

@@ -3,7 +3,7 @@ use Rattle.binfarce_bytes.specs.Refusal.{◌>>=◌, Refusal}
 use Rattle.binfarce_bytes.specs.Selection.{section_of}
 use Rattle.binfarce_pe.specs.PeParts.{places_view}
 use Rattle.binfarce_pe.specs.PeSelection.{symbols_of}
-use Rattle.binfarce_pe.specs.PeSymbols.{SymbolTable}
+use Rattle.binfarce_pe.specs.PeSymbols.{CoffTable}
 use Rattle.binfarce_tables.specs.PeReading.{SelectedTables, selected_view}
 use Rattle.binfarce_tables.specs.Reading.{Known}
 use Rattle.binfarce_tables.specs.machine.PePlaces.{chosen_at, table_at, read_view, records_view}
@@ -44,7 +44,7 @@ returns-clause-answer g c = λ file known.
     let chosen = read_view c.in_ok-sections.sections in
     let tables : SelectedTables = record { sections = chosen; symbols = records_view c.in_ok-records.records } in
     from_sections (g.S.Source.may_fail c.args.source.now) selected_view (section_of c.args.selection) file (places_view c.in_ok-places.places) chosen (Ok tables) step (c.in_ok-sections.ensures.answer file is_known step)
-    (ap (λ (a : Result SymbolTable Refusal). a >>= λ symbols. Ok (symbols_of chosen symbols)) (c.in_ok-records.ensures.answer file is_known))
+    (ap (λ (a : Result CoffTable Refusal). a >>= λ symbols. Ok (symbols_of chosen symbols)) (c.in_ok-records.ensures.answer file is_known))
 
 pub returns-in_err-len-clause-only : goal.returns-in_err-len-clause-only
 returns-in_err-len-clause-only g c = λ file known. unmeasured _ (λ P. pointer_sure P file (section_of c.args.selection)) c.in_err-len.ensures.unsure

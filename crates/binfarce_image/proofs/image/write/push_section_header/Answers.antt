@@ -22,7 +22,7 @@ returns-clause-header c =
     let part = c.args.part.now in
     let place = c.args.place in
     let written : ByteOrder → ElfClass → ℕ → ℕ → ℕ → ℕ → ℕ → List ℕ = λ order class name kind size link entry.
-    filled order (take class.section_length (replicate 64 0)) ((class.section.name, name) ∷ (class.section.kind, kind) ∷ (class.section.addr, 0) ∷ (class.section.offset, place) ∷ (class.section.size, size) ∷ (class.section.link, link) ∷ (class.section.addralign, 1) ∷ (class.section.entry_size, entry) ∷ []) in
+    filled order (take class.section_length (replicate 64 0)) ((class.section.name, name) ∷ (class.section.kind, kind) ∷ (class.section.flags, 0) ∷ (class.section.addr, 0) ∷ (class.section.offset, place) ∷ (class.section.size, size) ∷ (class.section.link, link) ∷ (class.section.addralign, 1) ∷ (class.section.entry_size, entry) ∷ []) in
     let name : c.from.result ≡ name_offset part = c.from.ensures ∙ c.name.ensures in
     let kind : c.from-2.result ≡ part_kind part = c.from-2.ensures ∙ c.kind.ensures in
     let link : c.from-3.result ≡ part_link part = c.from-3.ensures ∙ c.link.ensures in

@@ -35,6 +35,15 @@ mask_is : (f : ℕ → ℕ) (p : ℕ → Bool) (v z : List ℕ) → length v ≡
 mask_is f p v z long e each =
     ap (λ l. mask_l l % 2 ^ 64) (ap (map (top 7)) e ∙ each) ∙ mask_l-mod (map p v) 64 (omega (arith, length-map v p, long))
 
+each_byte : (f : ℕ → ℕ) (p : ℕ → Bool) → agree_below (λ x. top 7 (f x)) p 256 ≡ true → (v : List ℕ) → ((k : ℕ) → Fits w8 (get_or v k 0)) → map (top 7) (map f v) ≡ map p v
+each_byte f p all [] fits = refl
+each_byte f p all (x ∷ xs) fits =
+    ap₂ (λ a b. a ∷ b) (agree_below_at (λ y. top 7 (f y)) p 256 x all (fits 0).fits) (each_byte f p all xs (λ k. fits (suc k)))
+
+pub masked : (f : ℕ → ℕ) (p : ℕ → Bool) (v z : List ℕ) → length v ≡ 16 → ((k : ℕ) → Fits w8 (get_or v k 0)) → z ≡ map f v → agree_below (λ x. top 7 (f x)) p 256 ≡ true
+    → mask_l (map (top 7) z) % 2 ^ 64 ≡ mask_l (map p v)
+masked f p v z long fits e all = mask_is f p v z long e (each_byte f p all v fits)
+
 -- what a comparison with a byte makes of a lane
 abbrev hit : ℕ → ℕ → ℕ
 hit a b = cond (eqb a b) 255 0

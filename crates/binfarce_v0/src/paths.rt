@@ -131,6 +131,7 @@ fn print_closed_path(
 
 // `"N" <namespace> <path> <identifier>`, with its `N` at `at`.
 #[cycle(printing)]
+#[inline(always)]
 #[tactic(auto, unfolding(binfarce_v0_state::specs::machine::Printing::path_rule))]
 fn print_nested(
     printer: &mut Printer<'_>,

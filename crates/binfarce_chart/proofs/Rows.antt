@@ -88,11 +88,6 @@ shown_sum bars = by_test (nat_le (length bars) 40)
       both_parts bars 39,
     )
 
--- the greatest, with the first of what is left
-pub largest_next : (bars : List Bar) (i : ℕ) (d : Bar) (most : ℕ) → i < length bars
-    → largest_after most (map bar_view (drop i bars)) ≡ largest_after (max (get_or bars i d).size most) (map bar_view (drop (i + 1) bars))
-largest_next bars i d most low = ap (λ (xs : List Bar). largest_after most (map bar_view xs)) (drop_more bars i d low)
-
 -- a picture, written in parts
 pub picture_is : (title : List ℕ) (bars : List Row) (n sum largest size y : ℕ) (none start more all : List ℕ) → none ≡ [] → n ≡ length bars → sum ≡ total bars → largest ≡ largest_after 0 bars
     → y ≡ 24 * n + 81 → start ≡ none ++ head title n sum size → more ≡ start ++ rows sum largest 0 64 bars → all ≡ more ++ foot y → all ≡ picture title bars size

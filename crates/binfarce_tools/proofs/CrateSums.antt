@@ -1,10 +1,10 @@
 -- Sums by crate, added one share after the other.
-use Rattle.std.proofs.Common.{◌≡◌, ℕ, ◌+◌, ◌<◌, ◌≤◌, ◌^◌, Result, Ok, Err, Bool, true, false, cond, List, [], ◌∷◌, ◌||◌, Option, Some, String, BTreeMap, refl, sym, ◌∙◌, ap, subst, arith, unwrap_or}
+use Rattle.std.proofs.Common.{◌≡◌, ℕ, ◌+◌, ◌<◌, ◌≤◌, ◌^◌, Bool, true, false, cond, List, [], ◌∷◌, ◌||◌, Option, Some, String, BTreeMap, refl, sym, ◌∙◌, ap, subst, arith, unwrap_or}
 use Rattle.std.specs.BTreeMap.{get_by_text}
 use Rattle.std.specs.Cmp.Lexicographic.{bytes_decides}
 use Rattle.std.specs.List.{AllZip, filter, sum_by}
 use Rattle.std.specs.Option.{is_some, SomeIff}
-use Rattle.std.specs.Prelude.{OnOk, if◌then◌else◌}
+use Rattle.std.specs.Prelude.{if◌then◌else◌}
 use Rattle.std.specs.Str.{bytes_eq}
 use Rattle.std.proofs.lemmas.List.Sums.{sum_by-cons}
 use Rattle.binfarce.specs.Symbol.{Entry}

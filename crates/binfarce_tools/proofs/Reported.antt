@@ -116,7 +116,7 @@ reported_symbol_table : (file : List ℕ) → Reported (pe.symbol_table file)
 unfolding pe.symbol_table
 reported_symbol_table file =
     let end = pe.table_offset file + pe.table_size file in
-    let whole : Result pe.SymbolTable Refusal = Ok (record { rows = bytes_at file (pe.table_offset file) (pe.table_size file); strings = drop end file }) in
+    let whole : Result pe.CoffTable Refusal = Ok (record { rows = bytes_at file (pe.table_offset file) (pe.table_size file); strings = drop end file }) in
     reported_if (leb (length file) (pe.table_offset file)) (Err unexpected_eof) _ refl (reported_if (ltb (length file) end) (Err unexpected_eof) whole refl tt)
 
 pub reported_pe : (file : List ℕ) → Reported (pe_file_answer file)
@@ -189,7 +189,7 @@ reported_table_of file =
     (reported_found (find (λ command. nat_eq command.kind 2) (commands file).items) (commands file).refusal (reported_commands file (header_of file).ncmds 32))
     (reported_named_table file)
 
-reported_symbols_by : (file : List ℕ) (table : Option (macho.SymbolTable ℕ)) → Reported (macho.symbols_by file table)
+reported_symbols_by : (file : List ℕ) (table : Option (macho.SymtabCommand ℕ)) → Reported (macho.symbols_by file table)
 reported_symbols_by file None = tt
 reported_symbols_by file (Some table) =
     reported_step (slice_at file table.strings_offset table.strings_size) _ (reported_slice_at file table.strings_offset table.strings_size) (λ strings.

@@ -18,7 +18,7 @@ use Rattle.binfarce.specs.SymbolTables.{has_indirect}
 use Rattle.binfarce.specs.Macho.{least_length}
 use Rattle.binfarce.specs.MachoSections.{NumberedSection, numbered_sections}
 use Rattle.binfarce.specs.MachoSelection as macho
-use Rattle.binfarce.specs.MachoSymbols.{SymbolTable as MachoTable, Symbols, table_of, symbols_by, macho_answer, macho_file_answer}
+use Rattle.binfarce.specs.MachoSymbols.{SymtabCommand, Symbols, table_of, symbols_by, macho_answer, macho_file_answer}
 use Rattle.binfarce.specs.Pe as pe_file
 use Rattle.binfarce.specs.PeSelection as pe
 use Rattle.binfarce.specs.PeSymbols.{pe_answer, pe_file_answer}
@@ -144,21 +144,21 @@ module _ (file : List ℕ) where
 
   -- what the tables of a selection are made of
   abbrev Made : Option (List ℕ) → macho.SelectedTables → Type 0
-  Made section t = (macho.sections_in section file ≡ Ok t.sections) × ((table : Option (MachoTable ℕ)) × (table_of file ≡ Ok table) × (symbols_by file table ≡ Ok t.symbols))
+  Made section t = (macho.sections_in section file ≡ Ok t.sections) × ((table : Option (SymtabCommand ℕ)) × (table_of file ≡ Ok table) × (symbols_by file table ≡ Ok t.symbols))
 
   made : (section : Option (List ℕ)) (t : macho.SelectedTables) → macho.selected_file_tables section file ≡ Ok t → Made section t
   unfolding macho.selected_tables
   made section t is = by_test (ltb (length file) least_length) is
     where
-      by_symbols : (sections : macho.SelectedSections) (table : Option (MachoTable ℕ)) (r : Result (Option Symbols) Refusal) → symbols_by file table ≡ r
+      by_symbols : (sections : macho.SelectedSections) (table : Option (SymtabCommand ℕ)) (r : Result (Option Symbols) Refusal) → symbols_by file table ≡ r
           → (r >>= λ symbols. Ok (record { sections = sections; symbols = symbols; is_object = macho.is_object file })) ≡ Ok t → (sections ≡ t.sections) × (symbols_by file table ≡ Ok t.symbols)
       by_symbols sections table (Err why) at e = absurd cc
       by_symbols sections table (Ok symbols) at e =
           (ap (λ (t : macho.SelectedTables). t.sections) (ok_is e), at ∙ ap (λ (t : macho.SelectedTables). Ok t.symbols) (ok_is e))
 
-      by_table : (sections : macho.SelectedSections) (r : Result (Option (MachoTable ℕ)) Refusal) → table_of file ≡ r
+      by_table : (sections : macho.SelectedSections) (r : Result (Option (SymtabCommand ℕ)) Refusal) → table_of file ≡ r
           → (r >>= λ table. symbols_by file table >>= λ symbols. Ok (record { sections = sections; symbols = symbols; is_object = macho.is_object file })) ≡ Ok t
-          → (sections ≡ t.sections) × ((table : Option (MachoTable ℕ)) × (table_of file ≡ Ok table) × (symbols_by file table ≡ Ok t.symbols))
+          → (sections ≡ t.sections) × ((table : Option (SymtabCommand ℕ)) × (table_of file ≡ Ok table) × (symbols_by file table ≡ Ok t.symbols))
       by_table sections (Err why) at e = absurd cc
       by_table sections (Ok table) at e = let both = by_symbols sections table (symbols_by file table) refl e in (both.0, (table, at, both.1))
 
@@ -218,7 +218,7 @@ module _ (file : List ℕ) where
       by_test true = refl
       by_test false = listed_is sizes name file
 
-  by_table : (chosen : pe.SelectedSections) (seen : SelectedSymbols) (table : Result pe_symbols.SymbolTable Refusal) → (table >>= λ symbols. Ok (pe.symbols_of chosen symbols)) ≡ Ok seen
+  by_table : (chosen : pe.SelectedSections) (seen : SelectedSymbols) (table : Result pe_symbols.CoffTable Refusal) → (table >>= λ symbols. Ok (pe.symbols_of chosen symbols)) ≡ Ok seen
       → (seen.section_size ≡ pe.section_size chosen) × (seen.shares_addresses ≡ pe.shares_addresses chosen)
   by_table chosen seen (Err why) e = absurd cc
   by_table chosen seen (Ok symbols) e = (ap (λ (s : SelectedSymbols). s.section_size) (sym (ok_is e)), ap (λ (s : SelectedSymbols). s.shares_addresses) (sym (ok_is e)))

@@ -14,7 +14,9 @@ use Rattle.binfarce.specs.Refusal.{Refusal}
 use Rattle.binfarce.specs.SectionEntries.{SectionEntry, SelectedSymbols, SelectsSome}
 use Rattle.binfarce.specs.Symbol.{Answers}
 use Rattle.binfarce.specs.SymbolViews.{HoldsSelected, section_function_view}
+use Rattle.binfarce_tables.specs.ElfReading as elf_reading
 use Rattle.binfarce_tables.specs.MachoReading as macho_reading
+use Rattle.binfarce_tables.specs.PeReading as pe_reading
 use Rattle.binfarce_tools.specs.declared.functions.Selected.{Selected}
 use Rattle.binfarce_tools.specs.declared.list.ListError.{ListError}
 use Rattle.binfarce_tools.specs.declared.list.ListError.TheVariants as errors
@@ -23,7 +25,7 @@ use Rattle.binfarce_tools.specs.declared.tables.Tables.TheVariants as variants
 use Rattle.binfarce_tools.specs.Answer.{selected_symbols, selected_answer, MemoryIn, NeedsMemory}
 use Rattle.binfarce_tools.specs.Entries.{all_left, GetsAs, GetsIn, HoldsLeft}
 use Rattle.binfarce_tools.specs.ListWords.{list_error_of}
-use Rattle.binfarce_tools.specs.Tables.{AreTablesOf, given_by, section_names, shares_addresses_of}
+use Rattle.binfarce_tools.specs.Tables.{AcceptsTables, AreTablesOf, given_by, may_be_refused, section_names, shares_addresses_of}
 use Rattle.binfarce_tools.proofs.Listings.{reported_refusal}
 use Rattle.binfarce_tools.proofs.Reported.{Reported}
 use Rattle.binfarce_tools.proofs.Selected.{sized_in, macho_made, macho_needs}
@@ -85,6 +87,44 @@ module _ (which : SymbolTable) (file : List ℕ) (section : Option (List ℕ)) w
   of_whole whole named result is gets =
       subst (λ (w : SymbolTable). GetsIn w file section result) (sym is.0)
       (subst (λ (s : Option (List ℕ)). GetsIn Symtab file s result) (sym is.2) (subst (λ (f : List ℕ). GetsIn Symtab f (Some named) result) (sym is.1) gets))
+
+  abbrev IsAnswered : Type 0
+  IsAnswered = (seen : SelectedSymbols) × (selected_answer which section file ≡ Some (Ok seen))
+
+  abbrev Accepted : Option (Result SelectedSymbols Refusal) → Result Tables ListError → Type 0
+  Accepted answer result = GetsAs (λ selected. AreTablesOf which file section) (MemoryIn file section) answer result
+
+  -- tables of an answer are accepted
+  pub accepted : (read : Tables) → AreTablesOf which file section read → IsAnswered → AcceptsTables which file section (Ok read)
+  accepted read are answered = subst (λ (a : Option (Result SelectedSymbols Refusal)). Accepted a (Ok read)) (sym answered.1) are
+
+  -- what gives function symbols has an answer
+  pub is_answered : (value : Selected) → GetsIn which file section (Ok value) → IsAnswered
+  is_answered value gets = by_answer (selected_answer which section file) refl gets
+    where
+      by_answer : (answer : Option (Result SelectedSymbols Refusal)) → selected_answer which section file ≡ answer → P answer (Ok value) → IsAnswered
+      by_answer (Some (Ok seen)) is h = (seen, is)
+      by_answer (Some (Err why)) is h = absurd h
+      by_answer None is h = absurd h
+
+  -- why there are none is why no tables are accepted
+  pub not_accepted : (e : ListError) → GetsIn which file section (Err e) → AcceptsTables which file section (Err e)
+  not_accepted e gets = by_answer (selected_answer which section file) gets
+    where
+      by_answer : (answer : Option (Result SelectedSymbols Refusal)) → P answer (Err e) → Accepted answer (Err e)
+      by_answer (Some (Ok seen)) h = h
+      by_answer (Some (Err why)) h = h
+      by_answer None h = h
+
+  -- tables that can't be refused are of an answer
+  pub answered : (read : Tables) → AreTablesOf which file section read → may_be_refused read ≡ false → IsAnswered
+  unfolding AreTablesOf
+  answered (variants.Elf parts) are sure = (elf_reading.parts_view parts, are)
+  answered (variants.Macho parts) are sure = absurd cc
+  answered (variants.Pe parts) are sure = (pe_reading.selected_view parts, are.1)
+  answered variants.Unknown are sure = absurd cc
+  answered (variants.Whole whole named) are sure = absurd cc
+  answered (variants.Made functions size) are sure = (are.0, are.1)
 
   -- the sections' names that were read are those of the answer for all sections
   pub names_are : (read : Tables) (seen : SelectedSymbols) → AreTablesOf which file section read → selected_answer which section file ≡ Some (Ok seen) → seen.section_size ≡ None → section_names read ≡ seen.section_name

@@ -1,5 +1,5 @@
 -- The tables of a file's function symbols, and the result of reading them.
-use Rattle.std.specs.Prelude.{◌≡◌, ℕ, Bool, false, List, map, Option, Some, None, Result, Ok, Err}
+use Rattle.std.specs.Prelude.{◌≡◌, ℕ, Bool, true, false, List, map, Option, Some, None, Result, Ok, Err}
 use Rattle.binfarce.specs.declared.Format.TheVariants as formats
 use Rattle.binfarce.specs.Format.{format_of}
 use Rattle.binfarce.specs.MachoSelection as macho_file
@@ -13,9 +13,10 @@ use Rattle.binfarce_tables.specs.declared.error.ReadError.{ReadError}
 use Rattle.binfarce_tables.specs.declared.error.ReadError.TheVariants.{Refused, Unreadable, OutOfMemory}
 use Rattle.binfarce.specs.declared.SymbolTable.{SymbolTable}
 use Rattle.binfarce.specs.declared.SymbolTable.TheVariants.{Symtab}
-use Rattle.binfarce_tools.specs.Answer.{selected_answer}
-use Rattle.binfarce_tools.specs.Entries.{all_left}
+use Rattle.binfarce_tools.specs.Answer.{MemoryIn, selected_answer}
+use Rattle.binfarce_tools.specs.Entries.{all_left, GetsAs}
 use Rattle.binfarce_tools.specs.declared.functions.Selected.{Selected}
+use Rattle.binfarce_tools.specs.declared.list.ListError.{ListError}
 use Rattle.binfarce_tools.specs.declared.tables.Tables.{Tables}
 use Rattle.binfarce_tools.specs.declared.tables.Tables.TheVariants.{Elf, Macho, Pe, Unknown, Whole, Made}
 
@@ -44,6 +45,19 @@ ReadsAs AreTables MayFail answer (Err OutOfMemory) = Unit {0}
 -- so for a selection
 abbrev pub ReadsTables : Type 0 → SymbolTable → (file : List ℕ) → (section : Option (List ℕ)) → Result Tables ReadError → Type 0
 ReadsTables MayFail which file section result = ReadsAs (AreTablesOf which file section) MayFail (selected_answer which section file) result
+
+-- whether a file's answer may be a refusal though these are its tables
+abbrev pub may_be_refused : Tables → Bool
+may_be_refused (Elf parts) = false
+may_be_refused (Macho parts) = true
+may_be_refused (Pe parts) = false
+may_be_refused Unknown = true
+may_be_refused (Whole whole named) = true
+may_be_refused (Made functions size) = false
+
+-- what asking a file's tables for its answer gives: these tables where it has function symbols, and why it has none; an allocation may fail where the answer needs memory
+abbrev pub AcceptsTables : SymbolTable → (file : List ℕ) → (section : Option (List ℕ)) → Result Tables ListError → Type 0
+AcceptsTables which file section result = GetsAs (λ selected. AreTablesOf which file section) (MemoryIn file section) (selected_answer which section file) result
 
 -- the names of the sections that were read, by their numbers
 abbrev pub section_names : Tables → ℕ → Option (List ℕ)

@@ -71,8 +71,8 @@ pub fn map_tables<S: Sink>(
     write_made(out, picture(alloc, title, &sums))
 }
 
-// The whole picture.
-fn picture(alloc: Global, title: &str, sums: &CrateSums) -> Result<String, AllocError>
+/// The picture of sums, which have to be those of shares, with this title. The only error is a failed allocation.
+pub fn picture(alloc: Global, title: &str, sums: &CrateSums) -> Result<String, AllocError>
     requires { (shares : List Share) × AreSumsOf shares sums.now }
     ensures { IfOk result
         (λ t. (shares : List Share) → AreSumsOf shares sums.now

@@ -14,7 +14,7 @@ ghost use Rattle.binfarce_tools.specs.Entries.{GetsIn};
 ghost use Rattle.binfarce_tools.specs.Parts.{format_parts, parts_in};
 ghost use Rattle.binfarce_bytes.specs.Selection.{section_of};
 ghost use Rattle.binfarce_tools.specs.declared.list.ListError.TheVariants.{Write};
-ghost use Rattle.binfarce_tools.specs.Tables.{AreTablesOf, ReadsTables, section_names, shares_addresses_of};
+ghost use Rattle.binfarce_tools.specs.Tables.{AcceptsTables, AreTablesOf, ReadsTables, may_be_refused, section_names, shares_addresses_of};
 
 use crate::functions::{Selected, listed, of_elf, section_functions, section_lent};
 use crate::list::ListError;
@@ -56,6 +56,32 @@ impl<'a> Tables<'a> {
         ensures { AreTablesOf Symtab file.entry.now (Some section.entry.now) result }
     {
         Self::Whole { file, section }
+    }
+
+    /// The tables, unless their function symbols are refused: then `functions` fails only where an allocation does.
+    /// Those of a file read at offsets may be refused where its format is unknown, and for a Mach-O file's rows.
+    ///
+    /// # Errors
+    ///
+    /// Those of `functions`.
+    pub fn accepted(self, alloc: Global) -> Result<Tables<'a>, ListError>
+        ensures { (which : SymbolTable) (file : List ℕ) (section : Option (List ℕ))
+            → AreTablesOf which file section self.entry → AcceptsTables which file section result }
+    {
+        if self.may_be_refused() {
+            self.functions(alloc)?;
+        }
+        Ok(self)
+    }
+
+    // Whether the function symbols may be refused: those that were read or made of an answer aren't.
+    fn may_be_refused(&self) -> bool
+        ensures { result ≡ may_be_refused self.now }
+    {
+        match self {
+            Tables::Elf(_) | Tables::Pe(_) | Tables::Made { .. } => false,
+            Tables::Macho(_) | Tables::Unknown | Tables::Whole { .. } => true,
+        }
     }
 
     /// The function symbols that the tables were read for, by the symbol table that they were read by. Those of a

@@ -1,6 +1,10 @@
 pub mod Growing
 pub mod Ordered
 pub mod RowListings
+pub mod Falling
+pub mod LastNames
+pub mod InnerCrates
+pub mod Spans
 pub mod Places
 pub mod Arguments
 pub mod Widths

@@ -52,6 +52,7 @@ key_rows grouping sections entries keyed rows are same =
       address_is = ap (λ (v : Values). v.1.0) is ∙ key.address_is;
       size_is = ap (λ (v : Values). v.1.1.0) is ∙ key.size_is;
       name_is = subst (IsKeyOf grouping sections e) (sym (ap (λ (v : Values). v.1.1.1.0) is)) key.key_is;
+      tail_is = ap (λ (v : Values). v.1.1.1.1) is ∙ key.name_is;
     }
 
 sizes_are : (keyed : List Keyed) (rows : List Row) → map row_values rows ≡ map keyed_values keyed → sum_by (λ (r : Row). r.size) rows ≡ sum_by (λ (k : Keyed). k.size) keyed

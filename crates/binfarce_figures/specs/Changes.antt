@@ -18,7 +18,7 @@ use Rattle.binfarce_figures.specs.declared.diff.Growth.{Growth}
 use Rattle.binfarce_figures.specs.declared.key.Grouping.{Grouping}
 use Rattle.binfarce_figures.specs.declared.order.Row.{Row}
 use Rattle.binfarce_figures.specs.declared.sums.Figures.{Figures}
-use Rattle.binfarce_figures.specs.Figures.{AreClaimsOf, AreRowsOf, hundredths, numbers_of, row_of, shares_of}
+use Rattle.binfarce_figures.specs.Figures.{AreClaimsOf, AreRowsOf, hundredths, numbers_of, percent_member, row_of, shares_of}
 use Rattle.binfarce_figures.specs.Keys.{section_keys}
 
 -- the distance of two numbers
@@ -31,6 +31,10 @@ differ old new = not (nat_eq old new)
 
 abbrev pub sign : (old new : ℕ) → List ℕ
 sign old new = if nat_lt new old then codes "-" else codes "+"
+
+-- the sign of a number
+abbrev pub minus : (old new : ℕ) → List ℕ
+minus old new = if nat_lt new old then codes "-" else []
 
 -- `{change:>11}`, with its sign
 abbrev pub change_text : (old new : ℕ) → List ℕ
@@ -56,15 +60,25 @@ change_columns shown old new = size_text old ++ (codes " " ++ (size_text new ++ 
 
 -- a number as JSON has it
 abbrev pub signed_member : (name : List ℕ) → (old new : ℕ) → List ℕ
-signed_member name old new = codes ",\"" ++ (name ++ (codes "\":" ++ ((if nat_lt new old then codes "-" else []) ++ decimal (difference old new))))
+signed_member name old new = codes ",\"" ++ (name ++ (codes "\":" ++ (minus old new ++ decimal (difference old new))))
+
+-- the change in per cent of the old sum, if it is wanted; `null` where there was nothing
+abbrev pub growth_number : (old new : ℕ) → List ℕ
+growth_number zero new = codes ",\"percent\":null"
+growth_number (suc n) new = percent_member (minus (suc n) new) (hundredths (difference (suc n) new) (suc n))
+
+abbrev pub growth_member : (has_percent : Bool) → (old new : ℕ) → List ℕ
+growth_member true old new = growth_number old new
+growth_member false old new = []
 
 -- the old sum, the new one and their difference
-abbrev pub change_members : (old new : ℕ) → List ℕ
-change_members old new = number_member (codes "old") old ++ (number_member (codes "new") new ++ signed_member (codes "change") old new)
+abbrev pub change_members : Figures → (old new : ℕ) → List ℕ
+change_members shown old new =
+    number_member (codes "old") old ++ (number_member (codes "new") new ++ (signed_member (codes "change") old new ++ growth_member shown.has_percent old new))
 
 -- the row of a change; the file of an object is the new one
 abbrev pub change_row : Figures → Style → (name : List ℕ) → (old new : ℕ) → List ℕ
-change_row shown style name old new = row_of style (change_columns shown old new) (change_members old new) name
+change_row shown style name old new = row_of style (change_columns shown old new) (change_members shown old new) name
 
 -- growth is that of the sums of all sizes
 pub record IsGrowthOf (old new : List Share) (growth : Growth) : Type 0 where

@@ -1,7 +1,9 @@
 -- How many bytes each row adds to those before it.
 use Rattle.std.specs.Prelude.{ℕ, ◌+◌, ◌*◌, ◌^◌, zero, suc, Bool, not, ◌&&◌, List, [], ◌∷◌, nat_le, nat_lt, if◌then◌else◌}
+use Rattle.std.specs.Cmp.Lexicographic.{slice_cmp}
 use Rattle.std.specs.List.{list_any}
-use Rattle.std.specs.Ordering.{nat_cmp}
+use Rattle.std.specs.Ordering.{nat_cmp, ordering_then}
+use Rattle.std.specs.declared.cmp.Ordering.{Ordering}
 use Rattle.binfarce_figures.specs.Order.{IsByKey}
 use Rattle.binfarce_figures.specs.declared.order.Row.{Row}
 
@@ -9,9 +11,13 @@ use Rattle.binfarce_figures.specs.declared.order.Row.{Row}
 abbrev pub place_of : Row → ℕ
 place_of row = row.section * 2 ^ 65 + row.address
 
--- sorted is rows by their places: by section and address; those of one place keep their order
-abbrev pub IsByPlace : List Row → List Row → Type 0
-IsByPlace rows sorted = IsByKey place_of nat_cmp rows sorted
+-- inner rows come before outer ones: of two the one that begins last, of one place the shorter one, and of one size the one whose stored name is less
+abbrev pub inner_cmp : Row → Row → Ordering
+inner_cmp a b = ordering_then (ordering_then (nat_cmp (place_of b) (place_of a)) (nat_cmp a.size b.size)) (slice_cmp nat_cmp a.tail.now b.tail.now)
+
+-- sorted is rows, inner ones before outer ones
+abbrev pub IsInward : List Row → List Row → Type 0
+IsInward rows sorted = IsByKey (λ row. row) inner_cmp rows sorted
 
 -- a row has the byte at a place
 abbrev pub has : (place : ℕ) → Row → Bool

@@ -1,5 +1,5 @@
 -- The text of sums by a key.
-use Rattle.std.specs.Prelude.{◌≡◌, ℕ, ◌*◌, ◌/◌, ◌%◌, Bool, true, false, List, [], ◌∷◌, ◌++◌, length, map, take, drop, filter, Option, Some, unwrap_or, codes, nat_lt, if◌then◌else◌}
+use Rattle.std.specs.Prelude.{◌≡◌, ℕ, ◌*◌, ◌/◌, ◌%◌, Bool, true, false, List, [], ◌∷◌, ◌++◌, length, map, take, drop, filter, Option, Some, None, unwrap_or, codes, nat_eq, nat_lt, if◌then◌else◌}
 use Rattle.std.specs.Fmt.{decimal}
 use Rattle.std.specs.List.{AllZip, flat_map, sum_by}
 use Rattle.std.specs.Str.{bytes_eq}
@@ -7,25 +7,27 @@ use Rattle.binfarce.specs.SectionEntries.{SectionEntry, SelectedSymbols}
 use Rattle.binfarce_chart.specs.Chart.{others_label}
 use Rattle.binfarce_tools.specs.Json.{Style, lines, objects, number_member, object_start, text_member}
 use Rattle.binfarce_tools.specs.Listing.{pad_left, size_text}
+use Rattle.binfarce_tools.specs.Map.{IsMapOfShares}
 use Rattle.binfarce_tools.specs.Report.{Share, AreCratesOf, sum_of, total, total_line}
 use Rattle.binfarce_figures.specs.declared.key.Grouping.{Grouping}
 use Rattle.binfarce_figures.specs.declared.key.Key.{Key}
-use Rattle.binfarce_figures.specs.declared.key.Key.TheVariants.{Generic}
+use Rattle.binfarce_figures.specs.declared.key.Key.TheVariants.{Generic, Stack}
 use Rattle.binfarce_figures.specs.declared.order.Row.{Row}
 use Rattle.binfarce_figures.specs.declared.figures.Figure.{Figure}
 use Rattle.binfarce_figures.specs.declared.sums.Figures.{Figures}
-use Rattle.binfarce_figures.specs.Claims.{IsByPlace, claimed}
+use Rattle.binfarce_figures.specs.Claims.{IsInward, claimed}
 use Rattle.binfarce_figures.specs.Rows.{count_of}
 use Rattle.binfarce_figures.specs.RowListing.{last_line}
 use Rattle.binfarce_figures.specs.Keys.{IsKeyOf, section_keys}
 use Rattle.binfarce_figures.specs.Order.{IsByKey, falling}
 
--- row is that of an entry, with its key as its name
+-- row is that of an entry, with its key as its name and its stored name as its tail
 pub record IsKeyRow (grouping : Grouping) (sections : ℕ → List ℕ) (e : SectionEntry) (row : Row) : Type 0 where
   pub section_is : row.section ≡ e.section
   pub address_is : row.address ≡ e.entry.address
   pub size_is : row.size ≡ e.entry.size
   pub name_is : IsKeyOf grouping sections e row.name.now
+  pub tail_is : row.tail.now ≡ e.entry.name
 
 -- the share of a row: its key, and its size
 abbrev pub share_of : Row → Share
@@ -77,12 +79,21 @@ row_of (objects file section) columns members name = object_start file ++ (text_
 abbrev pub sum_columns : Figures → (whole : ℕ) → (size copies : ℕ) → List ℕ
 sum_columns shown whole size copies = size_text size ++ (codes " " ++ (percent_part shown.has_percent size whole ++ copies_part shown.grouping.key copies))
 
-abbrev pub sum_members : (size copies : ℕ) → List ℕ
-sum_members size copies = number_member (codes "size") size ++ number_member (codes "copies") copies
+-- the member of a number of hundredths of a per cent, with its sign
+abbrev pub percent_member : (sign : List ℕ) → ℕ → List ℕ
+percent_member sign n = codes ",\"percent\":" ++ (sign ++ (decimal (n / 100) ++ (codes "." ++ (decimal (n / 10 % 10) ++ decimal (n % 10)))))
+
+-- that of the share of a size, if it is wanted
+abbrev pub share_member : (has_percent : Bool) → (size whole : ℕ) → List ℕ
+share_member true size whole = percent_member [] (hundredths size whole)
+share_member false size whole = []
+
+abbrev pub sum_members : Figures → (whole : ℕ) → (size copies : ℕ) → List ℕ
+sum_members shown whole size copies = number_member (codes "size") size ++ (number_member (codes "copies") copies ++ share_member shown.has_percent size whole)
 
 -- the row of a sum: its key, its size and its number of function symbols
 abbrev pub sum_row : Figures → Style → (whole : ℕ) → (name : List ℕ) → (size copies : ℕ) → List ℕ
-sum_row shown style whole name size copies = row_of style (sum_columns shown whole size copies) (sum_members size copies) name
+sum_row shown style whole name size copies = row_of style (sum_columns shown whole size copies) (sum_members shown whole size copies) name
 
 -- the row of a figure, by how a key's two numbers are shown
 abbrev pub figure_row : (row : List ℕ → ℕ → ℕ → List ℕ) → Figure → List ℕ
@@ -101,10 +112,15 @@ figure_rows row first figures = let n = count_of first (length figures) in
 abbrev pub AreRowsOf : (row : List ℕ → ℕ → ℕ → List ℕ) → (first : Option ℕ) → (rank : ℕ → ℕ → ℕ) → (numbers : List (List ℕ × (ℕ × ℕ))) → (text : List ℕ) → Type 0
 AreRowsOf row first rank numbers text = (figures : List Figure) × AreFiguresOf rank numbers figures × (text ≡ figure_rows row first figures)
 
--- the lines of the sum of all sizes and of the section's size; no objects for these
+-- the section's size as a member, if there is one
+abbrev pub section_member : (size : Option ℕ) → List ℕ
+section_member (Some size) = number_member (codes "text") size
+section_member None = []
+
+-- the lines of the sum of all sizes and of the section's size; one object of both
 abbrev pub whole_text : Style → (size : Option ℕ) → (total : ℕ) → List ℕ
 whole_text lines size total = total_line total ++ last_line lines true size
-whole_text (objects file section) size total = []
+whole_text (objects file section) size total = object_start file ++ (number_member (codes "sum") total ++ (section_member size ++ codes "}\n"))
 
 -- text is that of the sums of shares: a row for each key, the greatest first, with its share of the whole, which is the section, or of all sections the sum of all
 abbrev pub IsTextOfShares : Figures → Style → (size : Option ℕ) → List Share → List ℕ → Type 0
@@ -113,15 +129,27 @@ IsTextOfShares shown style size shares text =
     × AreRowsOf (sum_row shown style (unwrap_or size (total shares))) shown.first (λ size copies. size) (numbers_of (sum_of shares) (copies_of shares) names) rows
     × (text ≡ rows ++ whole_text style size (total shares))
 
--- rows are those of entries with their keys, where each byte counts for the first that has it
+-- rows are those of entries with their keys, where each byte counts for the innermost that has it
 abbrev pub AreClaimsOf : Grouping → (ℕ → List ℕ) → List SectionEntry → List Row → Type 0
 AreClaimsOf grouping sections entries claims =
-    (rows sorted : List Row) × AllZip (IsKeyRow grouping sections) entries rows × IsByPlace rows sorted × (claims ≡ claimed sorted)
+    (rows sorted : List Row) × AllZip (IsKeyRow grouping sections) entries rows × IsInward rows sorted × (claims ≡ claimed sorted)
 
--- text is that of the sums of entries
-abbrev pub IsTextOfEntries : Figures → Style → (ℕ → Option (List ℕ)) → (size : Option ℕ) → List SectionEntry → List ℕ → Type 0
-IsTextOfEntries shown style names size entries text = (claims : List Row) × AreClaimsOf shown.grouping (section_keys names size) entries claims × IsTextOfShares shown style size (shares_of claims) text
+-- text shows what the function symbols of a file's answer add
+abbrev pub IsShownBy : Grouping → (Shows : (size : Option ℕ) → (claims : List Row) → List ℕ → Type 0) → SelectedSymbols → List ℕ → Type 0
+IsShownBy grouping Shows selected text = (claims : List Row) × AreClaimsOf grouping (section_keys selected.section_name selected.section_size) selected.entries claims × Shows selected.section_size claims text
 
 -- text is that of the sums of a file's answer
 abbrev pub AreFiguresBy : Figures → Style → SelectedSymbols → List ℕ → Type 0
-AreFiguresBy shown style selected text = IsTextOfEntries shown style selected.section_name selected.section_size selected.entries text
+AreFiguresBy shown style = IsShownBy shown.grouping (λ size claims text. IsTextOfShares shown style size (shares_of claims) text)
+
+-- text is the picture of these sums with this title, beside the section's size, or for all sections the sum of all
+abbrev pub IsPictureBy : (title : List ℕ) → Grouping → SelectedSymbols → List ℕ → Type 0
+IsPictureBy title grouping = IsShownBy grouping (λ size claims text. IsMapOfShares title (shares_of claims) (unwrap_or size (total (shares_of claims))) text)
+
+-- `{key} {size}`, and a line feed, of those that add bytes
+abbrev pub claim_line : Row → List ℕ
+claim_line row = if nat_eq row.size 0 then [] else row.name.now ++ (codes " " ++ (decimal row.size ++ 10 ∷ []))
+
+-- text has the stacks of a file's answer: a line for each function symbol that adds bytes
+abbrev pub AreStacksIn : (joins_std : Bool) → SelectedSymbols → List ℕ → Type 0
+AreStacksIn joins_std = IsShownBy (record { key = Stack; joins_std = joins_std }) (λ size claims text. text ≡ flat_map claim_line claims)

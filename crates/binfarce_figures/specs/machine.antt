@@ -5,3 +5,5 @@ pub mod Counts
 pub mod Compared
 pub mod Columns
 pub mod Listings
+pub mod Spans
+pub mod Falling

@@ -90,7 +90,8 @@ impl From<AllocError> for DiffError {
 /// A line is `{old:>10} {new:>10} {change:>11} {key}`; the change has its sign. Before the key it has, if that is
 /// wanted, the change in per cent of the old sum, with two decimals and to the right of 10 columns, as `+12.50%`:
 /// rounded toward zero, and `new` where the old sum is 0. `[N others]` is the key of the line that sums up the changes
-/// past the first. An object has the members `file`, which is the new one's name, `name`, `old`, `new` and `change`.
+/// past the first. An object has the members `file`, which is the new one's name, `name`, `old`, `new`, `change` and, if
+/// that is wanted, `percent`, which is `null` where the old sum is 0.
 ///
 /// # Errors
 ///
@@ -125,13 +126,13 @@ pub fn diff<S: Sink>(
 }
 
 // What `keyed_in` gives of the old file.
-fn old_keyed_in(
+fn old_keyed_in<'a>(
     alloc: Global,
-    old: &Tables<'_>,
+    old: &'a Tables<'_>,
     grouping: Grouping,
-) -> Result<(Vec<Keyed>, Option<u64>), DiffError>
-    ensures got { (before : Asked) → AreTablesFor before old.now → MatchResult result
-        (λ r. AreKeyedIn grouping before.which before.file before.section (section_names old.now) r.0.items r.1)
+) -> Result<(Vec<Keyed<'a>>, Option<u64>), DiffError>
+    ensures got { (before : Asked) → AreTablesFor before old.entry.now → MatchResult result
+        (λ r. AreKeyedIn grouping before.which before.file before.section (section_names old.entry.now) r.0.items r.1)
         (λ e. EndsFor before (outcome_of (Err e.error))) }
     ensures fits { MatchResult result (λ r. sum_by (λ k. k.size) r.0.items < 2 ^ 64)
         (λ e. (e.is_of_old ≡ true) × (e.error ≢ Write)) }
@@ -150,8 +151,8 @@ fn text_of(
     alloc: Global,
     figures: &Figures,
     form: Form<'_>,
-    old: &[Keyed],
-    new: &[Keyed],
+    old: &[Keyed<'_>],
+    new: &[Keyed<'_>],
 ) -> Result<(String, Growth), AllocError>
     requires { (sum_by (λ k. k.size) old.now < 2 ^ 64) × (sum_by (λ k. k.size) new.now < 2 ^ 64) }
     ensures { IfOk result (λ r. IsTextWith figures.now (style_of form.entry) old.now new.now (string_bytes r.0) r.1) }

@@ -6,8 +6,8 @@ ghost use Rattle.std.specs.String.{string_bytes};
 ghost use Rattle.binfarce_tools.specs.Listing.{pad_left, size_text};
 ghost use Rattle.binfarce_tools.specs.Report.{Share, AreCratesOf, sum_of};
 ghost use Rattle.binfarce_tools.specs.Sums.{AreSumsOf, sum_at};
-ghost use Rattle.binfarce_figures.specs.Changes.{change_text, growth_part, growth_text, sign};
-ghost use Rattle.binfarce_figures.specs.Figures.{copies_part, figure_row, figure_rows, figure_view, hundredths, numbers_of, others_row, percent_part};
+ghost use Rattle.binfarce_figures.specs.Changes.{change_text, growth_member, growth_part, growth_text, minus, sign};
+ghost use Rattle.binfarce_figures.specs.Figures.{copies_part, figure_row, figure_rows, figure_view, hundredths, numbers_of, others_row, percent_member, percent_part, share_member};
 ghost use Rattle.binfarce_figures.specs.machine.Columns.{AreSummed, AreRowsFor, columns_text, has_row, members_text, rank, row_text};
 
 use crate::key::Key;
@@ -129,7 +129,7 @@ impl Layout<'_> {
             Form::Objects(file, _) => {
                 push_start(text, file)?;
                 push_text_member(text, "name", Some(name))?;
-                push_members(text, self.columns, sum, other)?;
+                self.push_members(text, sum, other)?;
                 text.push_str("}\n")
             }
         }
@@ -165,6 +165,56 @@ impl Layout<'_> {
             write!(text, "{per_cent:>3}.{}{}% ", share / 10 % 10, share % 10)?;
         }
         Ok(())
+    }
+
+    // Appends the members of two numbers.
+    fn push_members(&self, text: &mut String, sum: u64, other: u64) -> Result<(), AllocError>
+        ensures { OnOk result (string_bytes text.new
+            ≡ string_bytes text.old ++ members_text self.now.figures.now self.now.columns sum other) }
+    {
+        match self.columns {
+            Columns::Sums(whole) => {
+                push_number_member(text, "size", sum)?;
+                push_number_member(text, "copies", other)?;
+                self.push_share_member(text, sum, whole)
+            }
+            Columns::Changes => {
+                push_number_member(text, "old", sum)?;
+                push_number_member(text, "new", other)?;
+                write!(
+                    text,
+                    ",\"change\":{}{}",
+                    minus(sum, other),
+                    sum.abs_diff(other)
+                )?;
+                self.push_growth_member(text, sum, other)
+            }
+        }
+    }
+
+    // Appends the member of the share of a size in the whole, if it is wanted.
+    fn push_share_member(&self, text: &mut String, size: u64, whole: u64) -> Result<(), AllocError>
+        ensures { OnOk result (string_bytes text.new
+            ≡ string_bytes text.old ++ share_member self.now.figures.now.has_percent size whole) }
+    {
+        if !self.figures.has_percent {
+            return Ok(());
+        }
+        push_percent_member(text, "", hundredths(size, whole))
+    }
+
+    // Appends the member of a change in per cent of the old sum, if it is wanted.
+    fn push_growth_member(&self, text: &mut String, old: u64, new: u64) -> Result<(), AllocError>
+        ensures { OnOk result (string_bytes text.new
+            ≡ string_bytes text.old ++ growth_member self.now.figures.now.has_percent old new) }
+    {
+        if !self.figures.has_percent {
+            return Ok(());
+        }
+        if old == 0 {
+            return text.push_str(",\"percent\":null");
+        }
+        push_percent_member(text, minus(old, new), hundredths(old.abs_diff(new), old))
     }
 
     // Appends a change with its sign, and if it is wanted, in per cent of the old sum.
@@ -261,21 +311,22 @@ fn push_padded(text: &mut String, label: &str, width: usize) -> Result<(), Alloc
     write!(text, "{:>blanks$}{label} ", "")
 }
 
-// Appends the members of two numbers.
-fn push_members(text: &mut String, columns: Columns, sum: u64, other: u64) -> Result<(), AllocError>
-    ensures { OnOk result (string_bytes text.new ≡ string_bytes text.old ++ members_text columns sum other) }
+// The minus of a change as a number.
+fn minus(old: u64, new: u64) -> &'static str
+    ensures { result.now ≡ minus old new }
 {
-    match columns {
-        Columns::Sums(_) => {
-            push_number_member(text, "size", sum)?;
-            push_number_member(text, "copies", other)
-        }
-        Columns::Changes => {
-            push_number_member(text, "old", sum)?;
-            push_number_member(text, "new", other)?;
-            let sign = if other < sum { "-" } else { "" };
-            let size = sum.abs_diff(other);
-            write!(text, ",\"change\":{sign}{size}")
-        }
-    }
+    if new < old { "-" } else { "" }
+}
+
+// Appends the member of a number of hundredths of a per cent.
+fn push_percent_member(text: &mut String, sign: &str, n: u128) -> Result<(), AllocError>
+    ensures { OnOk result (string_bytes text.new ≡ string_bytes text.old ++ percent_member sign.now n) }
+{
+    let per_cent = n / 100;
+    write!(
+        text,
+        ",\"percent\":{sign}{per_cent}.{}{}",
+        n / 10 % 10,
+        n % 10
+    )
 }

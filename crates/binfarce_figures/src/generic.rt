@@ -75,5 +75,12 @@ fn opens(shape: Shape, before: char, c: char) -> bool
 fn may_have_arguments(before: char) -> bool
     ensures { result ≡ Rattle.binfarce_figures.specs.Generic.may_have_arguments before }
 {
-    before == ':' || before == '_' || before.is_ascii_alphanumeric() || !before.is_ascii()
+    before == ':' || is_of_name(before)
+}
+
+/// Whether a character is one of a name.
+pub(crate) fn is_of_name(c: char) -> bool
+    ensures { result ≡ Rattle.binfarce_figures.specs.Generic.is_of_name c }
+{
+    c == '_' || c.is_ascii_alphanumeric() || !c.is_ascii()
 }

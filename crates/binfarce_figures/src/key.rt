@@ -1,18 +1,24 @@
 //! What sizes are summed by.
 
-ghost use Rattle.std.specs.Prelude.{◌≡◌, map, IfOk};
+ghost use Rattle.std.specs.Prelude.{◌≡◌, encode_utf8_all, map, IfOk, OnOk};
 ghost use Rattle.std.specs.List.{AllZip};
+ghost use Rattle.std.specs.Str.{chars};
 ghost use Rattle.std.specs.String.{string_bytes};
 ghost use Rattle.binfarce.specs.SymbolViews.{section_function_view};
+ghost use Rattle.binfarce_names.specs.Crates.{first_part};
+ghost use Rattle.binfarce_names.specs.Name.{Name};
+ghost use Rattle.binfarce_names.specs.Named.{IsNamed};
 ghost use Rattle.binfarce_tools.specs.Tables.{section_names};
-ghost use Rattle.binfarce_figures.specs.Keys.{IsKeyOf, section_keys};
+ghost use Rattle.binfarce_figures.specs.Keys.{IsCrateOf, IsKeyOf, inner_crate_of, last_name, section_keys};
 ghost use Rattle.binfarce_figures.specs.machine.Keyed.{IsKeyed};
 
-use crate::generic::{Shape, push_rewritten};
+use crate::generic::{Shape, is_of_name, push_rewritten};
+use crate::stacks::push_stack;
 use binfarce::SectionFunction;
-use binfarce_names::demangle::Demangler;
+use binfarce_legacy::legacy;
+use binfarce_names::demangle::{Demangler, push_crate};
+use binfarce_text::suffixes::without_llvm;
 use binfarce_tools::list::push_section;
-use binfarce_tools::report::put_crate;
 use binfarce_tools::tables::Tables;
 use std::alloc::{AllocError, Global};
 
@@ -20,7 +26,7 @@ use std::alloc::{AllocError, Global};
 #[derive(Debug, Clone, Copy, PartialEq)]
 #[non_exhaustive]
 pub enum Key {
-    /// The crate, as in `report`.
+    /// The crate: that of `crate_of`, and for a legacy name that begins with `<` the name before its first `::`.
     Crate,
     /// The trimmed name.
     Function,
@@ -28,6 +34,8 @@ pub enum Key {
     Generic,
     /// The section: its name, or its number in brackets where it has none. Where one section is selected, it is `text`.
     Section,
+    /// The crate, and the parts of the trimmed name, with `;` between them.
+    Stack,
 }
 
 /// How sizes are grouped.
@@ -41,25 +49,27 @@ pub struct Grouping {
 
 /// A function symbol's place and size, with its key.
 #[derive(Drop)]
-pub struct Keyed {
+pub struct Keyed<'a> {
     /// The number of its section.
     pub section: u32,
     /// Its address.
     pub address: u64,
     /// Its size in bytes.
     pub size: u64,
+    /// Its stored name.
+    pub name: &'a str,
     /// Its key.
     pub key: String,
 }
 
 /// The function symbols of a selection with their keys; with the section's size, if one is selected.
-pub(crate) fn keyed_of(
+pub(crate) fn keyed_of<'a>(
     alloc: Global,
     tables: &Tables<'_>,
-    functions: &[SectionFunction<'_>],
+    functions: &[SectionFunction<'a>],
     size: Option<u64>,
     grouping: Grouping,
-) -> Result<Vec<Keyed>, AllocError>
+) -> Result<Vec<Keyed<'a>>, AllocError>
     ensures { IfOk result (λ v. AllZip (IsKeyed grouping (section_keys (section_names tables.now) size))
         (map section_function_view functions.now) v.items) }
 {
@@ -71,10 +81,69 @@ pub(crate) fn keyed_of(
             section: function.section,
             address: function.function.address,
             size: function.function.size,
+            name: function.function.name,
             key,
         })?;
     }
     Ok(keyed)
+}
+
+/// Overwrites the text by the crate that a function of this name is counted for.
+#[tactic(auto, using(crate::proofs::InnerCrates::found, crate::proofs::InnerCrates::inner, crate::proofs::InnerCrates::none))]
+pub(crate) fn put_crate(alloc: Global, text: &mut String, name: &str) -> Result<(), AllocError>
+    ensures { OnOk result (IsCrateOf name.now (string_bytes text.new)) }
+{
+    text.clear();
+    if push_crate(alloc, text, name)? {
+        return Ok(());
+    }
+    put_inner_crate(alloc, text, name)?;
+    if text.as_str().is_empty() {
+        return text.push_str("[unknown]");
+    }
+    Ok(())
+}
+
+// Overwrites the text by the crate of the type or trait that a legacy name begins with; empty if there is none.
+fn put_inner_crate(alloc: Global, text: &mut String, name: &str) -> Result<(), AllocError>
+    ensures { OnOk result ((n : Name) → IsNamed name.now n
+        → string_bytes text.new ≡ inner_crate_of n.kind n.trimmed) }
+{
+    text.clear();
+    match legacy::mangling(without_llvm(name)) {
+        Some((part, _)) => {
+            let mut path = String::new(alloc);
+            legacy::push_trimmed(&mut path, part)?;
+            put_last_name(text, first_part(path.as_str()))
+        }
+        None => Ok(()),
+    }
+}
+
+// A path up to its first `::`, or all of it.
+fn first_part(path: &str) -> &str
+    ensures { result.now ≡ first_part path.now }
+{
+    match path.split_once("::") {
+        Some((first, _)) => first,
+        None => path,
+    }
+}
+
+// Overwrites the text by the name that a front ends with.
+#[tactic(auto, using(crate::proofs::LastNames::goes_on, crate::proofs::LastNames::ends))]
+fn put_last_name(text: &mut String, front: &str) -> Result<(), AllocError>
+    ensures { OnOk result (string_bytes text.new ≡ encode_utf8_all (last_name (chars front.now))) }
+{
+    text.clear();
+    for c in front.chars() {
+        if is_of_name(c) {
+            text.push(c)?;
+        } else {
+            text.clear();
+        }
+    }
+    Ok(())
 }
 
 // The key of a function symbol.
@@ -111,6 +180,7 @@ fn key_of(
         }
         Key::Section if size.is_some() => key.push_str("text")?,
         Key::Section => push_section(&mut key, tables, function.section)?,
+        Key::Stack => push_stack(alloc, demangler, &mut key, name)?,
     }
     Ok(key)
 }

@@ -6,6 +6,7 @@ pub mod diff;
 mod figures;
 mod generic;
 pub mod key;
+pub mod map;
 pub mod order;
 pub mod rows;
 pub mod stacks;

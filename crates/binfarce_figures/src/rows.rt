@@ -17,6 +17,7 @@ ghost use Rattle.binfarce_tools.specs.Json.{style_of};
 ghost use Rattle.binfarce_figures.specs.machine.Listings.{IsNamed, IsTextFor, named_values, shown_row, shown_rows};
 ghost use Rattle.binfarce_figures.specs.machine.Keyed.{row_values};
 
+use crate::key::put_crate;
 use crate::order::{Order, Row, sort};
 use binfarce::SectionFunction;
 use binfarce_names::demangle::Demangler;
@@ -26,7 +27,6 @@ use binfarce_tools::json::{
     Form, push_address_member, push_number_member, push_start, push_text_member,
 };
 use binfarce_tools::list::{ListError, Sink, push_section_part};
-use binfarce_tools::report::put_crate;
 use binfarce_tools::tables::Tables;
 use binfarce_tools::writing::write_whole;
 use std::alloc::{AllocError, Global};

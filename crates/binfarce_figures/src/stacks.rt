@@ -1,93 +1,110 @@
 //! Function symbols as stacks.
 
-ghost use Rattle.std.specs.Prelude.{◌≡◌, ◌++◌, ℕ, List, Option, codes, map, IfOk, OnOk};
+ghost use Rattle.std.specs.Prelude.{◌≡◌, ◌++◌, ◌<◌, ◌^◌, ℕ, List, Option, codes, IfOk, OnOk};
+ghost use Rattle.std.specs.List.{flat_map, sum_by};
 ghost use Rattle.std.specs.String.{string_bytes};
-ghost use Rattle.binfarce.specs.SymbolViews.{section_function_view};
 ghost use Rattle.binfarce.specs.declared.SymbolTable.{SymbolTable};
-ghost use Rattle.binfarce_tools.specs.Listing.{ListingFits};
-ghost use Rattle.binfarce_tools.specs.ListWords.{outcome_of};
+ghost use Rattle.binfarce_tools.specs.Report.{ReportFits};
+ghost use Rattle.binfarce_tools.specs.ReportWords.{outcome_of};
 ghost use Rattle.binfarce_tools.specs.Answer.{selected_answer, MemoryIn};
 ghost use Rattle.binfarce_tools.specs.Tables.{AreTablesOf};
 ghost use Rattle.binfarce_tools.specs.Writing.{EndsAs, Takes, Fails, Leaves};
-ghost use Rattle.binfarce_figures.specs.Stacks.{AreStacksIn, AreStacksOf, IsStackLine, stack_of};
+ghost use Rattle.binfarce_figures.specs.Figures.{AreStacksIn, claim_line};
+ghost use Rattle.binfarce_figures.specs.Keys.{IsCrateOf, IsTrimmedOf};
+ghost use Rattle.binfarce_figures.specs.Stacks.{stack, stack_of};
+ghost use Rattle.binfarce_figures.specs.machine.Keyed.{AreClaimsWith};
 
+use crate::claims::claims_of;
 use crate::generic::{Shape, push_rewritten};
-use crate::rows::list_of;
-use binfarce::SectionFunction;
+use crate::key::{Grouping, Key, Keyed, put_crate};
+use crate::order::Row;
+use crate::sums::keyed_in;
 use binfarce_names::demangle::Demangler;
-use binfarce_tools::list::{ListError, Sink};
-use binfarce_tools::report::put_crate;
+use binfarce_tools::list::Sink;
+use binfarce_tools::report::{ReportError, write_made};
 use binfarce_tools::tables::Tables;
-use binfarce_tools::writing::write_whole;
 use std::alloc::{AllocError, Global};
 
-/// Writes a line for each function symbol that the tables were read for, as tools for flame graphs read it: a stack, a
-/// blank, and the size in bytes.
+/// Writes a line for each function symbol that adds bytes to the sum of `sum_by`, as tools for flame graphs read it: a
+/// stack, a blank, and the number of these bytes.
 ///
-/// A stack is the crate that a report counts the function symbol for, and the parts of the trimmed name, which `::`
+/// A stack is the crate that `sum_by` counts the function symbol for, and the parts of the trimmed name, which `::`
 /// outside of brackets separates, with `;` between them. The first part is left out where it is the crate: of a crate
 /// `foo` the function `foo::bar` is `foo;bar`, and `foo` is `foo`, as `foo;foo` is `foo::foo`. A `;` in a name is shown
-/// as `:`. The lines are in the order of `list`, and are made before the first byte is written.
+/// as `:`. With `joins_std` the stack of all functions of Rust's standard library is `[std]`. Inner function symbols come before outer ones. The lines are made before the first byte is written.
 ///
 /// # Errors
 ///
-/// Those of `list_tables`.
+/// Those of `sum_by`.
 pub fn fold_tables<S: Sink>(
     alloc: Global,
     tables: &Tables<'_>,
+    joins_std: bool,
     out: &mut S,
-) -> Result<(), ListError>
+) -> Result<(), ReportError>
     ensures outcome { (which : SymbolTable) (file : List ℕ) (section : Option (List ℕ))
         → AreTablesOf which file section tables.now
-        → EndsAs ListingFits (MemoryIn file section) (selected_answer which section file) (outcome_of result) }
+        → EndsAs ReportFits (MemoryIn file section) (selected_answer which section file) (outcome_of result) }
     ensures takes { (which : SymbolTable) (file : List ℕ) (section : Option (List ℕ))
-        → AreTablesOf which file section tables.now → Takes AreStacksIn
+        → AreTablesOf which file section tables.now → Takes (AreStacksIn joins_std)
         (selected_answer which section file) (S.taken out.old) (S.taken out.new) (outcome_of result) }
     ensures fails { Fails (S.has_failed out.old) (S.has_failed out.new) (outcome_of result) }
     ensures leaves { Leaves out.old out.new (outcome_of result) }
 {
-    let selected = tables.functions(alloc)?;
-    let (functions, _) = list_of(alloc, selected)?;
-    let text = stacks_of(alloc, &functions)?;
-    write_whole(out, text.as_bytes())
+    let grouping = Grouping {
+        key: Key::Stack,
+        joins_std,
+    };
+    let (keyed, _) = keyed_in(alloc, tables, grouping)?;
+    write_made(out, stacks_of(alloc, &keyed))
 }
 
-// The lines of function symbols.
-fn stacks_of(alloc: Global, functions: &[SectionFunction<'_>]) -> Result<String, AllocError>
-    ensures { IfOk result (λ t. AreStacksOf (map section_function_view functions.now) (string_bytes t)) }
+// The lines of function symbols with their stacks.
+fn stacks_of(alloc: Global, keyed: &[Keyed<'_>]) -> Result<String, AllocError>
+    ensures { IfOk result (λ t. (claims : List Row) × AreClaimsWith keyed.now claims
+        × (string_bytes t ≡ flat_map claim_line claims)) }
 {
-    let mut demangler = Demangler::new(alloc);
+    let claims = claims_of(alloc, keyed)?;
     let mut text = String::new(alloc);
-    for function in functions {
-        push_line(alloc, &mut demangler, &mut text, *function)?;
+    for claim in &claims {
+        push_claim(&mut text, *claim)?;
     }
     Ok(text)
 }
 
-// Appends the line of a function symbol.
-fn push_line(
+// Appends the line of a function symbol with its stack, if it adds bytes.
+fn push_claim(text: &mut String, claim: Row<'_>) -> Result<(), AllocError>
+    ensures { OnOk result (string_bytes text.new ≡ string_bytes text.old ++ claim_line claim.entry) }
+{
+    if claim.size == 0 {
+        return Ok(());
+    }
+    writeln!(text, "{} {}", claim.name, claim.size)
+}
+
+/// Appends the stack of a stored name.
+pub(crate) fn push_stack(
     alloc: Global,
     demangler: &mut Demangler,
     text: &mut String,
-    function: SectionFunction<'_>,
+    name: &str,
 ) -> Result<(), AllocError>
-    ensures { OnOk result ((line : List ℕ) × IsStackLine (section_function_view function.entry) line
-        × (string_bytes text.new ≡ string_bytes text.old ++ line)) }
+    ensures { OnOk result ((crate_name : List ℕ) × (trimmed : List ℕ) × IsCrateOf name.now crate_name
+        × IsTrimmedOf name.now trimmed × (string_bytes text.new ≡ string_bytes text.old ++ stack crate_name trimmed)) }
 {
     let mut crate_name = String::new(alloc);
-    put_crate(alloc, &mut crate_name, function.function.name)?;
+    put_crate(alloc, &mut crate_name, name)?;
     let mut trimmed = String::new(alloc);
-    demangler.push_trimmed(&mut trimmed, function.function.name)?;
+    demangler.push_trimmed(&mut trimmed, name)?;
     let mut root = String::new(alloc);
     push_rewritten(&mut root, Shape::Stack, crate_name.as_str())?;
     let mut parts = String::new(alloc);
     push_rewritten(&mut parts, Shape::Stack, trimmed.as_str())?;
-    push_stack(text, root, parts.as_str())?;
-    writeln!(text, " {}", function.function.size)
+    push_below(text, root, parts.as_str())
 }
 
 // Appends the crate and the parts of a name, unless the first of these is the crate.
-fn push_stack(text: &mut String, root: String, parts: &str) -> Result<(), AllocError>
+fn push_below(text: &mut String, root: String, parts: &str) -> Result<(), AllocError>
     ensures { OnOk result (string_bytes text.new ≡ string_bytes text.old ++ stack_of (string_bytes root) parts.now) }
 {
     let is_crate = parts == root.as_str();

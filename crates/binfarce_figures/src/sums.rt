@@ -13,7 +13,7 @@ ghost use Rattle.binfarce_tools.specs.Sums.{AreSumsOf};
 ghost use Rattle.binfarce_tools.specs.Tables.{AreTablesOf, section_names};
 ghost use Rattle.binfarce_tools.specs.Writing.{EndsAs, Takes, Fails, Leaves};
 ghost use Rattle.binfarce_tools.specs.declared.report.ReportError.TheVariants.{Write};
-ghost use Rattle.binfarce_figures.specs.Figures.{AreFiguresBy, IsTextOfShares, shares_of, whole_text};
+ghost use Rattle.binfarce_figures.specs.Figures.{AreFiguresBy, IsTextOfShares, section_member, shares_of, whole_text};
 ghost use Rattle.binfarce_figures.specs.machine.Counts.{counted_shares};
 ghost use Rattle.binfarce_figures.specs.machine.Got.{AreKeyedIn, IsFaultOf};
 ghost use Rattle.binfarce_figures.specs.machine.Keyed.{AreClaimsWith};
@@ -24,7 +24,7 @@ use crate::key::{Grouping, Keyed, keyed_of};
 use crate::order::Row;
 use crate::rows::list_of;
 use binfarce::SectionFunction;
-use binfarce_tools::json::Form;
+use binfarce_tools::json::{Form, push_number_member, push_start};
 use binfarce_tools::list::Sink;
 use binfarce_tools::report::{CrateSums, ReportError, add_size, write_made};
 use binfarce_tools::tables::Tables;
@@ -44,12 +44,14 @@ pub struct Figures {
 
 /// Writes a line for each key: the sum of the sizes of its function symbols, the greatest first, those of one size in
 /// the order of the keys' bytes; and the lines for the whole, as `report_tables` does. A byte that several symbols of a
-/// section have counts for the first of them in the order of addresses.
+/// section have counts for the innermost of them: the one that begins last, of these the shortest, and of these the one
+/// whose stored name is least.
 ///
 /// A line is `{sum:>10} {key}`. Before the key it has the share of the section, or of all sections in the sum of all
 /// sizes, as `{percent:>3}.{hundredths:02}% `, if that is wanted; and for `Key::Generic` the number of function symbols
 /// as `{copies:>6} `. `[N others]` is the key of the line that sums up those past the first. An object has the members
-/// `file`, `name`, `size` and `copies`, and there is none for the whole.
+/// `file`, `name`, `size`, `copies` and, if that is wanted, `percent`; the last one, for the whole, has `file`, `sum` and
+/// of one section `text`, its size.
 ///
 /// # Errors
 ///
@@ -80,14 +82,14 @@ pub fn sum_by<S: Sink>(
 /// # Errors
 ///
 /// Those of `report_tables`, but for `Write`.
-pub(crate) fn keyed_in(
+pub(crate) fn keyed_in<'a>(
     alloc: Global,
-    tables: &Tables<'_>,
+    tables: &'a Tables<'_>,
     grouping: Grouping,
-) -> Result<(Vec<Keyed>, Option<u64>), ReportError>
+) -> Result<(Vec<Keyed<'a>>, Option<u64>), ReportError>
     ensures got { (which : SymbolTable) (file : List ℕ) (section : Option (List ℕ))
-        → AreTablesOf which file section tables.now → MatchResult result
-        (λ r. AreKeyedIn grouping which file section (section_names tables.now) r.0.items r.1)
+        → AreTablesOf which file section tables.entry.now → MatchResult result
+        (λ r. AreKeyedIn grouping which file section (section_names tables.entry.now) r.0.items r.1)
         (λ e. IsFaultOf which file section e) }
     ensures fits { MatchResult result (λ r. sum_by (λ k. k.size) r.0.items < 2 ^ 64) (λ e. e ≢ Write) }
 {
@@ -112,7 +114,7 @@ fn text_of(
     alloc: Global,
     figures: &Figures,
     form: Form<'_>,
-    keyed: &[Keyed],
+    keyed: &[Keyed<'_>],
     size: Option<u64>,
 ) -> Result<String, AllocError>
     requires { sum_by (λ k. k.size) keyed.now < 2 ^ 64 }
@@ -157,7 +159,7 @@ pub(crate) fn sums_of(
     })
 }
 
-// Appends the lines of the sum of all, and of the section's size; no objects for these.
+// Appends the lines of the sum of all, and of the section's size; one object of both.
 fn push_whole(
     text: &mut String,
     form: Form<'_>,
@@ -167,11 +169,29 @@ fn push_whole(
     ensures { OnOk result
         (string_bytes text.new ≡ string_bytes text.old ++ whole_text (style_of form.entry) size total) }
 {
-    if form == Form::Lines {
-        writeln!(text, "sum {total}")?;
-        if let Some(size) = size {
-            writeln!(text, "text {size}")?;
+    match form {
+        Form::Lines => {
+            writeln!(text, "sum {total}")?;
+            if let Some(size) = size {
+                writeln!(text, "text {size}")?;
+            }
+            Ok(())
+        }
+        Form::Objects(file, _) => {
+            push_start(text, file)?;
+            push_number_member(text, "sum", total)?;
+            push_section_member(text, size)?;
+            text.push_str("}\n")
         }
     }
-    Ok(())
+}
+
+// Appends the member of the section's size, if there is one.
+fn push_section_member(text: &mut String, size: Option<u64>) -> Result<(), AllocError>
+    ensures { OnOk result (string_bytes text.new ≡ string_bytes text.old ++ section_member size) }
+{
+    match size {
+        Some(size) => push_number_member(text, "text", size),
+        None => Ok(()),
+    }
 }

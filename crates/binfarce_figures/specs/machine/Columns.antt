@@ -15,13 +15,13 @@ abbrev pub columns_text : Figures → Columns → (sum other : ℕ) → List ℕ
 columns_text shown (Sums whole) sum other = sum_columns shown whole sum other
 columns_text shown Changes sum other = change_columns shown sum other
 
-abbrev pub members_text : Columns → (sum other : ℕ) → List ℕ
-members_text (Sums whole) sum other = sum_members sum other
-members_text Changes sum other = change_members sum other
+abbrev pub members_text : Figures → Columns → (sum other : ℕ) → List ℕ
+members_text shown (Sums whole) sum other = sum_members shown whole sum other
+members_text shown Changes sum other = change_members shown sum other
 
 -- a row, by how figures are shown
 abbrev pub row_text : Layout → (name : List ℕ) → (sum other : ℕ) → List ℕ
-row_text layout name sum other = row_of (style_of layout.form) (columns_text layout.figures.now layout.columns sum other) (members_text layout.columns sum other) name
+row_text layout name sum other = row_of (style_of layout.form) (columns_text layout.figures.now layout.columns sum other) (members_text layout.figures.now layout.columns sum other) name
 
 abbrev pub has_row : Columns → (sum other : ℕ) → Bool
 has_row (Sums whole) sum other = true

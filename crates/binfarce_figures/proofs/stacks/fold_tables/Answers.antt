@@ -1,16 +1,15 @@
-use Rattle.std.proofs.Common.{◌∙◌, sym, subst, map}
-use Rattle.binfarce.specs.SymbolViews.{section_function_view}
-use Rattle.binfarce_tools.specs.Answer.{selected_answer, MemoryIn}
-use Rattle.binfarce_tools.specs.Entries.{HoldsLeft}
-use Rattle.binfarce_tools.proofs.Lines.{takes}
-use Rattle.binfarce_figures.specs.Stacks.{AreStacksIn, AreStacksOf}
+use Rattle.std.proofs.Common.{◌≡◌}
+use Rattle.std.specs.List.{flat_map}
+use Rattle.binfarce_tools.specs.ReportWords.{outcome_of}
+use Rattle.binfarce_tools.specs.Tables.{section_names}
+use Rattle.binfarce_figures.specs.declared.key.Grouping.{Grouping}
+use Rattle.binfarce_figures.specs.declared.key.Key.TheVariants.{Stack}
+use Rattle.binfarce_figures.specs.Figures.{claim_line}
+use Rattle.binfarce_figures.proofs.Figured.{figured}
 use Rattle.binfarce_figures.proofs.stacks.fold_tables.Goals as goal
 
 pub returns-clause-takes : goal.returns-clause-takes
 returns-clause-takes g c = λ which file section are.
-    let text = c.as_bytes.result.now in
-    let of_slice = subst (λ fs. AreStacksOf (map section_function_view fs) text) c.deref.ensures.value (subst (AreStacksOf (map section_function_view c.deref.result.now)) (sym c.as_bytes.ensures.value) c.in_ok-text.ensures) in
-    takes AreStacksIn HoldsLeft (MemoryIn file section) (selected_answer which section file) c.in_ok-selected.selected text _ _ c.write_whole.result
-    (c.in_ok-selected.ensures.gets which file section are)
-    (λ seen answer held. subst (λ es. AreStacksOf es text) (c.in_ok-functions.ensures.0 ∙ held.0) of_slice)
-    c.write_whole.ensures.takes
+    let grouping : Grouping = record { key = Stack; joins_std = c.args.joins_std } in
+    figured grouping (λ size claims text. text ≡ flat_map claim_line claims) which file section (section_names c.args.tables.now) c.in_ok-keyed.keyed.items c.in_ok-keyed.field-0-1 c.deref.result.now c.stacks_of.result _ _ (outcome_of c.write_made.result)
+    (c.in_ok-keyed.ensures.got which file section are) c.deref.ensures.value c.stacks_of.ensures c.write_made.ensures.takes

@@ -1,6 +1,8 @@
+pub mod Kinds
 pub mod Section
 pub mod Named
 pub mod Lines
+pub mod Sums
 pub mod Results
 pub mod Views
 pub mod Parts

@@ -3,6 +3,8 @@ use Rattle.std.specs.Prelude.{ℕ, List, [], ◌∷◌, ◌++◌, codes, Option,
 use Rattle.std.specs.List.{concat, flat_map}
 use Rattle.binfarce_tools.specs.Json.{Style, lines, objects, address_member, number_member, object_start, text_member}
 use Rattle.binfarce_tools.specs.Listing.{address_text, size_text}
+use Rattle.binfarce_sections.specs.declared.kinds.SectionType.{SectionType}
+use Rattle.binfarce_sections.specs.Kinds.{type_name, type_number}
 use Rattle.binfarce_sections.specs.Section.{Section}
 use Rattle.binfarce_sections.specs.Named.{full_name}
 
@@ -20,11 +22,22 @@ line_head address offset size = address_text address ++ (codes " " ++ (size_text
 abbrev pub section_line : Section → List ℕ
 section_line s = line_head s.address s.offset s.size ++ (name_text s.segment s.name ++ 10 ∷ [])
 
--- a section as a JSON object: its file, its segment and its name, or null where it has none; its address, its offset in the file and its size in bytes
+-- a type as the member `type`: its name, or its number where it has none; null for a PE section
+abbrev pub type_value : Option (List ℕ) → Option ℕ → List ℕ
+type_value (Some name) number = text_member (codes "type") (Some name)
+type_value None (Some number) = number_member (codes "type") number
+type_value None None = text_member (codes "type") None
+
+abbrev pub type_member : SectionType → List ℕ
+type_member kind = type_value (type_name kind) (type_number kind)
+
+-- a section as a JSON object: its file, its segment and its name, or null where it has none; its address, its offset in the file and its size in bytes; its
+-- type and its flags
 abbrev pub section_object : (file : List ℕ) → Section → List ℕ
 section_object file s = concat (
     object_start file ∷ text_member (codes "segment") s.segment ∷ text_member (codes "section") s.name
-    ∷ address_member s.address ∷ number_member (codes "offset") s.offset ∷ number_member (codes "size") s.size ∷ codes "}\n" ∷ []
+    ∷ address_member s.address ∷ number_member (codes "offset") s.offset ∷ number_member (codes "size") s.size
+    ∷ type_member s.kind ∷ number_member (codes "flags") s.flags ∷ codes "}\n" ∷ []
     )
 
 abbrev pub section_row : Style → Section → List ℕ

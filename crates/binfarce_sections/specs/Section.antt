@@ -1,5 +1,5 @@
 -- The sections of a file of any format.
-use Rattle.std.specs.Prelude.{ℕ, Bool, ◌&&◌, List, length, map, Option, Some, None, nat_eq, nat_lt, not, min, if◌then◌else◌}
+use Rattle.std.specs.Prelude.{ℕ, Bool, ◌&&◌, ◌||◌, List, length, map, Option, Some, None, nat_eq, nat_lt, not, min, if◌then◌else◌}
 use Rattle.binfarce.specs.declared.ByteOrder.{ByteOrder}
 use Rattle.binfarce.specs.declared.Format.{Format}
 use Rattle.binfarce.specs.declared.Format.TheVariants.{Elf32, Elf64, Macho, PE, Unknown}
@@ -9,8 +9,11 @@ use Rattle.binfarce.specs.Elf as elf
 use Rattle.binfarce.specs.Elf.{elf32, elf64}
 use Rattle.binfarce.specs.Macho as macho
 use Rattle.binfarce.specs.Pe as pe
+use Rattle.binfarce_sections.specs.declared.kinds.SectionType.{SectionType}
+use Rattle.binfarce_sections.specs.declared.kinds.SectionType.TheVariants as types
 
--- a section: its segment's name in Mach-O, its own name, which an ELF section may lack, its address in memory, where it begins in the file, its size in bytes, and whether it has bytes in the file
+-- a section: its segment's name in Mach-O, its own name, which an ELF section may lack, its address in memory, where it begins in the file, its size in bytes, and whether it has bytes in the file;
+-- its type, its flags, and how many bytes it has in the file and in memory
 pub record Section : Type 0 where
   pub segment : Option (List ℕ)
   pub name : Option (List ℕ)
@@ -18,8 +21,12 @@ pub record Section : Type 0 where
   pub offset : ℕ
   pub size : ℕ
   pub has_bytes : Bool
+  pub kind : SectionType
+  pub flags : ℕ
+  pub file_size : ℕ
+  pub memory_size : ℕ
 
--- an ELF section with such a name: a section of type 8 (SHT_NOBITS) has no bytes in the file (gABI, "Sections")
+-- an ELF section with such a name: a section of type 8 (SHT_NOBITS) has no bytes in the file (gABI, "Sections"), and one without the flag SHF_ALLOC none in memory
 abbrev pub elf_named : (elf.Section → Option (List ℕ)) → elf.Section → Section
 elf_named name s = record {
   segment = None;
@@ -28,12 +35,16 @@ elf_named name s = record {
   offset = s.offset;
   size = s.size;
   has_bytes = not (nat_eq s.kind 8);
+  kind = types.Elf s.kind;
+  flags = s.flags;
+  file_size = elf.file_size s;
+  memory_size = elf.memory_size s;
 }
 
 abbrev pub elf_section : elf.ElfClass → elf.SectionTable → elf.Section → Section
 elf_section class table = elf_named (elf.name_of class table)
 
--- a Mach-O section: one with the offset 0, as of a zero-filled section, has no bytes in the file
+-- a Mach-O section: one that is filled with zeros, or has the offset 0, has no bytes in the file. Its type is the low byte of its flags
 abbrev pub macho_section : macho.Section → Section
 macho_section s = record {
   segment = Some s.segment_name;
@@ -41,7 +52,11 @@ macho_section s = record {
   address = s.address;
   offset = s.offset;
   size = s.size;
-  has_bytes = not (nat_eq s.offset 0);
+  has_bytes = not (macho.is_zero_filled s || nat_eq s.offset 0);
+  kind = types.Macho (macho.section_type s);
+  flags = s.flags;
+  file_size = macho.file_size s;
+  memory_size = s.size;
 }
 
 -- the size of a PE section: the smaller one of the two, or the other one where one is 0. In an image SizeOfRawData is rounded up; in an object file
@@ -49,7 +64,7 @@ macho_section s = record {
 abbrev pub pe_size : ℕ → ℕ → ℕ
 pe_size virtual raw = if nat_eq virtual 0 then raw else if nat_eq raw 0 then virtual else min virtual raw
 
--- a PE section: one without raw data has no bytes in the file (PE Format, "Section Table")
+-- a PE section: one without raw data has no bytes in the file (PE Format, "Section Table"). In the file it has all of its raw data, also what is rounded up
 abbrev pub pe_section : pe.Section → Section
 pe_section s = record {
   segment = None;
@@ -58,6 +73,10 @@ pe_section s = record {
   offset = s.pointer_to_raw_data;
   size = pe_size s.virtual_size s.size_of_raw_data;
   has_bytes = not (nat_eq s.pointer_to_raw_data 0) && not (nat_eq s.size_of_raw_data 0);
+  kind = types.Pe;
+  flags = s.characteristics;
+  file_size = pe.file_size s;
+  memory_size = pe.memory_size s;
 }
 
 -- a walk with each item converted

@@ -17,7 +17,7 @@ use Rattle.binfarce_sections.specs.Section.{Section, elf_named, macho_section, p
 
 -- a `Section`
 abbrev pub section_view : code.Section → Section
-section_view s = record { segment = option_map (λ t. t.now) s.segment; name = option_map (λ t. t.now) s.name; address = s.address; offset = s.offset; size = s.size; has_bytes = s.has_bytes }
+section_view s = record { segment = option_map (λ t. t.now) s.segment; name = option_map (λ t. t.now) s.name; address = s.address; offset = s.offset; size = s.size; has_bytes = s.has_bytes; kind = s.kind; flags = s.flags; file_size = s.file_size; memory_size = s.memory_size }
 
 -- the name of an ELF section among section names
 abbrev pub named_by : Option (List ℕ) → elf.Section → Option (List ℕ)

@@ -2,3 +2,4 @@ pub mod Opened
 pub mod Found
 pub mod Listed
 pub mod Tables
+pub mod Summed

@@ -3,6 +3,9 @@
 
 pub mod bytes;
 pub mod error;
+pub mod kinds;
+mod laws;
 pub mod list;
 pub mod sections;
+pub mod sums;
 mod tables;

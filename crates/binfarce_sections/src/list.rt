@@ -5,7 +5,7 @@ ghost use Rattle.std.specs.Option.{option_map};
 ghost use Rattle.std.specs.String.{string_bytes};
 ghost use Rattle.binfarce.specs.Format.{format_of};
 ghost use Rattle.binfarce_bytes.specs.Source.{ReadsOnly};
-ghost use Rattle.binfarce_sections.specs.Lines.{section_line, section_object, section_row, line_head, name_text};
+ghost use Rattle.binfarce_sections.specs.Lines.{section_line, section_object, section_row, line_head, name_text, type_member};
 ghost use Rattle.binfarce_tools.specs.Json.{lines, style_of};
 ghost use Rattle.binfarce_sections.specs.Parts.{section_parts_of};
 ghost use Rattle.binfarce_sections.specs.Section.{sections_of};
@@ -15,6 +15,7 @@ ghost use Rattle.binfarce_sections.specs.declared.error.SectionError.TheVariants
 ghost use Rattle.binfarce_sections.specs.machine.Listed.{Lists};
 
 use crate::error::SectionError;
+use crate::kinds::SectionType;
 use crate::sections::{Section, Sections, sections_of};
 use crate::tables::read;
 use binfarce::ParseError;
@@ -51,7 +52,8 @@ pub fn list_sections<S: Sink>(alloc: Global, file: &[u8], out: &mut S) -> Result
 }
 
 /// As `list_sections`, from a source, in either form; an object has the members `file`, `segment`, `section`,
-/// `address`, `offset` and `size`, and `null` for a name that isn't there. Of the source only these bytes are read: the
+/// `address`, `offset`, `size`, `type` (its name, or its number where it has none) and `flags`, and `null` for a name
+/// or a type that isn't there. Of the source only these bytes are read: the
 /// first 8 bytes, and those that `read_sections` of `binfarce_tables` reads of a file of that format.
 ///
 /// # Errors
@@ -136,8 +138,21 @@ fn push_object(text: &mut String, file: &str, section: Section<'_>) -> Result<()
     push_address_member(text, section.address)?;
     push_number_member(text, "offset", section.offset)?;
     push_number_member(text, "size", section.size)?;
+    push_type_member(text, section.kind)?;
+    push_number_member(text, "flags", section.flags)?;
     text.push_str("}\n")?;
     Ok(())
+}
+
+/// Appends the member `type`, after a comma: the type's name, or where it has none its number; `null` in PE.
+pub(crate) fn push_type_member(text: &mut String, kind: SectionType) -> Result<(), AllocError>
+    ensures { OnOk result (string_bytes text.new ≡ string_bytes text.old ++ type_member kind) }
+{
+    match (kind.name(), kind.number()) {
+        (Some(name), _) => push_text_member(text, "type", Some(name)),
+        (None, Some(number)) => push_number_member(text, "type", u64::from(number)),
+        (None, None) => push_text_member(text, "type", None),
+    }
 }
 
 // Appends the line of a section to the text.
@@ -159,7 +174,11 @@ fn push_head(text: &mut String, address: u64, offset: u64, size: u64) -> Result<
 }
 
 // Writes a section's name, in Mach-O after its segment's.
-fn push_name(text: &mut String, segment: Option<&str>, name: Option<&str>) -> Result<(), AllocError>
+pub(crate) fn push_name(
+    text: &mut String,
+    segment: Option<&str>,
+    name: Option<&str>,
+) -> Result<(), AllocError>
     ensures { OnOk result
         (string_bytes text.new
         ≡ string_bytes text.old

@@ -1,0 +1,6 @@
+use Rattle.binfarce_sections.proofs.Shares.{Shared}
+use Rattle.binfarce_sections.proofs.sums.shares_of.Given as goal
+
+-- the sections so far have their shares, up to the end
+abbrev pub invariant-loop-section : goal.invariant-loop-section
+invariant-loop-section l = Shared l.fn.file_length l.sections l.shares.items l.section-index l.end

@@ -1,12 +1,17 @@
 -- The lines of addresses, one after the other.
-use Rattle.std.proofs.Common.{◌≡◌, inl, inr, ℕ, ◌+◌, ◌-◌, false, ◌<◌, List, [], ◌∷◌, ◌++◌, length, get_or, take, Option, Some, None, Result, Ok, Err, refl, sym, ap, subst, ◌∙◌, append-nil, append_assoc}
+use Rattle.std.proofs.Common.{◌≡◌, inl, inr, ℕ, ◌+◌, ◌-◌, Bool, false, ◌<◌, List, [], ◌∷◌, ◌++◌, length, get_or, take, Option, Some, None, Result, Ok, Err, refl, sym, ap, subst, ◌∙◌, append-nil, append_assoc}
 use Rattle.std.specs.List.{AllZip, concat}
-use Rattle.std.proofs.lemmas.List.{take_more}
+use Rattle.std.proofs.lemmas.List.{map-append, take_more}
+use Rattle.std.specs.Option.{option_map}
+use Rattle.binfarce_addresses.specs.Counts.{AreCountsOf, answers_at, answers_to, is_held}
+use Rattle.binfarce_addresses.specs.declared.counts.Counts.{Counts}
+use Rattle.binfarce_addresses.specs.machine.Counting.{AddsUp}
+use Rattle.binfarce_addresses.proofs.Counting.{adds_both}
 use Rattle.std.proofs.lemmas.List.Folds.{concat-append}
 use Rattle.std.specs.Bool.{if◌then◌else◌}
 use Rattle.std.specs.Result.{IsErrAnd, OnOk, is_ok}
 use Rattle.std.specs.Fmt.{digits}
-use Rattle.std.specs.Prelude.{codes}
+use Rattle.std.specs.Prelude.{codes, IfOk}
 use Rattle.binfarce.specs.Named.{IsShown}
 use Rattle.binfarce.specs.Refusal.{Refusal}
 use Rattle.binfarce_tools.specs.Json as json
@@ -16,12 +21,13 @@ use Rattle.binfarce.specs.Symbol.{Entry}
 use Rattle.binfarce_tools.specs.Answer.{entries_of}
 use Rattle.binfarce_tools.specs.declared.list.ListError.{ListError}
 use Rattle.binfarce_tools.specs.declared.list.ListError.TheVariants.{Unknown, Parse, OutOfMemory, Write}
-use Rattle.binfarce_tools.specs.ListWords.{Writes, outcome_of}
+use Rattle.binfarce_tools.specs.ListWords as list
+use Rattle.binfarce_tools.specs.ListWords.{Writes}
 use Rattle.binfarce_tools.specs.Writing.{Outcome, EndsAs, Takes}
-use Rattle.binfarce_tools.proofs.Lines.{takes_nothing}
+use Rattle.binfarce_tools.proofs.Lines.{nothing, takes}
 use Rattle.binfarce_addresses.specs.Lookup.{found_at}
 use Rattle.binfarce_addresses.specs.declared.lookup.Lookup.{Lookup}
-use Rattle.binfarce_addresses.specs.Lines.{IsTextOf, address_line, IsLineAt, IsLineIn, AreLinesOf, AreLinesAt}
+use Rattle.binfarce_addresses.specs.Lines.{IsTextOf, address_line, IsLineAt, IsLineIn, AreLinesOf, AreLinesAt, outcome_of}
 use Rattle.binfarce_addresses.specs.PlacesViews.{IsMadeOf}
 use Rattle.binfarce_addresses.specs.Stream.{AreAnswersOf, IsAnswerOf}
 
@@ -42,6 +48,22 @@ one_line entries lookup addresses i line text new lt are is grown =
     subst P (sym (take_more addresses i 0 lt))
     (are.0 ++ line ∷ [], all_zip_both (IsLineAt entries lookup) (take i addresses) (get_or addresses i 0 ∷ []) are.0 (line ∷ []) are.1 (is, tt), grown ∙ ap (λ (xs : List ℕ). xs ++ line) are.2 ∙ sym (concat_push are.0 line))
 
+-- one address more is counted
+pub one_counted : (entries : List Entry) (lookup : Lookup) (addresses : List ℕ) (i : ℕ) (held : Bool) (old new : Counts) → i < length addresses → AreCountsOf (answers_at entries lookup (take i addresses)) old → held ≡ is_held entries lookup (get_or addresses i 0) → AddsUp old new (Some held ∷ [])
+    → AreCountsOf (answers_at entries lookup (take (i + 1) addresses)) new
+one_counted entries lookup addresses i held old new lt are is adds =
+    let P : List (Option Bool) → Type 0 = λ xs. AreCountsOf xs new in
+    subst P (ap (λ (b : Bool). answers_at entries lookup (take i addresses) ++ Some b ∷ []) is ∙ sym (map-append (λ (a : ℕ). Some (is_held entries lookup a)) (take i addresses) (get_or addresses i 0 ∷ []))
+    ∙ ap (answers_at entries lookup) (sym (take_more addresses i 0 lt))) (adds (answers_at entries lookup (take i addresses)) are)
+
+-- and one line more
+pub one_line_counted : (entries : List Entry) (lookup : Lookup) (addresses : List (Option ℕ)) (i : ℕ) (answer : Option Bool) (first old new : Counts) → i < length addresses → AddsUp first old (answers_to entries lookup (take i addresses))
+    → answer ≡ option_map (is_held entries lookup) (get_or addresses i None) → AddsUp old new (answer ∷ []) → AddsUp first new (answers_to entries lookup (take (i + 1) addresses))
+one_line_counted entries lookup addresses i answer first old new lt are is adds =
+    let P : List (Option Bool) → Type 0 = λ xs. AddsUp first new xs in
+    subst P (ap (λ (b : Option Bool). answers_to entries lookup (take i addresses) ++ b ∷ []) is ∙ sym (map-append (option_map (is_held entries lookup)) (take i addresses) (get_or addresses i None ∷ []))
+    ∙ ap (answers_to entries lookup) (sym (take_more addresses i None lt))) (adds_both first old new (answers_to entries lookup (take i addresses)) (answer ∷ []) are adds)
+
 -- the answers of lines follow a text
 abbrev pub AreBehind : List Entry → Lookup → List (Option ℕ) → List ℕ → List ℕ → Type 0
 AreBehind entries lookup addresses old new = (answers : List ℕ) × AreAnswersOf entries lookup addresses answers × (new ≡ old ++ answers)
@@ -61,15 +83,46 @@ one_behind entries lookup addresses i address answer old mid new lt are here is 
     )
 
 -- how the writing of the lines of what a file lists ended
-pub outcome : (memory : Result SelectedSymbols Refusal → Type 0) (listed : SelectedSymbols) (text : List ℕ) (old new : Option (List ℕ)) (result : Result (Unit {0}) ListError) → Writes old new text result → EndsAs ListingFits memory (Some (Ok listed)) (outcome_of result)
+pub outcome : (memory : Result SelectedSymbols Refusal → Type 0) (listed : SelectedSymbols) (text : List ℕ) (old new : Option (List ℕ)) (result : Result (Unit {0}) ListError) → Writes old new text result → EndsAs ListingFits memory (Some (Ok listed)) (list.outcome_of result)
 outcome memory listed text old new (Ok x) wrote = inr (inl (tt, inl refl))
 outcome memory listed text old new (Err Write) wrote = inr (inl (tt, inr refl))
 outcome memory listed text old new (Err Unknown) wrote = let e = wrote.0 in absurd cc
 outcome memory listed text old new (Err (Parse p)) wrote = let e = wrote.0 in absurd cc
 outcome memory listed text old new (Err OutOfMemory) wrote = let e = wrote.0 in absurd cc
 
+-- so where a write failed
+pub err_outcome : (memory : Result SelectedSymbols Refusal → Type 0) (listed : SelectedSymbols) (text : List ℕ) (old new : Option (List ℕ)) (e : ListError) (result : Result Counts ListError) → Writes old new text (Err e) → IsErrAnd result (λ x. x ≡ e) → EndsAs ListingFits memory (Some (Ok listed)) (outcome_of result)
+err_outcome memory listed text old new e (Ok x) wrote is = absurd is
+err_outcome memory listed text old new e (Err x) wrote is =
+    let P : ListError → Type 0 = λ e. EndsAs ListingFits memory (Some (Ok listed)) (outcome_of (Err e)) in subst P (sym is) (outcome memory listed text old new (Err e) wrote)
+
+pub err_takes : (lookup : Lookup) (addresses : List ℕ) (listed : SelectedSymbols) (text : List ℕ) (old new : Option (List ℕ)) (e : ListError) (result : Result Counts ListError) → AreLinesAt lookup addresses listed text → Writes old new text (Err e) → IsErrAnd result (λ x. x ≡ e)
+    → Takes (AreLinesAt lookup addresses) (Some (Ok listed)) old new (outcome_of result)
+err_takes lookup addresses listed text old new e (Ok x) are wrote is = absurd is
+err_takes lookup addresses listed text old new e (Err x) are wrote is =
+    let P : ListError → Type 0 = λ e. Takes (AreLinesAt lookup addresses) (Some (Ok listed)) old new (outcome_of (Err e)) in
+    subst P (sym is) (takes (AreLinesAt lookup addresses) (λ (l : SelectedSymbols) (entries : List Entry). entries ≡ entries_of l) (λ _. ⊥) (Some (Ok listed)) (entries_of listed) text old new (Err e) refl
+    (λ all answer same. let P : SelectedSymbols → Type 0 = λ l. AreLinesAt lookup addresses l text in all_of listed all answer P are) wrote)
+  where
+    all_of : (listed all : SelectedSymbols) → Path (Option (Result SelectedSymbols Refusal)) (Some (Ok listed)) (Some (Ok all)) → (P : SelectedSymbols → Type 0) → P listed → P all
+    all_of listed all same P is = subst P (ok_of same) is
+      where
+        ok_or_this : Option (Result SelectedSymbols Refusal) → SelectedSymbols
+        ok_or_this (Some (Ok x)) = x
+        ok_or_this (Some (Err e)) = listed
+        ok_or_this None = listed
+
+        ok_of : Path (Option (Result SelectedSymbols Refusal)) (Some (Ok listed)) (Some (Ok all)) → listed ≡ all
+        ok_of same = ap ok_or_this same
+
+-- none is taken where an allocation failed
+pub takes_none : (lookup : Lookup) (addresses : List ℕ) (listed : SelectedSymbols) (old : Option (List ℕ)) (result : Result Counts ListError) → IsErrAnd result (λ e. e ≡ OutOfMemory) → Takes (AreLinesAt lookup addresses) (Some (Ok listed)) old old (outcome_of result)
+takes_none lookup addresses listed old (Ok x) is = absurd is
+takes_none lookup addresses listed old (Err e) is =
+    let P : ListError → Type 0 = λ e. Takes (AreLinesAt lookup addresses) (Some (Ok listed)) old old (outcome_of (Err e)) in subst P (sym is) (nothing old)
+
 -- so where an allocation failed
-pub no_memory : (memory : Result SelectedSymbols Refusal → Type 0) (listed : SelectedSymbols) (result : Result (Unit {0}) ListError) → IsErrAnd result (λ e. e ≡ OutOfMemory) → EndsAs ListingFits memory (Some (Ok listed)) (outcome_of result)
+pub no_memory : (memory : Result SelectedSymbols Refusal → Type 0) (listed : SelectedSymbols) (result : Result Counts ListError) → IsErrAnd result (λ e. e ≡ OutOfMemory) → EndsAs ListingFits memory (Some (Ok listed)) (outcome_of result)
 no_memory memory listed (Ok x) is = absurd is
 no_memory memory listed (Err e) is =
     let P : ListError → Type 0 = λ e. EndsAs ListingFits memory (Some (Ok listed)) (outcome_of (Err e)) in subst P (sym is) (inl refl)
@@ -86,6 +139,19 @@ pub takes_of : (memory : Result SelectedSymbols Refusal → Type 0) (answer : Op
 takes_of memory None entries lookup addresses old new o made takes = absurd made
 takes_of memory (Some (Err refusal)) entries lookup addresses old new o made takes = absurd made
 takes_of memory (Some (Ok listed)) entries lookup addresses old new o made takes = takes listed made
+
+-- so are the counts
+pub counts_of : (memory : Result SelectedSymbols Refusal → Type 0) (answer : Option (Result SelectedSymbols Refusal)) (entries : List Entry) (listed : SelectedSymbols) (lookup : Lookup) (addresses : List ℕ) (counts : Counts) → IsMadeOf memory answer (Ok entries) → answer ≡ Some (Ok listed)
+    → AreCountsOf (answers_at entries lookup addresses) counts → AreCountsOf (answers_at (entries_of listed) lookup addresses) counts
+counts_of memory answer entries listed lookup addresses counts made is are =
+    let same : entries ≡ entries_of listed = subst (λ (a : Option (Result SelectedSymbols Refusal)). IsMadeOf memory a (Ok entries)) is made in
+    subst (λ (es : List Entry). AreCountsOf (answers_at es lookup addresses) counts) same are
+
+-- where it is answered
+pub if_counts_of : (memory : Result SelectedSymbols Refusal → Type 0) (answer : Option (Result SelectedSymbols Refusal)) (entries : List Entry) (listed : SelectedSymbols) (lookup : Lookup) (addresses : List ℕ) (result : Result Counts ListError) → IsMadeOf memory answer (Ok entries) → answer ≡ Some (Ok listed)
+    → IfOk result (AreCountsOf (answers_at entries lookup addresses)) → IfOk result (AreCountsOf (answers_at (entries_of listed) lookup addresses))
+if_counts_of memory answer entries listed lookup addresses (Ok counts) made is are = counts_of memory answer entries listed lookup addresses counts made is are
+if_counts_of memory answer entries listed lookup addresses (Err e) made is are = tt
 
 regroup : (t a b n p d e : List ℕ) → ((t ++ (a ++ b)) ++ n) ++ (p ++ (d ++ e)) ≡ t ++ (a ++ (b ++ ((n ++ (p ++ d)) ++ e)))
 regroup t a b n p d e = simp append_assoc
@@ -118,4 +184,4 @@ pub added : {E : Type 0} (r : Result (Unit {0}) E) (new more old : List ℕ) →
 added (Ok x) new more old is = is
 added (Err e) new more old is = tt
 
-pub ruleset endings = (no_memory, outcome, takes_nothing)
+pub ruleset endings = (no_memory, takes_none)

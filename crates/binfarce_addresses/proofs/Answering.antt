@@ -5,18 +5,34 @@ use Rattle.std.specs.List.{AllZip, concat}
 use Rattle.std.proofs.lemmas.Bool.{eqb-true}
 use Rattle.std.proofs.lemmas.List.Elements.{All-append, All-head, All-tail}
 use Rattle.std.proofs.lemmas.List.Folds.{concat-append}
-use Rattle.std.proofs.lemmas.List.Sums.{sum_by-append}
+use Rattle.std.specs.Option.{option_map}
+use Rattle.std.proofs.lemmas.List.{map-append}
 use Rattle.binfarce.specs.Symbol.{Entry}
-use Rattle.binfarce_addresses.specs.Stream.{line_address, missing, with_line_feeds, AnswersAll, AnswersSome, AnswersWhole, AreAnswersOf, Begins, HasNoLineFeed, IsAnswerOf, Writes}
-use Rattle.binfarce_addresses.specs.machine.Answering.{Answers, AnswersPart, HasAnswered, Holds, IsDone, IsKeptOf, MayBreakOff}
+use Rattle.binfarce_addresses.specs.Answered.{AnswersOf}
+use Rattle.binfarce_addresses.specs.Counts.{AreCountsOf, answers_to, is_held}
+use Rattle.binfarce_addresses.specs.declared.counts.Counts.{Counts}
+use Rattle.binfarce_addresses.specs.machine.Counting.{AddsUp}
+use Rattle.binfarce_addresses.specs.Stream.{line_address, with_line_feeds, AnswersAll, AnswersSome, AnswersWhole, AreAnswersOf, Begins, HasNoLineFeed, IsAnswerOf, Writes}
+use Rattle.binfarce_addresses.specs.machine.Answering.{Answers, AnswersLines, AnswersPart, HasAnswered, Holds, IsDone, IsKeptOf, MayBreakOff}
 use Rattle.binfarce_addresses.proofs.AddressLines.{all_zip_both}
 use Rattle.binfarce_addresses.proofs.Streams.{begins_both}
 use Rattle.binfarce_addresses.proofs.Trimmed.{is_some}
 use Rattle.binfarce_addresses.specs.declared.stream.Lines.{Lines}
 use Rattle.binfarce_addresses.specs.declared.lookup.Lookup.{Lookup}
 
-missing_both : (first second : List (Option ℕ)) → missing (first ++ second) ≡ missing first + missing second
-missing_both first second = sum_by-append (λ (x : Option ℕ). cond (is_none x) 1 0) first second
+-- the answers to these addresses and those are counted
+counted_both : (entries : List Entry) (lookup : Lookup) (first second : List (Option ℕ)) (before after : Counts) → AreCountsOf (answers_to entries lookup first) before → AddsUp before after (answers_to entries lookup second)
+    → AreCountsOf (answers_to entries lookup (first ++ second)) after
+counted_both entries lookup first second before after are adds =
+    subst (λ (x : List (Option Bool)). AreCountsOf x after) (sym (map-append (option_map (is_held entries lookup)) first second)) (adds (answers_to entries lookup first) are)
+
+-- the answers of whole lines, counted from the first on
+pub answers_of_lines : (entries : List Entry) (lookup : Lookup) (s : List Entry × Lookup) (text old new : List ℕ) (begun after : Counts) (len : ℕ) → Path (List Entry × Lookup) s (entries, lookup) → AreCountsOf [] begun → AnswersLines s.0 s.1 text old new begun after len
+    → AnswersOf entries lookup text old new (record { len = len; counts = after })
+answers_of_lines entries lookup s text old new begun after len same none is =
+    let P : List Entry × Lookup → Type 0 = λ t. AnswersLines t.0 t.1 text old new begun after len in
+    let a : AnswersLines entries lookup text old new begun after len = subst P same is in
+    record { within = a.are.within; addresses = a.addresses; begins = a.are.begins; part = a.are.part; answers = a.answers; are = a.answer; written = a.written; counts = a.counts [] none }
 
 -- more comes
 begins_more : (text : List ℕ) (addresses : List (Option ℕ)) (left part : List ℕ) → Begins text addresses left → Begins (text ++ part) addresses (left ++ part)
@@ -136,26 +152,25 @@ not_unread line rest begins none = by begins.lines begins.each begins.are
     by (first ∷ lines) each are = each
 
 -- no line is answered yet
-pub none_answered : (entries : List Entry) (lookup : Lookup) (kept : List ℕ) (count : ℕ) → kept ≡ [] → count ≡ 0 → HasAnswered entries lookup kept count [] []
-none_answered entries lookup kept count empty zero = record {
+pub none_answered : (entries : List Entry) (lookup : Lookup) (kept : List ℕ) (counts : Counts) → kept ≡ [] → AreCountsOf [] counts → HasAnswered entries lookup kept counts [] []
+none_answered entries lookup kept counts empty none = record {
   rest = [];
   addresses = [];
   is_kept = subst (IsKeptOf []) (sym empty) (kept_same []);
   begins = begins_none [];
   part = λ k d lt. absurd (omega arith);
   are = ([], tt, refl);
-  counts = omega (arith, zero);
+  counted = none;
 }
 
 pub some_answered : (entries : List Entry) (lookup : Lookup) → AnswersSome entries lookup [] []
 some_answered entries lookup = ([], [], [], inl (begins_none []), ([], tt, refl))
 
-module _ (entries : List Entry) (lookup : Lookup) (kept : List ℕ) (count : ℕ) (text made : List ℕ) (has : HasAnswered entries lookup kept count text made) where
+module _ (entries : List Entry) (lookup : Lookup) (kept : List ℕ) (counts : Counts) (text made : List ℕ) (has : HasAnswered entries lookup kept counts text made) where
   -- one part after another
-  part_answered : (part next : List ℕ) (sum : ℕ) (more : List ℕ) → AnswersPart entries lookup kept part next count sum more → HasAnswered entries lookup next sum (text ++ part) (made ++ more)
+  part_answered : (part next : List ℕ) (sum : Counts) (more : List ℕ) → AnswersPart entries lookup kept part next counts sum more → HasAnswered entries lookup next sum (text ++ part) (made ++ more)
   part_answered part next sum more is =
       let behind = behind_kept has.rest kept part is.addresses is.rest has.is_kept has.part is.begins in
-      let sums = missing_both has.addresses is.addresses in
       record {
         rest = behind.0;
         addresses = has.addresses ++ is.addresses;
@@ -163,57 +178,56 @@ module _ (entries : List Entry) (lookup : Lookup) (kept : List ℕ) (count : ℕ
         begins = begins_both (text ++ part) has.addresses (has.rest ++ part) is.addresses behind.0 (begins_more text has.addresses has.rest part has.begins) behind.2;
         part = behind.3 is.feedless;
         are = answers_both entries lookup has.addresses is.addresses made more has.are is.are;
-        counts = omega (arith, is.counts, has.counts, sums);
+        counted = counted_both entries lookup has.addresses is.addresses counts sum has.counted is.counted;
       }
     where
       kept_on : (a b c : List ℕ) → IsKeptOf a b → IsKeptOf b c → IsKeptOf a c
       kept_on a b c x y = record { same = λ m. y.same m ∙ x.same m; part = λ none. y.part (x.part none); none = λ empty. x.none (y.none empty); some = λ empty. y.some (x.some empty) }
 
   -- the last line is answered as if its line feed had come
-  last_answered : (next : List ℕ) (sum : ℕ) (more : List ℕ) → kept ≢ [] → AnswersPart entries lookup kept (10 ∷ []) next count sum more → AnswersAll entries lookup sum text (made ++ more)
+  last_answered : (next : List ℕ) (sum : Counts) (more : List ℕ) → kept ≢ [] → AnswersPart entries lookup kept (10 ∷ []) next counts sum more → AnswersAll entries lookup sum text (made ++ more)
   last_answered next sum more some is =
       let behind = behind_kept has.rest kept (10 ∷ []) is.addresses is.rest has.is_kept has.part is.begins in
-      let sums = missing_both has.addresses is.addresses in
       elim (last_line has.rest is.addresses behind.0 has.part behind.2) [
         | inl none ↦ absurd (not_unread has.rest behind.0 (subst (λ (xs : List (Option ℕ)). Begins (has.rest ++ 10 ∷ []) xs behind.0) none behind.2) (behind.3 is.feedless))
         | inr one ↦ (
           has.addresses ++ is.addresses,
           inr ((has.addresses, has.rest, has.begins, has.part, (λ empty. some (has.is_kept.some empty)), ap (λ (xs : List (Option ℕ)). has.addresses ++ xs) one), refl),
           answers_both entries lookup has.addresses is.addresses made more has.are is.are,
-          omega (arith, is.counts, has.counts, sums),
+          counted_both entries lookup has.addresses is.addresses counts sum has.counted is.counted,
         )
       ]
 
   -- there is none
-  no_last : kept ≡ [] → AnswersAll entries lookup count text made
-  no_last empty = (has.addresses, inl (subst (λ (xs : List ℕ). Begins text has.addresses xs) (has.is_kept.none empty) has.begins), has.are, has.counts)
+  no_last : kept ≡ [] → AnswersAll entries lookup counts text made
+  no_last empty = (has.addresses, inl (subst (λ (xs : List ℕ). Begins text has.addresses xs) (has.is_kept.none empty) has.begins), has.are, has.counted)
 
   -- or it is cut
   cut_last : AnswersWhole entries lookup text made
   cut_last = (has.addresses, has.rest, has.begins, has.part, has.are)
 
 module _ (first old new : Lines) (part more : List ℕ) (pushed : Answers old new part more) (text made : List ℕ) (holds : Holds first old text made) where
-  here : AnswersPart first.names.0 first.names.1 old.line.items part new.line.items old.missing new.missing more
-  here = let P : List Entry × Lookup → Type 0 = λ s. AnswersPart s.0 s.1 old.line.items part new.line.items old.missing new.missing more in subst P holds.0 pushed.1
+  here : AnswersPart first.names.0 first.names.1 old.line.items part new.line.items old.counts new.counts more
+  here = let P : List Entry × Lookup → Type 0 = λ s. AnswersPart s.0 s.1 old.line.items part new.line.items old.counts new.counts more in subst P holds.0 pushed.1
 
   -- the next part is answered
   pub goes_on : Holds first new (text ++ part) (made ++ more)
-  goes_on = (pushed.0 ∙ holds.0, part_answered first.names.0 first.names.1 old.line.items old.missing text made holds.1 part new.line.items new.missing more here)
+  goes_on = (pushed.0 ∙ holds.0, part_answered first.names.0 first.names.1 old.line.items old.counts text made holds.1 part new.line.items new.counts more here)
 
   -- all lines are
   pub ends : part ≡ 10 ∷ [] → (ended : Bool) → ended ≡ true → old.line.items ≢ [] → IsDone first new ended text (made ++ more)
   ends is false cut some = absurd cc
   ends is true cut some =
-      last_answered first.names.0 first.names.1 old.line.items old.missing text made holds.1 new.line.items new.missing more some
-      (subst (λ x. AnswersPart first.names.0 first.names.1 old.line.items x new.line.items old.missing new.missing more) is here)
+      last_answered first.names.0 first.names.1 old.line.items old.counts text made holds.1 new.line.items new.counts more some
+      (subst (λ x. AnswersPart first.names.0 first.names.1 old.line.items x new.line.items old.counts new.counts more) is here)
 
 -- no line is left, or it is cut
 pub ends_none : (first now : Lines) (ended : Bool) (text made : List ℕ) → (ended ≡ true → now.line.items ≡ []) → Holds first now text made → IsDone first now ended text (made ++ [])
 ends_none first now ended text made none holds = subst (IsDone first now ended text) (sym (append-nil made)) (by ended none)
   where
     by : (ended : Bool) → (ended ≡ true → now.line.items ≡ []) → IsDone first now ended text made
-    by true none = no_last first.names.0 first.names.1 now.line.items now.missing text made holds.1 (none refl)
-    by false none = cut_last first.names.0 first.names.1 now.line.items now.missing text made holds.1
+    by true none = no_last first.names.0 first.names.1 now.line.items now.counts text made holds.1 (none refl)
+    by false none = cut_last first.names.0 first.names.1 now.line.items now.counts text made holds.1
 
 -- the output may break off after what was made
 pub breaks_off : (first now : Lines) (text part made others : List ℕ) → Holds first now text (made ++ others) → MayBreakOff first (text ++ part) made

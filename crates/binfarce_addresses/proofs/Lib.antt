@@ -1,10 +1,12 @@
 pub mod Numbers
+pub mod Counting
 pub mod Objects
 pub mod Shown
 pub mod AddressLines
 pub mod Trimmed
 pub mod Streams
 pub mod Answering
+pub mod Among
 pub mod Annotating
 pub mod Outputs
 pub mod Rows

@@ -1,5 +1,5 @@
 -- The range that is found at an address is that of the entry that the address symbolizes to.
-use Rattle.std.proofs.Common.{◌≡◌, ℕ, zero, suc, ◌-◌, ◌^◌, ◌<◌, ◌≤◌, ◌⊎◌, inl, inr, Bool, true, false, cond, List, [], ◌∷◌, map, filter, length, get_or, Option, Some, None, MatchOption, refl, sym, ap, subst, ◌∙◌, arith}
+use Rattle.std.proofs.Common.{◌≡◌, ℕ, zero, suc, ◌-◌, ◌^◌, ◌<◌, ◌≤◌, ◌⊎◌, inl, inr, Bool, true, false, cond, List, [], ◌∷◌, map, filter, length, get_or, Option, Some, None, MatchOption, is_some, refl, sym, ap, subst, ◌∙◌, arith}
 use Rattle.std.proofs.lemmas.Bool.Decides.{nat_tests}
 use Rattle.std.specs.Option.{option_map, option_or}
 use Rattle.std.proofs.lemmas.List.{get_or_default, get_or-map, length-map}
@@ -12,7 +12,9 @@ use Rattle.binfarce_addresses.specs.Range.{AreSpansOf, Holds, IsSpanAt, NoneHold
 use Rattle.binfarce.specs.Found.{holds, higher_of, highest, entry_at}
 use Rattle.binfarce_addresses.specs.Lookup.{entry_for, found_in}
 use Rattle.binfarce_addresses.specs.declared.ranges.Span.{Span}
-use Rattle.binfarce_addresses.specs.machine.Places.{range_of, ranges_of, IsAtPlace, IsFoundIn, IsPlaceFor}
+use Rattle.binfarce_addresses.specs.Counts.{is_held}
+use Rattle.binfarce_addresses.specs.declared.lookup.Lookup.{Lookup}
+use Rattle.binfarce_addresses.specs.machine.Places.{range_of, ranges_of, IsAtPlace, IsFoundFor, IsFoundIn, IsPlaceFor}
 
 -- the test says whether the range holds the address
 held : (address : ℕ) (entry : Entry) → Holds (range_of entry) address → holds address entry ≡ true
@@ -142,6 +144,12 @@ module _ (functions : List FunctionSymbol) (spans : List Span) (entries : List E
 
   pub place_is : IsPlaceFor entries (entry_at entries address) place
   place_is = placed place found
+
+-- whether something is found, is whether a function symbol holds the address
+pub found_held : (entries : List Entry) (lookup : Lookup) (address : Option ℕ) (found : Option (ℕ × ℕ)) → IsFoundFor entries lookup address found → option_map (λ (a : ℕ). is_some found) address ≡ option_map (is_held entries lookup) address
+found_held entries lookup None here is = refl
+found_held entries lookup (Some a) None is = ap (λ (x : Option (Entry × ℕ)). Some (is_some x)) (sym is)
+found_held entries lookup (Some a) (Some f) (entry, is, at) = ap (λ (x : Option (Entry × ℕ)). Some (is_some x)) (sym is)
 
 -- a place has one entry
 pub same_entry : (entries : List Entry) (place : ℕ) (entry other : Entry) → IsAtPlace entries place entry → IsAtPlace entries place other → entry ≡ other

@@ -1,13 +1,10 @@
 -- The lines of a text, answered one after the other.
 use Rattle.std.proofs.Common.{◌≡◌, ◌≢◌, Bool, true, false, ℕ, ◌+◌, ◌-◌, ◌<◌, ◌≤◌, add-one, drop-cons, List, [], ◌∷◌, ◌++◌, length, drop, take, get_or, Option, Some, None, Result, Ok, Err, refl, sym, ap, subst, ◌∙◌, arith, append-nil, append_assoc, length-append}
-use Rattle.std.specs.Prelude.{is_none, is_some, not, cond}
-use Rattle.std.specs.Int.{from_bool}
 use Rattle.std.proofs.Math.Seq.{drop-append-add}
 use Rattle.std.proofs.lemmas.List.{drop-drop, take_all, length-drop, length-take-le, get_or-take, take-append-drop}
 use Rattle.std.proofs.lemmas.List.Elements.{All-from_get_or}
-use Rattle.std.proofs.lemmas.List.Sums.{sum_by_push}
 use Rattle.std.proofs.lemmas.Grind.{flat_map-append}
-use Rattle.binfarce_addresses.specs.Stream.{line_address, missing, with_line_feeds, Begins, HasNoLineFeed, Writes}
+use Rattle.binfarce_addresses.specs.Stream.{line_address, with_line_feeds, Begins, HasNoLineFeed, Writes}
 use Rattle.std.proofs.KnownBytes.{Appends-nil, Consumes-nil}
 use Rattle.std.specs.Result.{IsErrAnd}
 use Rattle.binfarce_text.specs.Streams.{Streams}
@@ -37,11 +34,9 @@ line_before bytes i lt is before = (
     rest i lt is = rw (add-one, drop-cons bytes i 0, is) refl
 
 -- the lines of a text up to a place write these addresses
-pub record ReadTo (bytes : List ℕ) (addresses : List (Option ℕ)) (len count : ℕ) : Type 0 where
+pub record ReadTo (bytes : List ℕ) (addresses : List (Option ℕ)) (len : ℕ) : Type 0 where
   pub within : len ≤ length bytes
-  pub few : count ≤ len
   pub begins : Begins bytes addresses (drop len bytes)
-  pub counts : count ≡ missing addresses
 
 -- what is left of a text is read further
 pub begins_both : (text : List ℕ) (first : List (Option ℕ)) (left : List ℕ) (second : List (Option ℕ)) (rest : List ℕ) → Begins text first left → Begins left second rest → Begins text (first ++ second) rest
@@ -67,28 +62,15 @@ one_more bytes addresses line others len address begins is writes =
     one_feed l o = simp (append_assoc, append-nil)
 
 -- the first line of what is left is read
-pub line_read : (bytes line : List ℕ) (addresses new : List (Option ℕ)) (len count next : ℕ) (address : Option ℕ) → ReadTo bytes addresses len count
+pub line_read : (bytes line : List ℕ) (addresses new : List (Option ℕ)) (len : ℕ) (address : Option ℕ) → ReadTo bytes addresses len
     → HasNoLineFeed line × ((others : List ℕ) × (take (length bytes - len) (drop len bytes) ≡ line ++ 10 ∷ others)) → line_address line ≡ address
-    → new ≡ addresses ++ address ∷ [] → next ≡ count + cond (is_none address) 1 0 → ReadTo bytes new (len + (length line + 1)) next
-line_read bytes line addresses new len count next address so_far first writes grown counted =
+    → new ≡ addresses ++ address ∷ [] → ReadTo bytes new (len + (length line + 1))
+line_read bytes line addresses new len address so_far first writes grown =
     let is : drop len bytes ≡ line ++ 10 ∷ first.1.0 = sym (left_of bytes len) ∙ first.1.1 in
-    subst (λ (xs : List (Option ℕ)). ReadTo bytes xs (len + (length line + 1)) next) (sym grown) (record {
+    subst (λ (xs : List (Option ℕ)). ReadTo bytes xs (len + (length line + 1))) (sym grown) (record {
       within = line_within bytes line first.1.0 len so_far.within is;
-      few = omega (arith, so_far.few, counted, one (is_none address));
       begins = one_more bytes addresses line first.1.0 len address so_far.begins is (first.0, writes);
-      counts = counted ∙ ap (λ n. n + cond (is_none address) 1 0) so_far.counts ∙ sym (sum_by_push (λ (x : Option ℕ). cond (is_none x) 1 0) addresses address);
     })
-  where
-    one : (b : Bool) → cond b 1 0 ≤ 1
-    one true = omega arith
-    one false = omega arith
-
--- an address is missing, or not
-pub is_missing : (address : Option ℕ) (none : Bool) (count : ℕ) → is_some address ≡ not none → count ≡ from_bool none → count ≡ cond (is_none address) 1 0
-is_missing None true count is counted = counted
-is_missing None false count is counted = absurd cc
-is_missing (Some address) true count is counted = absurd cc
-is_missing (Some address) false count is counted = counted
 
 -- no memory sufficed for a first step
 pub stopped : {T : Type 0} (All : T → List ℕ → List ℕ → Type 0) (Whole Begun : List ℕ → List ℕ → Type 0) (given old : Option (List ℕ)) (result : Result T StreamError) → Begun [] [] → IsErrAnd result (λ e. e ≡ OutOfMemory) → Streams All Whole Begun given given old old result

@@ -1,56 +1,107 @@
--- A text in which each address is followed by its symbol.
-use Rattle.std.specs.Prelude.{◌≡◌, ◌<◌, ℕ, ◌+◌, List, [], ◌∷◌, ◌++◌, codes, drop, take, Option, Some, None, Result, if◌then◌else◌}
+-- A text in which each address is followed by its symbol, by the function symbols of some files.
+use Rattle.std.specs.Prelude.{◌≡◌, ◌<◌, ℕ, ◌+◌, Bool, List, [], ◌∷◌, ◌++◌, codes, drop, take, flat_map, map, Option, Some, None, is_some, unwrap_or, Result, if◌then◌else◌}
+use Rattle.std.specs.Option.{option_or}
 use Rattle.binfarce.specs.Symbol.{Entry}
 use Rattle.binfarce_addresses.specs.Address.{address_of}
+use Rattle.binfarce_addresses.specs.Counts.{AreCountsOf}
 use Rattle.binfarce_addresses.specs.Lines.{IsPlaceOf}
-use Rattle.binfarce_addresses.specs.Lookup.{found_in, in_64_bits, in_file}
+use Rattle.binfarce_addresses.specs.Lookup.{found_at, found_in, in_64_bits}
 use Rattle.binfarce_addresses.specs.Module.{ends_with_plus, names_module}
 use Rattle.binfarce_addresses.specs.Word.{address_len}
+use Rattle.binfarce_addresses.specs.declared.counts.Counts.{Counts}
 use Rattle.binfarce_addresses.specs.declared.lookup.Lookup.{Lookup}
+use Rattle.binfarce_addresses.specs.declared.modules.Module as code
 use Rattle.binfarce_text.specs.Streams.{Streams}
 use Rattle.binfarce_text.specs.declared.streams.StreamError.{StreamError}
+
+-- a file that addresses may be in: its function symbols, and how an address is looked up among them
+abbrev pub File : Type 0
+File = List Entry × Lookup
+
+-- the files that a call is given
+abbrev pub files_of : List code.Module → List File
+files_of modules = map (λ (m : code.Module). (m.places.now, m.lookup)) modules
 
 -- an offset from the file's origin, as an address in the file
 abbrev pub at_offset : Lookup → (offset : ℕ) → Option ℕ
 at_offset lookup offset = in_64_bits (offset + lookup.origin)
 
--- the address in the file that a number in a text means, which comes after `before`: behind `+` the number is an offset, of this file where its name is there, and else of another module or a function
-abbrev pub meant : Lookup → (before : List ℕ) → (number : ℕ) → Option ℕ
-meant lookup before number = if ends_with_plus before then (if names_module lookup.name.now before then at_offset lookup number else None) else in_file lookup number
+-- what is found at an address: in the first file with a function symbol that holds it
+abbrev pub found_among : List File → ℕ → Option (Entry × ℕ)
+found_among [] address = None
+found_among (file ∷ files) address = option_or (found_at file.0 file.1 address) (found_among files address)
+
+-- what is found at an offset that comes after `before`: in the first file whose name is there. `None` where no file's name is: the offset is one of
+-- another file or into a function, and not asked for
+abbrev pub found_behind : List File → (before : List ℕ) → (offset : ℕ) → Option (Option (Entry × ℕ))
+found_behind [] before offset = None
+found_behind (file ∷ files) before offset = if names_module file.1.name.now before then Some (found_in file.0 file.1.is_return (at_offset file.1 offset)) else found_behind files before offset
+
+-- what is found for a number that comes after `before`: behind `+` it is an offset, and else an address
+abbrev pub found_for : List File → (before : List ℕ) → (number : ℕ) → Option (Option (Entry × ℕ))
+found_for files before number = if ends_with_plus before then found_behind files before number else Some (found_among files number)
 
 -- the same of a word, which may write no number
-abbrev pub meant_by : Lookup → (before : List ℕ) → (number : Option ℕ) → Option ℕ
-meant_by lookup before None = None
-meant_by lookup before (Some number) = meant lookup before number
+abbrev pub found_by : List File → (before : List ℕ) → (number : Option ℕ) → Option (Option (Entry × ℕ))
+found_by files before None = None
+found_by files before (Some number) = found_for files before number
 
 -- what is added for what is found: ` <{name}+0x{offset:x}>`, or nothing
 abbrev pub IsAddedFor : (found : Option (Entry × ℕ)) (added : List ℕ) → Type 0
 IsAddedFor None added = added ≡ []
 IsAddedFor (Some (entry, offset)) added = (place : List ℕ) × IsPlaceOf entry offset place × (added ≡ codes " <" ++ (place ++ codes ">"))
 
--- what is added after an address
-abbrev pub IsAddedAfter : (entries : List Entry) (lookup : Lookup) (before word added : List ℕ) → Type 0
-IsAddedAfter entries lookup before word added = IsAddedFor (found_in entries lookup.is_return (meant_by lookup before (address_of word))) added
+-- a piece of the annotated text: its bytes, and the answers to the addresses in it that are asked for, whether a function symbol holds each
+abbrev pub Piece : Type 0
+Piece = List ℕ × List (Option Bool)
 
--- annotated is the text, which comes after `before`, from left to right: each address with what is added after it, and each other byte by itself
-pub data IsAnnotatedAfter (entries : List Entry) (lookup : Lookup) : (before text annotated : List ℕ) → Type 0 where
-  nothing : (before : List ℕ) → IsAnnotatedAfter entries lookup before [] []
-  other_then : (before : List ℕ) (b : ℕ) (text annotated : List ℕ) → address_len lookup.is_bare before (b ∷ text) ≡ 0
-      → IsAnnotatedAfter entries lookup (before ++ b ∷ []) text annotated → IsAnnotatedAfter entries lookup before (b ∷ text) (b ∷ annotated)
-  address_then : (before text added annotated : List ℕ) → 0 < address_len lookup.is_bare before text → IsAddedAfter entries lookup before (take (address_len lookup.is_bare before text) text) added
-      → IsAnnotatedAfter entries lookup (before ++ take (address_len lookup.is_bare before text) text) (drop (address_len lookup.is_bare before text) text) annotated
-      → IsAnnotatedAfter entries lookup before text (take (address_len lookup.is_bare before text) text ++ (added ++ annotated))
+-- a byte with which no address begins
+abbrev pub other : ℕ → Piece
+other b = (b ∷ [], [])
+
+-- the answer for what is found, if it is asked for
+abbrev pub answers_for : Option (Option (Entry × ℕ)) → List (Option Bool)
+answers_for None = []
+answers_for (Some found) = Some (is_some found) ∷ []
+
+-- the piece of a word for which this is found: the word, and what is added
+abbrev pub IsPieceFor : (found : Option (Option (Entry × ℕ))) (word : List ℕ) (piece : Piece) → Type 0
+IsPieceFor found word piece = (added : List ℕ) × IsAddedFor (unwrap_or found None) added × (piece.0 ≡ word ++ added) × (piece.1 ≡ answers_for found)
+
+-- the piece of an address that comes after `before`
+abbrev pub IsPieceOf : List File → (before word : List ℕ) → Piece → Type 0
+IsPieceOf files before word piece = IsPieceFor (found_by files before (address_of word)) word piece
+
+-- the pieces of a text, which comes after `before`, from left to right: its addresses, and each other byte by itself
+pub data ArePiecesAfter (files : List File) (bare : Bool) : (before text : List ℕ) (pieces : List Piece) → Type 0 where
+  nothing : (before : List ℕ) → ArePiecesAfter files bare before [] []
+  other_then : (before : List ℕ) (b : ℕ) (text : List ℕ) (pieces : List Piece) → address_len bare before (b ∷ text) ≡ 0
+      → ArePiecesAfter files bare (before ++ b ∷ []) text pieces → ArePiecesAfter files bare before (b ∷ text) (other b ∷ pieces)
+  address_then : (before text : List ℕ) (piece : Piece) (pieces : List Piece) → 0 < address_len bare before text → IsPieceOf files before (take (address_len bare before text) text) piece
+      → ArePiecesAfter files bare (before ++ take (address_len bare before text) text) (drop (address_len bare before text) text) pieces
+      → ArePiecesAfter files bare before text (piece ∷ pieces)
+
+-- the bytes of pieces
+abbrev pub text_of : List Piece → List ℕ
+text_of pieces = flat_map (λ (piece : Piece). piece.0) pieces
+
+-- the answers to the addresses in them
+abbrev pub answers_of : List Piece → List (Option Bool)
+answers_of pieces = flat_map (λ (piece : Piece). piece.1) pieces
 
 -- annotated is the text with its symbols
-abbrev pub IsAnnotated : (entries : List Entry) (lookup : Lookup) (text annotated : List ℕ) → Type 0
-IsAnnotated entries lookup text annotated = IsAnnotatedAfter entries lookup [] text annotated
+abbrev pub IsAnnotated : (files : List File) (bare : Bool) (text annotated : List ℕ) → Type 0
+IsAnnotated files bare text annotated = (pieces : List Piece) × ArePiecesAfter files bare [] text pieces × (annotated ≡ text_of pieces)
+
+-- the same, and these are the counts of the answers
+abbrev pub IsCounted : (files : List File) (bare : Bool) (counts : Counts) (text annotated : List ℕ) → Type 0
+IsCounted files bare counts text annotated = (pieces : List Piece) × ArePiecesAfter files bare [] text pieces × (annotated ≡ text_of pieces) × AreCountsOf (answers_of pieces) counts
 
 -- written is a prefix of the annotated text
-abbrev pub IsPrefixOf : (entries : List Entry) (lookup : Lookup) (text written : List ℕ) → Type 0
-IsPrefixOf entries lookup text written = (more : List ℕ) × IsAnnotated entries lookup text (written ++ more)
+abbrev pub IsPrefixOf : (files : List File) (bare : Bool) (text written : List ℕ) → Type 0
+IsPrefixOf files bare text written = (more : List ℕ) × IsAnnotated files bare text (written ++ more)
 
--- what was read and written: all was annotated; or the reader failed, and all before was annotated; or a write or an allocation failed, and a
--- beginning was written
-abbrev pub AnnotatesAll : (entries : List Entry) (lookup : Lookup) (given left old new : Option (List ℕ)) (result : Result (Unit {0}) StreamError) → Type 0
-AnnotatesAll entries lookup given left old new result =
-    let IsOutput : List ℕ → List ℕ → Type 0 = IsAnnotated entries lookup in Streams (λ x. IsOutput) IsOutput (IsPrefixOf entries lookup) given left old new result
+-- what was read and written: all was annotated and counted; or the reader failed, and all before was annotated; or a write or an allocation failed, and
+-- a beginning was written
+abbrev pub AnnotatesAll : (files : List File) (bare : Bool) (given left old new : Option (List ℕ)) (result : Result Counts StreamError) → Type 0
+AnnotatesAll files bare given left old new result = Streams (IsCounted files bare) (IsAnnotated files bare) (IsPrefixOf files bare) given left old new result

@@ -3,7 +3,8 @@ use Rattle.std.specs.Prelude.{◌≡◌, ◌≤◌, ℕ, List, ◌++◌, length,
 use Rattle.binfarce.specs.Symbol.{Entry}
 use Rattle.binfarce_addresses.specs.declared.lookup.Lookup.{Lookup}
 use Rattle.binfarce_addresses.specs.declared.stream.Answered.{Answered}
-use Rattle.binfarce_addresses.specs.Stream.{AreAnswersOf, Begins, HasNoLineFeed, missing}
+use Rattle.binfarce_addresses.specs.Counts.{AreCountsOf, answers_to}
+use Rattle.binfarce_addresses.specs.Stream.{AreAnswersOf, Begins, HasNoLineFeed}
 
 -- the answers of the text's whole lines were written; the rest has no line feed
 pub record AnswersOf (entries : List Entry) (lookup : Lookup) (text old new : List ℕ) (answered : Answered) : Type 0 where
@@ -14,4 +15,4 @@ pub record AnswersOf (entries : List Entry) (lookup : Lookup) (text old new : Li
   pub answers : List ℕ
   pub are : AreAnswersOf entries lookup addresses answers
   pub written : new ≡ old ++ answers
-  pub count : answered.missing ≡ missing addresses
+  pub counts : AreCountsOf (answers_to entries lookup addresses) answered.counts

@@ -1,4 +1,5 @@
 pub mod Lookup
+pub mod Counts
 pub mod Lines
 pub mod PlacesViews
 pub mod Stream

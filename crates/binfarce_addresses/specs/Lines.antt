@@ -1,5 +1,5 @@
 -- The lines of addresses, or their objects.
-use Rattle.std.specs.Prelude.{◌≡◌, ℕ, List, [], ◌∷◌, ◌++◌, codes, false, Option, Some, None}
+use Rattle.std.specs.Prelude.{◌≡◌, ℕ, List, [], ◌∷◌, ◌++◌, codes, false, Option, Some, None, Result, Ok, Err}
 use Rattle.std.specs.Fmt.{digits}
 use Rattle.std.specs.List.{AllZip, concat}
 use Rattle.binfarce.specs.Named.{IsShown}
@@ -8,7 +8,11 @@ use Rattle.binfarce.specs.Symbol.{Entry}
 use Rattle.binfarce_tools.specs.Answer.{entries_of}
 use Rattle.binfarce_tools.specs.Json as json
 use Rattle.binfarce_tools.specs.Json.{Style, style_of, address_member, number_member, object_start, text_member}
+use Rattle.binfarce_tools.specs.ListWords as list
 use Rattle.binfarce_tools.specs.Listing.{address_text}
+use Rattle.binfarce_tools.specs.Writing.{Outcome, written}
+use Rattle.binfarce_tools.specs.declared.list.ListError.{ListError}
+use Rattle.binfarce_addresses.specs.declared.counts.Counts.{Counts}
 use Rattle.binfarce_addresses.specs.Lookup.{found_at}
 use Rattle.binfarce_addresses.specs.declared.lookup.Lookup.{Lookup}
 
@@ -58,6 +62,11 @@ IsLineAt entries lookup address line = IsLineIn (style_of lookup.form) entries l
 -- text is the lines of the addresses, in their order
 abbrev pub AreLinesOf : List Entry → Lookup → List ℕ → List ℕ → Type 0
 AreLinesOf entries lookup addresses text = (lines : List (List ℕ)) × AllZip (IsLineAt entries lookup) addresses lines × (text ≡ concat lines)
+
+-- how a call ended that returns counts
+abbrev pub outcome_of : Result Counts ListError → Outcome
+outcome_of (Ok counts) = written
+outcome_of (Err e) = list.outcome_of (Err e)
 
 -- the same for the entries that a file lists
 abbrev pub AreLinesAt : Lookup → List ℕ → SelectedSymbols → List ℕ → Type 0

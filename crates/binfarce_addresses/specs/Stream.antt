@@ -1,10 +1,12 @@
 -- The lines of a text, their addresses, and the answers to them.
-use Rattle.std.specs.Prelude.{◌≡◌, ◌≢◌, ◌⊎◌, ℕ, ◌-◌, ◌^◌, min, List, [], ◌∷◌, ◌++◌, All, codes, length, take, drop, Option, Some, None, is_none, Result}
+use Rattle.std.specs.Prelude.{◌≡◌, ◌≢◌, ◌⊎◌, ℕ, ◌-◌, List, [], ◌∷◌, ◌++◌, All, codes, length, take, drop, Option, Some, None, Result}
 use Rattle.std.specs.Char.{is_ascii_whitespace}
-use Rattle.std.specs.List.{AllZip, concat, count_by, flat_map, prefix_len, suffix_len}
+use Rattle.std.specs.List.{AllZip, concat, flat_map, prefix_len, suffix_len}
 use Rattle.binfarce.specs.Symbol.{Entry}
 use Rattle.binfarce_addresses.specs.declared.lookup.Lookup.{Lookup}
 use Rattle.binfarce_addresses.specs.Address.{address_of}
+use Rattle.binfarce_addresses.specs.Counts.{AreCountsOf, answers_to}
+use Rattle.binfarce_addresses.specs.declared.counts.Counts.{Counts}
 use Rattle.binfarce_addresses.specs.Lines.{IsLineIn, answer_object}
 use Rattle.binfarce_tools.specs.Json as json
 use Rattle.binfarce_tools.specs.Json.{Style, style_of}
@@ -64,14 +66,10 @@ IsAnswerOf entries lookup address answer = IsAnswerIn (style_of lookup.form) ent
 abbrev pub AreAnswersOf : List Entry → Lookup → List (Option ℕ) → List ℕ → Type 0
 AreAnswersOf entries lookup addresses text = (answers : List (List ℕ)) × AllZip (IsAnswerOf entries lookup) addresses answers × (text ≡ concat answers)
 
--- how many lines have no address
-abbrev pub missing : List (Option ℕ) → ℕ
-missing addresses = count_by is_none addresses
-
--- all lines of a text are answered, and so many of them have no address, at most 2^64 - 1
-abbrev pub AnswersAll : List Entry → Lookup → (count : ℕ) (text answers : List ℕ) → Type 0
-AnswersAll entries lookup count text answers =
-    (addresses : List (Option ℕ)) × Reads text addresses [] × AreAnswersOf entries lookup addresses answers × (count ≡ min (missing addresses) (2 ^ 64 - 1))
+-- all lines of a text are answered, and these are the counts of their answers
+abbrev pub AnswersAll : List Entry → Lookup → (counts : Counts) (text answers : List ℕ) → Type 0
+AnswersAll entries lookup counts text answers =
+    (addresses : List (Option ℕ)) × Reads text addresses [] × AreAnswersOf entries lookup addresses answers × AreCountsOf (answers_to entries lookup addresses) counts
 
 -- the whole lines of a text are answered
 abbrev pub AnswersWhole : List Entry → Lookup → (text answers : List ℕ) → Type 0
@@ -85,5 +83,5 @@ AnswersSome entries lookup text written =
 
 -- what was read and written: all lines were answered; or the reader failed, and the whole lines before were answered; or a write or an allocation
 -- failed, and a beginning was written
-abbrev pub Streams : List Entry → Lookup → (given left old new : Option (List ℕ)) → Result ℕ StreamError → Type 0
+abbrev pub Streams : List Entry → Lookup → (given left old new : Option (List ℕ)) → Result Counts StreamError → Type 0
 Streams entries lookup given left old new result = streams.Streams (AnswersAll entries lookup) (AnswersWhole entries lookup) (AnswersSome entries lookup) given left old new result

@@ -2,6 +2,7 @@
 pub mod Places
 pub mod Answers
 pub mod Answering
+pub mod Counting
 pub mod Annotating
 pub mod Sweep
 pub mod Sweeping

@@ -1,24 +1,25 @@
 //! Symbolizes addresses in an executable, a line for each.
 
-ghost use Rattle.std.specs.Prelude.{◌≡◌, ◌≢◌, ◌++◌, ◌<◌, ℕ, List, Option, length, Some, None, Ok, map, IfErr, IfOk, MatchOption, OnOk};
+ghost use Rattle.std.specs.Prelude.{◌≡◌, ◌≢◌, ◌++◌, ◌<◌, ℕ, List, Option, length, Some, None, Ok, map, IfErr, IfOk, MatchOption};
 ghost use Rattle.binfarce.specs.SectionEntries.{SelectedSymbols};
 ghost use Rattle.binfarce.specs.Symbol.{Entry};
 ghost use Rattle.binfarce.specs.SymbolViews.{function_view};
 ghost use Rattle.binfarce_tools.specs.Answer.{entries_of, file_answer, selected_answer, MemoryIn};
 ghost use Rattle.binfarce_tools.specs.Entries.{functions_left};
 ghost use Rattle.binfarce_tools.specs.Listing.{ListingFits};
-ghost use Rattle.binfarce_tools.specs.ListWords.{outcome_of};
 ghost use Rattle.binfarce_tools.specs.Tables.{AreTablesOf};
 ghost use Rattle.binfarce_tools.specs.declared.SymbolTable.{SymbolTable};
 ghost use Rattle.binfarce_tools.specs.declared.list.ListError.TheVariants.{Write};
 ghost use Rattle.binfarce_tools.specs.Writing.{EndsAs, Takes, Fails, Leaves};
 ghost use Rattle.binfarce.specs.Found.{entry_at};
 ghost use Rattle.binfarce_addresses.specs.Lookup.{entry_for, found_at};
-ghost use Rattle.binfarce_addresses.specs.Lines.{IsLineAt, AreLinesAt};
+ghost use Rattle.binfarce_addresses.specs.Counts.{AreCountsOf, answers_at, is_held};
+ghost use Rattle.binfarce_addresses.specs.Lines.{IsLineAt, AreLinesAt, outcome_of};
 ghost use Rattle.binfarce_addresses.specs.PlacesViews.{IsMadeOf};
 ghost use Rattle.binfarce_addresses.specs.Stream.{AreAnswersOf, IsAnswerOf};
 ghost use Rattle.binfarce_addresses.specs.machine.Places.{ArePlacesOf, IsAtPlace, IsFoundFor, IsFoundIn, IsPlaceFor};
 
+use crate::counts::Counts;
 use crate::lookup::Lookup;
 use crate::names::Names;
 use crate::ranges::{AddressRange, Ranges};
@@ -140,7 +141,7 @@ impl<'a> Places<'a> {
     }
 
     /// Appends the line of an address to the text: the address, the symbol that it symbolizes to by this lookup, and
-    /// the offset of the address into it; or `??` where there is none.
+    /// the offset of the address into it; or `??` where there is none. Returns whether there is one.
     ///
     /// # Errors
     ///
@@ -151,14 +152,15 @@ impl<'a> Places<'a> {
         text: &mut Vec<u8>,
         lookup: Lookup<'_>,
         address: u64,
-    ) -> Result<(), AllocError>
-        ensures { OnOk result
-            ((line : List ℕ) × IsLineAt self.now lookup.entry address line
+    ) -> Result<bool, AllocError>
+        ensures line { IfOk result (λ _. (line : List ℕ) × IsLineAt self.now lookup.entry address line
             × (text.new.items ≡ text.old.items ++ line)) }
+        ensures held { IfOk result (λ held. held ≡ is_held self.now lookup.entry address) }
     {
         let mut names = Names::new(alloc, self, lookup, 0)?;
         let answer = names.answer_to(Some(address));
-        names.push_line(text, answer)
+        names.push_line(text, answer)?;
+        Ok(answer.found.is_some())
     }
 }
 
@@ -184,7 +186,8 @@ fn places_of(alloc: Global, listed: Functions<'_>) -> Result<Places<'_>, AllocEr
 /// `linked` as the address is behind the base. Of a return address the one before is looked up, but the offset is that
 /// of the address. A symbol holds the addresses of its range, or of size 0 its own. Of several that hold an address, it
 /// is the one of greatest address, and of several there the first in the order of the listing. The line is
-/// `{address:016x} ??` for an address that none holds, and for one below the base.
+/// `{address:016x} ??` for an address that none holds, and for one below the base. Returns how many addresses there are,
+/// and how many of them a symbol holds.
 ///
 /// # Errors
 ///
@@ -196,11 +199,13 @@ pub fn at<S: Sink>(
     lookup: Lookup<'_>,
     addresses: &[u64],
     out: &mut S,
-) -> Result<(), ListError>
+) -> Result<Counts, ListError>
     ensures outcome { EndsAs ListingFits (MemoryIn file.now (Some section.now))
         (file_answer file.now section.now) (outcome_of result) }
     ensures takes { Takes (AreLinesAt lookup.entry addresses.now) (file_answer file.now section.now)
         (S.taken out.old) (S.taken out.new) (outcome_of result) }
+    ensures counts { (selected : SelectedSymbols) → file_answer file.now section.now ≡ Some (Ok selected)
+        → IfOk result (AreCountsOf (answers_at (entries_of selected) lookup.entry addresses.now)) }
     ensures fails { Fails (S.has_failed out.old) (S.has_failed out.new) (outcome_of result) }
     ensures leaves { Leaves out.old out.new (outcome_of result) }
 {
@@ -212,20 +217,23 @@ pub fn at<S: Sink>(
 /// # Errors
 ///
 /// As `at`.
-#[tactic(auto, using(crate::proofs::AddressLines::ends_of, crate::proofs::AddressLines::takes_of))]
+#[tactic(auto, using(crate::proofs::AddressLines::ends_of, crate::proofs::AddressLines::takes_of, crate::proofs::AddressLines::if_counts_of))]
 pub fn at_tables<S: Sink>(
     alloc: Global,
     tables: &Tables<'_>,
     lookup: Lookup<'_>,
     addresses: &[u64],
     out: &mut S,
-) -> Result<(), ListError>
+) -> Result<Counts, ListError>
     ensures outcome { (which : SymbolTable) (file : List ℕ) (section : Option (List ℕ))
         → AreTablesOf which file section tables.now
         → EndsAs ListingFits (MemoryIn file section) (selected_answer which section file) (outcome_of result) }
     ensures takes { (which : SymbolTable) (file : List ℕ) (section : Option (List ℕ))
         → AreTablesOf which file section tables.now → Takes (AreLinesAt lookup.entry addresses.now)
         (selected_answer which section file) (S.taken out.old) (S.taken out.new) (outcome_of result) }
+    ensures counts { (which : SymbolTable) (file : List ℕ) (section : Option (List ℕ)) (selected : SelectedSymbols)
+        → AreTablesOf which file section tables.now → selected_answer which section file ≡ Some (Ok selected)
+        → IfOk result (AreCountsOf (answers_at (entries_of selected) lookup.entry addresses.now)) }
     ensures fails { Fails (S.has_failed out.old) (S.has_failed out.new) (outcome_of result) }
     ensures leaves { Leaves out.old out.new (outcome_of result) }
 {
@@ -233,7 +241,7 @@ pub fn at_tables<S: Sink>(
     write_lines(alloc, &places, lookup, addresses, out)
 }
 
-/// Writes a line for each address, as `at` does, by the places of a file.
+/// Writes a line for each address, and counts them, as `at` does, by the places of a file.
 ///
 /// # Errors
 ///
@@ -246,18 +254,22 @@ pub fn write_lines<S: Sink>(
     lookup: Lookup<'_>,
     addresses: &[u64],
     out: &mut S,
-) -> Result<(), ListError>
+) -> Result<Counts, ListError>
     ensures outcome { (selected : SelectedSymbols) → places.now ≡ entries_of selected
         → EndsAs ListingFits (λ _. ⊥) (Some (Ok selected)) (outcome_of result) }
     ensures takes { (selected : SelectedSymbols) → places.now ≡ entries_of selected
         → Takes (AreLinesAt lookup.entry addresses.now)
         (Some (Ok selected)) (S.taken out.old) (S.taken out.new) (outcome_of result) }
+    ensures counts { IfOk result (AreCountsOf (answers_at places.now lookup.entry addresses.now)) }
     ensures fails { Fails (S.has_failed out.old) (S.has_failed out.new) (outcome_of result) }
     ensures leaves { Leaves out.old out.new (outcome_of result) }
 {
     let mut text = Vec::new(alloc);
+    let mut counts = Counts::new();
     for address in addresses {
-        places.push_line(alloc, &mut text, lookup, *address)?;
+        let held = places.push_line(alloc, &mut text, lookup, *address)?;
+        counts.add(Some(held));
     }
-    write_whole(out, text.as_slice())
+    write_whole(out, text.as_slice())?;
+    Ok(counts)
 }

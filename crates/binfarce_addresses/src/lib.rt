@@ -4,11 +4,13 @@
 pub mod address;
 pub mod annotate;
 pub mod at;
+pub mod counts;
 mod digits;
 pub mod laws;
 pub mod lookup;
 pub mod maps;
 mod module;
+pub mod modules;
 mod names;
 pub mod ranges;
 mod slices;
@@ -16,4 +18,6 @@ pub mod stream;
 mod word;
 
 pub use crate::address::parse_address;
+pub use crate::counts::Counts;
 pub use crate::lookup::Lookup;
+pub use crate::modules::Module;

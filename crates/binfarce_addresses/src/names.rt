@@ -1,18 +1,21 @@
 //! The readable names of function symbols, each made at most once.
 
-ghost use Rattle.std.specs.Prelude.{◌≡◌, ◌<◌, ◌++◌, [], ℕ, List, Option, length, slice_set, IfOk, IfSome, OnOk};
+ghost use Rattle.std.specs.Prelude.{◌≡◌, ◌<◌, ◌+◌, ◌++◌, [], ℕ, List, Option, length, slice_set, IfOk, IfSome, OnOk};
 ghost use Rattle.std.specs.String.{string_bytes};
 ghost use Rattle.binfarce.specs.Symbol.{Entry};
 ghost use Rattle.binfarce_tools.specs.Json.{lines, objects};
+ghost use Rattle.binfarce_addresses.specs.Annotated.{at_offset};
 ghost use Rattle.binfarce_addresses.specs.Lines.{address_value, symbol_members};
+ghost use Rattle.binfarce_addresses.specs.Module.{names_module};
 ghost use Rattle.binfarce_addresses.specs.Stream.{IsAnswerIn, IsAnswerOf};
 ghost use Rattle.binfarce_addresses.specs.declared.lookup.Lookup.{Lookup};
-ghost use Rattle.binfarce_addresses.specs.machine.Places.{AreKept, IsNamedAt, IsSymbolAt};
-ghost use Rattle.binfarce_addresses.specs.machine.Answers.{AreAnswersTo, IsAnswerTo};
+ghost use Rattle.binfarce_addresses.specs.machine.Places.{AreKept, IsFoundIn, IsNamedAt, IsShownAt, IsSymbolAt};
+ghost use Rattle.binfarce_addresses.specs.machine.Answers.{AreAnswersTo, IsAnswerTo, is_held_by};
 
 use crate::at::{Found, Places};
 use crate::digits::{push_address, push_offset};
 use crate::lookup::Lookup;
+use crate::module::names_module;
 use binfarce::demangle::Demangler;
 use binfarce_tools::json::{
     Form, push_address_member, push_number_member, push_start, push_text_member,
@@ -41,6 +44,19 @@ pub(crate) struct Answer {
     pub(crate) found: Option<Found>,
 }
 
+impl Answer {
+    // Whether a function symbol holds the address; none of a line without one.
+    #[inline(always)]
+    pub(crate) fn is_held(self) -> Option<bool>
+        ensures { result ≡ is_held_by self }
+    {
+        match self.address {
+            Some(_) => Some(self.found.is_some()),
+            None => None,
+        }
+    }
+}
+
 impl<'b, 'a> Model for Names<'b, 'a> {
     ghost Value = { List Entry × Lookup };
 
@@ -67,6 +83,47 @@ impl<'b, 'a> Names<'b, 'a> {
             text: String::new(alloc),
             kept: vec![in alloc; (0, 0); room]?,
         })
+    }
+
+    /// No name so far, with room for all.
+    pub(crate) fn with_room(
+        alloc: Global,
+        places: &'b Places<'a>,
+        lookup: Lookup<'b>,
+    ) -> Result<Names<'b, 'a>, AllocError>
+        ensures { IfOk result (λ n. n ≡ (places.entry.now, lookup.entry)) }
+    {
+        Names::new(alloc, places, lookup, places.functions.len())
+    }
+
+    // How many bytes before an address can matter: the name, and what may come before and after it.
+    pub(crate) fn reach(&self) -> usize
+        ensures { result ≡ length self.now.1.name.now + 5 }
+    {
+        self.lookup.name.len() + 5
+    }
+
+    // Whether the file's name is before an offset that comes after this text.
+    pub(crate) fn is_named_in(&self, before: &[u8]) -> bool
+        ensures { result ≡ names_module self.now.1.name.now before.now }
+    {
+        names_module(self.lookup.name, before)
+    }
+
+    // What is found at an offset from the file's origin.
+    pub(crate) fn find_offset(&self, offset: u64) -> Option<Found>
+        ensures { IsFoundIn self.now.0 self.now.1.is_return (at_offset self.now.1 offset) result }
+    {
+        let address = self.lookup.at_offset(offset);
+        self.places.find_in(self.lookup.is_return, address)
+    }
+
+    // What is found at an address.
+    #[inline(always)]
+    pub(crate) fn find_address(&self, address: u64) -> Option<Found>
+        ensures { IsShownAt self.now.0 self.now.1 address result }
+    {
+        self.places.find_place(self.lookup, Some(address))
     }
 
     // The answer to a line with the address, or with none.

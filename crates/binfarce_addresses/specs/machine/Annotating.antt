@@ -1,67 +1,97 @@
 -- The steps of annotating a text.
-use Rattle.std.specs.Prelude.{◌≡◌, ◌≤◌, ◌⊎◌, ℕ, ◌+◌, Bool, true, false, List, [], ◌++◌, drop, length, take}
+use Rattle.std.specs.Prelude.{◌≡◌, ◌≤◌, ◌<◌, ◌⊎◌, ℕ, ◌+◌, max, Bool, true, false, List, [], ◌∷◌, ◌++◌, drop, length, take, slice_index_or, Option, Some, None, MatchOption}
 use Rattle.binfarce.specs.Symbol.{Entry}
-use Rattle.binfarce_addresses.specs.Annotated.{IsAnnotated, IsAnnotatedAfter, IsPrefixOf}
+use Rattle.binfarce_addresses.specs.Annotated.{ArePiecesAfter, File, IsAnnotated, IsCounted, IsPrefixOf, Piece, answers_of, text_of}
+use Rattle.binfarce_addresses.specs.Counts.{AreCountsOf}
 use Rattle.binfarce_addresses.specs.Word.{address_len}
 use Rattle.binfarce_addresses.specs.declared.annotate.Annotating.{Annotating}
-use Rattle.binfarce_addresses.specs.declared.lookup.Lookup.{Lookup}
+use Rattle.binfarce_addresses.specs.declared.annotate.Files.{Files}
+use Rattle.binfarce_addresses.specs.declared.counts.Counts.{Counts}
+use Rattle.binfarce_addresses.specs.machine.Counting.{AddsUp}
+use Rattle.binfarce_addresses.specs.machine.Places.{IsAtPlace}
 use Rattle.binfarce_addresses.specs.machine.Words.{MayFollow}
 
--- how many bytes before an address can matter: a name, and what may come before and after it
-abbrev pub reach : Lookup → ℕ
-reach lookup = length lookup.name.now + 5
+-- how many bytes before an address can matter: the longest name, and what may come before and after it
+abbrev pub reach : List File → ℕ
+reach [] = 5
+reach (file ∷ files) = max (length file.1.name.now + 5) (reach files)
+
+-- the files stay, and what an address is
+abbrev pub IsSame : (old new : Files) → Type 0
+IsSame old new = (new.names.items ≡ old.names.items) × (new.is_bare ≡ old.is_bare)
+
+-- the entry is at the place in the file at a place
+abbrev pub IsAtFile : List File → (at place : ℕ) → Entry → Type 0
+IsAtFile files at place entry = (at < length files) × ((d : File) → IsAtPlace (slice_index_or files at d).0 place entry)
+
+-- this is found: the place of a file, the place of an entry there, and the offset into it
+abbrev pub IsFoundHere : List File → Option (Entry × ℕ) → Option (ℕ × (ℕ × ℕ)) → Type 0
+IsFoundHere files found here = MatchOption here (found ≡ None) (λ h. (entry : Entry) × (found ≡ Some (entry, h.1.1)) × IsAtFile files h.0 h.1.0 entry)
+
+-- the same, where it is asked for
+abbrev pub IsFoundBy : List File → Option (Option (Entry × ℕ)) → Option (Option (ℕ × (ℕ × ℕ))) → Type 0
+IsFoundBy files found here = MatchOption here (found ≡ None) (λ h. (f : Option (Entry × ℕ)) × (found ≡ Some f) × IsFoundHere files f h)
 
 -- all of the text before a position, which comes after `front`, is kept, or enough of it
-abbrev pub IsEnough : Lookup → (front : List ℕ) (at : ℕ) → Type 0
-IsEnough lookup front at = (front ≡ []) ⊎ (reach lookup ≤ at)
+abbrev pub IsEnough : List File → (front : List ℕ) (at : ℕ) → Type 0
+IsEnough files front at = (front ≡ []) ⊎ (reach files ≤ at)
 
--- what is shown of the first n bytes of a text after `before`, which holds unless what follows the text changes the address that it begins with
-abbrev pub Shows : (entries : List Entry) (lookup : Lookup) (before text : List ℕ) (n : ℕ) (shown : List ℕ) → Type 0
-Shows entries lookup before text n shown =
-    (more annotated : List ℕ) → address_len lookup.is_bare before (text ++ more) ≡ address_len lookup.is_bare before text
-    → IsAnnotatedAfter entries lookup (before ++ take n text) (drop n text ++ more) annotated → IsAnnotatedAfter entries lookup before (text ++ more) (shown ++ annotated)
+-- the pieces of the first n bytes of a text after `before`, which are these unless what follows the text changes the address that it begins with
+abbrev pub Shows : (files : List File) (bare : Bool) (before text : List ℕ) (n : ℕ) (shown : List Piece) → Type 0
+Shows files bare before text n shown =
+    (more : List ℕ) (pieces : List Piece) → address_len bare before (text ++ more) ≡ address_len bare before text
+    → ArePiecesAfter files bare (before ++ take n text) (drop n text ++ more) pieces → ArePiecesAfter files bare before (text ++ more) (shown ++ pieces)
 
--- old has grown by what is shown of the first n bytes of a text, of which this comes before, or ends what does
-abbrev pub ShowsFirst : (entries : List Entry) (lookup : Lookup) (before text : List ℕ) (n : ℕ) (old new : List ℕ) → Type 0
-ShowsFirst entries lookup before text n old new =
-    (shown : List ℕ) × ((front : List ℕ) → IsEnough lookup front (length before) → Shows entries lookup (front ++ before) text n shown) × (new ≡ old ++ shown)
+-- old has grown by the bytes of pieces, and the counts by their answers
+abbrev pub Grows : (shown : List Piece) (old new : List ℕ) (before after : Counts) → Type 0
+Grows shown old new before after = (new ≡ old ++ text_of shown) × AddsUp before after (answers_of shown)
 
--- made, and then the annotated text of what is left and of what may follow, are those of the whole text
-abbrev pub Leaves : (entries : List Entry) (lookup : Lookup) (is_last : Bool) (gone left made : List ℕ) → Type 0
-Leaves entries lookup is_last gone left made =
-    (more annotated : List ℕ) → MayFollow is_last more → IsAnnotatedAfter entries lookup gone (left ++ more) annotated → IsAnnotated entries lookup (gone ++ (left ++ more)) (made ++ annotated)
+-- old has grown by the first n bytes of a text, of which this comes before, or ends what does
+abbrev pub ShowsFirst : (files : List File) (bare : Bool) (before text : List ℕ) (n : ℕ) (old new : List ℕ) (counts after : Counts) → Type 0
+ShowsFirst files bare before text n old new counts after =
+    (shown : List Piece) × ((front : List ℕ) → IsEnough files front (length before) → Shows files bare (front ++ before) text n shown) × Grows shown old new counts after
+
+-- made, and then the pieces of what is left and of what may follow, are those of the whole text
+abbrev pub Leaves : (files : List File) (bare is_last : Bool) (gone left : List ℕ) (made : List Piece) → Type 0
+Leaves files bare is_last gone left made =
+    (more : List ℕ) (pieces : List Piece) → MayFollow is_last more → ArePiecesAfter files bare gone (left ++ more) pieces → ArePiecesAfter files bare [] (gone ++ (left ++ more)) (made ++ pieces)
 
 -- the same of a text up to a position, after `front`
-abbrev pub LeavesAt : (entries : List Entry) (lookup : Lookup) (is_last : Bool) (front text : List ℕ) (at : ℕ) (made : List ℕ) → Type 0
-LeavesAt entries lookup is_last front text at made = Leaves entries lookup is_last (front ++ take at text) (drop at text) made
+abbrev pub LeavesAt : (files : List File) (bare is_last : Bool) (front text : List ℕ) (at : ℕ) (made : List Piece) → Type 0
+LeavesAt files bare is_last front text at made = Leaves files bare is_last (front ++ take at text) (drop at text) made
 
--- old has grown by what is shown of the text between two positions
-abbrev pub ShowsTo : (entries : List Entry) (lookup : Lookup) (is_last : Bool) (text : List ℕ) (from at : ℕ) (old new : List ℕ) → Type 0
-ShowsTo entries lookup is_last text from at old new =
-    (shown : List ℕ)
-    × ((front made : List ℕ) → IsEnough lookup front from → LeavesAt entries lookup is_last front text from made → LeavesAt entries lookup is_last front text at (made ++ shown))
-    × (new ≡ old ++ shown)
+-- old has grown by the text between two positions
+abbrev pub ShowsTo : (files : List File) (bare is_last : Bool) (text : List ℕ) (from at : ℕ) (old new : List ℕ) (counts after : Counts) → Type 0
+ShowsTo files bare is_last text from at old new counts after =
+    (shown : List Piece)
+    × ((front : List ℕ) (made : List Piece) → IsEnough files front from → LeavesAt files bare is_last front text from made → LeavesAt files bare is_last front text at (made ++ shown))
+    × Grows shown old new counts after
 
 -- of a text the end is kept, and all before a position in that was shown
-pub record HasShown (entries : List Entry) (lookup : Lookup) (is_last : Bool) (text kept : List ℕ) (at : ℕ) (made : List ℕ) : Type 0 where
+pub record HasShown (files : List File) (bare is_last : Bool) (text kept : List ℕ) (at : ℕ) (made : List Piece) : Type 0 where
   pub front : List ℕ
   pub are : text ≡ front ++ kept
   pub within : at ≤ length kept
-  pub enough : IsEnough lookup front at
-  pub leaves : LeavesAt entries lookup is_last front kept at made
+  pub enough : IsEnough files front at
+  pub leaves : LeavesAt files bare is_last front kept at made
+
+-- made is what was shown of a text, and counted
+abbrev pub HasMade : (files : List File) (bare is_last : Bool) (text kept : List ℕ) (at : ℕ) (counts : Counts) (made : List ℕ) → Type 0
+HasMade files bare is_last text kept at counts made = (pieces : List Piece) × HasShown files bare is_last text kept at pieces × (made ≡ text_of pieces) × AreCountsOf (answers_of pieces) counts
 
 abbrev pub Holds : (first now : Annotating) (text made : List ℕ) → Type 0
-Holds first now text made = (now.names ≡ first.names) × HasShown first.names.0 first.names.1 false text now.kept.items now.from made
+Holds first now text made = IsSame first.files now.files × HasMade first.files.names.items first.files.is_bare false text now.kept.items now.from now.files.counts made
 
 abbrev pub IsDone : (first now : Annotating) (ended : Bool) (text made : List ℕ) → Type 0
-IsDone first now ended text made = IsAnnotated first.names.0 first.names.1 text made
+IsDone first now ended text made = IsCounted first.files.names.items first.files.is_bare now.files.counts text made
 
 abbrev pub MayBreakOff : (first : Annotating) (text made : List ℕ) → Type 0
-MayBreakOff first text made = IsPrefixOf first.names.0 first.names.1 text made
+MayBreakOff first text made = IsPrefixOf first.files.names.items first.files.is_bare text made
 
 -- the next part is shown, at the text's end all of it
 abbrev pub Annotates : (old new : Annotating) (is_last : Bool) (part more : List ℕ) → Type 0
 Annotates old new is_last part more =
-    (new.names ≡ old.names)
-    × ((text made : List ℕ) → HasShown old.names.0 old.names.1 false text old.kept.items old.from made → HasShown old.names.0 old.names.1 is_last (text ++ part) new.kept.items new.from (made ++ more))
+    IsSame old.files new.files
+    × ((text made : List ℕ) → HasMade old.files.names.items old.files.is_bare false text old.kept.items old.from old.files.counts made
+    → HasMade old.files.names.items old.files.is_bare is_last (text ++ part) new.kept.items new.from new.files.counts (made ++ more))
     × (is_last ≡ true → new.from ≡ length new.kept.items)

@@ -1,5 +1,6 @@
 -- What is answered to lines: their addresses, and what these symbolize to.
-use Rattle.std.specs.Prelude.{◌≡◌, ℕ, ◌<◌, List, length, slice_index_or, Option, None}
+use Rattle.std.specs.Prelude.{◌≡◌, ℕ, ◌<◌, Bool, List, length, slice_index_or, Option, None, is_some}
+use Rattle.std.specs.Option.{option_map}
 use Rattle.binfarce.specs.Symbol.{Entry}
 use Rattle.binfarce_addresses.specs.declared.lookup.Lookup.{Lookup}
 use Rattle.binfarce_addresses.specs.declared.names.Answer.{Answer}
@@ -8,6 +9,10 @@ use Rattle.binfarce_addresses.specs.machine.Places.{IsFoundFor}
 -- the answer is that to a line with its address, or with none
 abbrev pub IsAnswerTo : List Entry → Lookup → Answer → Type 0
 IsAnswerTo entries lookup answer = IsFoundFor entries lookup answer.address answer.found
+
+-- whether a function symbol holds the address; none of a line without one
+abbrev pub is_held_by : Answer → Option Bool
+is_held_by answer = option_map (λ address. is_some answer.found) answer.address
 
 abbrev pub no_answer : Answer
 no_answer = record { address = None; found = None }

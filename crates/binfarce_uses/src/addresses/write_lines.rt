@@ -1,14 +1,13 @@
 ghost use Rattle.std.specs.Prelude.{List, Option, Some, ℕ, true, false};
-ghost use Rattle.binfarce_addresses.specs.Lines.{AreLinesAt};
-ghost use Rattle.binfarce_tools.specs.ListWords.{outcome_of};
+ghost use Rattle.binfarce_addresses.specs.Lines.{AreLinesAt, outcome_of};
 ghost use Rattle.binfarce_tools.specs.Answer.{selected_answer};
 ghost use Rattle.binfarce_tools.specs.Tables.{AreTablesOf};
 ghost use Rattle.binfarce_tools.specs.declared.SymbolTable.{SymbolTable};
 ghost use Rattle.binfarce_tools.specs.declared.json.Form.TheVariants.{Lines};
 ghost use Rattle.binfarce_tools.specs.Writing.{Takes};
 
-use binfarce_addresses::Lookup;
 use binfarce_addresses::at::at_tables;
+use binfarce_addresses::{Counts, Lookup};
 use binfarce_tools::json::Form;
 use binfarce_tools::list::{ListError, Sink};
 use binfarce_tools::tables::Tables;
@@ -21,10 +20,10 @@ pub fn write_lines<S: Sink>(
     program: &[u8],
     frames: &[u64],
     out: &mut S,
-) -> Result<(), ListError>
+) -> Result<Counts, ListError>
     ensures { (which : SymbolTable) (file : List ℕ) (section : Option (List ℕ))
         → AreTablesOf which file section tables.now
-        → Takes (AreLinesAt (record { base = Some 0x555555554000; linked = 0; origin = 0; is_return = true; form = Lines; is_bare = false; name = program.entry }) frames.now)
+        → Takes (AreLinesAt (record { base = Some 0x555555554000; linked = 0; origin = 0; is_return = true; form = Lines; name = program.entry }) frames.now)
         (selected_answer which section file) (S.taken out.old) (S.taken out.new) (outcome_of result) }
 {
     let lookup = Lookup {
@@ -33,7 +32,6 @@ pub fn write_lines<S: Sink>(
         origin: 0,
         is_return: true,
         form: Form::Lines,
-        is_bare: false,
         name: program,
     };
     at_tables(alloc, tables, lookup, frames, out)

@@ -1,11 +1,17 @@
-use Rattle.std.proofs.Common.{List, ℕ, refl, true, subst}
-use Rattle.binfarce.specs.Symbol.{Entry}
-use Rattle.binfarce_addresses.specs.declared.lookup.Lookup.{Lookup}
+use Rattle.std.proofs.Common.{List, ℕ, Bool, refl, true, subst}
+use Rattle.binfarce_addresses.specs.Annotated.{File, files_of}
 use Rattle.binfarce_addresses.specs.machine.Annotating.{ShowsTo}
 use Rattle.binfarce_addresses.proofs.Annotating.{shows_all}
 use Rattle.binfarce_addresses.proofs.annotate.push_annotated.Goals as goal
 
 pub returns : goal.returns
 returns c =
-    let P : List Entry × Lookup → Type 0 = λ s. ShowsTo s.0 s.1 true c.args.text.now 0 c.in_ok-push_decided.field-0 c.args.out.now.items c.push_decided.new.out.items in
-    shows_all c.args.places.now c.args.lookup c.args.text.now c.in_ok-push_decided.field-0 c.args.out.now.items c.push_decided.new.out.items (subst P c.in_ok-new.ensures c.in_ok-push_decided.ensures.shows) (c.in_ok-push_decided.ensures.last refl)
+    let files = files_of c.args.modules.now in
+    let text = c.args.text.now in
+    let at = c.in_ok-push_decided.field-0 in
+    let is = c.in_ok-files.ensures in
+    let old = c.in_ok-files.files in
+    let new = c.push_decided.new.self in
+    let P : List File → Bool → Type 0 = λ fs b. ShowsTo fs b true text 0 at c.args.out.now.items c.push_decided.new.out.items old.counts new.counts in
+    shows_all files c.args.is_bare text at c.args.out.now.items c.push_decided.new.out.items old.counts new.counts is.2
+    (subst (λ (b : Bool). P files b) is.1 (subst (λ (fs : List File). P fs old.is_bare) is.0 c.in_ok-push_decided.ensures.shows)) (c.in_ok-push_decided.ensures.last refl)

@@ -1,7 +1,11 @@
 use Rattle.std.proofs.Common.{take}
+use Rattle.binfarce_addresses.specs.Counts.{AreCountsOf, answers_at}
 use Rattle.binfarce_addresses.specs.Lines.{AreLinesOf}
 use Rattle.binfarce_addresses.proofs.at.write_lines.Given as goal
 
--- the lines of the addresses so far
+-- the lines and the counts of the addresses so far
 abbrev pub invariant-loop-address : goal.invariant-loop-address
-invariant-loop-address g l = AreLinesOf l.places l.lookup (take l.address-index l.addresses) l.text.items
+invariant-loop-address g l = record {
+  lines : AreLinesOf l.places l.lookup (take l.address-index l.addresses) l.text.items;
+  counts : AreCountsOf (answers_at l.places l.lookup (take l.address-index l.addresses)) l.counts;
+}

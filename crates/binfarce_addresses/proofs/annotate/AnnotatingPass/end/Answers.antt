@@ -15,4 +15,4 @@ pub returns-clause-breaks_off : goal.returns-clause-breaks_off
 returns-clause-breaks_off g c = λ first now text part made others holds. breaks_off first now text part made others holds
 
 pub returns-clause-done : goal.returns-clause-done
-returns-clause-done g c = λ first now ended text made others is. breaks_off_done first text made others is
+returns-clause-done g c = λ first now ended text made others is. breaks_off_done first now.files.counts text made others is

@@ -1,11 +1,10 @@
 -- The program's exit status.
-use Rattle.std.specs.Prelude.{ℕ, ◌-◌, nat_lt, Bool, true, false, Option, Some, None, Result, Ok, Err, if◌then◌else◌}
+use Rattle.std.specs.Prelude.{ℕ, Bool, true, false, Option, Some, None, Result, Ok, Err, if◌then◌else◌}
 use Rattle.std.specs.declared.io.ErrorKind.{ErrorKind}
 use Rattle.std.specs.declared.io.ErrorKind.TheVariants.{BrokenPipe}
-use Rattle.binfarce_command.specs.declared.fault.Fault.{Fault}
-use Rattle.binfarce_command.specs.Faults.{is_write}
-use Rattle.binfarce_command.specs.declared.fault.Fault.TheVariants.{Missing, Grown}
-use Rattle.binfarce_figures.specs.declared.diff.Growth.{Growth}
+use Rattle.binfarce_jobs.specs.declared.fault.Fault.{Fault}
+use Rattle.binfarce_jobs.specs.Faults.{is_write}
+use Rattle.binfarce_jobs.specs.declared.fault.Fault.TheVariants.{Missing, Grown}
 use Rattle.binfarce_words.specs.declared.words.Wrong.{Wrong}
 use Rattle.binfarce_words.specs.declared.words.Wrong.TheVariants.{OutOfMemory}
 
@@ -23,11 +22,6 @@ is_broken_pipe (Some kind) = false
 -- 0 where a write failed because the reader of the output has closed it, and 1 for another reason
 abbrev pub write_status : Option ErrorKind → ℕ
 write_status reason = if is_broken_pipe reason then 0 else 1
-
--- the growth from one sum to another is allowed, or is more than this limit
-abbrev pub judged : Growth → (limit : Option ℕ) → Result Bool Fault
-judged growth None = Ok true
-judged growth (Some limit) = if nat_lt limit (growth.new - growth.old) then Err (Grown (growth.new - growth.old)) else Ok true
 
 -- 2 for lines without an address, 3 for a growth that isn't allowed, and 1 for any other fault
 abbrev pub fault_status : Fault → ℕ

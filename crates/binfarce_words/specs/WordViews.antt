@@ -9,7 +9,7 @@ use Rattle.binfarce_words.specs.declared.words.Call.TheVariants as calls
 use Rattle.binfarce_words.specs.declared.words.Arguments.{Arguments}
 use Rattle.binfarce_words.specs.declared.words.Reading.{Reading}
 use Rattle.binfarce_words.specs.declared.words.Wrong.{Wrong}
-use Rattle.binfarce_words.specs.declared.words.Wrong.TheVariants.{NoCommand, UnknownCommand, UnknownOption, NoValue, Exclusive, Needs, NoAddress, NotMaps, NotMapped, BadValue, NoFile, NoSecondFile, TooMany, BytesAsJson, NotUtf8, OutOfMemory}
+use Rattle.binfarce_words.specs.declared.words.Wrong.TheVariants.{NoCommand, UnknownCommand, UnknownOption, NoValue, Exclusive, Needs, NotEach, NoAddress, NotMaps, NotMapped, BadValue, NoFile, NoSecondFile, TooMany, BytesAsJson, NotUtf8, OutOfMemory}
 
 abbrev pub given_view : Arguments → words.Arguments
 given_view g = record { options = map (λ it. (it.0, it.1.now)) g.options.items; operands = map (λ t. t.now) g.operands.items }
@@ -34,6 +34,7 @@ wrong_words (UnknownOption command word (Some near)) =
 wrong_words (NoValue flag) = flag_name flag ++ codes " has no value"
 wrong_words (Exclusive one other) = flag_name one ++ (codes " and " ++ (flag_name other ++ codes " exclude each other"))
 wrong_words (Needs one other) = flag_name one ++ (codes " needs " ++ flag_name other)
+wrong_words (NotEach flag) = flag_name flag ++ codes " comes once for each file, in their order, or not at all"
 wrong_words (NoAddress word) = codes "not an address: " ++ word.now
 wrong_words (NotMaps path) = codes "no line of " ++ (path.now ++ codes " is one of /proc/PID/maps")
 wrong_words (NotMapped file path) = path.now ++ (codes " maps no file named as " ++ (file.now ++ codes "; --as=NAME takes another name"))
@@ -53,6 +54,7 @@ wrong_view (UnknownOption command word nearest) = words.unknown_option command w
 wrong_view (NoValue flag) = words.no_value flag
 wrong_view (Exclusive one other) = words.exclusive one other
 wrong_view (Needs one other) = words.needs one other
+wrong_view (NotEach flag) = words.not_each flag
 wrong_view (NoAddress word) = words.no_address word.now
 wrong_view (NotMaps path) = words.not_maps path.now
 wrong_view (NotMapped file path) = words.not_mapped file.now path.now

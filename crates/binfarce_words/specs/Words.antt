@@ -1,5 +1,5 @@
 -- The call that the words mean: `COMMAND [OPTION..] [OPERAND..]`.
-use Rattle.std.specs.Prelude.{◌==◌, ◌^◌, ◌++◌, ◌&&◌, ◌||◌, ℕ, Bool, true, false, not, List, [], ◌∷◌, codes, drop, find, reverse, length, nat_eq, nat_lt, slice_index, Option, Some, None, is_some, Result, Ok, Err, if◌then◌else◌}
+use Rattle.std.specs.Prelude.{◌==◌, count_by, ◌^◌, ◌++◌, ◌&&◌, ◌||◌, ℕ, Bool, true, false, not, List, [], ◌∷◌, codes, drop, find, reverse, length, nat_eq, nat_lt, slice_index, Option, Some, None, is_some, Result, Ok, Err, if◌then◌else◌}
 use Rattle.std.specs.Char.{digit_value}
 use Rattle.std.specs.Option.{option_map, option_and_then}
 use Rattle.std.specs.List.{list_all, starts_with, position_or_len, before_first, after_first}
@@ -34,7 +34,7 @@ command_name Section = codes "section"
 abbrev pub flags_of : Command → List Flag
 flags_of Listing = flags.Sort ∷ flags.First ∷ flags.NoTotal ∷ flags.Raw ∷ flags.Full ∷ flags.Json ∷ flags.Section ∷ flags.Dynamic ∷ flags.All ∷ flags.Help ∷ []
 flags_of Size = flags.By ∷ flags.First ∷ flags.Percent ∷ flags.Std ∷ flags.Json ∷ flags.Section ∷ flags.Dynamic ∷ flags.All ∷ flags.Help ∷ []
-flags_of Map = flags.Folded ∷ flags.Section ∷ flags.Dynamic ∷ flags.All ∷ flags.Help ∷ []
+flags_of Map = flags.Std ∷ flags.Folded ∷ flags.Section ∷ flags.Dynamic ∷ flags.All ∷ flags.Help ∷ []
 flags_of Diff = flags.By ∷ flags.First ∷ flags.Percent ∷ flags.Std ∷ flags.Json ∷ flags.FailAbove ∷ flags.Section ∷ flags.Dynamic ∷ flags.All ∷ flags.Help ∷ []
 flags_of Filter = flags.Full ∷ flags.Help ∷ []
 flags_of At = flags.Return ∷ flags.Annotate ∷ flags.Bare ∷ flags.Base ∷ flags.Maps ∷ flags.As ∷ flags.Json ∷ flags.Section ∷ flags.Dynamic ∷ flags.All ∷ flags.Help ∷ []
@@ -75,6 +75,7 @@ order_named name = if bytes_eq name (codes "address") then Some orders.Address
 abbrev pub key_named : List ℕ → Option Key
 key_named name = if bytes_eq name (codes "crate") then Some keys.Crate
     else if bytes_eq name (codes "function") then Some keys.Function
+    else if bytes_eq name (codes "function-section") then Some keys.Section
     else if bytes_eq name (codes "generic") then Some keys.Generic
     else if bytes_eq name (codes "section") then Some keys.Section
     else None
@@ -90,6 +91,7 @@ pub data Wrong : Type 0 where
   no_value : (flag : Flag) → Wrong
   exclusive : (one other : Flag) → Wrong
   needs : (one other : Flag) → Wrong
+  not_each : (flag : Flag) → Wrong
   no_address : (word : List ℕ) → Wrong
   not_maps : (path : List ℕ) → Wrong
   not_mapped : (file path : List ℕ) → Wrong
@@ -155,7 +157,7 @@ values_of Text = codes "a text"
 values_of Address = codes "an address"
 values_of Count = codes "a number"
 values_of TakesOrder = codes "address, size or name"
-values_of TakesKey = codes "crate, function, generic or section"
+values_of TakesKey = codes "crate, function, function-section, generic or section"
 
 -- whether an option that takes this takes the value
 abbrev pub is_met_by : Takes → (value : List ℕ) → Bool
@@ -279,16 +281,23 @@ abbrev pub help_call : List (List ℕ) → Result Call Wrong
 help_call [] = Ok (show_help None)
 help_call (word ∷ others) = command_named word >>= λ command. Ok (show_help (Some command))
 
--- the operands of a command: it needs a file, or it takes no more than two; and no more than one where it annotates
-abbrev pub operands_checked : Command → (annotates : Bool) → List (List ℕ) → Result (Unit {0}) Wrong
-operands_checked Filter annotates operands = Ok tt
-operands_checked command annotates [] = Err (no_file command)
-operands_checked Diff annotates (file ∷ []) = Err no_second_file
-operands_checked Diff annotates (old ∷ new ∷ more ∷ others) = Err (too_many more)
-operands_checked Section annotates (file ∷ section ∷ more ∷ others) = Err (too_many more)
-operands_checked Map annotates (file ∷ more ∷ others) = Err (too_many more)
-operands_checked command true (file ∷ more ∷ others) = Err (too_many more)
-operands_checked command annotates operands = Ok tt
+-- the operands of a command: it needs a file, or it takes no more than two
+abbrev pub operands_checked : Command → List (List ℕ) → Result (Unit {0}) Wrong
+operands_checked Filter operands = Ok tt
+operands_checked command [] = Err (no_file command)
+operands_checked Diff (file ∷ []) = Err no_second_file
+operands_checked Diff (old ∷ new ∷ more ∷ others) = Err (too_many more)
+operands_checked Section (file ∷ section ∷ more ∷ others) = Err (too_many more)
+operands_checked Map (file ∷ more ∷ others) = Err (too_many more)
+operands_checked command operands = Ok tt
+
+-- how often an option is given
+abbrev pub times_given : Flag → Arguments → ℕ
+times_given flag given = count_by (λ it. bytes_eq (flag_name it.0) (flag_name flag)) given.options
+
+-- an option that is given for each of several files comes as often as there are files, or not at all
+abbrev pub is_each : Flag → Arguments → Bool
+is_each flag given = nat_lt (length given.operands) 2 || (nat_eq (times_given flag given) 0 || nat_eq (times_given flag given) (length given.operands))
 
 -- both options are given
 abbrev pub are_given : (one other : Flag) → Arguments → Bool
@@ -299,16 +308,17 @@ abbrev pub is_of_bytes : Command → (operands : List (List ℕ)) → Bool
 is_of_bytes Section operands = nat_eq (length operands) 2
 is_of_bytes command operands = false
 
--- what is given is checked: no two options that exclude each other, none without one that it needs, no bytes as JSON; the operands
+-- what is given is checked: no two options that exclude each other, none without one that it needs, no bytes as JSON; of files whose addresses are in one text each has a base and a name, or none has; the operands
 abbrev pub checked : Command → Arguments → Result (Unit {0}) Wrong
 checked command given = if are_given flags.All flags.Section given then Err (exclusive flags.All flags.Section)
     else if are_given flags.Raw flags.Full given then Err (exclusive flags.Raw flags.Full)
     else if are_given flags.Annotate flags.Json given then Err (exclusive flags.Annotate flags.Json)
-    else if are_given flags.Percent flags.Json given then Err (exclusive flags.Percent flags.Json)
     else if is_of_bytes command given.operands && is_some (value_given flags.Json given) then Err bytes_as_json
     else if are_given flags.Base flags.Maps given then Err (exclusive flags.Base flags.Maps)
     else if is_some (value_given flags.Bare given) && not (is_some (value_given flags.Annotate given)) then Err (needs flags.Bare flags.Annotate)
-    else operands_checked command (is_some (value_given flags.Annotate given)) given.operands
+    else if is_some (value_given flags.Annotate given) && not (is_each flags.Base given) then Err (not_each flags.Base)
+    else if is_some (value_given flags.Annotate given) && not (is_each flags.As given) then Err (not_each flags.As)
+    else operands_checked command given.operands
 
 -- the command, or help on it, where that is requested
 abbrev pub call_with : Command → Arguments → Result Call Wrong

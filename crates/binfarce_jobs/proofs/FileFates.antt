@@ -1,0 +1,236 @@
+-- What a file comes to, by what is read of it and by how its showing ended.
+use Rattle.std.proofs.Common.{◌≡◌, ◌≢◌, ◌∙◌, ◌⊎◌, inl, inr, ℕ, Bool, true, false, not, ◌||◌, List, [], ◌∷◌, ◌++◌, Option, Some, None, Result, Ok, Err, refl, sym, ap, subst, append_assoc, append-nil, IsErrAnd, if◌then◌else◌}
+use Rattle.std.specs.Option.{option_map}
+use Rattle.std.specs.Prelude.{IfErr, OnOk}
+use Rattle.std.specs.Io.KnownBytes.{Appends, Keeps}
+use Rattle.binfarce_bytes.specs.Format.{format_of}
+use Rattle.binfarce_bytes.specs.Refusal.{Refusal, symbols_section_is_missing}
+use Rattle.binfarce.specs.SectionEntries.{SelectedSymbols}
+use Rattle.binfarce_bytes.specs.declared.format.Format.{Format}
+use Rattle.binfarce_bytes.specs.declared.format.Format.TheVariants as formats
+use Rattle.binfarce_tools.specs.declared.SymbolTable.{SymbolTable}
+use Rattle.binfarce_bytes.specs.Selection.{section_of}
+use Rattle.binfarce_tools.specs.Answer.{selected_answer, selected_symbols}
+use Rattle.binfarce_filtering.specs.declared.stream.StreamError.TheVariants as stream
+use Rattle.binfarce_sections.specs.declared.error.SectionError.TheVariants as sections
+use Rattle.binfarce_tools.specs.declared.report.ReportError.TheVariants as sums
+use Rattle.binfarce_tools.specs.Writing as writing
+use Rattle.binfarce_tools.specs.Writing.{AppendsBeginning, IsDue, Leaves, Outcome, EndsAs, wrong_usage}
+use Rattle.binfarce_jobs.specs.Faults.{failure, is_failed_write, is_of_call}
+use Rattle.binfarce_jobs.specs.Files.{FailsAs, Files, MayBeRefused, Reports, ReportsFault, ReportsWhy, ShowsSource, ShowsOne, State, heading, refused, shown}
+use Rattle.binfarce_jobs.specs.Output.{pending, taken, writer_of}
+use Rattle.binfarce_jobs.specs.Foreign.{first_bytes, foreign_in}
+use Rattle.binfarce_jobs.specs.Input.{IsForeign, IsReadOf, IsUnreadable}
+use Rattle.binfarce_jobs.proofs.Streams.{format_of_beginning}
+use Rattle.binfarce_jobs.specs.Show.{Fits, IsAskedText, IsShownText, MayEnd, MemoryFor, TakesText, answer_for, answer_taken, is_taken}
+use Rattle.binfarce_jobs.specs.declared.fault.Fault.{Fault}
+use Rattle.binfarce_jobs.specs.declared.fault.Fault.TheVariants.{Report, Section, Stream, Unsupported, NotUtf8, SharedAddresses, Missing, Grown}
+use Rattle.binfarce_jobs.specs.declared.output.Output.{Output}
+use Rattle.binfarce_jobs.specs.declared.show.Request.{Request}
+
+-- the showing of a file that is read ends so
+abbrev Ends : Request → (file : List ℕ) → Outcome → Type 0
+Ends asked file o = EndsAs (Fits asked.kind) (MemoryFor asked.symbols file) (answer_for asked.symbols file) o
+
+-- a file of an unknown format has no answer
+no_answer : (which : SymbolTable) (file : List ℕ) (section : Option (List ℕ)) → format_of file ≡ formats.Unknown → selected_answer which section file ≡ None
+unfolding selected_symbols
+no_answer which file section is = ap (λ (f : Format). selected_symbols which section f file) is
+
+unknown_too : (file bytes : List ℕ) → format_of file ≡ formats.Unknown → bytes ≡ first_bytes file → format_of bytes ≡ formats.Unknown
+unknown_too file bytes unknown is = ap format_of is ∙ format_of_beginning file ∙ unknown
+
+-- any section can be selected in it
+unknown_taken : (section : Option (List ℕ)) → is_taken section formats.Unknown ≡ true
+unknown_taken None = refl
+unknown_taken (Some name) = refl
+
+no_taken : (which : SymbolTable) (file : List ℕ) (section : Option (List ℕ)) → format_of file ≡ formats.Unknown → answer_taken which file section ≡ None
+no_taken which file section is =
+    ap (λ (b : Bool). if b then selected_answer which section file else Some (Err symbols_section_is_missing)) (ap (is_taken section) is ∙ unknown_taken section) ∙ no_answer which file section is
+
+no_shown : (asked : Request) (file : List ℕ) → format_of file ≡ formats.Unknown → answer_for asked.symbols file ≡ None
+no_shown asked file is = no_taken asked.symbols.which file (section_of asked.symbols.selection) is
+
+-- a text of what was read of a file is one of the file
+pub text_of_file : (asked : Request) (path file bytes text : List ℕ) → IsReadOf file bytes → IsShownText asked path bytes text → IsShownText asked path file text
+text_of_file asked path file bytes text (inl same) is = subst (λ (f : List ℕ). IsShownText asked path f text) same is
+text_of_file asked path file bytes text (inr (unknown, first)) is =
+    absurd (subst (λ (answer : Option (Result SelectedSymbols Refusal)). IsDue (IsAskedText asked path) answer text) (no_shown asked bytes (unknown_too file bytes unknown first)) is)
+
+-- of a file of an unknown format that is reported, and nothing else
+ends_of_file : (asked : Request) (file bytes : List ℕ) (o : Outcome) → IsReadOf file bytes → Ends asked bytes o → Ends asked file o
+ends_of_file asked file bytes o (inl same) ends = subst (λ (f : List ℕ). Ends asked f o) same ends
+ends_of_file asked file bytes o (inr (unknown, first)) ends =
+    let EndsBy : List ℕ → Option (Result SelectedSymbols Refusal) → Type 0 = λ f answer. EndsAs (Fits asked.kind) (MemoryFor asked.symbols f) answer o in
+    subst (EndsBy file) (sym (no_shown asked file unknown)) (subst (EndsBy bytes) (no_shown asked bytes (unknown_too file bytes unknown first)) ends)
+
+-- the showing of what was read of a file ends as that of the file may
+pub end_of_file : (P Q : Type 0) → (P → Q) → (asked : Request) (file bytes : List ℕ) (o : Outcome) → IsReadOf file bytes → MayEnd P asked bytes o → MayEnd Q asked file o
+end_of_file P Q more asked file bytes o read (inl (may, is)) = inl (more may, is)
+end_of_file P Q more asked file bytes o read (inr (inl is)) = inr (inl is)
+end_of_file P Q more asked file bytes o read (inr (inr ends)) = inr (inr (ends_of_file asked file bytes o read ends))
+
+-- a call about a file is never wrong in itself
+no_usage : {L : Type 0} (fits : L → Type 0) (memory : Result L Refusal → Type 0) (answer : Option (Result L Refusal)) → EndsAs fits memory answer wrong_usage → ⊥
+no_usage fits memory None is = cc
+no_usage fits memory (Some (Err refusal)) (inl is) = cc
+no_usage fits memory (Some (Err refusal)) (inr (needs, is)) = cc
+no_usage fits memory (Some (Ok listed)) (inl is) = cc
+no_usage fits memory (Some (Ok listed)) (inr (inl (may, inl is))) = cc
+no_usage fits memory (Some (Ok listed)) (inr (inl (may, inr is))) = cc
+no_usage fits memory (Some (Ok listed)) (inr (inr (never, is))) = cc
+
+never_wrong : (MayFail : Type 0) (asked : Request) (file : List ℕ) → MayEnd MayFail asked file wrong_usage → ⊥
+never_wrong MayFail asked file (inl (may, is)) = cc
+never_wrong MayFail asked file (inr (inl is)) = cc
+never_wrong MayFail asked file (inr (inr ends)) = no_usage (Fits asked.kind) (MemoryFor asked.symbols file) (answer_for asked.symbols file) ends
+
+-- what is left of a heading precedes the text
+pub after_heading : (old mid : Option (List ℕ)) (left text : List ℕ) → Appends (option_map (λ b. b ++ left) old) mid text → Appends old mid (left ++ text)
+after_heading None mid left text is = tt
+after_heading (Some a) None left text is = absurd is
+after_heading (Some a) (Some b) left text is = is ∙ append_assoc a left text
+
+pub beginning_after : (old taken : Option (List ℕ)) (left text : List ℕ) → AppendsBeginning (option_map (λ b. b ++ left) old) taken text → AppendsBeginning old taken (left ++ text)
+beginning_after old taken left text (beginning, others, is, begins) =
+    (left ++ beginning, others, ap (λ (z : List ℕ). left ++ z) is ∙ sym (append_assoc left beginning others), after_heading old taken left beginning begins)
+
+-- a text whose heading is written is written
+whole : (old mid new : Option (List ℕ)) (left none text : List ℕ) → Appends (option_map (λ b. b ++ left) old) mid text → Keeps mid (option_map (λ b. b ++ none) new) → none ≡ [] → Appends old new (left ++ text)
+whole None mid new left none text took kept is = tt
+whole (Some a) None new left none text took kept is = absurd took
+whole (Some a) (Some b) None left none text took kept is = absurd kept
+whole (Some a) (Some b) (Some c) left none text took kept is =
+    sym (append-nil c) ∙ ap (λ (z : List ℕ). c ++ z) (sym is) ∙ kept ∙ took ∙ append_assoc a left text
+
+whole_taken : (old mid taken : Option (List ℕ)) (left text : List ℕ) → Appends (option_map (λ b. b ++ left) old) mid text → Keeps mid taken → AppendsBeginning old taken (left ++ text)
+whole_taken old mid taken left text took kept = (left ++ text, [], sym (append-nil (left ++ text)), by old mid taken took kept)
+  where
+    by : (old mid taken : Option (List ℕ)) → Appends (option_map (λ b. b ++ left) old) mid text → Keeps mid taken → Appends old taken (left ++ text)
+    by None mid taken took kept = tt
+    by (Some a) None taken took kept = absurd took
+    by (Some a) (Some b) None took kept = absurd kept
+    by (Some a) (Some b) (Some c) took kept = kept ∙ took ∙ append_assoc a left text
+
+-- a fault is a failure
+never_written : (e : Fault) → failure e ≢ writing.written
+never_written (Report sums.Unknown) is = cc
+never_written (Report (sums.Parse p)) is = cc
+never_written (Report sums.OutOfMemory) is = cc
+never_written (Report sums.TooLarge) is = cc
+never_written (Report sums.Write) is = cc
+never_written (Section sections.Unknown) is = cc
+never_written (Section (sections.Parse p)) is = cc
+never_written (Section sections.NoSection) is = cc
+never_written (Section sections.NoBytes) is = cc
+never_written (Section sections.PastEnd) is = cc
+never_written (Section sections.OutOfMemory) is = cc
+never_written (Section sections.Write) is = cc
+never_written (Section sections.Unreadable) is = cc
+never_written (Stream stream.Read) is = cc
+never_written (Stream stream.Write) is = cc
+never_written (Stream stream.OutOfMemory) is = cc
+never_written (Unsupported kind) is = cc
+never_written NotUtf8 is = cc
+never_written SharedAddresses is = cc
+never_written (Missing count) is = cc
+never_written (Grown by) is = cc
+
+-- a fault of the whole call is none of the file
+of_call : (e : Fault) → is_of_call e ≡ true → failure e ≡ wrong_usage
+of_call (Report e) is = absurd cc
+of_call (Section e) is = absurd cc
+of_call (Stream e) is = absurd cc
+of_call (Unsupported kind) is = absurd cc
+of_call NotUtf8 is = absurd cc
+of_call SharedAddresses is = absurd cc
+of_call (Missing count) is = refl
+of_call (Grown by) is = refl
+
+module _ {W : Type 0} (contents : W → Option (List ℕ)) (asked : Request) (path : List ℕ) (MayFail : Type 0) (file : List ℕ) (old mid : Output W) where
+  -- a file whose showing failed
+  unshown : (o : Outcome) → o ≢ writing.written → MayEnd MayFail asked file o → TakesText asked path file (taken contents old) (taken contents mid) o → Leaves old mid o
+      → FailsAs asked path MayFail file (pending old) (contents (writer_of old)) (contents (writer_of mid)) (taken contents mid) o
+  unshown writing.write_failed other ends (text, due, begins) leaves = (text, due, beginning_after (contents (writer_of old)) (taken contents mid) (pending old) text begins)
+  unshown writing.written other ends takes leaves = absurd (other refl)
+  unshown writing.unknown_format other ends takes leaves = (ends, ap (λ (s : Output W). contents (writer_of s)) leaves)
+  unshown (writing.refused refusal) other ends takes leaves = (ends, ap (λ (s : Output W). contents (writer_of s)) leaves)
+  unshown writing.no_memory other ends takes leaves = (ends, ap (λ (s : Output W). contents (writer_of s)) leaves)
+  unshown writing.too_large other ends takes leaves = (ends, ap (λ (s : Output W). contents (writer_of s)) leaves)
+  unshown writing.unreadable other ends takes leaves = (ends, ap (λ (s : Output W). contents (writer_of s)) leaves)
+  unshown writing.wrong_usage other ends takes leaves = (ends, ap (λ (s : Output W). contents (writer_of s)) leaves)
+
+  -- a file that is shown, and its heading written
+  pub ended : (new : Output W) → (text : List ℕ) × IsShownText asked path file text × Appends (taken contents old) (taken contents mid) text → Keeps (taken contents mid) (taken contents new) → pending new ≡ []
+      → (x : Unit {0}) → ShowsSource asked path MayFail file (pending old) (contents (writer_of old)) (contents (writer_of new)) (taken contents new) (Ok x)
+  ended new (text, due, took) kept none x = (text, due, whole (contents (writer_of old)) (taken contents mid) (contents (writer_of new)) (pending old) (pending new) text took kept none)
+
+  abbrev pub Held : Output W → Result (Unit {0}) Fault → Type 0
+  Held new result = ShowsSource asked path MayFail file (pending old) (contents (writer_of old)) (contents (writer_of new)) (taken contents new) result
+
+  -- the same, where the writing of the heading failed
+  pub broke_off : (new : Output W) (e : Fault) → (text : List ℕ) × IsShownText asked path file text × Appends (taken contents old) (taken contents mid) text → Keeps (taken contents mid) (taken contents new) → failure e ≡ writing.write_failed → Held new (Err e)
+  broke_off new e (text, due, took) kept is =
+      subst (λ (o : Outcome). FailsAs asked path MayFail file (pending old) (contents (writer_of old)) (contents (writer_of new)) (taken contents new) o) (sym is)
+      (text, due, whole_taken (contents (writer_of old)) (taken contents mid) (taken contents new) (pending old) text took kept)
+
+  -- a file whose showing failed, as `?` passes the fault on
+  pub show_failed : (e : Fault) (result : Result (Unit {0}) Fault) → IsErrAnd result (λ f. f ≡ e) → MayEnd MayFail asked file (failure e) → TakesText asked path file (taken contents old) (taken contents mid) (failure e) → Leaves old mid (failure e) → Held mid result
+  show_failed e (Ok x) is ends takes leaves = absurd is
+  show_failed e (Err f) is ends takes leaves = subst (λ (f : Fault). Held mid (Err f)) (sym is) (unshown (failure e) (never_written e) ends takes leaves)
+
+  -- a file that is shown, by how the writing of its heading ended
+  pub was_shown : (new : Output W) (P Q : Type 0) (result : Result (Unit {0}) Fault) → (text : List ℕ) × IsShownText asked path file text × Appends (taken contents old) (taken contents mid) text → Keeps (taken contents mid) (taken contents new)
+      → OnOk result ((pending new ≡ []) × P) → IfErr result (λ e. (failure e ≡ writing.write_failed) × Q) → Held new result
+  was_shown new P Q (Ok x) took kept done failed = ended new took kept done.0 x
+  was_shown new P Q (Err e) took kept done failed = broke_off new e took kept failed.0
+
+module _ (files : Files) (path : List ℕ) (old new : State) where
+  abbrev pub One : Result Bool Fault → Type 0
+  One result = ShowsOne files path old new result
+
+  was_refused : (fault : Fault) (result : Result Bool Fault) → MayBeRefused files.asked (files.may_fail path) (files.held path) fault → new.bytes ≡ old.bytes → (result ≡ Ok false) × Reports old.reports new.reports ((path, fault) ∷ []) → One result
+  was_refused fault result may same (is, answered_lines) = subst One (sym is) (refused fault, may, refl, unwritten old.bytes new.bytes same, answered_lines)
+    where
+      unwritten : (old new : Option (List ℕ)) → new ≡ old → Appends old new []
+      unwritten None new same = tt
+      unwritten (Some a) new same = subst (λ (n : Option (List ℕ)). Appends (Some a) n []) (sym same) (sym (append-nil a))
+
+  -- a file that can't be opened or read, or that no reader reads
+  pub unopened : (fault : Fault) → IsForeign (files.held path) fault ⊎ IsUnreadable (files.may_fail path) (files.held path) fault → new.bytes ≡ old.bytes → Reports old.reports new.reports ((path, fault) ∷ []) → One (Ok false)
+  unopened fault (inl is) same answered_lines = was_refused fault (Ok false) (inl is) same (refl, answered_lines)
+  unopened fault (inr is) same answered_lines = was_refused fault (Ok false) (inr (inl is)) same (refl, answered_lines)
+
+  module _ (bytes left : List ℕ) (MayFail : Type 0) (read : IsReadOf (files.held path) bytes) (more : MayFail → files.may_fail path ≡ true) (is : left ≡ heading files.are_several path) (native : foreign_in (files.held path) ≡ None) where
+    abbrev May : Outcome → Type 0
+    May o = MayEnd MayFail files.asked bytes o
+
+    -- a file whose showing failed before its first write
+    not_shown : (fault : Fault) (result : Result Bool Fault) (o : Outcome) (call : Bool) → o ≢ writing.write_failed → failure fault ≡ o → is_of_call fault ≡ call → May o × (new.bytes ≡ old.bytes) → ReportsFault path old.reports new.reports fault (not call) result → One result
+    not_shown fault result o true other is_o is_call (ends, same) reports = absurd (never_wrong MayFail files.asked bytes (subst May (sym is_o ∙ of_call fault is_call) ends))
+    not_shown fault result o false other is_o is_call (ends, same) reports =
+        was_refused fault result (inr (inr (
+          native,
+          λ e. other (sym is_o ∙ e),
+          end_of_file MayFail ((files.may_fail path ≡ true) ⊎ (files.held path ≡ [])) (λ m. inl (more m)) files.asked (files.held path) bytes (failure fault) read (subst May (sym is_o) ends),
+        ))) same reports
+
+    -- a file whose showing failed
+    failed : (fault : Fault) (result : Result Bool Fault) (o : Outcome) (call : Bool) → failure fault ≡ o → is_of_call fault ≡ call → FailsAs files.asked path MayFail bytes left old.bytes new.bytes new.taken o
+        → ReportsFault path old.reports new.reports fault (not (is_failed_write o || call)) result → One result
+    failed fault result writing.write_failed call is_o is_call (text, due, wrote) (err, reports) =
+        subst One (sym err) (inl (is_o, (text, (native, text_of_file files.asked path (files.held path) bytes text read due), subst (λ (h : List ℕ). AppendsBeginning old.bytes new.taken (h ++ text)) is wrote)), reports)
+    failed fault result writing.written call is_o is_call fails reports = not_shown fault result writing.written call (λ e. cc) is_o is_call fails reports
+    failed fault result writing.unknown_format call is_o is_call fails reports = not_shown fault result writing.unknown_format call (λ e. cc) is_o is_call fails reports
+    failed fault result (writing.refused refusal) call is_o is_call fails reports = not_shown fault result (writing.refused refusal) call (λ e. cc) is_o is_call fails reports
+    failed fault result writing.no_memory call is_o is_call fails reports = not_shown fault result writing.no_memory call (λ e. cc) is_o is_call fails reports
+    failed fault result writing.too_large call is_o is_call fails reports = not_shown fault result writing.too_large call (λ e. cc) is_o is_call fails reports
+    failed fault result writing.unreadable call is_o is_call fails reports = not_shown fault result writing.unreadable call (λ e. cc) is_o is_call fails reports
+    failed fault result writing.wrong_usage call is_o is_call fails reports = not_shown fault result writing.wrong_usage call (λ e. cc) is_o is_call fails reports
+
+    -- a file that is read, by how its showing ended
+    pub came_to : (done : Result (Unit {0}) Fault) (result : Result Bool Fault) → ShowsSource files.asked path MayFail bytes left old.bytes new.bytes new.taken done → ReportsWhy path old.reports new.reports done result → One result
+    came_to (Ok x) result (text, due, wrote) (ok, answered_lines) =
+        subst One (sym ok) (shown text, (native, text_of_file files.asked path (files.held path) bytes text read due), refl, subst (λ (h : List ℕ). Appends old.bytes new.bytes (h ++ text)) is wrote, answered_lines)
+    came_to (Err fault) result fails reports = failed fault result (failure fault) (is_of_call fault) refl refl fails reports

@@ -1,0 +1,71 @@
+-- What is read and written part after part.
+use Rattle.std.proofs.Common.{◌≡◌, ◌⊎◌, ◌∙◌, inl, inr, ℕ, ◌+◌, Bool, true, false, List, [], ◌++◌, length, take, drop, ◌-◌, length-drop, Option, Some, None, Result, Ok, Err, IsErrAnd, ◌<◌, ◌≤◌, append_assoc, append-nil, refl, sym, ap, subst, arith}
+use Rattle.std.specs.Global.{Vec}
+use Rattle.std.specs.Prelude.{IfErr, IfSome}
+use Rattle.std.specs.Io.KnownBytes.{append_known, Appends, Consumes, IsAtEnd, Keeps}
+use Rattle.std.proofs.KnownBytes.{append_known-moved}
+use Rattle.std.proofs.lemmas.List.{take-append-drop, take-take, take_all}
+use Rattle.std.proofs.Math.Seq.{drop-drop, take-append_seam}
+use Rattle.binfarce_bytes.specs.Format.{format_of}
+use Rattle.binfarce_bytes.specs.declared.format.Format.TheVariants.{Unknown}
+use Rattle.binfarce_tables.proofs.FirstBytes.{format_of_first}
+use Rattle.binfarce_tables.specs.Reading.{Reads}
+use Rattle.binfarce_tables.specs.declared.error.ReadError.{ReadError}
+use Rattle.binfarce_tables.specs.declared.error.ReadError.TheVariants.{Refused, Unreadable, OutOfMemory}
+use Rattle.binfarce_jobs.specs.Faults.{failure, read_fault}
+use Rattle.binfarce_jobs.specs.Foreign.{first_bytes, foreign_in, named_by}
+use Rattle.binfarce_jobs.specs.Input.{IsForeign, IsReadOf, IsUnread, IsUnreadable, Judges, Loads, ReadsJudged}
+use Rattle.binfarce_jobs.specs.declared.fault.Fault.{Fault}
+
+-- what of a heading was written is no longer left of it
+pub moved_part : (old new : Option (List ℕ)) (heading items : List ℕ) (done n : ℕ) → items ≡ heading → Appends old new (take n (take (length items - done) (drop done items)))
+    → Keeps (append_known old (drop done heading)) (append_known new (drop (done + n) heading))
+moved_part old new heading items done n are is =
+    let left = drop done heading in
+    let whole : take (length items - done) (drop done items) ≡ left = take_all (length items - done) (drop done items) (omega (arith, length-drop done items)) ∙ ap (drop done) are in
+    append_known-moved old new (take n left) (drop (done + n) heading) left (subst (λ xs. Appends old new (take n xs)) whole is)
+    (sym (take-append-drop n left) ∙ ap (λ (z : List ℕ). take n left ++ z) (drop-drop n done heading))
+
+-- 512 bytes that were read are the first ones
+pub first_are : (old new : Option (List ℕ)) (bytes : List ℕ) → length bytes ≡ 512 → Consumes old new bytes → IfSome old (λ file. bytes ≡ first_bytes file)
+first_are None new bytes all is = tt
+first_are (Some xs) None bytes all is = absurd is
+first_are (Some xs) (Some ys) bytes all is =
+    sym (take-append_seam bytes ys) ∙ ap (λ (n : ℕ). take n (bytes ++ ys)) all ∙ ap (take 512) (sym is)
+
+-- fewer that were read up to the end are all
+pub short_are : (old mid new : Option (List ℕ)) (bytes : List ℕ) → length bytes ≤ 512 → Consumes old mid bytes → Consumes mid new [] → IsAtEnd new → IfSome old (λ file. bytes ≡ first_bytes file) × Consumes old new bytes
+short_are None mid new bytes short read none end = (tt, tt)
+short_are (Some xs) None new bytes short read none end = absurd read
+short_are (Some xs) (Some ys) None bytes short read none end = absurd none
+short_are (Some xs) (Some ys) (Some zs) bytes short read none end =
+    let file : xs ≡ bytes = read ∙ ap (λ (z : List ℕ). bytes ++ z) (none ∙ end) ∙ append-nil bytes in
+    (sym (take_all 512 bytes short) ∙ ap (take 512) (sym file), read ∙ ap (λ (z : List ℕ). bytes ++ z) none)
+
+-- one byte more is read
+pub byte_more : (old mid new : Option (List ℕ)) (bytes byte items : List ℕ) (n : ℕ) → Consumes old mid bytes → Consumes mid new (take n byte) → length byte ≡ 1 → 0 < n → items ≡ bytes ++ byte → Consumes old new items
+byte_more None mid new bytes byte items n read got one some is = tt
+byte_more (Some xs) None new bytes byte items n read got one some is = absurd read
+byte_more (Some xs) (Some ys) None bytes byte items n read got one some is = absurd got
+byte_more (Some xs) (Some ys) (Some zs) bytes byte items n read got one some is =
+    read ∙ ap (λ (z : List ℕ). bytes ++ z) (got ∙ ap (λ (b : List ℕ). b ++ zs) (take_all n byte (omega (arith, one, some)))) ∙ sym (append_assoc bytes byte zs) ∙ ap (λ (z : List ℕ). z ++ zs) (sym is)
+
+-- the first bytes name the file's format
+pub format_of_beginning : (file : List ℕ) → format_of (first_bytes file) ≡ format_of file
+format_of_beginning file = sym (format_of_first (first_bytes file)) ∙ ap format_of (take-take 8 512 file (omega arith)) ∙ format_of_first file
+
+-- of a file whose first bytes name no format, and nothing that no reader reads, these are what is read
+pub unknown_read : (old : Option (List ℕ)) (bytes : List ℕ) → Unknown ≡ format_of bytes → named_by bytes ≡ None → IfSome old (λ file. bytes ≡ first_bytes file) → IfSome old (λ file. IsReadOf file bytes × (foreign_in file ≡ None))
+unknown_read None bytes is native first = tt
+unknown_read (Some file) bytes is native first = (inr (sym (is ∙ ap format_of first ∙ format_of_beginning file), first), ap named_by (sym first) ∙ native)
+
+-- of another file that a reader reads, all is
+pub all_read : (old mid : Option (List ℕ)) (bytes items : List ℕ) → named_by bytes ≡ None → IfSome old (λ file. bytes ≡ first_bytes file) → Consumes old mid bytes → IfSome mid (λ rest. items ≡ bytes ++ rest) → IfSome old (λ file. IsReadOf file items × (foreign_in file ≡ None))
+all_read None mid bytes items native first is rest = tt
+all_read (Some file) None bytes items native first is rest = absurd is
+all_read (Some file) (Some others) bytes items native first is rest = (inl (rest ∙ sym is), ap named_by (sym first) ∙ native)
+
+-- a file that is read at offsets is judged by its first bytes
+pub judged : (may_fail : Bool) (file first : List ℕ) (new : Option (List ℕ)) (result : Result (Unit {0}) Fault) → new ≡ Some file → first ≡ first_bytes file → Judges (named_by first) result → Loads may_fail file new may_fail result
+judged may_fail file first new (Ok x) known is judges = (file, known, inl refl, λ m. m, ap named_by (sym is) ∙ judges)
+judged may_fail file first new (Err e) known is judges = inl (subst (λ (bs : List ℕ). Judges (named_by bs) (Err e)) is judges)

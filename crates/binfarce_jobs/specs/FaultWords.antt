@@ -1,0 +1,45 @@
+-- The words of a fault.
+use Rattle.std.specs.Prelude.{ℕ, List, [], ◌∷◌, ◌++◌, codes, nat_eq, Some, if◌then◌else◌}
+use Rattle.std.specs.Fmt.{decimal}
+use Rattle.std.specs.List.{concat}
+use Rattle.std.specs.Str.{bytes_eq}
+use Rattle.binfarce_bytes.specs.Refusal.{Refusal, refusal_of, section_is_missing, symbols_section_is_missing, words}
+use Rattle.binfarce_sections.specs.Results.{section_words}
+use Rattle.binfarce_sections.specs.declared.error.SectionError.TheVariants as sections
+use Rattle.binfarce_text.specs.Streams.{stream_words}
+use Rattle.binfarce_tools.specs.Json.{object_start, text_member}
+use Rattle.binfarce_tools.specs.ReportWords.{report_words}
+use Rattle.binfarce_tools.specs.declared.report.ReportError.TheVariants as sums
+use Rattle.binfarce_jobs.specs.Foreign.{foreign_words}
+use Rattle.binfarce_jobs.specs.declared.fault.Fault.{Fault}
+use Rattle.binfarce_jobs.specs.declared.fault.Fault.TheVariants.{Report, Section, Stream, Unsupported, NotUtf8, SharedAddresses, Missing, Grown}
+
+-- of a refusal: an ELF file without a symbol table may have a dynamic one
+abbrev pub refused_words : Refusal → List ℕ
+refused_words (section_is_missing name) =
+    if bytes_eq name (codes ".symtab") then codes "no symbol table (.symtab): it is stripped"
+    else if bytes_eq name (codes ".dynsym") then codes "no dynamic symbol table (.dynsym)"
+    else words (section_is_missing name)
+refused_words symbols_section_is_missing = codes "no such section; binfarce section lists those of an ELF file; in others .text is the code"
+refused_words refusal = words refusal
+
+-- of so many lines without an address
+abbrev pub missing_words : ℕ → List ℕ
+missing_words count = if nat_eq count 1 then codes "1 line without an address" else decimal count ++ codes " lines without an address"
+
+-- the printed text; but for refusals that of the error in it
+abbrev pub fault_words : Fault → List ℕ
+fault_words (Report (sums.Parse e)) = refused_words (refusal_of e)
+fault_words (Report e) = report_words e
+fault_words (Section (sections.Parse e)) = refused_words (refusal_of e)
+fault_words (Section e) = section_words e
+fault_words (Stream e) = stream_words e
+fault_words (Unsupported kind) = foreign_words kind
+fault_words NotUtf8 = codes "not UTF-8"
+fault_words SharedAddresses = codes "its sections share addresses; --section=NAME takes one of them"
+fault_words (Grown by) = codes "the sum grew by " ++ (decimal by ++ codes " bytes")
+fault_words (Missing count) = missing_words count
+
+-- the refusal of a file as a JSON object: its file, and the printed text
+abbrev pub refusal_object : (file message : List ℕ) → List ℕ
+refusal_object file message = concat (object_start file ∷ text_member (codes "error") (Some message) ∷ codes "}\n" ∷ [])

@@ -1,0 +1,12 @@
+pub mod Foreign
+pub mod Input
+pub mod Faults
+pub mod FaultWords
+pub mod Show
+pub mod Files
+pub mod Hints
+pub mod Output
+pub mod Section
+pub mod Filter
+pub mod At
+pub mod Limit

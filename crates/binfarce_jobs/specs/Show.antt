@@ -1,0 +1,86 @@
+-- How function symbols are shown.
+use Rattle.std.specs.Prelude.{◌≡◌, ℕ, Bool, true, false, List, [], codes, Option, Some, None, Result, Err, if◌then◌else◌}
+use Rattle.std.specs.Str.{bytes_eq}
+use Rattle.binfarce.specs.Format.{format_of}
+use Rattle.binfarce.specs.declared.Format.{Format}
+use Rattle.binfarce.specs.declared.Format.TheVariants as formats
+use Rattle.binfarce.specs.Refusal.{Refusal, symbols_section_is_missing}
+use Rattle.binfarce.specs.SectionEntries.{SelectedSymbols}
+use Rattle.binfarce_figures.specs.Figures.{AreFiguresBy, AreStacksIn, IsPictureBy}
+use Rattle.binfarce_figures.specs.RowListing.{IsListingBy}
+use Rattle.binfarce_tools.specs.Json.{Style, lines, objects}
+use Rattle.binfarce_tools.specs.Listing.{IsListingOf, ListingFits}
+use Rattle.binfarce_tools.specs.Report.{ReportFits}
+use Rattle.binfarce_bytes.specs.Selection.{section_of}
+use Rattle.binfarce_tools.specs.Answer.{selected_answer, MemoryIn}
+use Rattle.binfarce_tools.specs.Tables.{AreTablesOf}
+use Rattle.binfarce_tools.specs.Writing.{Outcome, IsDue, ProgramEndsAs, Takes}
+use Rattle.binfarce_tools.specs.declared.SymbolTable.{SymbolTable}
+use Rattle.binfarce_tools.specs.declared.tables.Tables.{Tables}
+use Rattle.binfarce_jobs.specs.declared.show.Request.{Request}
+use Rattle.binfarce_jobs.specs.declared.show.Kind.{Kind}
+use Rattle.binfarce_jobs.specs.declared.show.Kind.TheVariants.{Listing, Rows, Figures, Picture, Stacks}
+use Rattle.binfarce_jobs.specs.declared.show.Symbols.{Symbols}
+
+-- text shows the answer of the file at a path for a section, or for all sections
+abbrev pub IsTextOf : Kind → (path : List ℕ) → Style → SelectedSymbols → List ℕ → Type 0
+IsTextOf Listing path style = IsListingOf
+IsTextOf (Rows shown) path style = IsListingBy shown style
+IsTextOf (Figures figures) path style = AreFiguresBy figures style
+IsTextOf (Picture grouping) path style = IsPictureBy path grouping
+IsTextOf (Stacks joins_std) path style = AreStacksIn joins_std
+
+-- the name of the section that is selected; empty for all sections
+abbrev pub selected_name : Option (List ℕ) → List ℕ
+selected_name (Some name) = name
+selected_name None = []
+
+-- how rows are written: as objects with the path of the file and the name of the section, if that is asked for
+abbrev pub style_for : Request → (path : List ℕ) → Style
+style_for asked path = if asked.is_json then objects path (selected_name (section_of asked.symbols.selection)) else lines
+
+-- such a text can be made
+abbrev pub Fits : Kind → SelectedSymbols → Type 0
+Fits Listing = ListingFits
+Fits (Rows shown) = ListingFits
+Fits (Figures figures) = ReportFits
+Fits (Picture grouping) = ReportFits
+Fits (Stacks joins_std) = ReportFits
+
+-- the section can be selected in a file of this format: in a Mach-O or PE file `.text` is the code section, and there is no other name
+abbrev pub is_taken : (section : Option (List ℕ)) → Format → Bool
+is_taken (Some name) formats.Macho = bytes_eq name (codes ".text")
+is_taken (Some name) formats.PE = bytes_eq name (codes ".text")
+is_taken section format = true
+
+-- what a file answers for a selection: a section that can't be selected is missing
+abbrev pub answer_taken : SymbolTable → (file : List ℕ) → (section : Option (List ℕ)) → Option (Result SelectedSymbols Refusal)
+answer_taken which file section = if is_taken section (format_of file) then selected_answer which section file else Some (Err symbols_section_is_missing)
+
+-- so for the function symbols that are taken
+abbrev pub answer_for : Symbols → (file : List ℕ) → Option (Result SelectedSymbols Refusal)
+answer_for symbols file = answer_taken symbols.which file (section_of symbols.selection)
+
+-- the tables are those of the file for these function symbols
+abbrev pub AreTablesFor : Symbols → (file : List ℕ) → Tables → Type 0
+AreTablesFor symbols file tables = AreTablesOf symbols.which file (section_of symbols.selection) tables × (answer_for symbols file ≡ selected_answer symbols.which (section_of symbols.selection) file)
+
+-- the answers that need memory
+abbrev pub MemoryFor : Symbols → (file : List ℕ) → Result SelectedSymbols Refusal → Type 0
+MemoryFor symbols file = MemoryIn file (section_of symbols.selection)
+
+-- text shows what is asked for of an answer
+abbrev pub IsAskedText : Request → (path : List ℕ) → SelectedSymbols → List ℕ → Type 0
+IsAskedText asked path = IsTextOf asked.kind path (style_for asked path)
+
+-- what was taken of the text that is asked for of a file
+abbrev pub TakesText : Request → (path file : List ℕ) → (old new : Option (List ℕ)) → Outcome → Type 0
+TakesText asked path file old new outcome = Takes (IsAskedText asked path) (answer_for asked.symbols file) old new outcome
+
+-- text is what is asked for of a file
+abbrev pub IsShownText : Request → (path file text : List ℕ) → Type 0
+IsShownText asked path file text = IsDue (IsAskedText asked path) (answer_for asked.symbols file) text
+
+-- the showing of a file may end so; that the file can't be read is reported only where MayFail says so, and that an allocation failed of any file
+abbrev pub MayEnd : (MayFail : Type 0) → Request → (file : List ℕ) → Outcome → Type 0
+MayEnd MayFail asked file outcome = ProgramEndsAs MayFail (Fits asked.kind) (MemoryFor asked.symbols file) (answer_for asked.symbols file) outcome

@@ -1,0 +1,216 @@
+//! Runs a command on files, one after the other.
+
+ghost use Rattle.std.specs.Prelude.{◌≡◌, ◌⊎◌, [], ◌∷◌, ℕ, Bool, List, true, Option, Some, None, map, nat_lt, length, IfErr, IfOk, IfSome, MatchOption};
+ghost use Rattle.binfarce_jobs.specs.Files.{Refused, Reports, AreHeld, asked_files, ReportsWhy, ShowsAll, ShowsSource, ShowsOne, heading};
+ghost use Rattle.binfarce_jobs.specs.Output.{pending, state_of, taken, writer_of};
+ghost use Rattle.binfarce_jobs.specs.Foreign.{foreign_in};
+ghost use Rattle.binfarce_jobs.specs.Input.{IsForeign, IsReadOf, IsUnreadable, bytes_of, may_fail_of};
+
+use crate::fault::Fault;
+use crate::hint::{Hint, completed, refusal_hints};
+use crate::input::OpenFile;
+use crate::output::Output;
+use crate::show::{Kind, Request, show};
+use binfarce_bytes::source::Source;
+use binfarce_sections::error::SectionError;
+use std::alloc::{AllocError, Global};
+use std::io::{self, Error, Read, Write};
+
+/// The system around a command: opened files, and messages.
+pub trait System<F: Read + Source<Log = ()>> {
+    // The bytes of the file at a path, where they are known.
+    ghost bytes_at: { Self → List ℕ → Option (List ℕ) } = { λ _ _. None };
+
+    // The file at a path may fail to be opened or read.
+    ghost may_fail_at: { Self → List ℕ → Bool } = { λ _ _. true };
+
+    // What was reported so far, where that is known.
+    ghost reports: { Self → Option (List Refused) } = { λ _. None };
+
+    /// The file at this path, to be read.
+    fn open(&self, path: &str) -> io::Result<F>
+        ensures bytes { IfOk result (λ f. IfSome (bytes_at self.now path.now)
+            (λ bytes. (F.bytes f ≡ Some bytes) × (F.remaining f ≡ Some bytes))) }
+        ensures may_fail { IfOk result (λ f. F.may_fail f ≡ true → may_fail_at self.now path.now ≡ true) }
+        ensures failed { IfErr result (λ _. may_fail_at self.now path.now ≡ true) };
+
+    /// Reports why the file at this path is refused. `reason` is the system's, if a read failed.
+    fn report(&mut self, path: &str, fault: Fault, reason: Option<Error>)
+        ensures reports { Reports (reports self.old) (reports self.new) ((path.now, fault) ∷ []) }
+        ensures bytes { bytes_at self.new ≡ bytes_at self.old }
+        ensures may_fail { may_fail_at self.new ≡ may_fail_at self.old };
+
+    /// Gives a hint on the file at this path.
+    fn hint(&mut self, path: &str, hint: Hint)
+        ensures reports { reports self.new ≡ reports self.old }
+        ensures bytes { bytes_at self.new ≡ bytes_at self.old }
+        ensures may_fail { may_fail_at self.new ≡ may_fail_at self.old };
+}
+
+/// Shows each file, in order. Of several, each is shown under a line with its name. A file that is refused is reported,
+/// and the others follow; the result is then `false`.
+///
+/// # Errors
+///
+/// `Write` where a write fails, and `OutOfMemory` where an allocation for a heading fails.
+pub fn show_files<F: Read + Source<Log = ()> + Drop, Y: System<F>, W: Write>(
+    alloc: Global,
+    system: &mut Y,
+    asked: &Request<'_>,
+    files: &[&str],
+    out: &mut Output<W>,
+) -> Result<bool, Fault>
+    ensures { (held : List ℕ → List ℕ) → AreHeld (Y.bytes_at system.old) held (map (λ t. t.now) files.now)
+        → ShowsAll
+        (asked_files asked.now (nat_lt 1 (length files.now)) (Y.may_fail_at system.old) held)
+        (map (λ t. t.now) files.now)
+        (state_of W.contents out.old (Y.reports system.old))
+        (state_of W.contents out.new (Y.reports system.new)) result }
+{
+    let are_several = files.len() > 1;
+    let mut are_shown = true;
+    for path in files {
+        let is_shown = show_file(alloc, system, asked, path, are_several, out)?;
+        are_shown &= is_shown;
+    }
+    Ok(are_shown)
+}
+
+// Shows a file, under its heading. `false` where it is refused.
+fn show_file<F: Read + Source<Log = ()> + Drop, Y: System<F>, W: Write>(
+    alloc: Global,
+    system: &mut Y,
+    asked: &Request<'_>,
+    path: &str,
+    are_several: bool,
+    out: &mut Output<W>,
+) -> Result<bool, Fault>
+    ensures shows { (held : List ℕ → List ℕ) → Y.bytes_at system.old path.now ≡ Some (held path.now)
+        → ShowsOne (asked_files asked.now are_several (Y.may_fail_at system.old) held) path.now
+        (state_of W.contents out.old (Y.reports system.old))
+        (state_of W.contents out.new (Y.reports system.new)) result }
+    ensures bytes { Y.bytes_at system.new ≡ Y.bytes_at system.old }
+    ensures may_fail { Y.may_fail_at system.new ≡ Y.may_fail_at system.old }
+{
+    out.begin(heading(alloc, path, are_several)?);
+    let Some(input) = open_input(alloc, system, path) else {
+        return Ok(false);
+    };
+    let mut hint = None;
+    let shown = show_source(alloc, asked, path, &input, &mut hint, out);
+    let hint = completed(
+        alloc,
+        &input,
+        &asked.symbols,
+        hint,
+        shown.is_ok(),
+        matches!(asked.kind, Kind::Picture(_)),
+        out.len(),
+    );
+    give(system, path, hint);
+    reported(alloc, system, path, &input, shown)
+}
+
+/// What precedes a file's text: of several files, its name in a line.
+///
+/// # Errors
+///
+/// `AllocError` where an allocation fails.
+pub fn heading(alloc: Global, path: &str, are_several: bool) -> Result<Vec<u8>, AllocError>
+    ensures { IfOk result (λ v. v.items ≡ heading are_several path.now) }
+{
+    if !are_several {
+        return Ok(Vec::new(alloc));
+    }
+    let text = format!(in alloc; "\n{path}:\n")?;
+    Vec::from_slice(alloc, text.as_bytes())
+}
+
+// Shows the source after what is left of the heading, which is written also where the text is empty.
+fn show_source<S: Source<Log = ()>, W: Write>(
+    alloc: Global,
+    asked: &Request<'_>,
+    path: &str,
+    source: &S,
+    hint: &mut Option<Hint>,
+    out: &mut Output<W>,
+) -> Result<(), Fault>
+    ensures { (file : List ℕ) → S.bytes source.now ≡ Some file
+        → ShowsSource asked.now path.now (S.may_fail source.now ≡ true) file (pending out.old)
+        (W.contents (writer_of out.old)) (W.contents (writer_of out.new)) (taken W.contents out.new) result }
+{
+    show(alloc, asked, path, source, hint, out)?;
+    out.end()
+}
+
+/// Opens the file at this path, and loads it. `None` where it can't be opened or read, or where its first bytes name
+/// what no reader reads, which is reported.
+pub fn open_input<F: Read + Source<Log = ()> + Drop, Y: System<F>>(
+    alloc: Global,
+    system: &mut Y,
+    path: &str,
+) -> Option<OpenFile<F>>
+    ensures input { (file : List ℕ) → Y.bytes_at system.old path.now ≡ Some file → MatchOption result
+        ((fault : Fault) × (IsForeign file fault ⊎ IsUnreadable (Y.may_fail_at system.old path.now) file fault)
+        × Reports (Y.reports system.old) (Y.reports system.new) ((path.now, fault) ∷ []))
+        (λ input. (bytes : List ℕ) × IsReadOf file bytes × (bytes_of F.bytes input ≡ Some bytes)
+        × (may_fail_of F.may_fail input ≡ true → Y.may_fail_at system.old path.now ≡ true)
+        × (foreign_in file ≡ None)) }
+    ensures unchanged { IfSome result (λ _. system.new ≡ system.old) }
+    ensures bytes { Y.bytes_at system.new ≡ Y.bytes_at system.old }
+    ensures may_fail { Y.may_fail_at system.new ≡ Y.may_fail_at system.old }
+{
+    let mut input = match system.open(path) {
+        Ok(file) => OpenFile::new(file),
+        Err(e) => {
+            system.report(path, Fault::Section(SectionError::Unreadable), Some(e));
+            return None;
+        }
+    };
+    if let Err(fault) = input.load(alloc) {
+        system.report(path, fault, input.take_reason());
+        return None;
+    }
+    Some(input)
+}
+
+// Gives the hint, if there is one.
+fn give<F: Read + Source<Log = ()>, Y: System<F>>(system: &mut Y, path: &str, hint: Option<Hint>)
+    ensures reports { Y.reports system.new ≡ Y.reports system.old }
+    ensures bytes { Y.bytes_at system.new ≡ Y.bytes_at system.old }
+    ensures may_fail { Y.may_fail_at system.new ≡ Y.may_fail_at system.old }
+{
+    match hint {
+        Some(hint) => system.hint(path, hint),
+        None => {}
+    }
+}
+
+/// Whether the work on a file is done. Why the file is refused is reported.
+///
+/// # Errors
+///
+/// Faults that aren't the file's.
+pub fn reported<F: Read + Source<Log = ()>, Y: System<F>>(
+    alloc: Global,
+    system: &mut Y,
+    path: &str,
+    input: &OpenFile<F>,
+    done: Result<(), Fault>,
+) -> Result<bool, Fault>
+    ensures reports { ReportsWhy path.now (Y.reports system.old) (Y.reports system.new) done result }
+    ensures bytes { Y.bytes_at system.new ≡ Y.bytes_at system.old }
+    ensures may_fail { Y.may_fail_at system.new ≡ Y.may_fail_at system.old }
+{
+    match done {
+        Ok(()) => Ok(true),
+        Err(fault) if fault.is_of_file() => {
+            let (dynamic, debug) = refusal_hints(alloc, input, &fault);
+            system.report(path, fault, input.take_reason());
+            give(system, path, dynamic);
+            give(system, path, debug);
+            Ok(false)
+        }
+        Err(fault) => Err(fault),
+    }
+}

@@ -1,0 +1,177 @@
+//! Files that are recognized by their first bytes, and that no reader reads.
+
+ghost use Rattle.std.specs.Prelude.{◌≡◌, Some};
+ghost use Rattle.std.specs.List.{list_all};
+ghost use Rattle.binfarce_jobs.specs.Foreign.{is_coff, is_machine, is_text, is_text_byte, macho_of, named_by, other_of};
+
+use binfarce_bytes::format::{Format, detect_format};
+use std::fmt;
+
+/// What a file is that no reader reads.
+#[derive(Debug, Clone, Copy, PartialEq)]
+pub enum Foreign {
+    /// A universal Mach-O file.
+    Universal,
+    /// A Java class file.
+    JavaClass,
+    /// A Mach-O file of 32 bits.
+    Macho32,
+    /// A big-endian Mach-O file of 64 bits.
+    MachoBigEndian,
+    /// An archive.
+    Archive,
+    /// A thin archive.
+    ThinArchive,
+    /// A COFF object file.
+    Coff,
+    /// A file of debug symbols of MSVC.
+    Pdb,
+    /// A WebAssembly module.
+    Wasm,
+    /// LLVM bitcode.
+    Bitcode,
+    /// A script.
+    Script,
+    /// A text.
+    Text,
+}
+
+impl fmt::Display for Foreign {
+    ghost use Rattle.binfarce_jobs.specs.Foreign.{foreign_words};
+
+    ghost output = { λ it. Some (foreign_words it) };
+
+    fn fmt<W: fmt::Write>(&self, f: &mut fmt::Formatter<W>) -> fmt::Result {
+        match self {
+            Foreign::Universal => write!(
+                f,
+                "a universal Mach-O file; `lipo -thin ARCHITECTURE FILE` extracts a part"
+            ),
+            Foreign::JavaClass => write!(f, "a Java class file; `javap -v FILE` shows it"),
+            Foreign::Macho32 => write!(f, "a Mach-O file of 32 bits; those of 64 are read"),
+            Foreign::MachoBigEndian => write!(
+                f,
+                "a big-endian Mach-O file; little-endian ones are read"
+            ),
+            Foreign::Archive => write!(f, "an archive; `ar x FILE` extracts its members"),
+            Foreign::ThinArchive => write!(
+                f,
+                "a thin archive; its members, which `ar t FILE` lists, are files of their own"
+            ),
+            Foreign::Coff => write!(
+                f,
+                "a COFF object file; the PE file that it is linked into is read"
+            ),
+            Foreign::Pdb => write!(
+                f,
+                "a PDB file; `llvm-pdbutil dump --publics FILE` shows its symbols"
+            ),
+            Foreign::Wasm => write!(f, "a WebAssembly module; `wasm-objdump -x FILE` shows it"),
+            Foreign::Bitcode => write!(f, "LLVM bitcode; the file that it is linked into is read"),
+            Foreign::Script => write!(f, "a script; its first line names the program that runs it"),
+            Foreign::Text => write!(
+                f,
+                "a text; `binfarce filter <FILE` shows it with readable names"
+            ),
+        }
+    }
+}
+
+/// How many of a file's first bytes are looked at.
+pub const FIRST_LENGTH: usize = 512;
+
+/// What the first bytes of a file say that no reader reads: the first `FIRST_LENGTH`, or all of a shorter file.
+#[tactic(auto, unfolding(crate::specs::Foreign::named_by))]
+pub fn named_by(first: &[u8]) -> Option<Foreign>
+    ensures { result ≡ named_by first.now }
+{
+    match detect_format(first) {
+        Format::Macho => macho_of(first),
+        Format::Unknown => other_of(first),
+        _ => None,
+    }
+}
+
+// The kind of a Mach-O file that isn't of 64 bits and little-endian. With the magic number of a universal file a Java
+// class file begins too; its version, at least 45, follows.
+fn macho_of(first: &[u8]) -> Option<Foreign>
+    ensures { result ≡ macho_of first.now }
+{
+    if first.starts_with(b"\xcf\xfa\xed\xfe") {
+        return None;
+    }
+    if first.starts_with(b"\xfe\xed\xfa\xcf") {
+        return Some(Foreign::MachoBigEndian);
+    }
+    if !first.starts_with(b"\xca\xfe\xba\xbe") {
+        return Some(Foreign::Macho32);
+    }
+    if first.starts_with(b"\xca\xfe\xba\xbe\0\0\0") && first.len() > 7 && first[7] < 45 {
+        return Some(Foreign::Universal);
+    }
+    Some(Foreign::JavaClass)
+}
+
+// What a file of no known format is.
+fn other_of(first: &[u8]) -> Option<Foreign>
+    ensures { result ≡ other_of first.now }
+{
+    if first.starts_with(b"!<arch>\n") {
+        return Some(Foreign::Archive);
+    }
+    if first.starts_with(b"!<thin>\n") {
+        return Some(Foreign::ThinArchive);
+    }
+    if first.starts_with(b"\xca\xfe\xba\xbf") {
+        return Some(Foreign::Universal);
+    }
+    if first.starts_with(b"Microsoft C/C++ MSF 7.00") {
+        return Some(Foreign::Pdb);
+    }
+    if first.starts_with(b"\0asm") {
+        return Some(Foreign::Wasm);
+    }
+    if first.starts_with(b"BC\xc0\xde") || first.starts_with(b"\xde\xc0\x17\x0b") {
+        return Some(Foreign::Bitcode);
+    }
+    if is_coff(first) {
+        return Some(Foreign::Coff);
+    }
+    if first.starts_with(b"#!") {
+        return Some(Foreign::Script);
+    }
+    if is_text(first) {
+        return Some(Foreign::Text);
+    }
+    None
+}
+
+// Whether a COFF file header of an object is there: of a known machine, and without an optional header.
+fn is_coff(first: &[u8]) -> bool
+    ensures { result ≡ is_coff first.now }
+{
+    first.len() >= 20 && is_machine(first) && first[16] == 0 && first[17] == 0
+}
+
+fn is_machine(first: &[u8]) -> bool
+    ensures { result ≡ is_machine first.now }
+{
+    first.starts_with(b"\x64\x86")
+        || first.starts_with(b"\x4c\x01")
+        || first.starts_with(b"\x64\xaa")
+        || first.starts_with(b"\xc0\x01")
+        || first.starts_with(b"\xc4\x01")
+}
+
+fn is_text(first: &[u8]) -> bool
+    ensures { result ≡ is_text first.now }
+{
+    !first.is_empty() && are_text_bytes(first)
+}
+
+// Whether all bytes are printable ASCII or white space.
+fn are_text_bytes(first: &[u8]) -> bool
+    ensures { result ≡ list_all is_text_byte first.now }
+{
+    first.iter().all(|byte| matches!(*byte, b'\t' | b'\n' | b'\x0c' | b'\r' | b' '..=b'~'))
+}

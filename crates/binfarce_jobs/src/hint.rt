@@ -1,0 +1,253 @@
+//! Hints on files: what a person may want to know beside the result. Standard output and the status don't depend on
+//! them.
+
+ghost use Rattle.std.specs.Prelude.{◌≡◌, ℕ, List, Some, IfOk, length};
+ghost use Rattle.binfarce_bytes.specs.Selection.{section_of};
+ghost use Rattle.binfarce_tools.specs.Answer.{selected_answer};
+ghost use Rattle.binfarce_jobs.specs.Hints.{count_of, dynamic_by, dynamic_in, hint_on, lack_by, lack_in, lack_of, loaded_words};
+
+use crate::fault::Fault;
+use crate::show::Symbols;
+use binfarce_bytes::ParseError;
+use binfarce_bytes::format::Format;
+use binfarce_bytes::functions::SectionFunction;
+use binfarce_bytes::source::Source;
+use binfarce_sections::bytes::write_section_of;
+use binfarce_sections::error::SectionError;
+use binfarce_tables::format::read_format;
+use binfarce_tools::SymbolTable;
+use binfarce_tools::list::Out;
+use binfarce_tools::tables::{Selection, read};
+use std::alloc::Global;
+use std::fmt;
+
+/// A hint on a file.
+#[derive(Debug, Drop)]
+pub enum Hint {
+    /// The file has no function symbol.
+    None,
+    /// The dynamic symbol table of the file has no function symbol.
+    NoneDynamic,
+    /// The PE file has no function symbol.
+    NoneOfPe,
+    /// The Mach-O file has no function symbol.
+    NoneOfMacho,
+    /// The section has no function symbol, and all sections have so many.
+    Others(usize),
+    /// The dynamic symbol table has so many function symbols.
+    Dynamic(usize),
+    /// The file is stripped, and its debug symbols may be there.
+    Stripped(String),
+    /// None of so many addresses is in a function symbol.
+    Missed(u64, Loaded),
+    /// There is no address in a text, in which bare words may be some or are not.
+    NoAddress(bool),
+}
+
+/// What is known of where a file is loaded.
+#[derive(Debug, Clone, Copy, PartialEq)]
+pub enum Loaded {
+    /// Nothing: addresses are the file's own.
+    Unknown,
+    /// A base.
+    Base,
+    /// Its mappings.
+    Maps,
+}
+
+impl fmt::Display for Hint {
+    ghost use Rattle.binfarce_jobs.specs.Hints.{hint_words};
+
+    ghost output = { λ h. Some (hint_words h) };
+
+    fn fmt<W: fmt::Write>(&self, f: &mut fmt::Formatter<W>) -> fmt::Result {
+        match self {
+            Hint::None => write!(f, "no function symbols"),
+            Hint::NoneDynamic => write!(f, "no function symbols in .dynsym"),
+            Hint::NoneOfPe => write!(
+                f,
+                "no function symbols; those of an MSVC program are in its .pdb file"
+            ),
+            Hint::NoneOfMacho => write!(
+                f,
+                "no function symbols; those of a stripped program may be in its .dSYM bundle"
+            ),
+            Hint::Others(count) => write!(
+                f,
+                "no function symbols in the section; --all takes {count} of other sections"
+            ),
+            Hint::Dynamic(count) => write!(f, "--dynamic --all takes {count} function symbols"),
+            Hint::Stripped(places) => write!(f, "its debug symbols may be in {places}"),
+            Hint::Missed(count, loaded) => {
+                let why = loaded.words();
+                write!(f, "0 of {count} addresses are in a function symbol; {why}")
+            }
+            Hint::NoAddress(true) => write!(f, "no address in the text"),
+            Hint::NoAddress(false) => write!(
+                f,
+                "no address in the text; --bare takes those without 0x, too"
+            ),
+        }
+    }
+}
+
+impl Loaded {
+    // What would help where no address was found, in words.
+    fn words(self) -> &'static str
+        ensures { result.now ≡ loaded_words self }
+    {
+        match self {
+            Loaded::Unknown => "where the file was loaded, --base or --maps is needed",
+            Loaded::Base => "is --base right?",
+            Loaded::Maps => "are --maps and the addresses of one process?",
+        }
+    }
+}
+
+/// The hint on a section with these function symbols, which is shown: it has none.
+pub fn hint_on(functions: &[SectionFunction<'_>]) -> Option<Hint>
+    ensures { result ≡ hint_on (length functions.now) }
+{
+    if functions.is_empty() {
+        return Some(Hint::None);
+    }
+    None
+}
+
+// As many bytes are written at least of a file that has function symbols, where it is shown whole.
+const LEAST: u64 = 20;
+
+/// The hint on a file of which so many bytes are written, if it was shown: the reason that it has no function symbol,
+/// if it has none, or that hint. A picture is written of a file without one, too. It is left out where a read or an
+/// allocation fails.
+pub fn completed<S: Source<Log = ()>>(
+    alloc: Global,
+    source: &S,
+    symbols: &Symbols<'_>,
+    hint: Option<Hint>,
+    is_shown: bool,
+    is_picture: bool,
+    len: u64,
+) -> Option<Hint> {
+    match hint {
+        _ if !is_shown => None,
+        Some(Hint::None) => lack(alloc, source, symbols).unwrap_or(None),
+        None if is_picture || len < LEAST => lack(alloc, source, symbols).unwrap_or(None),
+        hint => hint,
+    }
+}
+
+/// The reason that a file has none of the function symbols that are taken: exactly where it has none.
+///
+/// # Errors
+///
+/// Where a read or an allocation fails, or the file is refused.
+pub fn lack<S: Source<Log = ()>>(
+    alloc: Global,
+    source: &S,
+    symbols: &Symbols<'_>,
+) -> Result<Option<Hint>, Fault>
+    ensures { (file : List ℕ) → S.bytes source.now ≡ Some file
+        → IfOk result (λ hint. hint ≡ lack_in symbols.now.which file (section_of symbols.now.selection)) }
+{
+    let count = count_in(alloc, source, symbols.which, symbols.selection)?;
+    let all = count_in(alloc, source, symbols.which, Selection::All)?;
+    let format = read_format(alloc, source, &mut ())?;
+    Ok(lack_by(symbols.which, &format, count, all))
+}
+
+// The same of a file of this format, by how many of these function symbols it has, and how many of all sections.
+fn lack_by(which: SymbolTable, format: &Format, count: usize, all: usize) -> Option<Hint>
+    ensures { result ≡ lack_by which format.now count all }
+{
+    match (count, all) {
+        (0, 0) => Some(lack_of(which, format)),
+        (0, _) => Some(Hint::Others(all)),
+        _ => None,
+    }
+}
+
+fn lack_of(which: SymbolTable, format: &Format) -> Hint
+    ensures { result ≡ lack_of which format.now }
+{
+    match (format, which) {
+        (Format::PE, _) => Hint::NoneOfPe,
+        (Format::Macho, _) => Hint::NoneOfMacho,
+        (_, SymbolTable::Dynsym) => Hint::NoneDynamic,
+        _ => Hint::None,
+    }
+}
+
+// How many function symbols a selection has.
+fn count_in<S: Source<Log = ()>>(
+    alloc: Global,
+    source: &S,
+    which: SymbolTable,
+    selection: Selection<'_>,
+) -> Result<usize, Fault>
+    ensures { (file : List ℕ) → S.bytes source.now ≡ Some file
+        → IfOk result (λ count. count ≡ count_of (selected_answer which (section_of selection.entry) file)) }
+{
+    let tables = read(alloc, source, &mut (), which, selection)?;
+    let selected = tables.functions(alloc)?;
+    let list: Vec<SectionFunction<'_>> = selected.functions.collect(alloc)?;
+    Ok(list.len())
+}
+
+/// The hints on a file that is refused for this reason: of a stripped one how many dynamic function symbols it has, and
+/// where its debug symbols may be.
+pub fn refusal_hints<S: Source<Log = ()>>(
+    alloc: Global,
+    source: &S,
+    fault: &Fault,
+) -> (Option<Hint>, Option<Hint>) {
+    match fault {
+        Fault::Section(SectionError::Parse(ParseError::SectionIsMissing(".symtab"))) => (
+            dynamic(alloc, source).unwrap_or(None),
+            debug_files(alloc, source).map(Hint::Stripped),
+        ),
+        _ => (None, None),
+    }
+}
+
+// How many dynamic function symbols the file has, if it has any.
+fn dynamic<S: Source<Log = ()>>(alloc: Global, source: &S) -> Result<Option<Hint>, Fault>
+    ensures { (file : List ℕ) → S.bytes source.now ≡ Some file → IfOk result (λ hint. hint ≡ dynamic_in file) }
+{
+    let count = count_in(alloc, source, SymbolTable::Dynsym, Selection::All)?;
+    Ok(dynamic_by(count))
+}
+
+fn dynamic_by(count: usize) -> Option<Hint>
+    ensures { result ≡ dynamic_by count }
+{
+    match count {
+        0 => None,
+        _ => Some(Hint::Dynamic(count)),
+    }
+}
+
+// The files with the debug symbols: by the build ID, after the 16 bytes of its note's head, and by the debug link, up
+// to a NUL.
+fn debug_files<S: Source<Log = ()>>(alloc: Global, source: &S) -> Option<String> {
+    let note = section_bytes_of(alloc, source, ".note.gnu.build-id")?;
+    let (first, others) = note.get(16..)?.split_first()?;
+    let mut text = format!(in alloc; "/usr/lib/debug/.build-id/{first:02x}/").ok()?;
+    for byte in others {
+        write!(text, "{byte:02x}").ok()?;
+    }
+    text.push_str(".debug").ok()?;
+    if let Some(link) = section_bytes_of(alloc, source, ".gnu_debuglink") {
+        let name = link.split(|byte| *byte == 0).next()?;
+        if name.iter().all(u8::is_ascii_graphic) {
+            write!(text, ", or in a file {}", std::str::from_utf8(name).ok()?).ok()?;
+        }
+    }
+    Some(text)
+}
+
+fn section_bytes_of<S: Source<Log = ()>>(alloc: Global, source: &S, name: &str) -> Option<Vec<u8>> {
+    let mut out = Out::new(Vec::new(alloc));
+    write_section_of(alloc, source, &mut (), name, &mut out).ok()?;
+    Some(out.into_inner())
+}

@@ -1,0 +1,22 @@
+//! Limits on sums.
+
+ghost use Rattle.std.specs.Prelude.{◌≡◌};
+ghost use Rattle.binfarce_jobs.specs.Limit.{judged};
+
+use crate::fault::Fault;
+use binfarce_figures::diff::Growth;
+
+/// Whether the growth from one sum to another is allowed: it is no more than this limit, if there is one.
+///
+/// # Errors
+///
+/// `Grown` with the growth where it is more.
+pub fn judged(growth: Growth, limit: Option<usize>) -> Result<bool, Fault>
+    ensures { result ≡ judged growth limit }
+{
+    let by = growth.new.saturating_sub(growth.old);
+    match limit {
+        Some(limit) if by > limit as u64 => Err(Fault::Grown(by)),
+        _ => Ok(true),
+    }
+}

@@ -1,0 +1,207 @@
+//! Shows the function symbols of a file: as a listing, as sums, or as a picture.
+
+ghost use Rattle.std.specs.Prelude.{◌≡◌, ℕ, List, Option, true, Some, IfOk};
+ghost use Rattle.binfarce_bytes.specs.Selection.{section_of};
+ghost use Rattle.binfarce_tools.specs.Json.{style_of};
+ghost use Rattle.binfarce_tools.specs.Answer.{selected_answer, MemoryIn};
+ghost use Rattle.binfarce_tools.specs.Tables.{AreTablesOf, ReadsAs};
+ghost use Rattle.binfarce_tools.specs.declared.SymbolTable.{SymbolTable};
+ghost use Rattle.binfarce_tools.specs.Writing.{EndsAs, Takes, Fails, Leaves};
+ghost use Rattle.binfarce_jobs.specs.Faults.{outcome_of};
+ghost use Rattle.binfarce_jobs.specs.Hints.{IsHintOn};
+ghost use Rattle.binfarce_jobs.specs.Show.{AreTablesFor, Fits, IsTextOf, MayEnd, TakesText, answer_for, is_taken, style_for};
+
+use crate::fault::Fault;
+use crate::hint::{Hint, hint_on};
+use binfarce_bytes::ParseError;
+use binfarce_bytes::format::Format;
+use binfarce_bytes::functions::SectionFunction;
+use binfarce_bytes::source::Source;
+use binfarce_figures::key::Grouping;
+use binfarce_figures::map::map_by;
+use binfarce_figures::rows::{Shown, list_by};
+use binfarce_figures::stacks::fold_tables;
+use binfarce_figures::sums::{Figures, sum_by};
+use binfarce_tables::ReadError;
+use binfarce_tables::format::read_format;
+use binfarce_tools::SymbolTable;
+use binfarce_tools::json::Form;
+use binfarce_tools::list::{Sink, list_tables};
+use binfarce_tools::tables::{Selection, Tables, read_tables};
+use std::alloc::Global;
+
+/// How function symbols are shown.
+#[derive(Debug, Clone, Copy, PartialEq)]
+pub enum Kind {
+    /// As a listing.
+    Listing,
+    /// As a listing in an order, of the first lines, or with other names.
+    Rows(Shown),
+    /// As sums by a key.
+    Figures(Figures),
+    /// As a picture of these sums.
+    Picture(Grouping),
+    /// As stacks; whether Rust's standard library is joined.
+    Stacks(bool),
+}
+
+/// Which function symbols of a file are taken.
+#[derive(Debug, Clone, Copy)]
+pub struct Symbols<'a> {
+    /// The symbol table that they are read by.
+    pub which: SymbolTable,
+    /// Those of a section, or of all sections.
+    pub selection: Selection<'a>,
+}
+
+/// What is shown of a file.
+#[derive(Debug, Clone, Copy)]
+pub struct Request<'a> {
+    /// How its function symbols are shown.
+    pub kind: Kind,
+    /// Which they are.
+    pub symbols: Symbols<'a>,
+    /// Whether they are shown as JSON objects.
+    pub is_json: bool,
+}
+
+/// The tables of the source for these function symbols.
+///
+/// # Errors
+///
+/// Those of `read`. Of a Mach-O or PE file `.text` is the code section, and `SymbolsSectionIsMissing` refuses any other
+/// name.
+pub fn tables_of<S: Source<Log = ()>>(
+    alloc: Global,
+    source: &S,
+    symbols: &Symbols<'_>,
+) -> Result<Tables<'static>, ReadError>
+    ensures { (file : List ℕ) → S.bytes source.now ≡ Some file → ReadsAs (AreTablesFor symbols.now file)
+        (S.may_fail source.now ≡ true) (answer_for symbols.now file) result }
+{
+    let format = read_format(alloc, source, &mut ())?;
+    if !is_taken(&format, symbols.selection) {
+        return Err(ReadError::Refused(ParseError::SymbolsSectionIsMissing));
+    }
+    read_tables(
+        alloc,
+        source,
+        &mut (),
+        format,
+        symbols.which,
+        symbols.selection,
+    )
+}
+
+// Whether a file of this format has what is selected: a Mach-O or PE file has the section `.text` alone.
+fn is_taken(format: &Format, selection: Selection<'_>) -> bool
+    ensures { result ≡ is_taken (section_of selection.entry) format.now }
+{
+    match selection {
+        Selection::Section(name) => match format {
+            Format::Macho | Format::PE => name == ".text",
+            _ => true,
+        },
+        Selection::All => true,
+    }
+}
+
+// The form in which the file at this path is shown.
+fn form_for<'a>(asked: &Request<'a>, path: &'a str) -> Form<'a>
+    ensures { style_of result ≡ style_for asked.entry.now path.entry.now }
+{
+    match asked.symbols.selection {
+        _ if !asked.is_json => Form::Lines,
+        Selection::Section(section) => Form::Objects(path, section),
+        Selection::All => Form::Objects(path, ""),
+    }
+}
+
+/// Writes the requested function symbols of the source, and sets `hint` to the hint on them, if any; a picture's title
+/// is the path. Of the source it reads the headers, the symbol table and the names alone.
+///
+/// # Errors
+///
+/// `Unreadable` where a read fails; `Unknown`, `Parse`, `OutOfMemory`, `TooLarge` and `Write` as in `list` and
+/// `report`. Only after `Write` a beginning may be written.
+pub fn show<S: Source<Log = ()>, K: Sink>(
+    alloc: Global,
+    asked: &Request<'_>,
+    path: &str,
+    source: &S,
+    hint: &mut Option<Hint>,
+    out: &mut K,
+) -> Result<(), Fault>
+    ensures outcome { (file : List ℕ) → S.bytes source.now ≡ Some file
+        → MayEnd (S.may_fail source.now ≡ true) asked.now file (outcome_of result) }
+    ensures takes { (file : List ℕ) → S.bytes source.now ≡ Some file
+        → TakesText asked.now path.now file (K.taken out.old) (K.taken out.new) (outcome_of result) }
+    ensures fails { Fails (K.has_failed out.old) (K.has_failed out.new) (outcome_of result) }
+    ensures leaves { Leaves out.old out.new (outcome_of result) }
+{
+    let tables = tables_of(alloc, source, &asked.symbols)?;
+    let form = form_for(asked, path);
+    match asked.symbols.selection {
+        Selection::Section(_) => show_section(alloc, asked.kind, path, form, &tables, hint, out),
+        Selection::All => show_tables(alloc, asked.kind, path, form, &tables, out),
+    }
+}
+
+// Shows the function symbols of a section, which are made once, and sets `hint` to the hint on them, if any.
+fn show_section<K: Sink>(
+    alloc: Global,
+    kind: Kind,
+    path: &str,
+    form: Form<'_>,
+    tables: &Tables<'_>,
+    hint: &mut Option<Hint>,
+    out: &mut K,
+) -> Result<(), Fault>
+    ensures outcome { (which : SymbolTable) (file name : List ℕ) → AreTablesOf which file (Some name) tables.now
+        → EndsAs (Fits kind) (MemoryIn file (Some name)) (selected_answer which (Some name) file) (outcome_of result) }
+    ensures takes { (which : SymbolTable) (file name : List ℕ) → AreTablesOf which file (Some name) tables.now
+        → Takes (IsTextOf kind path.now (style_of form.entry))
+        (selected_answer which (Some name) file) (K.taken out.old) (K.taken out.new) (outcome_of result) }
+    ensures hint { (which : SymbolTable) (file name : List ℕ) → AreTablesOf which file (Some name) tables.now
+        → IfOk result (λ _. IsHintOn which file name hint.new) }
+    ensures fails { Fails (K.has_failed out.old) (K.has_failed out.new) (outcome_of result) }
+    ensures leaves { Leaves out.old out.new (outcome_of result) }
+{
+    let (functions, size) = tables.functions(alloc)?.into_list();
+    let list: Vec<SectionFunction<'_>> = functions.all.collect(alloc)?;
+    let size = size.unwrap_or(0);
+    *hint = hint_on(&list);
+    let made = Tables::Made {
+        functions: list,
+        size,
+    };
+    show_tables(alloc, kind, path, form, &made, out)
+}
+
+// Shows the function symbols of these tables.
+fn show_tables<K: Sink>(
+    alloc: Global,
+    kind: Kind,
+    path: &str,
+    form: Form<'_>,
+    tables: &Tables<'_>,
+    out: &mut K,
+) -> Result<(), Fault>
+    ensures outcome { (which : SymbolTable) (file : List ℕ) (section : Option (List ℕ))
+        → AreTablesOf which file section tables.now
+        → EndsAs (Fits kind) (MemoryIn file section) (selected_answer which section file) (outcome_of result) }
+    ensures takes { (which : SymbolTable) (file : List ℕ) (section : Option (List ℕ))
+        → AreTablesOf which file section tables.now
+        → Takes (IsTextOf kind path.now (style_of form.entry))
+        (selected_answer which section file) (K.taken out.old) (K.taken out.new) (outcome_of result) }
+    ensures fails { Fails (K.has_failed out.old) (K.has_failed out.new) (outcome_of result) }
+    ensures leaves { Leaves out.old out.new (outcome_of result) }
+{
+    match kind {
+        Kind::Listing => Ok(list_tables(alloc, tables, out)?),
+        Kind::Rows(shown) => Ok(list_by(alloc, tables, &shown, form, out)?),
+        Kind::Figures(figures) => Ok(sum_by(alloc, tables, &figures, form, out)?),
+        Kind::Picture(grouping) => Ok(map_by(alloc, path, tables, grouping, out)?),
+        Kind::Stacks(joins_std) => Ok(fold_tables(alloc, tables, joins_std, out)?),
+    }
+}

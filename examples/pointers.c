@@ -1,7 +1,8 @@
 /*
  * pointers FILE: compares each pointer that the library returns with the offset that the file states for the name. These are
  * the names of sections and function symbols of a 64-bit little-endian ELF file, read by <elf.h>, and the kept parts of some
- * names. Prints how many pointers were compared.
+ * names. Prints how many pointers were compared. Calls with NULL for what is empty answer as with another pointer, a text ends with
+ * a NUL in each buffer, and the library has the header's version.
  */
 #include "read.h"
 
@@ -79,6 +80,63 @@ static bool kept_parts(void) {
     return true;
 }
 
+static bool is_same(struct binfarce_text given, struct binfarce_text wanted) {
+    return given.status == wanted.status && given.detail == wanted.detail && given.length == wanted.length;
+}
+
+/* Whether each call takes NULL for bytes of length 0 as it takes other bytes of this length. */
+static bool takes_null(const uint8_t *file, size_t length) {
+    const uint8_t *bytes = (const uint8_t *)"";
+    uint8_t out[1] = {0};
+    struct binfarce_name name = binfarce_demangle(NULL, 0, NULL, 0, NULL, 0, NULL, 0);
+    struct binfarce_mangling part = {bytes, 1, 7};
+    struct binfarce_section section = {0}, other = {0};
+    struct binfarce_functions functions = binfarce_elf64_functions(file, length, false, NULL, 0, NULL, 0);
+    size_t count = binfarce_elf64_functions(file, length, false, (const uint8_t *)".text", 5, NULL, 0).count;
+    bool right = name.status == BINFARCE_OK && name.kind == BINFARCE_KIND_UNKNOWN && name.complete_length == 0 && name.trimmed_length == 0;
+    right = right && is_same(binfarce_trimmed(NULL, 0, NULL, 0), binfarce_trimmed(bytes, 0, out, 0));
+    right = right && is_same(binfarce_crate_of(NULL, 0, NULL, 0), binfarce_crate_of(bytes, 0, out, 0));
+    right = right && is_same(binfarce_list(NULL, 0, NULL, 0, NULL, 0), binfarce_list(bytes, 0, bytes, 0, out, 0));
+    right = right && is_same(binfarce_report(NULL, 0, NULL, 0, NULL, 0), binfarce_report(bytes, 0, bytes, 0, out, 0));
+    right = right && is_same(binfarce_list(file, length, NULL, 0, NULL, 0), binfarce_list(file, length, bytes, 0, out, 0));
+    right = right && binfarce_mangling(NULL, 0, &part) == BINFARCE_OK && part.part == NULL && part.part_length == 0 && part.kind == 0;
+    right = right && binfarce_detect_format(NULL, 0) == BINFARCE_FORMAT_UNKNOWN && binfarce_status_text(BINFARCE_OK, NULL, 0) == 2;
+    right = right && binfarce_macho_header(NULL, 0) == BINFARCE_UNEXPECTED_EOF && binfarce_pe_header(NULL, 0) == BINFARCE_UNEXPECTED_EOF;
+    right = right && binfarce_macho_functions(NULL, 0, NULL, 0).status == BINFARCE_UNEXPECTED_EOF;
+    right = right && binfarce_pe_functions(NULL, 0, NULL, 0).status == BINFARCE_UNEXPECTED_EOF;
+    right = right && functions.status == BINFARCE_SYMBOLS_SECTION_IS_MISSING && count > 0;
+    right = right && binfarce_elf64_section(file, length, false, NULL, 0, &section) == binfarce_elf64_section(file, length, false, bytes, 0, &other);
+    right = right && binfarce_macho_section(NULL, 0, NULL, 0, NULL, 0, &section) == BINFARCE_UNEXPECTED_EOF;
+    right = right && binfarce_pe_section_at(NULL, 0, 0, &section) == BINFARCE_UNEXPECTED_EOF;
+    right = right && binfarce_elf32_sections(NULL, 0, false, NULL, 0).status == BINFARCE_UNEXPECTED_EOF;
+    right = right && binfarce_elf64_sections(file, length, false, NULL, 0).count > 0;
+    return right && binfarce_terminate(NULL, 0, 5) == 0;
+}
+
+/* Whether a name's text is a string in buffers of each length, and the bytes behind the NUL stay. */
+static bool ends_strings(void) {
+    static const char name[] = "_ZN3foo3bar17h05af221e174051e9E", text[] = "foo::bar";
+    for (size_t room = 0; room < 12; room++) {
+        uint8_t out[12];
+        size_t kept = room == 0 ? 0 : room <= strlen(text) ? room - 1 : strlen(text), end;
+        memset(out, 'x', sizeof out);
+        end = binfarce_terminate(out, room, binfarce_trimmed((const uint8_t *)name, strlen(name), out, room).length);
+        if (end != kept || memcmp(out, text, kept) != 0 || (room > 0 && out[kept] != 0))
+            return false;
+        for (size_t i = room == 0 ? 0 : kept + 1; i < sizeof out; i++)
+            if (out[i] != 'x')
+                return false;
+    }
+    return true;
+}
+
+static bool has_version(void) {
+    uint32_t number = binfarce_version();
+    char text[40];
+    snprintf(text, sizeof text, "%u.%u.%u", (unsigned)(number >> 16), (unsigned)(number >> 8 & 255), (unsigned)(number & 255));
+    return number == BINFARCE_VERSION_NUMBER && strcmp(text, BINFARCE_VERSION) == 0;
+}
+
 int main(int argc, char **argv) {
     size_t length;
     uint8_t *file;
@@ -90,6 +148,7 @@ int main(int argc, char **argv) {
         return refuse(BINFARCE_UNKNOWN_FORMAT, 0);
     memcpy(&elf, file, sizeof elf);
     right = section_names(file, length, &elf) && function_names(file, length, &elf, ".text") && kept_parts();
+    right = right && takes_null(file, length) && ends_strings() && has_version();
     free(file);
     if (!right)
         return fprintf(stderr, "pointers: wrong\n"), 1;

@@ -7,9 +7,8 @@
  * keeps these rules:
  *
  * - Pointers. Each pointer points to as many bytes as the length after it says, for the whole call. They are readable, and
- *   writable where the pointer isn't const. No pointer may be NULL, even where its length is 0: any other aligned address
- *   will do then (`""` for bytes, or a variable's). No length is above PTRDIFF_MAX. Memory that a call may write to is
- *   initialised before, as by calloc.
+ *   writable where the pointer isn't const. Where the length is 0, it may be NULL; a pointer without a length may not. No
+ *   length is above PTRDIFF_MAX. Memory that a call may write to is initialised before, as by calloc.
  * - Overlap. A buffer that a call writes to overlaps no other argument.
  * - Alignment. A pointer to a struct is aligned as C aligns it; bytes need no alignment.
  * - Stack. A call nests as deep as a name does, at most 500 levels. 512 KiB were enough for the deepest names that were tried;
@@ -19,7 +18,8 @@
  * caller's buffers. A `struct binfarce_function` and a `struct binfarce_section` point into the caller's file, and a
  * `struct binfarce_mangling` into the caller's name.
  *
- * Texts are UTF-8, without a NUL at the end: their length is returned. A name may contain any character, even a line feed.
+ * Texts are UTF-8, without a NUL at the end: their length is returned, and binfarce_terminate puts a NUL there. A name may contain
+ * any character, even a line feed.
  *
  * Lengths. A call that gives a text writes as much of it as the buffer has room for, and leaves the rest of the buffer
  * unchanged. It always returns the whole length: if that exceeds the buffer's, the caller grows the buffer and calls again. A
@@ -40,8 +40,8 @@
  *     const char *name = "_ZN3foo3bar17h05af221e174051e9E";
  *     uint8_t text[256] = {0};
  *     struct binfarce_text made = binfarce_trimmed((const uint8_t *)name, strlen(name), text, sizeof text);
- *     if (made.status == BINFARCE_OK && made.length <= sizeof text)
- *         printf("%.*s\n", (int)made.length, (const char *)text);
+ *     if (made.status == BINFARCE_OK && binfarce_terminate(text, sizeof text, made.length) == made.length)
+ *         puts((const char *)text);
  *
  * `examples/symbols.c` lists the function symbols of a file.
  *
@@ -61,8 +61,12 @@
 #include <stddef.h>
 #include <stdint.h>
 
-/* The version of the library that this header belongs to. */
+/* The version of the library that this header belongs to, and its parts in one number: a later version has a greater one. */
 #define BINFARCE_VERSION "0.3.0"
+#define BINFARCE_VERSION_MAJOR 0
+#define BINFARCE_VERSION_MINOR 3
+#define BINFARCE_VERSION_PATCH 0
+#define BINFARCE_VERSION_NUMBER (BINFARCE_VERSION_MAJOR * 65536 + BINFARCE_VERSION_MINOR * 256 + BINFARCE_VERSION_PATCH)
 
 #ifdef __cplusplus
 extern "C" {
@@ -108,6 +112,16 @@ struct binfarce_name {
     size_t crate_length; /* 0 where has_crate is false; a crate's name may be empty too */
     bool has_crate;
 };
+
+/* The BINFARCE_VERSION_NUMBER of the library that runs. Does not allocate. */
+uint32_t binfarce_version(void);
+
+/*
+ * Ends a text in its buffer with a NUL: after its `length` bytes, as a call above or below returned it, or at the buffer's last byte
+ * if the text has no room. Returns where the NUL is: `length`, unless the text was cut. A buffer of length 0 stays as it is, and 0 is
+ * returned. Does not allocate.
+ */
+size_t binfarce_terminate(uint8_t *out, size_t out_length, size_t length);
 
 /*
  * The words of a status, as the programs print them, but without the number of BINFARCE_UNEXPECTED_SECTION_TYPE: its words

@@ -1,7 +1,11 @@
 -- The status of a call of the library for C: its number, and its text.
-use Rattle.std.specs.Prelude.{ℕ, List, nat_eq, codes, if◌then◌else◌}
+use Rattle.std.specs.Prelude.{ℕ, ◌+◌, ◌*◌, List, nat_eq, codes, if◌then◌else◌}
 use Rattle.std.specs.Str.{bytes_eq}
 use Rattle.binfarce.specs.Refusal.{Refusal, words, symbols_section_is_missing, section_is_missing, unexpected_section_type, malformed_input, unexpected_eof, out_of_memory}
+
+-- BINFARCE_VERSION_NUMBER: the parts of a version in one number, which is greater for a later one
+abbrev pub version_number : (major minor patch : ℕ) → ℕ
+version_number major minor patch = major * 65536 + minor * 256 + patch
 
 -- BINFARCE_OK
 abbrev pub ok : ℕ

@@ -1,7 +1,7 @@
 //! Texts in a caller's buffer of any length.
 
 ghost use Rattle.std.specs.Prelude.{◌≡◌};
-ghost use Rattle.binfarce_c.specs.Buffer.{put};
+ghost use Rattle.binfarce_c.specs.Buffer.{end_in, put, terminated};
 ghost use Rattle.binfarce_c.specs.Names.{Holds};
 
 use crate::status::OK;
@@ -28,6 +28,19 @@ pub(crate) fn give(text: &[u8], out: &mut [u8]) -> Text
         detail: 0,
         length: text.len(),
     }
+}
+
+/// Ends a text in a buffer with a NUL, and returns where that is. See `binfarce.h`.
+#[unsafe(no_mangle)]
+pub extern "C" fn binfarce_terminate(out: &mut [u8], length: usize) -> usize
+    ensures end { result ≡ end_in out.old length }
+    ensures nul { out.new ≡ terminated out.old length }
+{
+    let end = length.min(out.len().saturating_sub(1));
+    if end < out.len() {
+        out[end] = 0;
+    }
+    end
 }
 
 /// Writes as much as has room into a buffer. The rest of the buffer is unchanged.

@@ -3,7 +3,7 @@
 ghost use Rattle.std.specs.Prelude.{◌≡◌, length};
 ghost use Rattle.binfarce.specs.Refusal.{refusal_of};
 ghost use Rattle.binfarce_c.specs.Buffer.{put};
-ghost use Rattle.binfarce_c.specs.Status.{status_of, detail_of, status_words};
+ghost use Rattle.binfarce_c.specs.Status.{status_of, detail_of, status_words, version_number};
 
 use crate::buffer;
 use binfarce::ParseError;
@@ -25,6 +25,9 @@ pub(crate) const UNKNOWN_FORMAT: u32 = 4;
 
 /// A sum of sizes is 2^64 or more.
 pub(crate) const TOO_LARGE: u32 = 5;
+
+/// The version: 0.3.0.
+const VERSION: u32 = 3 << 8;
 
 /// The number of a reader's refusal.
 pub(crate) fn status_of(error: ParseError) -> u32
@@ -49,6 +52,14 @@ pub(crate) fn detail_of(error: ParseError) -> u32
         ParseError::UnexpectedSectionType { actual, .. } => actual,
         _ => 0,
     }
+}
+
+/// The version of the library: `BINFARCE_VERSION_NUMBER`.
+#[unsafe(no_mangle)]
+pub extern "C" fn binfarce_version() -> u32
+    ensures { result ≡ version_number 0 3 0 }
+{
+    VERSION
 }
 
 /// Writes the text of a status into a buffer, and returns its whole length. See `binfarce.h`.

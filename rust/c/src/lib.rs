@@ -217,6 +217,21 @@ const _: () = {
     assert!(mem::size_of::<Declared>() == mem::size_of::<Sections>());
 };
 
+/// See `binfarce.h`.
+#[no_mangle]
+pub extern "C" fn binfarce_version() -> u32 {
+    exports::binfarce_version()
+}
+
+/// # Safety
+///
+/// The caller keeps the rules of `binfarce.h`.
+#[no_mangle]
+pub unsafe extern "C" fn binfarce_terminate(out: *mut u8, out_length: usize, length: usize) -> usize {
+    // SAFETY: the rules of binfarce.h say so; nothing is kept after the call.
+    unsafe { exports::binfarce_terminate(values_mut(out, out_length), length) }
+}
+
 /// # Safety
 ///
 /// The caller keeps the rules of `binfarce.h`.

@@ -36,7 +36,8 @@ SOURCE = [
 ERASED = [
     (r"# \[ cfg_attr \( not \( debug_assertions \) , inline \( always \) \) \]", "# [ inline ( always ) ]"),
     (r"\bcollect_in\b", "collect"), (r"\bto_signed\b", "cast_signed"),
-    (r"\bcrate :: erased ::", ""), (r"\bcrate :: shim ::", "std ::"),
+    (r"\bcrate :: erased ::", ""), (r"\bcrate :: shim ::|\bcore ::", "std ::"),
+    (r'# \[ cfg \( feature = "std" \) \] (?=pub mod program ;)', ""),
 ]
 USE = r"(pub )?\buse ([^;{]*)(?:\{([^}]*)\} )?;"
 # What the derive of an error makes; its texts are rows of tests/programs.py.
@@ -62,7 +63,7 @@ def plain(path, own, rules):
     text = " ".join(word.translate(HIDDEN) if word[0] in "\"'" and word[-1] in "\"'" else word for word in words)
     for start, ends in LACKS:
         text = without(text, start, ends)
-    for pattern, new in [(SHOWS, ""), *rules, *EITHER]:
+    for pattern, new in [*rules, (SHOWS, ""), *EITHER]:
         text = " ".join(re.sub(pattern, new.replace("OWN", own), text).split())
     imports = set()
     for public, parent, names in re.findall(USE, text):

@@ -119,7 +119,7 @@ FORMS = {
         Line("impl<X: Clone> A for X { fn f(&self) {} }", "impl<X:Clone>A for X"),
         Line("impl A for std::convert::Infallible {}", "std::convert"), Line("std::iter::once(1).f();", "std::iter"),
         Line("use a::W as S; struct S; trait A {} impl A for S {}", "impl A for S"), Line("pub use a::W as V;", "pub use a::W as V;"),
-        Line("impl Drop for S {}", "impl Drop for S"), Line("impl std::ops::Deref for S {}", "impl std::ops::Deref for S")],
+        Line("impl Drop for S {}", "impl Drop for S"), Line("impl std::ops::Deref for S {}", "impl core::ops::Deref for S")],
     "A type has no two functions or constants of one name, unless two traits have them under the same bounds: else another one may be "
     "called, since a bound can hold in one language alone.": [
         Program("use std::io;\n\n#[derive(Drop)]\nstruct W<X: Drop>(X);\n\n"
@@ -161,7 +161,7 @@ FORMS = {
                 "[  é][  true][  äö][-007][f9][   -7][00][  0][00000000000000ff][ab]", None),
         Program("", TEXTS, "1\n1\n0\n2\n1\n1\n5\n1\n4 2 1 1", None),
         Program("", NUMBERS, "true false 15 true 255 192", None),
-        Line("a.max_by_key(|x| x.0);", "max_by_key"), Line("core::mem::take(&mut a);", "core::"), Line("fn r#f() {}", "r#"),
+        Line("a.max_by_key(|x| x.0);", "max_by_key"), Line("core::mem::take(&mut a);", "core::mem"), Line("fn r#f() {}", "r#"),
         Line("let a: fmt::Alignment;", "Alignment"),
         Line("use std::mem::MaybeUninit;", "use std::mem::MaybeUninit;"), Line("std::thread::spawn(a);", "std::thread"),
         Line("std::sync::mpsc::channel();", "std::sync"), Line("size_of::<(u8, u32, u8)>()", "size_of"), Line("line!();", "line"),
@@ -211,7 +211,8 @@ def by_eraser(top, form):
     erased = subprocess.run([top / "tools/erase"], capture_output=True, text=True)
     if erased.returncode:
         return erased.stderr
-    built = subprocess.run(["rustc", "--edition", "2021", "-o", top / "a", top / "rust/src/main.rs"], capture_output=True, text=True)
+    rustc = ["rustc", "--edition", "2021", "--cfg", 'feature="std"', "-o", top / "a", top / "rust/src/main.rs"]
+    built = subprocess.run(rustc, capture_output=True, text=True)
     return built.stderr if built.returncode else subprocess.run([top / "a"], capture_output=True, text=True).stdout.strip()
 
 def faults(is_kit):
@@ -220,7 +221,7 @@ def faults(is_kit):
         top = pathlib.Path(folder)
         shutil.copytree(TOP / "tools", top / "tools")
         shutil.copytree(TOP / "rust/src/shim", top / "rust/src/shim")
-        (top / "rust/src/main.rs").write_text("#![allow(dead_code, unused)]\nmod shim;\nmod erased {\n    pub mod a;\n}\n"
+        (top / "rust/src/main.rs").write_text("#![allow(dead_code, unused)]\nextern crate alloc;\nmod shim;\nmod erased {\n    pub mod a;\n}\n"
                                               "fn main() {\n    erased::a::main(shim::HostRuntime::new());\n}\n")
         for rule, forms in FORMS.items():
             for form in forms:

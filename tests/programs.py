@@ -164,9 +164,8 @@ for line, *words in (("no command lst; the nearest is list", "lst", sample), ("a
                      ("argument 3 is not UTF-8", "list", "--section", b"\xff", sample), ("argument 2 is not UTF-8", "at", b"\xff", "1"),
                      ("argument 2 is not UTF-8", "filter", b"\xff"), ("argument 2 is not UTF-8", "list", b"--all\xff", "--frob"),
                      ("not an address: 10g", "at", sample, "1000", "10g"), ("no option --srot of list; the nearest is --sort", "list", "--srot", sample),
-                     ("--by takes crate, function, generic or section, and not crates", "size", "--by=crates", sample),
+                     ("--by takes crate, function, function-section, generic or section, and not crates", "size", "--by=crates", sample),
                      ("--first takes a number, and not x", "list", "-nx", sample), ("no option -é of list; binfarce list --help shows them", "list", "-é", sample),
-                     ("--percent and --json exclude each other", "size", "--percent", "--json", sample),
                      ("--json lists sections, and has no form for the bytes of one", "section", "--json", sample, ".text")):
     ends(2, "", f"binfarce: {line}", "binfarce", *words)
 
@@ -208,9 +207,14 @@ for under in ((), broken(MOST=1)):
     ends(0, noted + b" <foo+0x10>", "", *returned, "--annotate", given=text, under=under)
 fails(full, 0, "", *base, "--annotate", given=text)
 # Where no address that is found is one of a function symbol, it says so.
-missed = f"binfarce: {sample}: no address in a function symbol was found; is --base right?"
+missed, none = (f"binfarce: {sample}: 0 of {count} addresses are in a function symbol; is --base right?" for count in (2, 1))
 ends(0, f"{0x1000:016x} ??\n{0x1005:016x} ??\n", missed, *base, "1000", "1005")
-ends(0, b"at 0x1000\n", missed, *base, "--annotate", given=b"at 0x1000\n")
+ends(0, b"at 0x1000\n", none, *base, "--annotate", given=b"at 0x1000\n")
+ends(0, f"{0x1000:016x} ??\n{0x1005:016x} ??\n", missed, *base, given=b"1000\n1005\n")
+none_found = f"{{\"file\":\"{sample}\",\"address\":\"0x{0x1000:016x}\",\"name\":null,\"offset\":null}}\n"
+ends(0, none_found, none, *base, "--json", "1000")
+ends(0, f"{0x2000:016x} ??\n", f"binfarce: {sample}: 0 of 1 addresses are in a function symbol; where the file was loaded, --base or --maps is needed", *at, sample, "2000")
+ends(0, b"at 1000\n", "binfarce: standard input: no address in the text; --bare takes those without 0x, too", *base, "--annotate", given=b"at 1000\n")
 ends(0, "", "", *base, "--annotate", given=b"")
 answers(f"{0x1000:016x} foo+0x0\n", b"1000\n", "at", "--section=.text", sample)
 answers("at 0x401000 <foo+0x0>\n", b"at 0x401000\n", *base[1:], "--annotate")
@@ -226,6 +230,19 @@ ends(2, "", f"binfarce: no line of {sample} is one of /proc/PID/maps", *at, samp
 ends(1, "", f"binfarce: {scratch}/none: No such file or directory", *at, sample, f"--maps={scratch}/none", "401005")
 ends(0, "00401005 <foo+0x5> other+0x1005 other(x+0x1005) libother+0x1005\n".replace("other+0x1005 ", "other+0x1005 <foo+0x5> ", 1), "",
     *at, sample, "--annotate", "--bare", "--base=400000", "--as=other", given=b"00401005 other+0x1005 other(x+0x1005) libother+0x1005\n")
+# A text has addresses of several files, each with its base; and its own maps.
+other, both = f"{scratch}/other.so", b"0x401005 0x7f0000001005 other.so+0x1005 x/other.so(+0x1005) 0x1005 libother.so+0x1005\n"
+pathlib.Path(other).write_bytes(pathlib.Path(sample).read_bytes())
+several = (*at, "--annotate", sample, other)
+ends(0, both.decode().replace("1005 ", "1005 <foo+0x5> ", 3).replace("1005) ", "1005 <foo+0x5>) "), "", *several, "--base=400000", "--base=7f0000000000", given=both)
+ends(2, "", "binfarce: --base comes once for each file, in their order, or not at all", *several, "--base=400000", given=both)
+ends(2, "", "binfarce: --as comes once for each file, in their order, or not at all", *several, "--as=a", given=both)
+ends(1, "", lost, *several, missing, given=both)
+ends(0, b"0x3\n0x3000\n", f"binfarce: {sample}, {other}: 0 of 1 addresses are in a function symbol; where the file was loaded, --base or --maps is needed", *several, given=b"0x3\n0x3000\n")
+ends(0, f"pc 0x401005 <foo+0x5>\n{text}0x401005 <foo+0x5>\n", "", *at, "--annotate", "--maps=-", sample, given=f"pc 0x401005\n{text}0x401005\n".encode())
+ends(2, "", "binfarce: no line of - is one of /proc/PID/maps", *at, "--annotate", "--maps=-", sample, given=b"pc 0x401005\n")
+ends(0, f"{0x401005:016x} foo+0x5\n", "", *at, sample, "--maps=-", "401005", given=text.encode())
+ends(2, "", "binfarce: --maps needs --annotate", *at, sample, "--maps=-", given=b"1000\n")
 ends(2, "", "binfarce: --base and --maps exclude each other", *mapped, "--base=0", "1000")
 ends(2, "", "binfarce: --bare needs --annotate", *at, sample, "--bare", "1000")
 # A file whose segment is in the page at 0x1000 is loaded there; its program headers are read only where that is needed.
@@ -304,7 +321,7 @@ for name, hint, places in (("macho", "those of a stripped program may be in its 
     pathlib.Path(path := f"{scratch}/{name}").write_bytes(image)
     others.append((f"no function symbols; {hint}", path))
 for hint, path, *option in others:
-    for words, output in ((["list", "--all"], ""), (["list", "--json", "--all"], ""), (["size", "--all"], "sum 0\n"), (["size", "--by=section"], "sum 0\n"),
+    for words, output in ((["list", "--all"], ""), (["list", "--json", "--all"], ""), (["size", "--all"], "sum 0\n"), (["size", "--by=function-section"], "sum 0\n"),
                           (["map", "--folded", "--all"], ""), (["list", "-n", "0"], ""), (["list", "--json"], "")):
         ends(0, output, f"binfarce: {path}: {hint}", "binfarce", *words, *option, path)
 ends(0, f"{1:016x} ??\n", f"binfarce: {program}: no function symbols in .dynsym", "binfarce", "at", "--dynamic", program, "1")
@@ -334,31 +351,42 @@ for line, magic in foreign:
     ends(1, "", f"binfarce: -: {line}", "binfarce", "list", "-", given=magic + bytes(600))
 ends(1, "", f"binfarce: {scratch}/names: {is_text}", "binfarce", "list", "--all", f"{scratch}/names")
 
-# Sums by a key, in which each byte counts once: of functions that overlap, and of a generic function.
+# Sums by a key, in which each byte counts once, for the innermost function: of functions that overlap, and of a generic function.
 rows = [("_RNvC1a1f", 0, 16), ("_RNvC1a1g", 8, 16), ("_RNvC3std1h", 24, 4), ("c", 28, 2), ("_RINvC1b1fhE", 30, 4), ("_RINvC1b1ftE", 34, 5)]
 old, new = assembled("old", 40, *rows), assembled("new", 40, *rows[:3], ("_RNvC1a1i", 28, 8))
-for lines, *words in (("24 a|9 b|4 std|2 [unknown]", "--by=crate"), ("39 text", "--by=section", "--section=.text"),
-                      ("16 a::f|8 a::g|5 b::f::<u16>|4 b::f::<u8>|4 std::h|2 c", "--by=function"), ("24 a|9 b|4 [std]|2 [unknown]", "--std"),
-                      ("16      1 a::f|9      2 b::f::<..>|14      3 [3 others]", "--by=generic", "-n", "2"),
+for lines, *words in (("24 a|9 b|4 std|2 [unknown]",), ("24 a|9 b|4 std|2 [unknown]", "--by=crate"), ("39 text", "--by=function-section", "--section=.text"),
+                      ("16 a::g|8 a::f|5 b::f::<u16>|4 b::f::<u8>|4 std::h|2 c", "--by=function"), ("24 a|9 b|4 [std]|2 [unknown]", "--std"),
+                      ("16      1 a::g|9      2 b::f::<..>|14      3 [3 others]", "--by=generic", "-n", "2"),
                       ("24  60.00% a|15  37.50% [3 others]", "--percent", "--first=1")):
     lines = "".join(f"{size:>10} {name}\n" for size, name in (it.split(" ", 1) for it in lines.split("|")))
     ends(0, lines + "sum 39\ntext 40\n", "", "binfarce", "size", *words, old)
-ends(0, f"{39:10} .text\nsum 39\n", "", "binfarce", "size", "--by=section", old)
+ends(0, f"{39:10} .text\nsum 39\n", "", "binfarce", "size", "--by=function-section", old)
 # The crates that Rust's standard library alone has, and those that a program may have of its own.
 crates = ("std", "core", "alloc", "proc_macro", "test", "std_detect", "compiler_builtins", "unwind", "panic_abort", "panic_unwind",
           "rustc_std_workspace_core", "rustc_std_workspace_alloc", "rustc_std_workspace_std", "hashbrown", "libc", "memchr", "object", "gimli")
 many = assembled("crates", 18, *((f"_RNvC{len(name)}{name}1f", at, 1) for at, name in enumerate(crates)))
 lines = "".join(f"{size:10} {name}\n" for size, name in ((13, "[std]"), *((1, name) for name in sorted(crates[13:]))))
 ends(0, lines + "sum 18\ntext 18\n", "", "binfarce", "size", "--std", many)
-lines = "".join(f"{size:10} {name}\n" for size, name in ((2, "[unknown]"), (32, "a"), (9, "b"), (4, "std"))) + "sum 47\ntext 40\n"
-ends(0, lines, f"binfarce: {old}: symbols overlap; --by=crate counts each byte once", "binfarce", "size", old)
+# A function in another one, which is in two parts then, and aliases, of which the one of the least stored name counts.
+nested = assembled("nested", 40, ("_RNvC1a1o", 0, 30), ("_RNvC1b1i", 10, 8), ("_RNvC1d1z", 32, 4), ("_RNvC1c1z", 32, 4))
+for lines, *words in (("22 a|8 b|4 c|0 d",), ("22 a::o|8 b::i|4 c::z|0 d::z", "--by=function")):
+    lines = "".join(f"{size:>10} {name}\n" for size, name in (it.split(" ", 1) for it in lines.split("|")))
+    ends(0, lines + "sum 34\ntext 40\n", "", "binfarce", "size", *words, nested)
 # The same of a library by section, from readelf's rows.
 sums, end = {}, (0, 0)
 for section, address, size in sorted((int(section), int(address, 16), int(size, 0)) for address, size, section, _ in symbols):
     end, start = max(end, (section, address + size)), max(end, (section, address))
     sums[names[section]] = sums.get(names[section], 0) + max(0, address + size - start[1])
 lines = "".join(f"{size:10} {name}\n" for name, size in sorted(sums.items(), key=lambda it: (-it[1], it[0]))) + f"sum {sum(sums.values())}\n"
-ends(0, lines, "", "binfarce", "size", "--by=section", "--dynamic", library)
+ends(0, lines, "", "binfarce", "size", "--by=function-section", "--dynamic", library)
+
+# The bytes of a file by section, counted by hand: a header of 64 bytes, 5 section headers of 64, and the sections between.
+for count, sums in ((None, "120 .symtab|33 .shstrtab|32 .text|18 .strtab"), ("2", "120 .symtab|33 .shstrtab|50 [2 others]")):
+    sums = [it.split(" ", 1) for it in f"{sums}|384 [headers and gaps]".split("|")]
+    lines = "".join(f"{size:>10} {0:10} {name}\n" for size, name in sums)
+    ends(0, lines + "sum 587\n", "", "binfarce", "size", "--by=section", *(["-n", count] if count else []), sample)
+for word, *words in (("diff", "diff", old, new), ("--std", "size", "--std", old), ("--all", "size", "--all", old)):
+    ends(2, "", f"binfarce: {word} is for functions, as --by=function-section; --by=section is not", "binfarce", *words, "--by=section")
 
 # The changes of these sums, and a limit for their growth.
 changes = (("b", 9, 0, "-9", "-100.00%"), ("a", 24, 32, "+8", "+33.33%"), ("[unknown]", 2, 0, "-2", "-100.00%"), ("[total]", 39, 36, "-3", "-7.69%"))
@@ -379,7 +407,7 @@ for line, path in ((lost, missing), (f"binfarce: {of_sys}: {is_text}", of_sys)):
 # Stacks, also of a function whose name is its crate's alone; JSON objects, as the lines have them, also of a name with characters
 # that JSON escapes.
 ends(0, "foo 16\n", "", "binfarce", "map", "--folded", sample)
-stacks = ("a;f 16", "a;g 16", "std;h 4", "[unknown];c 2", "b;f;<u8> 4", "b;f;<u16> 5")
+stacks = ("a;f 8", "a;g 16", "std;h 4", "[unknown];c 2", "b;f;<u8> 4", "b;f;<u16> 5")
 assert sorted(printed(folder / "binfarce", "map", "--folded", old).splitlines()) == sorted(stacks), "other stacks"
 def objects(*words):
     run = subprocess.run([folder / "binfarce", *words, "--json"], capture_output=True, input=b"0x1\n-\n")
@@ -388,7 +416,24 @@ assert objects("list", escaped)[0]["raw"] == 'a"\\\n\x01\x7f\xe9;:<>', "another 
 for *options, path in [("--all", "--dynamic", library), ("--all", old)] + [("--all", folder / "binfarce")] * (not is_static):
     lines = [f"{int(it['address'], 16):016x} {it['size']:10} {it['section']} {it['name']}\n" for it in objects("list", *options, path)]
     assert "".join(lines) == printed(folder / "binfarce", "list", *options, path), f"{path}: other objects than lines"
+# Real names of rustc's older mangling that begin with a type: each counts for the crate that comes first in it.
+inner = """
+core _ZN42_$LT$$RF$T$u20$as$u20$core..fmt..Debug$GT$3fmt17h0016b895af691adeE
+core _ZN54_$LT$$BP$const$u20$T$u20$as$u20$core..fmt..Pointer$GT$3fmt17h107509a21b675a57E
+core _ZN54_$LT$dyn$u20$core..any..Any$u2b$core..marker..Send$GT$12downcast_ref17h16b95d10a1685b34E
+itoa _ZN38_$LT$u64$u20$as$u20$itoa..Unsigned$GT$3fmt17haab8c5db99f269f5E
+pyo3 _ZN57_$LT$T$u20$as$u20$pyo3..conversion..FromPyObjectBound$GT$20from_py_object_bound17h0104361d01b66366E
+std _ZN78_$LT$$LP$$RF$str$C$u16$RP$$u20$as$u20$std..net..socket_addr..ToSocketAddrs$GT$15to_socket_addrs17h5f88d7384d6cf4c8E
+hyper_tls _ZN84_$LT$hyper_tls..stream..MaybeHttpsStream$LT$T$GT$$u20$as$u20$hyper..rt..io..Read$GT$9poll_read17h1c98c016f95eef45E
+alloc _ZN87_$LT$T$u20$as$u20$alloc..slice..$LT$impl$u20$$u5b$T$u5d$$GT$..to_vec_in..ConvertVec$GT$6to_vec17h204896eae3de70f0E
+[unknown] _ZN14$LT$u8$GT$..x17h0123456789abcdefE
+[unknown] _ZN4llvm5ValueC2Ev
+[unknown] memcpy
+""".split()
+file = assembled("inner", len(inner) // 2, *((name, at, 1) for at, name in enumerate(inner[1::2])))
+assert [it["crate"] for it in objects("list", file)[:len(inner) // 2]] == inner[::2], "other crates of names that begin with a type"
 assert objects("size", "--by=generic", old)[1] == {"file": old, "name": "b::f::<..>", "size": 9, "copies": 2}
+assert objects("size", "--by=section", sample)[0] == {"file": sample, "segment": None, "section": ".symtab", "type": "SYMTAB", "flags": 0, "size": 120, "memory": 0}
 assert objects("diff", old, new)[0] == {"file": new, "name": "b", "old": 9, "new": 0, "change": -9}
 at = ("at", "--section=.text", "--base=0x40", old)
 assert objects(*at, "0x41") == [{"file": old, "address": f"0x{0x41:016x}", "name": "a::f", "offset": 1}]
@@ -397,7 +442,7 @@ reasons = [{"file": missing, "error": lost.split(": ")[-1]}, {"file": of_sys, "e
 several = ((command, missing, old, of_sys, reasons[:1] + objects(command, old) + reasons[1:]) for command in ("list", "size"))
 for *words, wanted in (*several, ("diff", old, missing, reasons[:1]), ("at", missing, "1", reasons[:1]), ("section", of_sys, reasons[1:])):
     assert objects(*words) == wanted, f"{words}: other refusals in JSON, or in another order"
-assert objects("section", sample)[1] == {"file": sample, "segment": None, "section": ".text", "address": f"0x{0:016x}", "offset": 64, "size": 32}
+assert objects("section", sample)[1] == {"file": sample, "segment": None, "section": ".text", "address": f"0x{0:016x}", "offset": 64, "size": 32, "type": "PROGBITS", "flags": 0}
 
 # What follows a mangling, such as `.cold`, is shown at an address and in a text, and isn't listed.
 file = assembled("cold", 1, ("_RNvC1a1b.cold", 0, 1))

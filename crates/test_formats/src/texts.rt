@@ -2,10 +2,10 @@
 
 use binfarce_tables::ReadError;
 use binfarce_tools::SymbolTable;
-use binfarce_tools::list::{Out, list, list_tables};
+use binfarce_tools::list::{ListError, Out, list, list_tables};
 use binfarce_tools::map::{map, map_tables};
 use binfarce_tools::report::{report, report_tables};
-use binfarce_tools::tables::{Selection, read};
+use binfarce_tools::tables::{Selection, Tables, read};
 use std::alloc::{AllocError, Global};
 use std::fmt::Display;
 
@@ -49,9 +49,26 @@ pub fn text_of_section(
     }
 }
 
+// The listing of the tables of a section, or the words of what they are refused for: before they are asked for anything.
+fn listing_of_accepted(alloc: Global, section: &str, file: &[u8]) -> Result<String, AllocError> {
+    let tables = match Tables::whole(file, section).accepted(alloc) {
+        Ok(tables) => tables,
+        Err(refusal) => return format!(in alloc; "{refusal}"),
+    };
+    let mut out = Out::new(Vec::new(alloc));
+    match list_tables(alloc, &tables, &mut out) {
+        Ok(()) => text_of::<ListError>(alloc, Ok(()), out.into_inner()),
+        Err(late) => format!(in alloc; "late: {late}"),
+    }
+}
+
 /// All three; one that is the same as that before it isn't repeated.
 pub fn all_texts(alloc: Global, section: &str, file: &[u8]) -> Result<String, AllocError> {
     let mut texts = text_of_section(alloc, "list", section, file)?;
+    let accepted = listing_of_accepted(alloc, section, file)?;
+    if accepted.as_str() != texts.as_str() {
+        texts.push_str(&accepted)?;
+    }
     let report = text_of_section(alloc, "report", section, file)?;
     let picture = text_of_section(alloc, "map", section, file)?;
     if report.as_str() != texts.as_str() {

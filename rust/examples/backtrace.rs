@@ -1,10 +1,10 @@
-//! Panics, and prints the functions of its own backtrace: it subtracts from each address where `/proc/self/maps` has the
-//! program's file, and looks it up in that file. It runs on Linux.
+//! Panics, and prints the functions of its own backtrace, those of shared objects too: where each file is loaded is in
+//! `/proc/self/maps`. It runs on Linux, position-independent or not.
 
-use binfarce::{Format, Selection, SymbolTable, Symbolizer, Tables, demangle, detect_format, elf64};
+use binfarce::{Selection, SymbolTable, Symbolizer, Tables, demangle, mapped_at, read_load_address};
 use std::backtrace::Backtrace;
-use std::io::{Read, Seek};
-use std::{env, error::Error, fs, panic};
+use std::fs::{self, File};
+use std::{env, error::Error, panic};
 
 mod inner {
     #[inline(never)]
@@ -16,21 +16,24 @@ mod inner {
     }
 }
 
-/// Where a file's first byte is in memory. A line of the maps is `START-END PERMISSIONS OFFSET DEVICE INODE PATH`.
-fn base(maps: &str, path: &str) -> Option<u64> {
-    maps.lines().filter(|line| line.ends_with(path)).find_map(|line| {
-        let (start, rest) = line.split_once('-')?;
-        let is_first = rest.split(' ').nth(2)?.bytes().all(|digit| digit == b'0');
-        is_first.then(|| u64::from_str_radix(start, 16).ok())?
-    })
+/// The files with code that the maps have: a line is `START-END PERMISSIONS OFFSET DEVICE INODE PATH`.
+fn paths(maps: &str) -> Vec<&str> {
+    let mut paths: Vec<&str> = maps
+        .lines()
+        .filter(|line| line.split(' ').nth(1).map_or(false, |permissions| permissions.contains('x')))
+        .filter_map(|line| line.find('/').map(|at| &line[at..]))
+        .collect();
+    paths.dedup();
+    paths
 }
 
-/// Whether a program runs at the addresses that its file has (`ET_EXEC`), wherever its first byte is.
-fn is_fixed(mut file: impl Read + Seek) -> Result<bool, Box<dyn Error>> {
-    let mut start = [0; 64];
-    file.read_exact(&mut start)?;
-    let Format::Elf64 { byte_order } = detect_format(&start) else { return Err("not a 64-bit ELF file".into()) };
-    Ok(elf64::parse(&start, byte_order)?.header().elf_type == 2)
+/// The function symbols of a file where the maps load it: of a stripped one its dynamic symbols.
+fn symbolizer(maps: &str, path: &str) -> Result<Symbolizer<'static>, Box<dyn Error>> {
+    let tables = Tables::read(File::open(path)?, Selection::All, SymbolTable::Symtab)
+        .or_else(|_| Tables::read(File::open(path)?, Selection::All, SymbolTable::Dynsym))?;
+    let base = mapped_at(maps.as_bytes(), path).ok_or("the maps don't have it")?;
+    let linked = read_load_address(File::open(path)?)?.unwrap_or(0);
+    Ok(Symbolizer::new(&tables)?.into_owned()?.with_linked(linked).with_base(base))
 }
 
 /// The return addresses in a backtrace's text, a line ` 3: 0x55d0c7b5d4a1 - NAME` each, which inlined functions repeat.
@@ -45,17 +48,24 @@ fn addresses(trace: &str) -> Vec<u64> {
 }
 
 fn print_backtrace() -> Result<(), Box<dyn Error>> {
-    let path = env::current_exe()?;
+    // Before the backtrace is written, for which std maps these files as data, too.
     let maps = fs::read_to_string("/proc/self/maps")?;
-    let base = match is_fixed(fs::File::open(&path)?)? {
-        true => 0,
-        false => base(&maps, &path.to_string_lossy()).ok_or("the maps don't have this program")?,
-    };
-    let tables = Tables::read(fs::File::open(path)?, Selection::All, SymbolTable::Symtab)?;
-    let symbolizer = Symbolizer::new(&tables)?.with_base(base);
+    let mut names = Vec::new();
+    let mut files = Vec::new();
+    for path in paths(&maps) {
+        match symbolizer(&maps, path) {
+            Ok(file) => {
+                names.push(path);
+                files.push(file);
+            }
+            Err(e) => eprintln!("{path}: {e}"),
+        }
+    }
     for address in addresses(&format!("{:#}", Backtrace::force_capture())) {
-        match symbolizer.find_return(address) {
-            Some((function, offset)) => println!("{address:x} {}+0x{offset:x}", demangle::trimmed(function.name)?),
+        match Symbolizer::find_return_among(&files, address) {
+            Some((file, function, offset)) => {
+                println!("{address:x} {}+0x{offset:x} in {}", demangle::trimmed(function.name)?, names[file])
+            }
             None => println!("{address:x} ??"),
         }
     }

@@ -3,15 +3,20 @@
 use crate::erased::binfarce_bytes::{format, functions as lookup};
 use crate::erased::binfarce_sections::bytes as bytes_of;
 use crate::erased::binfarce_sections::error::SectionError;
+use crate::erased::binfarce_sections::kinds;
 use crate::erased::binfarce_sections::sections as sections_of;
 use crate::erased::binfarce_tools::functions as functions_of;
 use crate::erased::binfarce_tools::list::{self as listing, ListError, Sink};
 use crate::erased::binfarce_tools::report::{self as reporting, ReportError};
-use crate::error::{Error, OutOfMemory, ParseError};
+use crate::error::{Error, ParseError};
 use crate::shim::{self, alloc::Global};
+#[cfg(feature = "std")]
 use crate::streams::Kept;
 use crate::{AllFunctions, Format, FunctionSymbol, string_of};
-use std::cell::RefCell;
+use alloc::string::String;
+#[cfg(feature = "std")]
+use core::cell::RefCell;
+#[cfg(feature = "std")]
 use std::io::{self, ErrorKind, Read, Seek};
 
 /// Returns the format that a file's first 8 bytes name; a shorter file has none. The readers themselves don't check magic numbers.
@@ -109,15 +114,90 @@ pub struct Section<'a> {
     /// Its size in bytes (`sh_size`, `size`), as the file states it. In a PE file, the smaller one of `VirtualSize` and
     /// `SizeOfRawData`, or the other one where one is 0.
     pub size: u64,
-    /// Whether it has bytes in the file: not in ELF where its type is `SHT_NOBITS`, not in Mach-O where its offset is
-    /// 0, and not in PE where `PointerToRawData` or `SizeOfRawData` is 0.
+    /// Whether it has bytes in the file: not in ELF where its type is `SHT_NOBITS`, not in Mach-O where it is filled with
+    /// zeros by its type, or its offset is 0, and not in PE where `PointerToRawData` or `SizeOfRawData` is 0.
     pub has_bytes: bool,
+    /// Its type.
+    pub kind: SectionType,
+    /// Its flags (`sh_flags`, `flags`, `Characteristics`); 0 in a Mach-O or PE file that ends before them.
+    pub flags: u64,
+    /// How many bytes it has in the file, as the file states it: its size, or 0 if it has none there. In a PE file
+    /// `SizeOfRawData`, which an image rounds up.
+    pub file_size: u64,
+    /// How many bytes it has in memory: in ELF its size where its flags have `SHF_ALLOC`, else 0; in Mach-O its size; in PE
+    /// `VirtualSize`, or `SizeOfRawData` where that is 0, as in an object file.
+    pub memory_size: u64,
+}
+
+/// The type of a section, as a number of its format.
+///
+/// # Examples
+///
+/// ```
+/// use binfarce::SectionType;
+///
+/// assert_eq!(SectionType::Elf(1).name(), Some("PROGBITS"));
+/// assert_eq!(SectionType::Macho(1).name(), Some("ZEROFILL"));
+/// assert_eq!((SectionType::Elf(0x6000_0000).name(), SectionType::Pe.number()), (None, None));
+/// ```
+#[derive(Debug, Clone, Copy, PartialEq, Eq, Hash)]
+pub enum SectionType {
+    /// In an ELF file (`sh_type`).
+    Elf(u32),
+    /// In a Mach-O file: the low byte of its flags (`SECTION_TYPE`).
+    Macho(u32),
+    /// In a PE file, whose sections have no type.
+    Pe,
+}
+
+impl SectionType {
+    /// Returns its name: in ELF as readelf prints it, such as `PROGBITS`; in Mach-O that of `<mach-o/loader.h>` without `S_`,
+    /// such as `REGULAR`. `None` for a number without a name there, and in PE.
+    pub fn name(self) -> Option<&'static str> {
+        kinds::SectionType::from(self).name()
+    }
+
+    /// Returns its number; `None` in PE.
+    pub fn number(self) -> Option<u32> {
+        kinds::SectionType::from(self).number()
+    }
+}
+
+impl From<kinds::SectionType> for SectionType {
+    fn from(kind: kinds::SectionType) -> Self {
+        match kind {
+            kinds::SectionType::Elf(number) => SectionType::Elf(number),
+            kinds::SectionType::Macho(number) => SectionType::Macho(number),
+            kinds::SectionType::Pe => SectionType::Pe,
+        }
+    }
+}
+
+impl From<SectionType> for kinds::SectionType {
+    fn from(kind: SectionType) -> Self {
+        match kind {
+            SectionType::Elf(number) => kinds::SectionType::Elf(number),
+            SectionType::Macho(number) => kinds::SectionType::Macho(number),
+            SectionType::Pe => kinds::SectionType::Pe,
+        }
+    }
 }
 
 impl<'a> Section<'a> {
     fn of(section: sections_of::Section<'a>) -> Self {
-        let sections_of::Section { segment, name, address, offset, size, has_bytes } = section;
-        Section { segment, name, address, offset, size, has_bytes }
+        let sections_of::Section {
+            segment,
+            name,
+            address,
+            offset,
+            size,
+            has_bytes,
+            kind,
+            flags,
+            file_size,
+            memory_size,
+        } = section;
+        Section { segment, name, address, offset, size, has_bytes, kind: kind.into(), flags, file_size, memory_size }
     }
 }
 
@@ -134,6 +214,11 @@ impl<'a> Section<'a> {
 /// let file = std::fs::read(path)?;
 /// let names = binfarce::sections(&file)?.map(|section| Ok(section?.name)).collect::<Result<Vec<_>, binfarce::ParseError>>()?;
 /// assert_eq!(names[1..], [Some(".text"), Some(".symtab"), Some(".strtab"), Some(".shstrtab")]);
+/// for section in binfarce::sections(&file)? {
+///     let section = section?;
+///     let kind = section.kind.name().unwrap_or("unknown");
+///     println!("{:?}: {kind}, flags {:#x}, {} bytes in the file", section.name, section.flags, section.file_size);
+/// }
 /// # Ok::<(), Box<dyn std::error::Error>>(())
 /// ```
 pub fn sections(file: &[u8]) -> Result<Sections<'_>, Error> {
@@ -220,13 +305,14 @@ pub fn section_bytes<'a>(file: &'a [u8], name: &str) -> Result<&'a [u8], Error> 
 /// assert_eq!(text.len(), 32);
 /// # Ok::<(), std::io::Error>(())
 /// ```
+#[cfg(feature = "std")]
 pub fn read_section<R: Read + Seek>(file: R, name: &str) -> io::Result<Vec<u8>> {
     let file = RefCell::new(Kept::new(file));
     let mut text = Text::new();
     match bytes_of::write_section_of(Global, &file, &mut (), name, &mut text) {
         Ok(()) => Ok(text.bytes.into_std()),
         Err(SectionError::Unreadable) => Err(file.into_inner().into_error(ErrorKind::UnexpectedEof)),
-        Err(SectionError::Write) => Err(OutOfMemory.into()),
+        Err(SectionError::Write) => Err(crate::OutOfMemory.into()),
         Err(e) => Err(Error::from(e).into()),
     }
 }

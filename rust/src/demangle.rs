@@ -20,7 +20,8 @@ use crate::erased::binfarce_names::demangle as erased;
 use crate::error::{OutOfMemory, out_of_memory};
 use crate::shim;
 use crate::shim::alloc::{AllocError, Global};
-use std::fmt;
+use alloc::string::String;
+use core::fmt;
 
 pub use erased::{Kind, MAX_LEVELS, MAX_STEPS};
 
@@ -212,7 +213,7 @@ impl Demangler {
     /// ```
     pub fn push_complete(&mut self, text: &mut String, name: &str) -> Result<(), OutOfMemory> {
         // Into an empty text it is printed itself.
-        let mut complete = if text.is_empty() { std::mem::take(text) } else { String::new() }.into();
+        let mut complete = if text.is_empty() { core::mem::take(text) } else { String::new() }.into();
         let printed = self.0.short_text(&mut complete, name, true, usize::MAX);
         if text.is_empty() {
             if printed.is_err() {
@@ -272,7 +273,7 @@ fn with_shim<T>(
     text: &mut String,
     append: impl FnOnce(&mut shim::String) -> Result<T, AllocError>,
 ) -> Result<T, OutOfMemory> {
-    let mut lent = std::mem::take(text).into();
+    let mut lent = core::mem::take(text).into();
     let appended = append(&mut lent);
     *text = lent.into_std();
     Ok(appended?)

@@ -25,8 +25,9 @@ macro_rules! reader {
         use crate::error::{Error, ParseError, out_of_memory};
         use crate::shim::alloc::Global;
         use crate::{ByteOrder, FunctionSymbol, SectionFunction, SymbolTable, symbols_of};
-        use std::fmt;
-        use std::ops::Range;
+        use alloc::vec::Vec;
+        use core::fmt;
+        use core::ops::Range;
 
         /// The file header without its identification.
         #[derive(Debug, Clone, Copy, PartialEq, Eq, Hash)]
@@ -88,6 +89,21 @@ macro_rules! reader {
                 self.0.section_type()
             }
 
+            /// Returns the flags of the section (`sh_flags`).
+            pub fn flags(&self) -> $Width {
+                self.0.flags()
+            }
+
+            /// Returns how many bytes the section has in the file: its size, but 0 where its type is `SHT_NOBITS`.
+            pub fn file_size(&self) -> u64 {
+                self.0.file_size()
+            }
+
+            /// Returns how many bytes the section has in memory: its size where its flags have `SHF_ALLOC`, else 0.
+            pub fn memory_size(&self) -> u64 {
+                self.0.memory_size()
+            }
+
             /// Returns the address of the section's first byte in memory, or 0 (`sh_addr`).
             pub fn address(&self) -> $Width {
                 self.0.address()
@@ -113,7 +129,7 @@ macro_rules! reader {
         of_values! {
             Section: |it| (
                 (it.0.index, it.0.name_offset, it.0.kind, it.0.link),
-                (it.0.address, it.0.offset, it.0.size, it.0.entry_size),
+                (it.0.address, it.0.offset, it.0.size, it.0.entry_size, it.0.flags),
             );
         }
 

@@ -2,8 +2,10 @@
 
 use crate::erased::binfarce_bytes;
 use crate::shim::alloc::AllocError;
-use std::alloc::{Layout, handle_alloc_error};
-use std::{error, fmt, io, num};
+use alloc::alloc::{Layout, handle_alloc_error};
+use core::{fmt, num};
+#[cfg(feature = "std")]
+use std::{error, io};
 
 /// Why a reader refused a file.
 ///
@@ -34,6 +36,25 @@ pub enum ParseError {
     UnexpectedEof,
 }
 
+impl ParseError {
+    /// Returns what kind of error it is, as [`Error::kind`] does.
+    ///
+    /// # Examples
+    ///
+    /// ```
+    /// use binfarce::{ByteOrder, ErrorKind, elf64};
+    ///
+    /// # let path = concat!(env!("CARGO_MANIFEST_DIR"), "/samples/elf64-little.bin");
+    /// let file = std::fs::read(path)?;
+    /// let elf = elf64::parse(&file, ByteOrder::LittleEndian)?;
+    /// assert_eq!(elf.dynamic_functions(".text").err().map(|e| e.kind()), Some(ErrorKind::NoSymbolTable));
+    /// # Ok::<(), Box<dyn std::error::Error>>(())
+    /// ```
+    pub fn kind(&self) -> ErrorKind {
+        Error::Parse(*self).kind()
+    }
+}
+
 impl fmt::Display for ParseError {
     fn fmt(&self, f: &mut fmt::Formatter<'_>) -> fmt::Result {
         match self {
@@ -48,6 +69,7 @@ impl fmt::Display for ParseError {
     }
 }
 
+#[cfg(feature = "std")]
 impl error::Error for ParseError {}
 
 impl From<num::TryFromIntError> for ParseError {
@@ -88,9 +110,20 @@ impl fmt::Display for UnexpectedEof {
     }
 }
 
+#[cfg(feature = "std")]
 impl error::Error for UnexpectedEof {}
 
 /// Why a call failed that also reports a failed allocation. Each call lists the errors that it returns.
+///
+/// # Examples
+///
+/// ```
+/// use binfarce::{Error, ErrorKind, ParseError};
+///
+/// let refused = binfarce::functions(b"#!/bin/sh", ".text").err();
+/// assert_eq!(refused, Some(Error::UnknownFormat));
+/// assert_eq!(Error::Parse(ParseError::SectionIsMissing(".symtab")).kind(), ErrorKind::NoSymbolTable);
+/// ```
 #[derive(Debug, Clone, Copy, PartialEq, Eq, Hash)]
 #[non_exhaustive]
 pub enum Error {
@@ -110,6 +143,71 @@ pub enum Error {
     OutOfMemory,
 }
 
+/// What kind of error an [`Error`] is, whatever the file's format: what callers tell apart.
+#[derive(Debug, Clone, Copy, PartialEq, Eq, Hash)]
+#[non_exhaustive]
+pub enum ErrorKind {
+    /// The file's first bytes name no format that is read.
+    UnknownFormat,
+    /// The file has no symbol table of this kind: an ELF file lacks `.symtab` or `.dynsym`, or a Mach-O or PE file was asked for
+    /// its dynamic symbols.
+    NoSymbolTable,
+    /// The file has no section of this name, or a Mach-O or PE file no text section.
+    NoSection,
+    /// The section has no bytes in the file.
+    NoBytes,
+    /// The file is damaged or truncated.
+    Invalid,
+    /// The sum of all sizes is 2^64 or more.
+    TooLarge,
+    /// An allocation failed.
+    OutOfMemory,
+}
+
+impl Error {
+    /// Returns what kind of error it is.
+    ///
+    /// # Examples
+    ///
+    /// ```
+    /// use binfarce::{ErrorKind, Selection, SymbolTable, Tables};
+    ///
+    /// # let path = concat!(env!("CARGO_MANIFEST_DIR"), "/samples/elf64-little.bin");
+    /// let file = std::fs::read(path)?;
+    /// let kind = |section, table| Tables::new(&file, Selection::Section(section), table).err().map(|e| e.kind());
+    /// assert_eq!(kind(".init", SymbolTable::Symtab), Some(ErrorKind::NoSection));
+    /// assert_eq!(kind(".text", SymbolTable::Dynsym), Some(ErrorKind::NoSymbolTable));
+    /// # Ok::<(), std::io::Error>(())
+    /// ```
+    pub fn kind(&self) -> ErrorKind {
+        match self {
+            Error::UnknownFormat => ErrorKind::UnknownFormat,
+            Error::Parse(ParseError::SectionIsMissing(".symtab" | ".dynsym")) => ErrorKind::NoSymbolTable,
+            Error::Parse(ParseError::SymbolsSectionIsMissing) | Error::NoSection => ErrorKind::NoSection,
+            Error::NoBytes => ErrorKind::NoBytes,
+            Error::Parse(_) | Error::PastEnd => ErrorKind::Invalid,
+            Error::TooLarge => ErrorKind::TooLarge,
+            Error::OutOfMemory => ErrorKind::OutOfMemory,
+        }
+    }
+
+    /// Returns the error that became this [`io::Error`]. `None` for an error of a stream, and where an allocation failed, which
+    /// [`io::Error::kind`] says.
+    ///
+    /// # Examples
+    ///
+    /// ```
+    /// use binfarce::{Error, ErrorKind, Selection, SymbolTable, Tables};
+    ///
+    /// let refused = Tables::read(std::io::Cursor::new("#!/bin/sh"), Selection::All, SymbolTable::Symtab).unwrap_err();
+    /// assert_eq!(Error::of_io(&refused).map(|e| e.kind()), Some(ErrorKind::UnknownFormat));
+    /// ```
+    #[cfg(feature = "std")]
+    pub fn of_io(e: &io::Error) -> Option<Error> {
+        e.get_ref()?.downcast_ref().copied()
+    }
+}
+
 impl fmt::Display for Error {
     fn fmt(&self, f: &mut fmt::Formatter<'_>) -> fmt::Result {
         match self {
@@ -124,6 +222,7 @@ impl fmt::Display for Error {
     }
 }
 
+#[cfg(feature = "std")]
 impl error::Error for Error {}
 
 impl From<ParseError> for Error {
@@ -162,6 +261,7 @@ impl From<binfarce_bytes::ParseError> for Error {
     }
 }
 
+#[cfg(feature = "std")]
 impl From<Error> for io::Error {
     fn from(e: Error) -> Self {
         match e {
@@ -181,6 +281,7 @@ impl fmt::Display for OutOfMemory {
     }
 }
 
+#[cfg(feature = "std")]
 impl error::Error for OutOfMemory {}
 
 #[doc(hidden)]
@@ -190,6 +291,7 @@ impl From<AllocError> for OutOfMemory {
     }
 }
 
+#[cfg(feature = "std")]
 impl From<OutOfMemory> for io::Error {
     fn from(_: OutOfMemory) -> Self {
         io::Error::from(io::ErrorKind::OutOfMemory)

@@ -27,7 +27,10 @@
 //! [`Tables::figures_to`]: crate::Tables::figures_to
 //! [`Tables::changes_to`]: crate::Tables::changes_to
 
-use crate::erased::binfarce_figures::{diff, key, rows, sums};
+use crate::erased::binfarce_figures::key;
+#[cfg(feature = "std")]
+use crate::erased::binfarce_figures::{diff, rows, sums};
+#[cfg(feature = "std")]
 use crate::erased::binfarce_tools::json;
 
 pub use crate::erased::binfarce_figures::key::Key;
@@ -88,6 +91,7 @@ impl Shown {
         Shown { has_total: false, ..self }
     }
 
+    #[cfg(feature = "std")]
     pub(crate) fn into_erased(self) -> rows::Shown {
         let Shown { order, first, naming, has_total } = self;
         rows::Shown { order, first, naming, has_total }
@@ -188,6 +192,7 @@ impl Figures {
         Figures { has_percent: true, ..self }
     }
 
+    #[cfg(feature = "std")]
     pub(crate) fn into_erased(self) -> sums::Figures {
         let Figures { grouping, first, has_percent } = self;
         sums::Figures { grouping: grouping.into_erased(), first, has_percent }
@@ -209,6 +214,7 @@ pub enum Layout<'a> {
     },
 }
 
+#[cfg(feature = "std")]
 impl<'a> Layout<'a> {
     pub(crate) fn into_erased(self) -> json::Form<'a> {
         match self {
@@ -229,6 +235,7 @@ pub struct Growth {
 }
 
 impl Growth {
+    #[cfg(feature = "std")]
     pub(crate) fn of(growth: diff::Growth) -> Self {
         Growth { old: growth.old, new: growth.new }
     }

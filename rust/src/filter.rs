@@ -1,11 +1,15 @@
 //! The mangled names within a text.
 
 use crate::erased::binfarce_filtering::filter as erased;
+#[cfg(feature = "std")]
 use crate::erased::binfarce_filtering::stream::{self, StreamError};
 use crate::error::OutOfMemory;
 use crate::shim::alloc::Global;
+#[cfg(feature = "std")]
 use crate::streams::Kept;
 use crate::string_of;
+use alloc::string::String;
+#[cfg(feature = "std")]
 use std::io::{self, Read, Write};
 
 /// Which text of a name is shown.
@@ -65,6 +69,7 @@ pub fn filter(text: &str, form: Form) -> Result<String, OutOfMemory> {
 /// assert_eq!(output, b"in a::b.\n");
 /// # Ok::<(), std::io::Error>(())
 /// ```
+#[cfg(feature = "std")]
 pub fn filter_stream<R: Read, W: Write>(input: R, output: W, form: Form) -> io::Result<()> {
     let (mut input, mut output) = (Kept::new(input), Kept::new(output));
     match stream::filter_stream(Global, form == Form::Complete, &mut input, &mut output) {

@@ -32,16 +32,22 @@
 
 // As in Cargo.toml, which says it to Cargo from 1.74 on.
 #![forbid(unsafe_code)]
+#![cfg_attr(not(feature = "std"), no_std)]
 #![warn(missing_docs)]
 
 #[cfg(not(any(target_pointer_width = "64", target_pointer_width = "32")))]
 compile_error!("binfarce needs a machine of 32 or 64 bits");
 
+#[cfg(all(test, not(feature = "std")))]
+compile_error!("the tests need the feature `std`");
+
+extern crate alloc;
+
 /// Implements `Debug` for values that show their names alone.
 macro_rules! debug_by_name {
     ($($Value:ident),*) => {$(
-        impl std::fmt::Debug for $Value<'_> {
-            fn fmt(&self, f: &mut std::fmt::Formatter<'_>) -> std::fmt::Result {
+        impl core::fmt::Debug for $Value<'_> {
+            fn fmt(&self, f: &mut core::fmt::Formatter<'_>) -> core::fmt::Result {
                 f.debug_struct(stringify!($Value)).finish_non_exhaustive()
             }
         }
@@ -52,7 +58,7 @@ macro_rules! debug_by_name {
 macro_rules! of_iterators {
     ($($Iterator:ident),*) => {
         debug_by_name!($($Iterator),*);
-        $(impl std::iter::FusedIterator for $Iterator<'_> {})*
+        $(impl core::iter::FusedIterator for $Iterator<'_> {})*
     };
 }
 
@@ -72,8 +78,8 @@ macro_rules! of_values {
         $($(
             impl Eq for $Other {}
 
-            impl std::hash::Hash for $Other {
-                fn hash<H: std::hash::Hasher>(&self, state: &mut H) {
+            impl core::hash::Hash for $Other {
+                fn hash<H: core::hash::Hasher>(&self, state: &mut H) {
                     let $that = self;
                     $of.hash(state);
                 }
@@ -86,9 +92,9 @@ of_values! {
     FunctionSymbol<'_>: |it| (it.name, it.address, it.size);
     SectionFunction<'_>: |it| (it.section, it.function);
     else
-    figures::Key: |it| std::mem::discriminant(it);
-    figures::Naming: |it| std::mem::discriminant(it);
-    figures::Order: |it| std::mem::discriminant(it);
+    figures::Key: |it| core::mem::discriminant(it);
+    figures::Naming: |it| core::mem::discriminant(it);
+    figures::Order: |it| core::mem::discriminant(it);
 }
 
 impl Clone for Format {
@@ -121,24 +127,35 @@ mod refused;
 // Each program and library takes a part of it.
 #[allow(dead_code, unused_imports)]
 mod shim;
+#[cfg(feature = "std")]
 mod streams;
+mod symbolizer;
 mod tables;
 #[cfg(test)]
 mod tests;
 
+#[cfg(feature = "std")]
+pub use any::read_section;
 pub use any::{
-    Functions, Section, Sections, detect_format, functions, list, read_section, report, section_bytes, sections,
+    Functions, Section, SectionType, Sections, detect_format, functions, list, report, section_bytes, sections,
     symbol_at,
 };
 pub use erased::binfarce_bytes::ByteOrder;
 pub use erased::binfarce_bytes::format::Format;
 pub use erased::binfarce_bytes::functions::{FunctionSymbol, SectionFunction};
-pub use error::{Error, OutOfMemory, ParseError, UnexpectedEof};
-pub use filter::{Form, filter, filter_stream};
-pub use tables::{AllFunctions, Selection, Sums, SymbolTable, Symbolizer, Tables};
+pub use error::{Error, ErrorKind, OutOfMemory, ParseError, UnexpectedEof};
+#[cfg(feature = "std")]
+pub use filter::filter_stream;
+pub use filter::{Form, filter};
+#[cfg(feature = "std")]
+pub use streams::read_load_address;
+pub use symbolizer::{Symbolizer, load_address, mapped_at};
+pub use tables::{AllFunctions, Selection, Sums, SymbolTable, Tables};
 
+use alloc::string::String;
+use alloc::vec::Vec;
+use core::fmt;
 use demangle::SymbolData;
-use std::fmt;
 
 /// What the programs of this package are.
 #[cfg(feature = "programs")]

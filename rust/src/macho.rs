@@ -18,8 +18,9 @@ use crate::erased::binfarce::macho as erased;
 use crate::error::{Error, ParseError, out_of_memory};
 use crate::shim::alloc::Global;
 use crate::{FunctionSymbol, SectionFunction, number_in, symbols_of};
-use std::fmt;
-use std::ops::Range;
+use alloc::vec::Vec;
+use core::fmt;
+use core::ops::Range;
 
 /// The file header (`mach_header_64`) without its magic number.
 #[derive(Debug, Clone, Copy, PartialEq, Eq, Hash)]
@@ -76,15 +77,37 @@ impl<'a> Section<'a> {
     pub fn size(&self) -> u64 {
         self.0.size()
     }
+
+    /// Returns the section's flags (`flags`): its type in the low byte, and attributes. 0 where the file ends before them.
+    pub fn flags(&self) -> u32 {
+        self.0.flags()
+    }
+
+    /// Returns the section's type (`SECTION_TYPE`), the low byte of its flags.
+    pub fn section_type(&self) -> u32 {
+        self.0.section_type()
+    }
+
+    /// Returns how many bytes the section has in the file: its size, but 0 where its type fills it with zeros in memory, or
+    /// its offset is 0.
+    pub fn file_size(&self) -> u64 {
+        self.0.file_size()
+    }
 }
 
 of_values! {
-    Section<'_>: |it| (it.0.segment_name, it.0.section_name, it.0.address, it.0.offset, it.0.size);
+    Section<'_>: |it| (it.0.segment_name, it.0.section_name, it.0.address, it.0.offset, it.0.size, it.0.flags);
 }
 
 impl fmt::Debug for Section<'_> {
     fn fmt(&self, f: &mut fmt::Formatter<'_>) -> fmt::Result {
-        self.0.fmt(f)
+        f.debug_struct("Section")
+            .field("segment_name", &self.0.segment_name)
+            .field("section_name", &self.0.section_name)
+            .field("address", &self.0.address)
+            .field("offset", &self.0.offset)
+            .field("size", &self.0.size)
+            .finish()
     }
 }
 

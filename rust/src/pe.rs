@@ -18,8 +18,9 @@ use crate::erased::binfarce::pe as erased;
 use crate::error::{Error, ParseError, out_of_memory};
 use crate::shim::alloc::Global;
 use crate::{FunctionSymbol, SectionFunction, number_in, symbols_of};
-use std::fmt;
-use std::ops::Range;
+use alloc::vec::Vec;
+use core::fmt;
+use core::ops::Range;
 
 /// The COFF file header.
 #[derive(Debug, Clone, Copy, PartialEq, Eq, Hash)]
@@ -80,6 +81,22 @@ impl<'a> Section<'a> {
         self.0.size()
     }
 
+    /// Returns the section's flags (`Characteristics`). 0 where the file ends before them.
+    pub fn characteristics(&self) -> u32 {
+        self.0.characteristics()
+    }
+
+    /// Returns how many bytes of the file are the section's: `SizeOfRawData`, but 0 where `PointerToRawData` is 0.
+    pub fn file_size(&self) -> u32 {
+        self.0.file_size()
+    }
+
+    /// Returns how many bytes the section has in memory: `VirtualSize`, or `SizeOfRawData` where that is 0, as in an object
+    /// file.
+    pub fn memory_size(&self) -> u32 {
+        self.0.memory_size()
+    }
+
     /// Returns the index of the section's header in the section table, which counts from 0. The section's number in
     /// [`SectionFunction`] is greater by 1.
     pub fn index(&self) -> u16 {
@@ -90,7 +107,7 @@ impl<'a> Section<'a> {
 of_values! {
     Section<'_>: |it| (
         (it.0.index, it.0.name, it.0.virtual_address, it.0.virtual_size),
-        (it.0.pointer_to_raw_data, it.0.size_of_raw_data),
+        (it.0.pointer_to_raw_data, it.0.size_of_raw_data, it.0.characteristics),
     );
 }
 

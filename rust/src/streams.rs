@@ -1,8 +1,15 @@
-//! Streams whose errors are kept: the proved code learns only that one failed.
+//! Streams that tables are read of, and that texts are written to. Their errors are kept: the proved code learns only that one failed.
 
 use crate::erased::binfarce_bytes::source::Source;
-use crate::erased::binfarce_tools::list::Sink;
-use std::cell::RefCell;
+use crate::erased::binfarce_figures::{diff::diff, map::map_by, rows::list_by, stacks::fold_tables, sums::sum_by};
+use crate::erased::binfarce_tables::{ReadError, format::read_format, loading};
+use crate::erased::binfarce_tools::list::{Sink, list_tables};
+use crate::erased::binfarce_tools::report::{ReportError, report_tables};
+use crate::erased::binfarce_tools::tables;
+use crate::figures::{Figures, Grouping, Growth, Layout, Shown};
+use crate::shim::alloc::Global;
+use crate::{Error, Selection, SymbolTable, Tables};
+use core::cell::RefCell;
 use std::io::{self, ErrorKind, Read, Seek, SeekFrom, Write};
 
 /// A stream that keeps its last error.
@@ -95,5 +102,253 @@ impl<S: Read + Seek> Source for RefCell<Kept<S>> {
         let result = kept.stream.seek(SeekFrom::Start(offset));
         kept.keep(result)?;
         kept.read_exact(buffer)
+    }
+}
+
+impl Tables<'static> {
+    /// Reads the tables of a file at offsets: its first 8 bytes, its headers, the symbol table and its strings, and the last
+    /// byte; but all of a Mach-O file whose load commands pass their stated end. `file` is a [`File`](std::fs::File), or
+    /// anything else that can be read from the offsets that it is set to.
+    ///
+    /// # Errors
+    ///
+    /// That of `file`; otherwise that of [`Tables::new`], as an [`io::Error`], of which [`Error::of_io`] returns it.
+    ///
+    /// # Examples
+    ///
+    /// ```
+    /// use binfarce::{Selection, SymbolTable, Tables};
+    ///
+    /// # let path = concat!(env!("CARGO_MANIFEST_DIR"), "/samples/elf64-little.bin");
+    /// let tables = Tables::read(std::fs::File::open(path)?, Selection::All, SymbolTable::Symtab)?;
+    /// assert_eq!(tables.functions()?.count(), 3);
+    /// # Ok::<(), Box<dyn std::error::Error>>(())
+    /// ```
+    pub fn read<R: Read + Seek>(file: R, selection: Selection<'_>, table: SymbolTable) -> io::Result<Self> {
+        let file = RefCell::new(Kept::new(file));
+        let tables = tables::read(Global, &file, &mut (), table.into_erased(), selection.into());
+        match tables {
+            Ok(tables) => tables.accepted(Global).map(Tables).map_err(|e| Error::from(e).into()),
+            Err(ReadError::Unreadable) => Err(file.into_inner().into_error(ErrorKind::UnexpectedEof)),
+            Err(e) => Err(Error::from(e).into()),
+        }
+    }
+}
+
+impl Tables<'_> {
+    /// Writes the text of [`list`](crate::list). For [`Selection::All`] each line has the name of the symbol's section
+    /// before the symbol's, or its number in brackets where it has none, and there is no last line.
+    ///
+    /// # Errors
+    ///
+    /// That of `output`; [`ErrorKind::WriteZero`] where it takes no more bytes; otherwise that of [`Tables::functions`], as an
+    /// [`io::Error`]: then nothing is written.
+    ///
+    /// # Examples
+    ///
+    /// ```
+    /// use binfarce::{Selection, SymbolTable, Tables};
+    ///
+    /// # let path = concat!(env!("CARGO_MANIFEST_DIR"), "/samples/elf64-little.bin");
+    /// let file = std::fs::read(path)?;
+    /// let tables = Tables::new(&file, Selection::All, SymbolTable::Symtab)?;
+    /// let mut text = Vec::new();
+    /// tables.list_to(&mut text)?;
+    /// assert_eq!(text, b"0000000000001000         16 .text foo\n0000000000001010         16 .symtab bad\n0000000000001010          0 .text bad\n");
+    /// # Ok::<(), Box<dyn std::error::Error>>(())
+    /// ```
+    pub fn list_to<W: Write>(&self, output: W) -> io::Result<()> {
+        write_to(output, |sink| Ok(list_tables(Global, &self.0, sink)?))
+    }
+
+    /// Writes the text of [`report`](crate::report). For [`Selection::All`] its last line is that of the sum.
+    ///
+    /// # Errors
+    ///
+    /// Those of [`Tables::list_to`]; [`Error::TooLarge`], as an [`io::Error`], where the sum of all sizes is 2^64 or more.
+    ///
+    /// # Examples
+    ///
+    /// ```
+    /// use binfarce::{Selection, SymbolTable, Tables};
+    ///
+    /// # let path = concat!(env!("CARGO_MANIFEST_DIR"), "/samples/elf64-little.bin");
+    /// let file = std::fs::read(path)?;
+    /// let tables = Tables::new(&file, Selection::All, SymbolTable::Symtab)?;
+    /// let mut text = Vec::new();
+    /// tables.report_to(&mut text)?;
+    /// assert_eq!(text, b"        16 [unknown]\n        16 foo\nsum 32\n");
+    /// # Ok::<(), Box<dyn std::error::Error>>(())
+    /// ```
+    pub fn report_to<W: Write>(&self, output: W) -> io::Result<()> {
+        write_to(output, |sink| report_tables(Global, &self.0, sink))
+    }
+
+    /// Writes the sums of [`Tables::sums_by_key`] as a picture: an SVG document with this title, such as the file's name, and a
+    /// bar for each sum, the greatest first.
+    ///
+    /// # Errors
+    ///
+    /// Those of [`Tables::report_to`].
+    ///
+    /// # Examples
+    ///
+    /// ```
+    /// use binfarce::{Selection, SymbolTable, Tables};
+    ///
+    /// # let path = concat!(env!("CARGO_MANIFEST_DIR"), "/samples/elf64-little.bin");
+    /// let file = std::fs::read(path)?;
+    /// let tables = Tables::new(&file, Selection::All, SymbolTable::Symtab)?;
+    /// let mut picture = Vec::new();
+    /// tables.map_to("a file", binfarce::figures::Key::Crate, &mut picture)?;
+    /// assert!(picture.starts_with(b"<svg "));
+    /// # Ok::<(), Box<dyn std::error::Error>>(())
+    /// ```
+    pub fn map_to<W: Write>(&self, title: &str, grouping: impl Into<Grouping>, output: W) -> io::Result<()> {
+        let grouping = grouping.into().into_erased();
+        write_to(output, |sink| map_by(Global, title, &self.0, grouping, sink))
+    }
+
+    /// Writes a listing in an order, of the first rows, or with other names, as lines or as JSON objects.
+    ///
+    /// # Errors
+    ///
+    /// Those of [`Tables::list_to`].
+    ///
+    /// # Examples
+    ///
+    /// ```
+    /// use binfarce::figures::{Layout, Order, Shown};
+    /// use binfarce::{Selection, SymbolTable, Tables};
+    ///
+    /// # let path = concat!(env!("CARGO_MANIFEST_DIR"), "/samples/elf64-little.bin");
+    /// let file = std::fs::read(path)?;
+    /// let tables = Tables::new(&file, Selection::All, SymbolTable::Symtab)?;
+    /// let shown = Shown::new().with_order(Order::Name);
+    /// let mut text = Vec::new();
+    /// tables.rows_to(&shown, Layout::Lines, &mut text)?;
+    /// assert_eq!(text, b"0000000000001010         16 .symtab bad\n0000000000001010          0 .text bad\n0000000000001000         16 .text foo\n");
+    /// # Ok::<(), Box<dyn std::error::Error>>(())
+    /// ```
+    pub fn rows_to<W: Write>(&self, shown: &Shown, layout: Layout<'_>, output: W) -> io::Result<()> {
+        write_to(output, |sink| Ok(list_by(Global, &self.0, &shown.into_erased(), layout.into_erased(), sink)?))
+    }
+
+    /// Writes sums by a key, the greatest first, as lines or as JSON objects. A byte of several function symbols counts once.
+    ///
+    /// # Errors
+    ///
+    /// Those of [`Tables::report_to`].
+    ///
+    /// # Examples
+    ///
+    /// ```
+    /// use binfarce::figures::{Figures, Key, Layout};
+    /// use binfarce::{Selection, SymbolTable, Tables};
+    ///
+    /// # let path = concat!(env!("CARGO_MANIFEST_DIR"), "/samples/elf64-little.bin");
+    /// let file = std::fs::read(path)?;
+    /// let tables = Tables::new(&file, Selection::Section(".text"), SymbolTable::Symtab)?;
+    /// let mut text = Vec::new();
+    /// tables.figures_to(&Figures::by(Key::Function).with_percent(), Layout::Lines, &mut text)?;
+    /// assert_eq!(text, b"        16  50.00% foo\nsum 16\ntext 32\n");
+    /// # Ok::<(), Box<dyn std::error::Error>>(())
+    /// ```
+    pub fn figures_to<W: Write>(&self, figures: &Figures, layout: Layout<'_>, output: W) -> io::Result<()> {
+        write_to(output, |sink| sum_by(Global, &self.0, &figures.into_erased(), layout.into_erased(), sink))
+    }
+
+    /// Writes how the sums of [`Tables::figures_to`] differ from those of an older file, the greatest change first, and returns
+    /// the sums of all sizes.
+    ///
+    /// # Errors
+    ///
+    /// Those of [`Tables::report_to`], first for the older file.
+    ///
+    /// # Examples
+    ///
+    /// ```
+    /// use binfarce::figures::{Figures, Key, Layout};
+    /// use binfarce::{Selection, SymbolTable, Tables};
+    ///
+    /// # let path = concat!(env!("CARGO_MANIFEST_DIR"), "/samples/elf64-little.bin");
+    /// let file = std::fs::read(path)?;
+    /// let tables = Tables::new(&file, Selection::All, SymbolTable::Symtab)?;
+    /// let old = Tables::new(&file, Selection::Section(".text"), SymbolTable::Symtab)?;
+    /// let mut text = Vec::new();
+    /// let growth = tables.changes_to(&old, &Figures::by(Key::Crate), Layout::Lines, &mut text)?;
+    /// assert_eq!((growth.old, growth.new), (16, 32));
+    /// assert!(text.starts_with(b"         0         16         +16 [unknown]\n"));
+    /// # Ok::<(), Box<dyn std::error::Error>>(())
+    /// ```
+    pub fn changes_to<W>(
+        &self,
+        old: &Tables<'_>,
+        figures: &Figures,
+        layout: Layout<'_>,
+        output: W,
+    ) -> io::Result<Growth>
+    where
+        W: Write,
+    {
+        let (figures, form) = (figures.into_erased(), layout.into_erased());
+        write_to(output, |sink| {
+            let grown = diff(Global, &old.0, &self.0, &figures, form, sink).map_err(|e| e.error);
+            grown.map(Growth::of)
+        })
+    }
+
+    /// Writes a line for each function symbol that adds bytes to [`Tables::sums_by_key`], as tools for flame graphs read it: its
+    /// crate and the parts of its name, with `;` between them, and the number of these bytes.
+    ///
+    /// # Errors
+    ///
+    /// Those of [`Tables::report_to`].
+    ///
+    /// # Examples
+    ///
+    /// ```
+    /// use binfarce::{Selection, SymbolTable, Tables};
+    ///
+    /// # let path = concat!(env!("CARGO_MANIFEST_DIR"), "/samples/elf64-little.bin");
+    /// let file = std::fs::read(path)?;
+    /// let tables = Tables::new(&file, Selection::All, SymbolTable::Symtab)?;
+    /// let mut text = Vec::new();
+    /// tables.stacks_to(&mut text)?;
+    /// assert_eq!(text, b"[unknown];bad 16\nfoo 16\n");
+    /// # Ok::<(), Box<dyn std::error::Error>>(())
+    /// ```
+    pub fn stacks_to<W: Write>(&self, output: W) -> io::Result<()> {
+        write_to(output, |sink| fold_tables(Global, &self.0, false, sink))
+    }
+}
+
+fn write_to<T, W, F>(output: W, write: F) -> io::Result<T>
+where
+    W: Write,
+    F: FnOnce(&mut Kept<W>) -> Result<T, ReportError>,
+{
+    let mut output = Kept::new(output);
+    let written = write(&mut output);
+    match written {
+        Ok(value) => Ok(value),
+        Err(ReportError::Write) => Err(output.into_error(ErrorKind::WriteZero)),
+        Err(e) => Err(Error::from(e).into()),
+    }
+}
+
+/// Returns [`load_address`](crate::load_address) of a file that is read at offsets: its headers alone are read.
+///
+/// # Errors
+///
+/// That of `file`; otherwise that of [`load_address`](crate::load_address), as an [`io::Error`].
+pub fn read_load_address<R: Read + Seek>(file: R) -> io::Result<Option<u64>> {
+    let file = RefCell::new(Kept::new(file));
+    let format = read_format(Global, &file, &mut ());
+    let address = format.and_then(|format| loading::read_load_address(Global, &file, &mut (), format));
+    match address {
+        Ok(address) => Ok(address),
+        Err(ReadError::Unreadable) => Err(file.into_inner().into_error(ErrorKind::UnexpectedEof)),
+        Err(e) => Err(Error::from(e).into()),
     }
 }

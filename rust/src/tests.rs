@@ -116,7 +116,8 @@ fn tables_in_memory_and_read_at_offsets() {
                     written(|output| read.figures_to(&figures, Layout::Objects { file: "a", section: "" }, output));
                 let row = |(name, size): &(String, u64)| format!("\"name\":\"{name}\",\"size\":{size},");
                 assert!(sums.rows.iter().all(|it| objects.contains(&row(it))), "{objects}");
-                assert_eq!(objects.lines().count(), sums.rows.len());
+                assert_eq!(objects.lines().count(), sums.rows.len() + 1);
+                assert!(objects.contains(&format!("\"sum\":{}", sums.total)), "{objects}");
                 assert_eq!(sums.rows.iter().map(|row| row.1).sum::<u64>(), sums.total);
             }
             let crate_of = |f: FunctionSymbol<'_>| Ok(Demangler::new().crate_of(f.name)?.unwrap_or("[unknown]".into()));
@@ -126,11 +127,15 @@ fn tables_in_memory_and_read_at_offsets() {
                 if selection == Selection::All { String::new() } else { format!("text {}\n", sums.section_size) };
             let reported = format!("{lines}sum {}\n{size}", sums.total);
             assert_eq!(written(|output| read.report_to(output)), reported);
-            let picture = written(|output| read.map_to("file", output));
+            let picture = written(|output| read.map_to("file", Key::Crate, output));
             assert!(picture.starts_with("<svg ") && sums.rows.iter().all(|(name, _)| picture.contains(name)));
             let stacks = written(|output| read.stacks_to(output));
-            let sizes = stacks.lines().map(|line| line.rsplit(' ').next().unwrap().to_string());
-            assert!(sizes.eq(found.iter().map(|function| function.size.to_string())), "{stacks}");
+            let sizes = stacks.lines().map(|line| line.rsplit(' ').next().unwrap().parse::<u64>().unwrap());
+            assert_eq!(
+                sizes.sum::<u64>(),
+                tables.sums_by_key(Figures::by(Key::Crate).grouping).unwrap().total,
+                "{stacks}"
+            );
             let shown = Shown::new().with_order(Order::Size).with_first(1).with_naming(Naming::Stored).without_total();
             let objects =
                 written(|output| read.rows_to(&shown, Layout::Objects { file: "a", section: ".text" }, output));
@@ -189,14 +194,45 @@ fn tables_of_refused_files() {
             assert_eq!(Tables::new(file, selection, SymbolTable::Dynsym).unwrap_err(), missing);
         }
     }
-    let unknown = Tables::read(Cursor::new("#!/bin/sh"), Selection::All, SymbolTable::Symtab).unwrap();
-    assert_eq!(unknown.functions().unwrap_err(), Error::UnknownFormat);
-    assert_eq!(unknown.sums_by_key(Key::Crate).unwrap_err(), Error::UnknownFormat);
-    assert_eq!(unknown.list_to(io::sink()).unwrap_err().to_string(), "unknown file format");
+    let unknown = Tables::read(Cursor::new("#!/bin/sh"), Selection::All, SymbolTable::Symtab).unwrap_err();
+    assert_eq!(unknown.to_string(), "unknown file format");
     let truncated = Tables::read(Cursor::new(&PE[..90]), Selection::All, SymbolTable::Symtab).unwrap_err();
     assert_eq!((truncated.kind(), truncated.to_string().as_str()), (ErrorKind::InvalidData, "unexpected end of file"));
     let tables = Tables::new(PE, Selection::All, SymbolTable::Symtab).unwrap();
     assert_eq!(tables.sums_by(|_| Err::<(), _>(Error::NoBytes)).unwrap_err(), Error::NoBytes);
+}
+
+/// What is refused is refused at once: for each beginning of a file, and for files with other numbers.
+#[test]
+fn tables_are_refused_at_one_time() {
+    let mut kinds = HashSet::new();
+    let mut both = |file: &[u8], section| {
+        for selection in [Selection::Section(section), Selection::All] {
+            for table in [SymbolTable::Symtab, SymbolTable::Dynsym] {
+                let tables = Tables::new(file, selection, table);
+                let read = Tables::read(Cursor::new(file), selection, table);
+                kinds.extend(tables.as_ref().err().map(Error::kind));
+                let of_io = |e: &io::Error| Error::of_io(e).unwrap();
+                assert_eq!(tables.as_ref().err().copied(), read.as_ref().err().map(of_io));
+                for tables in tables.into_iter().chain(read) {
+                    assert!(tables.functions().is_ok());
+                    tables.list_to(io::sink()).unwrap();
+                    Symbolizer::new(&tables).unwrap();
+                }
+            }
+        }
+    };
+    for (file, _) in FILES {
+        both(file, ".none");
+        for place in 0..file.len() {
+            both(&file[..place], ".text");
+            let mut other = file.to_vec();
+            other[place] ^= 0x80;
+            both(&other, ".text");
+        }
+    }
+    use crate::ErrorKind::*;
+    assert_eq!(kinds, HashSet::from([UnknownFormat, NoSymbolTable, NoSection, Invalid]));
 }
 
 #[test]
@@ -478,7 +514,7 @@ fn a_failed_allocation_is_an_error() {
             refuses_each(|| Symbolizer::new(&read()?).and_then(|it| Ok(it.into_owned()?)));
             refuses_each(|| read()?.sums_by_key(Key::Crate));
             refuses_each(|| read()?.sums_by(|function| Ok(function.size)));
-            refuses_each(|| read()?.map_to("file", io::sink()).map_err(refused));
+            refuses_each(|| read()?.map_to("file", Key::Crate, io::sink()).map_err(refused));
         }
     }
     refuses_each(|| elf64::parse(ELF64_LITTLE, ByteOrder::LittleEndian)?.try_symbols(".text"));
@@ -617,7 +653,7 @@ fn tables_give_the_error_of_their_stream() {
     let tables = Tables::new(ELF64_LITTLE, Selection::All, SymbolTable::Symtab).unwrap();
     assert_eq!(tables.list_to(Broken { calls: 0 }).unwrap_err().to_string(), "cable pulled");
     assert_eq!(tables.report_to(&mut [0; 1][..]).unwrap_err().kind(), ErrorKind::WriteZero);
-    assert_eq!(tables.map_to("file", Counting).unwrap_err().kind(), ErrorKind::InvalidData);
+    assert_eq!(tables.map_to("file", Key::Crate, Counting).unwrap_err().kind(), ErrorKind::InvalidData);
 }
 
 #[test]

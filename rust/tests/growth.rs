@@ -6,12 +6,17 @@
 
 use binfarce::demangle::Kind;
 use binfarce::figures::{Figures, Grouping, Key, Layout, Naming, Order, Shown};
-use binfarce::{ByteOrder, Error, Form, Format, Selection, SymbolTable};
+use binfarce::{ByteOrder, Error, ErrorKind, Form, Format, Selection, SymbolTable};
 
 #[test]
 fn enums_may_grow() {
     assert!(match Form::Trimmed {
         Form::Trimmed | Form::Complete => true,
+        _ => false,
+    });
+    assert!(match ErrorKind::Invalid {
+        ErrorKind::UnknownFormat | ErrorKind::NoSymbolTable | ErrorKind::NoSection | ErrorKind::NoBytes => false,
+        ErrorKind::Invalid | ErrorKind::TooLarge | ErrorKind::OutOfMemory => true,
         _ => false,
     });
     assert!(match Selection::All {

@@ -43,7 +43,7 @@ fn the_readme_leads_into_the_package() {
 #[test]
 fn functions_have_examples() {
     let (mut all, mut shown) = (0, 0);
-    for file in ["any", "demangle", "elf", "error", "figures", "filter", "macho", "pe", "tables"] {
+    for file in ["any", "demangle", "elf", "error", "figures", "filter", "macho", "pe", "streams", "tables"] {
         let (source, mut has_example) = (read(&format!("src/{file}.rs")), false);
         for line in source.lines().map(str::trim) {
             if line.starts_with("pub fn ") {

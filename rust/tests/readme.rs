@@ -3,14 +3,13 @@
 use binfarce::demangle::{Demangler, Kind, SymbolName, demangle, trimmed};
 use binfarce::figures::{Figures, Key, Layout, Shown};
 use binfarce::*;
-use std::error::Error;
 use std::fs::File;
 use std::io::{self, Read, Seek};
 
 const SAMPLE: &str = concat!(env!("CARGO_MANIFEST_DIR"), "/samples/elf64-little.bin");
 
 #[test]
-fn example() -> Result<(), Box<dyn Error>> {
+fn example() -> Result<(), Box<dyn std::error::Error>> {
     std::env::set_current_dir(env!("CARGO_MANIFEST_DIR"))?;
     let file = std::fs::read("samples/elf64-little.bin")?;
     let (functions, _text_size) = binfarce::functions(&file, ".text")?;
@@ -21,7 +20,7 @@ fn example() -> Result<(), Box<dyn Error>> {
 }
 
 #[test]
-fn names() -> Result<(), Box<dyn Error>> {
+fn names() -> Result<(), Box<dyn std::error::Error>> {
     let (s, text) = ("_RNvC1a1b", "in _RNvC1a1b");
     assert_eq!(format!("{}", demangle(s)), "a[0]::b");
     assert_eq!([format!("{:#}", demangle(s)), trimmed(s)?], ["a::b"; 2]);
@@ -39,7 +38,7 @@ fn names() -> Result<(), Box<dyn Error>> {
 }
 
 #[test]
-fn one_file() -> Result<(), Box<dyn Error>> {
+fn one_file() -> Result<(), Box<dyn std::error::Error>> {
     let (file, name) = (std::fs::read(SAMPLE)?, ".text");
     let Format::Elf64 { byte_order } = detect_format(&file) else { panic!() };
     let reader = elf64::parse(&file, byte_order)?;
@@ -61,10 +60,13 @@ fn read(file: impl Read + Seek) -> io::Result<Tables<'static>> {
 }
 
 #[test]
-fn tables() -> Result<(), Box<dyn Error>> {
+fn tables() -> Result<(), Box<dyn std::error::Error>> {
     let (file, base, address) = (std::fs::read(SAMPLE)?, 0x5000, 0x6004);
     assert_eq!(Tables::new(&file, Selection::All, SymbolTable::Symtab)?.functions()?.count(), 3);
-    assert!(Tables::new(&file, Selection::All, SymbolTable::Dynsym).is_err());
+    let e = Tables::new(&file, Selection::All, SymbolTable::Dynsym).unwrap_err();
+    assert!(e.kind() == ErrorKind::NoSymbolTable && e.kind() != ErrorKind::NoSection);
+    let e = io::Error::from(e);
+    assert!(Error::of_io(&e).is_some());
     let tables = read(File::open(SAMPLE)?)?;
     let symbolizer = Symbolizer::new(&tables)?.with_base(base);
     let found = symbolizer.find(address);
@@ -81,9 +83,20 @@ fn tables() -> Result<(), Box<dyn Error>> {
     assert_eq!(reported, report(&file, ".text")?.into_bytes());
     tables.figures_to(&figures, Layout::Lines, io::sink())?;
     tables.changes_to(&tables, &figures, Layout::Lines, io::sink())?;
-    tables.map_to("title", io::sink())?;
+    tables.map_to("title", Key::Crate, io::sink())?;
     tables.stacks_to(io::sink())?;
     assert_eq!(tables.sums_by_key(figures.grouping)?.total, tables.sums_by(|function| Ok(function.address))?.total);
+    Ok(())
+}
+
+#[test]
+fn several_files() -> Result<(), Box<dyn std::error::Error>> {
+    let (maps, path, address) = (b"5000-6000 r-xp 00000000 fe:00 1  /lib/libapp.so\n", "libapp.so", 0x6004);
+    let file = &std::fs::read(SAMPLE)?;
+    let tables = Tables::new(file, Selection::All, SymbolTable::Symtab)?;
+    let symbolizer = Symbolizer::new(&tables)?.with_linked(load_address(file)?.unwrap_or(0));
+    let symbolizers = [symbolizer.with_base(mapped_at(maps, path).unwrap())];
+    assert_eq!(Symbolizer::find_among(&symbolizers, address).unwrap().0, 0);
     Ok(())
 }
 

@@ -5,10 +5,12 @@
 pub mod address;
 pub mod annotate;
 pub mod at;
+pub mod counts;
 pub(crate) mod digits;
 pub mod lookup;
 pub mod maps;
 pub(crate) mod module;
+pub mod modules;
 pub(crate) mod names;
 pub mod ranges;
 pub(crate) mod slices;
@@ -16,4 +18,6 @@ pub mod stream;
 pub(crate) mod word;
 
 pub use crate::erased::binfarce_addresses::address::parse_address;
+pub use crate::erased::binfarce_addresses::counts::Counts;
 pub use crate::erased::binfarce_addresses::lookup::Lookup;
+pub use crate::erased::binfarce_addresses::modules::Module;

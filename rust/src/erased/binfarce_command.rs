@@ -2,44 +2,37 @@
 
 //! `binfarce COMMAND [OPTION..] ..`: reads executables, and demangles Rust names.
 
-pub(crate) mod at;
-pub(crate) mod fault;
-pub(crate) mod files;
-pub(crate) mod filter;
-pub(crate) mod foreign;
 pub(crate) mod help;
-pub(crate) mod hint;
-pub(crate) mod input;
-pub(crate) mod output;
 pub(crate) mod report;
-pub(crate) mod section;
-pub(crate) mod show;
 
 use crate::shim::{HostRuntime, String, Vec};
-use crate::erased::binfarce_command::at::{
-    answer_all, answer_input, load_addresses_of, read_addresses,
-};
-use crate::erased::binfarce_command::fault::Fault;
-use crate::erased::binfarce_command::files::{System, open_input, reported, show_files};
-use crate::erased::binfarce_command::filter::lines_of;
 use crate::erased::binfarce_command::help::{VERSION, help};
-use crate::erased::binfarce_command::hint::{Hint, lack};
-use crate::erased::binfarce_command::input::{FileOrStdin, OpenFile};
-use crate::erased::binfarce_command::output::Output;
-use crate::erased::binfarce_command::report::{
-    Message, ended, judged, message_of, push_refusal, refuse, report,
-};
-use crate::erased::binfarce_command::section::write_or_list;
-use crate::erased::binfarce_command::show::{Kind, Request, Symbols, tables_of};
-use crate::erased::binfarce_addresses::Lookup;
+use crate::erased::binfarce_command::report::{ended, refuse, report};
+use crate::erased::binfarce_addresses::annotate::annotate_stream;
+use crate::erased::binfarce_addresses::at::Places;
 use crate::erased::binfarce_addresses::maps::{NoBase, base_of};
+use crate::erased::binfarce_addresses::{Counts, Lookup, Module, parse_address};
 use crate::erased::binfarce_bytes::source::Source;
 use crate::erased::binfarce_figures::diff::{DiffError, diff};
 use crate::erased::binfarce_figures::key::{Grouping, Key};
 use crate::erased::binfarce_figures::rows::{Naming, Shown};
 use crate::erased::binfarce_figures::sums::{Figures, sum_by};
 use crate::erased::binfarce_filtering::stream::{StreamError, filter_stream};
+use crate::erased::binfarce_jobs::at::{
+    answer_all, answer_input, load_addresses_of, places_of, read_addresses,
+};
+use crate::erased::binfarce_jobs::fault::Fault;
+use crate::erased::binfarce_jobs::files::{System, heading, open_input, reported, show_files};
+use crate::erased::binfarce_jobs::filter::lines_of;
+use crate::erased::binfarce_jobs::hint::{Hint, Loaded, lack};
+use crate::erased::binfarce_jobs::input::{FileOrStdin, OpenFile};
+use crate::erased::binfarce_jobs::limit::judged;
+use crate::erased::binfarce_jobs::message::{Message, message_of, push_refusal};
+use crate::erased::binfarce_jobs::output::Output;
+use crate::erased::binfarce_jobs::section::{Asked, write_sections};
+use crate::erased::binfarce_jobs::show::{Kind, Request, Symbols, tables_of};
 use crate::erased::binfarce_sections::error::SectionError;
+use crate::erased::binfarce_tables::ReadError;
 use crate::erased::binfarce_tools::SymbolTable::{Dynsym, Symtab};
 use crate::erased::binfarce_tools::json::Form;
 use crate::erased::binfarce_tools::list::Out;
@@ -50,7 +43,7 @@ use crate::erased::binfarce_words::words::Flag::{
     NoTotal, Percent, Raw, Return, Section, Sort, Std,
 };
 use crate::erased::binfarce_words::words::{Arguments, Call, Command, Wrong, read_call};
-use crate::shim::alloc::AllocError;
+use crate::shim::alloc::{AllocError, Global};
 use crate::shim::env::{Env, FillError};
 use crate::shim::fs::File;
 use crate::shim::io::{self, Error, ErrorKind, Read, Write};
@@ -64,8 +57,8 @@ pub fn main(rt: HostRuntime) -> ExitCode {
     ExitCode::from(status)
 }
 
-// The length of the line of an address that no function symbol holds: 16 digits, and ` ??` with a line feed.
-const UNNAMED: u64 = 20;
+// The longest text that is read before it is annotated, for the maps in it: 256 MiB.
+const LONGEST_LOG: usize = 1 << 28;
 
 // What the word for an argument that isn't UTF-8 begins with, before its position: no argument has it.
 const NOT_UTF8: char = '\0';
@@ -98,7 +91,7 @@ fn argument(
     for _ in 0..GROWTHS {
         match rt.arg(at, buffer) {
             Ok(len) => {
-                return match std::str::from_utf8(&buffer[..len]) {
+                return match core::str::from_utf8(&buffer[..len]) {
                     Ok(text) => Ok(Some(String::from_str(alloc, text)?)),
                     Err(_) => Ok(Some(String::formatted(alloc, format_args!("{NOT_UTF8}{at}"))?)),
                 };
@@ -142,31 +135,97 @@ fn run<'a>(rt: &HostRuntime, words: &'a [String]) -> Result<u8, Wrong<'a>> {
         return Err(Wrong::NotUtf8(at));
     }
     let call = call?;
-    let addresses = match &call {
-        Call::Run(Command::At, given) => read_addresses(rt.alloc(), others(given))?,
-        _ => Vec::new(rt.alloc()),
-    };
-    let base = match &call {
-        Call::Run(Command::At, given) => match given.value(Maps) {
-            None => given.address(Base),
-            Some(path) => match read_file(rt, path) {
-                Ok(maps) => Some(mapped_base(given, path, &maps)?),
-                Err(e) => {
-                    let message = message_of(
-                        rt.alloc(),
-                        Fault::Section(SectionError::Unreadable),
-                        Some(e),
-                    );
-                    report(rt, path, &message);
-                    return Ok(1);
-                }
-            },
+    if let Call::Run(command, given) = &call {
+        if let Some(word) = unfit(*command, given) {
+            let _ = rt.eprintln(format_args!("binfarce: {word} is for functions, as --by=function-section; --by=section is not"));
+            return Ok(2);
+        }
+    }
+    let asked = match &call {
+        Call::Run(Command::At, given) => match asked_of(rt, given)? {
+            Some(asked) => asked,
+            None => return Ok(1),
         },
-        _ => None,
+        _ => Addresses::nothing(rt.alloc()),
     };
     let mut out = Output::new(rt.alloc(), io::writer(rt));
-    let done = answer(rt, &call, (&addresses, base), &mut out);
+    let done = answer(rt, &call, &asked, &mut out);
     Ok(ended(rt, done, out.into_parts().1))
+}
+
+// What `at` is asked for, beside its files.
+struct Addresses {
+    // The addresses that are given.
+    addresses: Vec<u64>,
+    // Where each of the files is loaded, if that is known.
+    bases: Vec<Option<u64>>,
+    // The text that was read for the maps in it.
+    text: Option<Vec<u8>>,
+}
+
+impl Addresses {
+    fn nothing(alloc: Global) -> Addresses {
+        Addresses {
+            addresses: Vec::new(alloc),
+            bases: Vec::new(alloc),
+            text: None,
+        }
+    }
+
+    // Where the file at this place is loaded.
+    fn base(&self, at: usize) -> Option<u64> {
+        *self.bases.get(at)?
+    }
+}
+
+// What `at` is asked for. `None` where the maps can't be read, which is reported.
+fn asked_of<'a>(rt: &HostRuntime, given: &Arguments<'a>) -> Result<Option<Addresses>, Wrong<'a>> {
+    let alloc = rt.alloc();
+    let mut asked = Addresses::nothing(alloc);
+    if !given.has(Annotate) {
+        asked.addresses = read_addresses(alloc, others(given))?;
+    }
+    let Some(path) = given.value(Maps) else {
+        for at in 0..files_of(given).len() {
+            let base = match nth(given, Base, at) {
+                Some(word) => parse_address(word.as_bytes()),
+                None => None,
+            };
+            push(&mut asked.bases, base).map_err(|_| Wrong::OutOfMemory)?;
+        }
+        return Ok(Some(asked));
+    };
+    let is_input = path == "-";
+    if is_input && !given.has(Annotate) && asked.addresses.is_empty() {
+        return Err(Wrong::Needs(Maps, Annotate));
+    }
+    let read = if is_input {
+        read_log(alloc, &mut rt.stdin())
+    } else {
+        read_file(rt, path)
+    };
+    let maps = match read {
+        Ok(maps) => maps,
+        Err(e) => {
+            let name = if is_input { "standard input" } else { path };
+            let fault = Fault::Section(SectionError::Unreadable);
+            report(rt, name, &message_of(alloc, fault, Some(e)));
+            return Ok(None);
+        }
+    };
+    for at in 0..files_of(given).len() {
+        let base = mapped_base(given, at, path, &maps)?;
+        push(&mut asked.bases, Some(base)).map_err(|_| Wrong::OutOfMemory)?;
+    }
+    if is_input && given.has(Annotate) {
+        asked.text = Some(maps);
+    }
+    Ok(Some(asked))
+}
+
+// Appends a value.
+fn push<T>(list: &mut Vec<T>, value: T) -> Result<(), AllocError> {
+    list.push(value).map_err(|_| AllocError)
 }
 
 // The bytes of the file at this path.
@@ -176,18 +235,66 @@ fn read_file(rt: &HostRuntime, path: &str) -> io::Result<Vec<u8>> {
     Ok(bytes)
 }
 
-// Where the maps that were read at this path load the file.
-fn mapped_base<'a>(given: &Arguments<'a>, path: &'a str, maps: &[u8]) -> Result<u64, Wrong<'a>> {
-    match base_of(maps, name_of(given)) {
+// The bytes of a log, to its end.
+fn read_log<R: Read>(alloc: Global, input: &mut R) -> io::Result<Vec<u8>> {
+    let mut bytes = Vec::new(alloc);
+    let mut chunk = Vec::filled(alloc, 0, 1 << 16)?;
+    for _ in 0..u64::MAX {
+        if bytes.len() > LONGEST_LOG {
+            return Err(Error::from(ErrorKind::OutOfMemory));
+        }
+        match input.read(chunk.as_mut_slice()) {
+            Ok(0) => return Ok(bytes),
+            Ok(count) => bytes.extend_from_slice(&chunk[..count])?,
+            Err(e) if e.kind() == ErrorKind::Interrupted => {}
+            Err(e) => return Err(e),
+        }
+    }
+    Ok(bytes)
+}
+
+// Where the maps that were read at this path load the file at this place.
+fn mapped_base<'a>(
+    given: &Arguments<'a>,
+    at: usize,
+    path: &'a str,
+    maps: &[u8],
+) -> Result<u64, Wrong<'a>> {
+    match base_of(maps, name_of(given, at)) {
         Ok(base) => Ok(base),
         Err(NoBase::NotMaps) => Err(Wrong::NotMaps(path)),
-        Err(NoBase::NotMapped) => Err(Wrong::NotMapped(first(given), path)),
+        Err(NoBase::NotMapped) => Err(Wrong::NotMapped(file_at(given, at), path)),
     }
 }
 
-// The name of the file in maps and in a text: the last part of its path, or of the name that is given.
-fn name_of<'a>(given: &Arguments<'a>) -> &'a [u8] {
-    let path = given.value(As).unwrap_or(first(given)).as_bytes();
+// The files of `at`: all operands where a text is annotated, and else the first one.
+fn files_of<'b, 'a>(given: &'b Arguments<'a>) -> &'b [&'a str] {
+    let operands = given.operands.as_slice();
+    if given.has(Annotate) {
+        operands
+    } else {
+        &operands[..operands.len().min(1)]
+    }
+}
+
+// The file at this place.
+fn file_at<'a>(given: &Arguments<'a>, at: usize) -> &'a str {
+    given.operands.get(at).copied().unwrap_or("")
+}
+
+// The value of an option for the file at this place: of one file that which was given last, and of several the one at
+// this place.
+fn nth<'a>(given: &Arguments<'a>, flag: Flag, at: usize) -> Option<&'a str> {
+    if files_of(given).len() < 2 {
+        return given.value(flag);
+    }
+    let mut values = given.options.iter().filter(|it| it.0 == flag);
+    Some(values.nth(at)?.1)
+}
+
+// The name of the file at this place in maps and in a text: the last part of its path, or of the name that is given.
+fn name_of<'a>(given: &Arguments<'a>, at: usize) -> &'a [u8] {
+    let path = nth(given, As, at).unwrap_or(file_at(given, at)).as_bytes();
     let len = path.iter().rev().take_while(|byte| **byte != b'/').count();
     &path[path.len() - len..]
 }
@@ -219,7 +326,7 @@ fn has_any(given: &Arguments<'_>, flags: &[Flag]) -> bool {
 fn answer<W: Write>(
     rt: &HostRuntime,
     call: &Call<'_>,
-    asked: (&[u64], Option<u64>),
+    asked: &Addresses,
     out: &mut Output<W>,
 ) -> Result<bool, Fault> {
     let is_done = match call {
@@ -255,19 +362,16 @@ struct Work<'a, 'b, W> {
     out: &'a mut Output<W>,
 }
 
-impl<W: Write> Work<'_, '_, W> {
-    // The addresses of `at`, and where the file is loaded, were read before.
-    fn run(&mut self, command: Command, asked: (&[u64], Option<u64>)) -> Result<bool, Fault> {
+impl<'a, W: Write> Work<'a, '_, W> {
+    // The addresses of `at`, and where its files are loaded, were read before.
+    fn run(&mut self, command: Command, asked: &Addresses) -> Result<bool, Fault> {
         let given = self.given;
         match command {
             Command::List => self.show_all(listing_of(given)),
-            // By crate, as `binfarce-size` sums them, unless something else is asked for.
-            Command::Size if has_any(given, &[By, First, Percent, Std, Json]) => {
-                self.show_all(Kind::Figures(figures_of(given)))
-            }
-            Command::Size => self.show_all(Kind::Sums),
-            Command::Map if given.has(Folded) => self.show_all(Kind::Stacks),
-            Command::Map => self.show_all(Kind::Picture),
+            Command::Size if sums_sections(given) => self.sum_sections(),
+            Command::Size => self.show_all(Kind::Figures(figures_of(given))),
+            Command::Map if given.has(Folded) => self.show_all(Kind::Stacks(given.has(Std))),
+            Command::Map => self.show_all(Kind::Picture(figures_of(given).grouping)),
             Command::Diff => self.compare(),
             Command::Filter => self.filter(),
             Command::At => self.symbolize(asked),
@@ -365,71 +469,227 @@ impl<W: Write> Work<'_, '_, W> {
     }
 
     // Symbolizes addresses: those that are given, or those of standard input, in lines or in a text.
-    fn symbolize(&mut self, asked: (&[u64], Option<u64>)) -> Result<bool, Fault> {
-        let (addresses, base) = asked;
+    fn symbolize(&mut self, asked: &Addresses) -> Result<bool, Fault> {
         let given = self.given;
+        if given.has(Annotate) {
+            return self.annotate(asked);
+        }
         let alloc = self.host.rt.alloc();
         let path = first(given);
         let Some(file) = open_input(alloc, &mut self.host, path) else {
             return Ok(false);
         };
         let symbols = symbols_of(given, true);
-        let annotates = given.has(Annotate);
-        // The addresses for the base, and for an offset in a text.
-        let (linked, origin) = if base.is_some() || annotates {
-            match load_addresses_of(alloc, &file) {
-                Ok(both) => both,
-                Err(e) => {
-                    return reported(alloc, &mut self.host, path, &file, Err(Fault::from(e)));
-                }
-            }
-        } else {
-            (0, 0)
+        let lookup = match self.loaded_at(asked, 0, &file) {
+            Ok(loaded) => self.lookup(asked, 0, loaded),
+            Err(e) => return reported(alloc, &mut self.host, path, &file, Err(Fault::from(e))),
         };
-        let lookup = Lookup {
-            base,
-            linked,
-            origin,
-            is_return: given.has(Return),
-            form: form_of(given, path),
-            is_bare: given.has(Bare),
-            name: name_of(given),
-        };
-        if !addresses.is_empty() {
-            let done = answer_all(alloc, &file, &symbols, lookup, addresses, self.out);
-            let none = UNNAMED.saturating_mul(addresses.len() as u64);
-            if done.is_ok() && !given.has(Json) && self.out.len() == none {
-                self.host.hint_missed(path, &file, &symbols);
-            }
-            return reported(alloc, &mut self.host, path, &file, done);
-        }
+        let addresses = asked.addresses.as_slice();
         let input = &mut OpenFile::new(self.host.rt.reader());
-        match answer_input(alloc, &file, &symbols, lookup, annotates, input, self.out) {
-            Ok(0) => {
-                // Names are added to the text.
-                if annotates && input.len() > 0 && input.len() == self.out.len() {
-                    self.host.hint_missed(path, &file, &symbols);
+        let done = if addresses.is_empty() {
+            answer_input(alloc, &file, &symbols, lookup, input, self.out)
+        } else {
+            answer_all(alloc, &file, &symbols, lookup, addresses, self.out)
+        };
+        match done {
+            Ok(counts) => {
+                if counts.asked > 0 && counts.found == 0 {
+                    let missed = Hint::Missed(counts.asked, loaded_by(given));
+                    let lack = lack(alloc, &file, &symbols).unwrap_or(None);
+                    self.host.hint(path, lack.unwrap_or(missed));
                 }
-                Ok(true)
+                match counts.missing {
+                    0 => Ok(true),
+                    missing => Err(Fault::Missing(missing)),
+                }
             }
-            Ok(missing) => Err(Fault::Missing(missing)),
             Err(Fault::Stream(StreamError::Read)) => self.host.report_input(input),
             Err(fault) => reported(alloc, &mut self.host, path, &file, Err(fault)),
         }
     }
 
+    // The addresses of the file at this place for its base, and for an offset in a text, where these are asked for.
+    fn loaded_at<S: Source<Log = ()>>(
+        &self,
+        asked: &Addresses,
+        at: usize,
+        file: &S,
+    ) -> Result<(u64, u64), ReadError> {
+        if asked.base(at).is_some() || self.given.has(Annotate) {
+            load_addresses_of(self.host.rt.alloc(), file)
+        } else {
+            Ok((0, 0))
+        }
+    }
+
+    // How addresses are looked up in the file at this place, which has these addresses.
+    fn lookup(&self, asked: &Addresses, at: usize, loaded: (u64, u64)) -> Lookup<'a> {
+        let given = self.given;
+        Lookup {
+            base: asked.base(at),
+            linked: loaded.0,
+            origin: loaded.1,
+            is_return: given.has(Return),
+            form: form_of(given, file_at(given, at)),
+            name: name_of(given, at),
+        }
+    }
+
+    // The tables of the file at this place, and its addresses.
+    fn module<S: Source<Log = ()>>(
+        &self,
+        asked: &Addresses,
+        at: usize,
+        file: &S,
+        symbols: &Symbols<'_>,
+    ) -> Result<(Tables<'static>, (u64, u64)), ReadError> {
+        let loaded = self.loaded_at(asked, at, file)?;
+        Ok((tables_of(self.host.rt.alloc(), file, symbols)?, loaded))
+    }
+
+    // Annotates the text of standard input, by all files that are given.
+    fn annotate(&mut self, asked: &Addresses) -> Result<bool, Fault> {
+        let given = self.given;
+        let alloc = self.host.rt.alloc();
+        let symbols = symbols_of(given, true);
+        let mut read = Vec::new(alloc);
+        let mut loaded = Vec::new(alloc);
+        for (at, path) in given.operands.iter().enumerate() {
+            let Some(file) = open_input(alloc, &mut self.host, path) else {
+                continue;
+            };
+            match self.module(asked, at, &file, &symbols) {
+                Ok((tables, addresses)) => {
+                    if read.push(tables).is_err() || loaded.push(addresses).is_err() {
+                        return Err(Fault::Report(ReportError::OutOfMemory));
+                    }
+                }
+                Err(e) => {
+                    reported(alloc, &mut self.host, path, &file, Err(Fault::from(e)))?;
+                }
+            }
+        }
+        if loaded.len() < given.operands.len() {
+            return Ok(false);
+        }
+        // What the modules refer to isn't freed before the program ends.
+        let found = self
+            .host
+            .places_of_all(read.leak(), given.operands.as_slice())?;
+        let found: &'static [Places<'static>] = found.leak();
+        if found.len() < loaded.len() {
+            return Ok(false);
+        }
+        let mut modules = Vec::new(alloc);
+        for (at, places) in found.iter().enumerate() {
+            let Some(addresses) = loaded.get(at) else {
+                return Ok(false);
+            };
+            let lookup = self.lookup(asked, at, *addresses);
+            let module = Module { places, lookup };
+            if modules.push(module).is_err() {
+                return Err(Fault::Report(ReportError::OutOfMemory));
+            }
+        }
+        let is_bare = given.has(Bare);
+        let input = &mut OpenFile::new(self.host.rt.reader());
+        let done = match &asked.text {
+            Some(text) => annotate_stream(alloc, &modules, is_bare, &mut text.as_slice(), self.out),
+            None => annotate_stream(alloc, &modules, is_bare, input, self.out),
+        };
+        match done {
+            Ok(counts) => {
+                let is_empty = asked.text.is_none() && input.len() == 0;
+                if !is_empty {
+                    self.hint_on_text(counts);
+                }
+                Ok(true)
+            }
+            Err(StreamError::Read) => self.host.report_input(input),
+            Err(e) => Err(Fault::from(e)),
+        }
+    }
+
+    // Gives a hint where a text has no address, or none of it is in a function symbol.
+    fn hint_on_text(&mut self, counts: Counts) {
+        let given = self.given;
+        if counts.asked == 0 {
+            let hint = Hint::NoAddress(given.has(Bare));
+            return self.host.hint("standard input", hint);
+        }
+        if counts.found > 0 {
+            return;
+        }
+        let alloc = self.host.rt.alloc();
+        let path = first(given);
+        let mut hint = Hint::Missed(counts.asked, loaded_by(given));
+        if given.operands.len() == 1 {
+            if let Some(file) = open_input(alloc, &mut self.host, path) {
+                let symbols = symbols_of(given, true);
+                hint = lack(alloc, &file, &symbols).unwrap_or(None).unwrap_or(hint);
+            }
+        }
+        if let Ok(names) = joined(alloc, given.operands.as_slice()) {
+            self.host.hint(names.as_str(), hint);
+        }
+    }
+
     // Writes the bytes of the section that is named, or a line for each section.
     fn write_section(&mut self) -> Result<bool, Fault> {
+        let asked = match second(self.given) {
+            Some(name) => Asked::Bytes(name),
+            None => Asked::Lines,
+        };
+        self.write_sections(first(self.given), asked)
+    }
+
+    // Writes how many bytes of each file its sections have. Of several files, each is under a line with its name.
+    fn sum_sections(&mut self) -> Result<bool, Fault> {
+        let given = self.given;
         let alloc = self.host.rt.alloc();
-        let path = first(self.given);
+        let are_several = given.operands.len() > 1 && !given.has(Json);
+        let mut are_shown = true;
+        for path in given.operands.as_slice() {
+            self.out.begin(heading(alloc, path, are_several)?);
+            are_shown &= self.write_sections(path, Asked::Sums(given.count(First)))?;
+            self.print_refusals()?;
+        }
+        Ok(are_shown)
+    }
+
+    // Writes what is asked for of the sections of the file at this path.
+    fn write_sections(&mut self, path: &str, asked: Asked<'_>) -> Result<bool, Fault> {
+        let alloc = self.host.rt.alloc();
         let Some(file) = open_input(alloc, &mut self.host, path) else {
             return Ok(false);
         };
-        let name = second(self.given);
         let form = form_of(self.given, path);
-        let written = write_or_list(alloc, &file, name, form, self.out).map_err(Fault::from);
+        let written = write_sections(alloc, &file, asked, form, self.out).map_err(Fault::from);
         reported(alloc, &mut self.host, path, &file, written)
     }
+}
+
+// What is known of where the files of `at` are loaded.
+fn loaded_by(given: &Arguments<'_>) -> Loaded {
+    if given.has(Maps) {
+        Loaded::Maps
+    } else if given.has(Base) {
+        Loaded::Base
+    } else {
+        Loaded::Unknown
+    }
+}
+
+// The words, with commas between them.
+fn joined(alloc: Global, words: &[&str]) -> Result<String, AllocError> {
+    let mut text = String::new(alloc);
+    for word in words {
+        if !text.is_empty() {
+            text.push_str(", ")?;
+        }
+        text.push_str(word)?;
+    }
+    Ok(text)
 }
 
 // How function symbols are listed: in their order and whole, unless something else is asked for.
@@ -448,6 +708,27 @@ fn listing_of(given: &Arguments<'_>) -> Kind {
         naming,
         has_total: !has_any(given, &[Sort, First, NoTotal]),
     })
+}
+
+// Whether the bytes of files are summed by section.
+fn sums_sections(given: &Arguments<'_>) -> bool {
+    given.value(By) == Some("section")
+}
+
+// What sums of files by section don't go with: the comparison, or an option for function symbols.
+fn unfit(command: Command, given: &Arguments<'_>) -> Option<&'static str> {
+    if !sums_sections(given) {
+        return None;
+    }
+    match command {
+        Command::Diff => Some("diff"),
+        _ if given.has(Std) => Some("--std"),
+        _ if given.has(Percent) => Some("--percent"),
+        _ if given.has(Section) => Some("--section"),
+        _ if given.has(Dynamic) => Some("--dynamic"),
+        _ if given.has(All) => Some("--all"),
+        _ => None,
+    }
 }
 
 // What sizes are summed by, and how the sums are shown.
@@ -510,6 +791,25 @@ impl Host<'_> {
         }
     }
 
+    // The places of these tables, of files at these paths. Why a file has none is reported.
+    fn places_of_all(
+        &mut self,
+        read: &'static [Tables<'static>],
+        paths: &[&str],
+    ) -> Result<Vec<Places<'static>>, Fault> {
+        let alloc = self.rt.alloc();
+        let mut found = Vec::new(alloc);
+        for (tables, path) in read.iter().zip(paths) {
+            match places_of(alloc, tables) {
+                Ok(places) => found
+                    .push(places)
+                    .map_err(|_| Fault::Report(ReportError::OutOfMemory))?,
+                Err(fault) => self.report(path, fault, None),
+            }
+        }
+        Ok(found)
+    }
+
     // Reports why a file is refused, and keeps its object.
     fn refuse(&mut self, name: &str, message: &Message) {
         report(self.rt, name, message);
@@ -517,13 +817,6 @@ impl Host<'_> {
         let alloc = self.rt.alloc();
         if let Ok(words) = String::formatted(alloc, format_args!("{message}")) {
             let _ = push_refusal(&mut self.refusals, name, words.as_str());
-        }
-    }
-
-    // Gives a hint why no address in a function symbol was found.
-    fn hint_missed<S: Source<Log = ()>>(&mut self, path: &str, file: &S, symbols: &Symbols<'_>) {
-        if let Ok(hint) = lack(self.rt.alloc(), file, symbols) {
-            self.hint(path, hint.unwrap_or(Hint::Missed));
         }
     }
 

@@ -7,6 +7,7 @@ pub mod diff;
 pub(crate) mod figures;
 pub(crate) mod generic;
 pub mod key;
+pub mod map;
 pub mod order;
 pub mod rows;
 pub mod stacks;

@@ -4,6 +4,8 @@
 
 pub mod bytes;
 pub mod error;
+pub mod kinds;
 pub mod list;
 pub mod sections;
+pub mod sums;
 pub(crate) mod tables;

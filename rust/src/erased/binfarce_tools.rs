@@ -7,6 +7,7 @@ pub mod head;
 pub mod json;
 pub mod list;
 pub mod map;
+#[cfg(feature = "std")]
 pub mod program;
 pub mod report;
 pub mod tables;

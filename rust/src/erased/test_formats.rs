@@ -42,7 +42,7 @@ pub fn main(rt: HostRuntime) -> ExitCode {
 pub fn run<R: Read, W: Write>(alloc: Global, input: &mut R, output: &mut W) -> io::Result<()> {
     let mut bytes = Vec::new(alloc);
     input.read_to_end(&mut bytes)?;
-    let Ok(text) = std::str::from_utf8(&bytes) else {
+    let Ok(text) = core::str::from_utf8(&bytes) else {
         return Err(Error::from(ErrorKind::InvalidData));
     };
     for line in text.lines() {

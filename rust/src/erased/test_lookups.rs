@@ -37,7 +37,7 @@ pub fn main(rt: HostRuntime) -> ExitCode {
 pub fn run<R: Read, W: Write>(alloc: Global, input: &mut R, output: &mut W) -> io::Result<()> {
     let mut questions = Vec::new(alloc);
     input.read_to_end(&mut questions)?;
-    for question in std::str::from_utf8(&questions)
+    for question in core::str::from_utf8(&questions)
         .unwrap_or("not UTF-8")
         .lines()
     {

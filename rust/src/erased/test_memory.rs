@@ -76,7 +76,7 @@ pub fn main(rt: HostRuntime) -> ExitCode {
 // The group that standard input names, and the number that it has, up to `FAILED`.
 fn asked<'a>(rt: &HostRuntime, line: &'a mut [u8; 80]) -> Option<(&'a str, usize)> {
     let len = rt.stdin().read(line).ok()?;
-    let text = std::str::from_utf8(line.get(..len)?).ok()?;
+    let text = core::str::from_utf8(line.get(..len)?).ok()?;
     let (group, number) = text.trim_end().split_once(' ')?;
     let number = number.parse().ok()?;
     if number > FAILED {

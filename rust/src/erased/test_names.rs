@@ -37,7 +37,7 @@ use crate::erased::test_names::texts::{push_decoded, push_filtered, push_sizes, 
 use crate::shim::alloc::Global;
 use crate::shim::io::{self, Error, ErrorKind, Read, Write};
 use std::process::ExitCode;
-use std::str::from_utf8;
+use core::str::from_utf8;
 
 pub fn main(rt: HostRuntime) -> ExitCode {
     match run(rt.alloc(), &mut rt.stdin(), &mut io::writer(&rt)) {

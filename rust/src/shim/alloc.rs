@@ -1,6 +1,8 @@
 //! Memory whose requests can fail.
 
-use std::fmt;
+use alloc::string::String;
+use alloc::vec::Vec;
+use core::fmt;
 
 /// The memory that every value is made in: that of the process.
 #[derive(Debug, Clone, Copy)]
@@ -16,11 +18,11 @@ impl fmt::Display for AllocError {
     }
 }
 
-impl std::error::Error for AllocError {}
+impl super::error::Error for AllocError {}
 
-impl From<AllocError> for std::io::Error {
+impl From<AllocError> for super::io::Error {
     fn from(_: AllocError) -> Self {
-        std::io::ErrorKind::OutOfMemory.into()
+        super::io::ErrorKind::OutOfMemory.into()
     }
 }
 

@@ -1,9 +1,10 @@
 //! An ordered map, whose every growth can fail.
 
 use super::alloc::{AllocError, Global, reserve};
-use std::borrow::Borrow;
-use std::iter::Flatten;
-use std::{mem, vec};
+use alloc::vec::{self, Vec};
+use core::borrow::Borrow;
+use core::iter::Flatten;
+use core::mem;
 
 // The most entries of a leaf.
 const LEAF: usize = 64;

@@ -1,7 +1,11 @@
 //! Readers, and standard streams without a buffer.
 
+#[cfg(feature = "std")]
 use super::HostRuntime;
 use super::vec::Vec;
+#[cfg(not(feature = "std"))]
+pub use super::without_std::io::{Error, ErrorKind, Result, Write};
+#[cfg(feature = "std")]
 pub use std::io::{Error, ErrorKind, Result, Write};
 
 /// What bytes are read from.
@@ -34,6 +38,7 @@ pub trait Read {
     }
 }
 
+#[cfg(feature = "std")]
 impl<R: std::io::Read> Read for R {
     fn read(&mut self, buf: &mut [u8]) -> Result<usize> {
         std::io::Read::read(self, buf)
@@ -41,8 +46,10 @@ impl<R: std::io::Read> Read for R {
 }
 
 /// Standard input. std's buffer is passed by where at least as much as it holds is asked for.
+#[cfg(feature = "std")]
 pub struct Stdin;
 
+#[cfg(feature = "std")]
 impl std::io::Read for Stdin {
     fn read(&mut self, buf: &mut [u8]) -> Result<usize> {
         #[cfg(test)]
@@ -53,8 +60,10 @@ impl std::io::Read for Stdin {
 }
 
 /// A writer that is flushed after each write.
+#[cfg(feature = "std")]
 pub(super) struct Unbuffered<W>(pub(super) W);
 
+#[cfg(feature = "std")]
 impl<W: Write> Write for Unbuffered<W> {
     fn write(&mut self, bytes: &[u8]) -> Result<usize> {
         let taken = self.0.write(bytes)?;
@@ -68,6 +77,7 @@ impl<W: Write> Write for Unbuffered<W> {
 }
 
 /// Standard output, without a buffer.
+#[cfg(feature = "std")]
 pub fn writer(_: &HostRuntime) -> impl Write {
     #[cfg(test)]
     return Unbuffered(super::test::Output);

@@ -50,7 +50,7 @@ impl TrimAscii for [u8] {
 
 /// Pointers.
 pub mod ptr {
-    pub use std::ptr::*;
+    pub use core::ptr::*;
 
     /// A reference as a pointer, from 1.76 on.
     #[inline]

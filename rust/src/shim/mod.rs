@@ -3,10 +3,13 @@
 
 pub mod alloc;
 pub mod collections;
+#[cfg(feature = "std")]
 pub mod env;
+#[cfg(feature = "std")]
 pub mod fs;
 pub mod io;
 mod later;
+#[cfg(feature = "std")]
 mod runtime;
 pub mod simd;
 mod string;
@@ -15,8 +18,15 @@ pub mod test;
 #[cfg(test)]
 mod tests;
 mod vec;
+#[cfg(not(feature = "std"))]
+mod without_std;
 
 pub use later::{ToSigned, TrimAscii, ptr};
+#[cfg(feature = "std")]
 pub use runtime::HostRuntime;
+#[cfg(feature = "std")]
+pub use std::error;
 pub use string::String;
 pub use vec::{CollectIn, Vec};
+#[cfg(not(feature = "std"))]
+pub use without_std::{error, fs};

@@ -5,7 +5,7 @@ pub mod prelude {
     pub use super::u8x16;
 }
 
-use std::ops::{BitAnd, BitOr, Sub};
+use core::ops::{BitAnd, BitOr, Sub};
 
 // The highest bit of each byte of a word.
 const HIGH: u64 = 0x8080_8080_8080_8080;

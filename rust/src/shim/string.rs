@@ -2,9 +2,9 @@
 
 use super::alloc::{AllocError, Global, reserve_text};
 use super::vec::Vec;
-use std::fmt::{self, Write};
-use std::ops::{Deref, DerefMut};
-use std::string;
+use alloc::string;
+use core::fmt::{self, Write};
+use core::ops::{Deref, DerefMut};
 
 /// A text in memory of its own. Beside its own methods it has those of `str` alone.
 #[derive(PartialEq, Eq, PartialOrd, Ord, Hash)]
@@ -137,7 +137,7 @@ impl DerefMut for String {
     }
 }
 
-impl std::borrow::Borrow<str> for String {
+impl core::borrow::Borrow<str> for String {
     #[inline]
     fn borrow(&self) -> &str {
         &self.0

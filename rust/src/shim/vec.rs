@@ -1,9 +1,10 @@
 //! `Vec`, whose every growth can fail.
 
 use super::alloc::{AllocError, Global, reserve};
-use std::io::{self, Write};
-use std::ops::{Deref, DerefMut};
-use std::{fmt, mem, slice, vec};
+use super::io::{self, Write};
+use alloc::vec;
+use core::ops::{Deref, DerefMut};
+use core::{fmt, mem, slice};
 
 /// Items in memory of their own. Beside its own methods it has those of slices alone, so nothing else can allocate.
 #[derive(PartialEq, Eq, PartialOrd, Ord, Hash)]
@@ -22,6 +23,15 @@ impl<T> Vec<T> {
         let mut items = Vec::new(alloc);
         items.reserve(capacity)?;
         Ok(items)
+    }
+
+    /// Returns the items, which are never freed.
+    #[inline]
+    pub fn leak<'a>(self) -> &'a mut [T]
+    where
+        T: 'a,
+    {
+        self.0.leak()
     }
 
     /// Makes room for `more` items behind those that there are.

@@ -4,9 +4,11 @@
 
 use crate::shim::Vec;
 use crate::erased::binfarce_addresses::address::parse_address;
-use crate::erased::binfarce_addresses::at::Places;
+use crate::erased::binfarce_addresses::at::Found;
+use crate::erased::binfarce_addresses::counts::Counts;
 use crate::erased::binfarce_addresses::digits::push_offset;
-use crate::erased::binfarce_addresses::lookup::Lookup;
+use crate::erased::binfarce_addresses::module::{ends_with_plus, names_module};
+use crate::erased::binfarce_addresses::modules::Module;
 use crate::erased::binfarce_addresses::names::Names;
 use crate::erased::binfarce_addresses::stream::CHUNK;
 use crate::erased::binfarce_addresses::word::{address_len, is_decided, others_len};
@@ -16,30 +18,32 @@ use crate::erased::binfarce_tools::writing::write_whole;
 use crate::shim::alloc::{AllocError, Global};
 use crate::shim::io::Read;
 
-/// Appends the text with ` <name+0x1f>` after each address that a function symbol holds: its readable name, and the
-/// offset of the address into it, by this lookup. An address is `0x` or `0X` and 4 to 16 hexadecimal digits, in upper or
+/// Appends the text with ` <name+0x1f>` after each address that a function symbol of these files holds: its readable
+/// name, and the offset of the address into it. An address is `0x` or `0X` and 4 to 16 hexadecimal digits, in upper or
 /// lower case, up to the next other byte; of bare words also 8 to 16 digits that no letter, digit or `_` comes before or
-/// after. After `+` the number is an offset, which is looked up only behind the file's name: `NAME+0x1f`, `NAME(+0x1f)`
-/// or `NAME + 0x1f`, after `/`, `[`, a blank, a line feed or nothing, and in the first form also after a blank and a
-/// parenthesis. All other bytes stay as they are, and need not be UTF-8.
+/// after. The first file with a function symbol that holds it answers. After `+` the number is an offset, which is
+/// looked up only behind a file's name, in the first file of this name: `NAME+0x1f`, `NAME(+0x1f)` or `NAME + 0x1f`,
+/// after `/`, `[`, a blank, a line feed or nothing, and in the first form also after a blank and a parenthesis. All other
+/// bytes stay as they are, and need not be UTF-8. Returns how many addresses there are, and how many were found.
 ///
 /// # Errors
 ///
 /// `AllocError` where an allocation failed: `out` is then unspecified.
 pub fn push_annotated(
     alloc: Global,
-    places: &Places<'_>,
-    lookup: Lookup<'_>,
+    modules: &[Module<'_>],
+    is_bare: bool,
     text: &[u8],
     out: &mut Vec<u8>,
-) -> Result<(), AllocError> {
-    Names::new(alloc, places, lookup, 0)?.push_decided(true, text, 0, out)?;
-    Ok(())
+) -> Result<Counts, AllocError> {
+    let mut files = new_files(alloc, modules, is_bare)?;
+    files.push_decided(true, text, 0, out)?;
+    Ok(files.counts)
 }
 
 /// Annotates a stream: writes what `push_annotated` gives for all that the reader gives. Each line is written as soon
 /// as its line feed has come: of an unfinished line at most 18 bytes at its end wait, an address that may go on. A read
-/// that was interrupted is tried again.
+/// that was interrupted is tried again. Returns how many addresses there are, and how many were found.
 ///
 /// # Errors
 ///
@@ -47,49 +51,121 @@ pub fn push_annotated(
 /// failed, and `OutOfMemory` where an allocation did: a beginning was written.
 pub fn annotate_stream<R: Read, S: Sink>(
     alloc: Global,
-    places: &Places<'_>,
-    lookup: Lookup<'_>,
+    modules: &[Module<'_>],
+    is_bare: bool,
     input: &mut R,
     out: &mut S,
-) -> Result<(), StreamError> {
+) -> Result<Counts, StreamError> {
     let mut pass = Annotating {
         alloc,
-        names: Names::new(alloc, places, lookup, places.functions.len())?,
+        files: new_files(alloc, modules, is_bare)?,
         kept: Vec::new(alloc),
         from: 0,
     };
-    pass_stream(alloc, &mut pass, CHUNK, input, out)
+    pass_stream(alloc, &mut pass, CHUNK, input, out)?;
+    Ok(pass.files.counts)
+}
+
+// The files that addresses are looked up in, with the names that were needed, and what was counted.
+struct Files<'a> {
+    names: Vec<Names<'a, 'a>>,
+    is_bare: bool,
+    counts: Counts,
 }
 
 // What annotates a text that comes in parts.
-struct Annotating<'b, 'a> {
+struct Annotating<'a> {
     alloc: Global,
-    names: Names<'b, 'a>,
+    files: Files<'a>,
     // The end of the text: what may matter of what was shown, and an address that may go on.
     kept: Vec<u8>,
     // How much of it was shown.
     from: usize,
 }
 
-impl Annotating<'_, '_> {
+impl Annotating<'_> {
     // Annotates the kept text and the next part, and keeps an address at its end that may go on, unless the text ends.
     fn push(&mut self, is_last: bool, part: &[u8], out: &mut Vec<u8>) -> Result<(), AllocError> {
         let from = self.from.min(self.kept.len());
         self.kept.extend_from_slice(part)?;
-        let at = self.names.push_decided(is_last, &self.kept, from, out)?;
-        let reach = self.names.reach();
+        let at = self.files.push_decided(is_last, &self.kept, from, out)?;
+        let reach = reach_of(&self.files.names);
         self.from = at.min(reach);
         self.kept = Vec::from_slice(self.alloc, &self.kept[at - self.from..])?;
         Ok(())
     }
 }
 
-impl Names<'_, '_> {
-    // How many bytes before an address can matter: a name, and what may come before and after it.
-    fn reach(&self) -> usize {
-        self.lookup.name.len() + 5
+// How many bytes before an address can matter: the longest name, and what may come before and after it.
+fn reach_of(names: &[Names<'_, '_>]) -> usize {
+    let mut reach: usize = 5;
+    for file in names {
+        let own = file.reach();
+        reach = reach.max(own);
     }
+    reach
+}
 
+// What is found for a number that comes after `before`: the place of the file, and what is found there. `None` where it
+// isn't asked for.
+fn find_by(
+    names: &[Names<'_, '_>],
+    before: &[u8],
+    number: Option<u64>,
+) -> Option<Option<(usize, Found)>> {
+    let number = number?;
+    if ends_with_plus(before) {
+        return find_behind(names, before, number);
+    }
+    Some(find_among(names, number))
+}
+
+// What is found at an offset that comes after `before`.
+fn find_behind(
+    names: &[Names<'_, '_>],
+    before: &[u8],
+    offset: u64,
+) -> Option<Option<(usize, Found)>> {
+    for at in 0..names.len() {
+        if names[at].is_named_in(before) {
+            return Some(match names[at].find_offset(offset) {
+                Some(found) => Some((at, found)),
+                None => None,
+            });
+        }
+    }
+    None
+}
+
+// What is found at an address.
+fn find_among(names: &[Names<'_, '_>], address: u64) -> Option<(usize, Found)> {
+    for at in 0..names.len() {
+        if let Some(found) = names[at].find_address(address) {
+            return Some((at, found));
+        }
+    }
+    None
+}
+
+// These files, without a name so far.
+fn new_files<'a>(
+    alloc: Global,
+    modules: &[Module<'a>],
+    is_bare: bool,
+) -> Result<Files<'a>, AllocError> {
+    let mut names = Vec::new(alloc);
+    for module in modules {
+        names.push(Names::with_room(alloc, module.places, module.lookup)?)?;
+    }
+    let counts = Counts::new();
+    Ok(Files {
+        names,
+        is_bare,
+        counts,
+    })
+}
+
+impl Files<'_> {
     // Appends the annotated text from a position on, before an address at the text's end that may go on, and returns
     // where that begins. With nothing after the text, this is its end.
     fn push_decided(
@@ -99,9 +175,8 @@ impl Names<'_, '_> {
         from: usize,
         out: &mut Vec<u8>,
     ) -> Result<usize, AllocError> {
-        let is_bare = self.lookup.is_bare;
         let mut at = from;
-        while at < text.len() && is_decided(is_bare, is_last, &text[at..]) {
+        while at < text.len() && is_decided(self.is_bare, is_last, &text[at..]) {
             let len = self.push_first(&text[..at], &text[at..], out)?;
             at += len;
         }
@@ -116,38 +191,39 @@ impl Names<'_, '_> {
         text: &[u8],
         out: &mut Vec<u8>,
     ) -> Result<usize, AllocError> {
-        let is_bare = self.lookup.is_bare;
-        let len = address_len(is_bare, before, text);
+        let len = address_len(self.is_bare, before, text);
         if len == 0 {
-            let others = others_len(is_bare, text);
+            let others = others_len(self.is_bare, text);
             out.extend_from_slice(&text[..others])?;
             return Ok(others);
         }
-        out.extend_from_slice(&text[..len])?;
-        self.push_added(before, &text[..len], out)?;
+        self.push_address(before, &text[..len], out)?;
         Ok(len)
     }
 
-    // Appends what is added after an address: the readable name of its function symbol and the offset, in angle
+    // Appends an address, and what is added after it: the readable name of its function symbol and the offset, in angle
     // brackets.
-    fn push_added(
+    fn push_address(
         &mut self,
         before: &[u8],
         word: &[u8],
         out: &mut Vec<u8>,
     ) -> Result<(), AllocError> {
-        let lookup = self.lookup;
-        let address = lookup.meant(before, parse_address(word));
-        let Some((place, offset)) = self.places.find_in(lookup.is_return, address) else {
+        out.extend_from_slice(word)?;
+        let Some(found) = find_by(&self.names, before, parse_address(word)) else {
+            return Ok(());
+        };
+        self.counts.add(Some(found.is_some()));
+        let Some((file, (place, offset))) = found else {
             return Ok(());
         };
         out.extend_from_slice(b" <")?;
-        self.push_name(out, place)?;
+        self.names[file].push_name(out, place)?;
         push_offset(out, offset, b'>')
     }
 }
 
-impl<S: Sink> Pass<S> for Annotating<'_, '_> {
+impl<S: Sink> Pass<S> for Annotating<'_> {
     fn take(&mut self, part: &[u8], out: &mut Vec<u8>) -> Result<(), AllocError> {
         self.push(false, part, out)
     }

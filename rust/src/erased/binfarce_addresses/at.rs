@@ -3,6 +3,7 @@
 //! Symbolizes addresses in an executable, a line for each.
 
 use crate::shim::Vec;
+use crate::erased::binfarce_addresses::counts::Counts;
 use crate::erased::binfarce_addresses::lookup::Lookup;
 use crate::erased::binfarce_addresses::names::Names;
 use crate::erased::binfarce_addresses::ranges::{AddressRange, Ranges};
@@ -92,7 +93,7 @@ impl<'a> Places<'a> {
     }
 
     /// Appends the line of an address to the text: the address, the symbol that it symbolizes to by this lookup, and
-    /// the offset of the address into it; or `??` where there is none.
+    /// the offset of the address into it; or `??` where there is none. Returns whether there is one.
     ///
     /// # Errors
     ///
@@ -103,10 +104,11 @@ impl<'a> Places<'a> {
         text: &mut Vec<u8>,
         lookup: Lookup<'_>,
         address: u64,
-    ) -> Result<(), AllocError> {
+    ) -> Result<bool, AllocError> {
         let mut names = Names::new(alloc, self, lookup, 0)?;
         let answer = names.answer_to(Some(address));
-        names.push_line(text, answer)
+        names.push_line(text, answer)?;
+        Ok(answer.found.is_some())
     }
 }
 
@@ -130,7 +132,8 @@ fn places_of(alloc: Global, listed: Functions<'_>) -> Result<Places<'_>, AllocEr
 /// `linked` as the address is behind the base. Of a return address the one before is looked up, but the offset is that
 /// of the address. A symbol holds the addresses of its range, or of size 0 its own. Of several that hold an address, it
 /// is the one of greatest address, and of several there the first in the order of the listing. The line is
-/// `{address:016x} ??` for an address that none holds, and for one below the base.
+/// `{address:016x} ??` for an address that none holds, and for one below the base. Returns how many addresses there are,
+/// and how many of them a symbol holds.
 ///
 /// # Errors
 ///
@@ -142,7 +145,7 @@ pub fn at<S: Sink>(
     lookup: Lookup<'_>,
     addresses: &[u64],
     out: &mut S,
-) -> Result<(), ListError> {
+) -> Result<Counts, ListError> {
     at_tables(alloc, &Tables::whole(file, section), lookup, addresses, out)
 }
 
@@ -157,12 +160,12 @@ pub fn at_tables<S: Sink>(
     lookup: Lookup<'_>,
     addresses: &[u64],
     out: &mut S,
-) -> Result<(), ListError> {
+) -> Result<Counts, ListError> {
     let places = Places::of_tables(alloc, tables)?;
     write_lines(alloc, &places, lookup, addresses, out)
 }
 
-/// Writes a line for each address, as `at` does, by the places of a file.
+/// Writes a line for each address, and counts them, as `at` does, by the places of a file.
 ///
 /// # Errors
 ///
@@ -174,10 +177,13 @@ pub fn write_lines<S: Sink>(
     lookup: Lookup<'_>,
     addresses: &[u64],
     out: &mut S,
-) -> Result<(), ListError> {
+) -> Result<Counts, ListError> {
     let mut text = Vec::new(alloc);
+    let mut counts = Counts::new();
     for address in addresses {
-        places.push_line(alloc, &mut text, lookup, *address)?;
+        let held = places.push_line(alloc, &mut text, lookup, *address)?;
+        counts.add(Some(held));
     }
-    write_whole(out, text.as_slice())
+    write_whole(out, text.as_slice())?;
+    Ok(counts)
 }

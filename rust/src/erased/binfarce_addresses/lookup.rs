@@ -2,7 +2,6 @@
 
 //! How an address is looked up, and the form of the answer.
 
-use crate::erased::binfarce_addresses::module::{ends_with_plus, names_module};
 use crate::erased::binfarce_tools::json::Form;
 
 /// How addresses are looked up and answered.
@@ -21,8 +20,6 @@ pub struct Lookup<'a> {
     pub is_return: bool,
     /// How the answers are written. Objects don't have the section.
     pub form: Form<'a>,
-    /// Whether words of 8 to 16 hexadecimal digits without `0x` are addresses in a text, too.
-    pub is_bare: bool,
     /// The file's name in a text. An offset after it, as in `name+0x1f`, is one from the origin.
     pub name: &'a [u8],
 }
@@ -36,16 +33,8 @@ impl Lookup<'_> {
         }
     }
 
-    /// The address in the file that a number in a text means, which comes after `before`. `None` for an offset into
-    /// another module.
-    pub(crate) fn meant(self, before: &[u8], number: Option<u64>) -> Option<u64> {
-        let number = number?;
-        if !ends_with_plus(before) {
-            return self.in_file(number);
-        }
-        if !names_module(self.name, before) {
-            return None;
-        }
-        number.checked_add(self.origin)
+    /// The address in the file of an offset from its origin. `None` past 64 bits.
+    pub(crate) fn at_offset(self, offset: u64) -> Option<u64> {
+        offset.checked_add(self.origin)
     }
 }

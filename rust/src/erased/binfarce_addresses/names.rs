@@ -6,6 +6,7 @@ use crate::shim::{CollectIn, String, Vec};
 use crate::erased::binfarce_addresses::at::{Found, Places};
 use crate::erased::binfarce_addresses::digits::{push_address, push_offset};
 use crate::erased::binfarce_addresses::lookup::Lookup;
+use crate::erased::binfarce_addresses::module::names_module;
 use crate::erased::binfarce::demangle::Demangler;
 use crate::erased::binfarce_tools::json::{
     Form, push_address_member, push_number_member, push_start, push_text_member,
@@ -32,6 +33,17 @@ pub(crate) struct Answer {
     pub(crate) found: Option<Found>,
 }
 
+impl Answer {
+    // Whether a function symbol holds the address; none of a line without one.
+    #[cfg_attr(not(debug_assertions), inline(always))]
+    pub(crate) fn is_held(self) -> Option<bool> {
+        match self.address {
+            Some(_) => Some(self.found.is_some()),
+            None => None,
+        }
+    }
+}
+
 impl<'b, 'a> Names<'b, 'a> {
     /// No name so far, with room for so many.
     pub(crate) fn new(
@@ -48,6 +60,37 @@ impl<'b, 'a> Names<'b, 'a> {
             text: String::new(alloc),
             kept: Vec::filled(alloc, (0, 0), room)?,
         })
+    }
+
+    /// No name so far, with room for all.
+    pub(crate) fn with_room(
+        alloc: Global,
+        places: &'b Places<'a>,
+        lookup: Lookup<'b>,
+    ) -> Result<Names<'b, 'a>, AllocError> {
+        Names::new(alloc, places, lookup, places.functions.len())
+    }
+
+    // How many bytes before an address can matter: the name, and what may come before and after it.
+    pub(crate) fn reach(&self) -> usize {
+        self.lookup.name.len() + 5
+    }
+
+    // Whether the file's name is before an offset that comes after this text.
+    pub(crate) fn is_named_in(&self, before: &[u8]) -> bool {
+        names_module(self.lookup.name, before)
+    }
+
+    // What is found at an offset from the file's origin.
+    pub(crate) fn find_offset(&self, offset: u64) -> Option<Found> {
+        let address = self.lookup.at_offset(offset);
+        self.places.find_in(self.lookup.is_return, address)
+    }
+
+    // What is found at an address.
+    #[cfg_attr(not(debug_assertions), inline(always))]
+    pub(crate) fn find_address(&self, address: u64) -> Option<Found> {
+        self.places.find_place(self.lookup, Some(address))
     }
 
     // The answer to a line with the address, or with none.

@@ -5,7 +5,7 @@
 use crate::shim::Vec;
 use crate::erased::binfarce_addresses::slices::Slices;
 use crate::shim::alloc::{AllocError, Global};
-use std::cmp::Reverse;
+use core::cmp::Reverse;
 
 /// A range of addresses: its first one, and how many bytes it has.
 #[derive(Debug, Clone, Copy, PartialEq)]

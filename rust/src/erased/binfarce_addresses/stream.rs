@@ -5,6 +5,7 @@
 use crate::shim::{TrimAscii, Vec};
 use crate::erased::binfarce_addresses::address::parse_address;
 use crate::erased::binfarce_addresses::at::Places;
+use crate::erased::binfarce_addresses::counts::Counts;
 use crate::erased::binfarce_addresses::lookup::Lookup;
 use crate::erased::binfarce_addresses::names::Names;
 pub use crate::erased::binfarce_text::streams::StreamError;
@@ -26,8 +27,8 @@ pub(crate) const LONGEST: usize = 18;
 pub struct Answered {
     /// How many bytes its whole lines have, with their line feeds.
     pub len: usize,
-    /// How many of these lines have no address.
-    pub missing: u64,
+    /// How many addresses they have, and how many of these were found.
+    pub counts: Counts,
 }
 
 /// Appends to `text` the answers of the whole lines of `bytes`: the line of a line's address, as `Places::push_line`
@@ -43,35 +44,40 @@ pub fn push_lines(
     bytes: &[u8],
     text: &mut Vec<u8>,
 ) -> Result<Answered, AllocError> {
-    Names::new(alloc, places, lookup, 0)?.push_answers(bytes, text)
+    let mut counts = Counts::new();
+    let len = Names::new(alloc, places, lookup, 0)?.push_answers(bytes, &mut counts, text)?;
+    Ok(Answered { len, counts })
 }
 
 impl Names<'_, '_> {
-    // Appends to `text` the answers of the whole lines of `bytes`. All addresses are looked up before the first answer
-    // is written, so that cache misses overlap.
-    fn push_answers(&mut self, bytes: &[u8], text: &mut Vec<u8>) -> Result<Answered, AllocError> {
-        let (addresses, answered) = addresses_of(self.alloc, bytes)?;
+    // Appends to `text` the answers of the whole lines of `bytes`, counts them, and returns the length of these lines.
+    // All addresses are looked up before the first answer is written, so that cache misses overlap.
+    fn push_answers(
+        &mut self,
+        bytes: &[u8],
+        counts: &mut Counts,
+        text: &mut Vec<u8>,
+    ) -> Result<usize, AllocError> {
+        let (addresses, len) = addresses_of(self.alloc, bytes)?;
         let answers = self.answers_to(&addresses)?;
         self.read_ahead(&answers)?;
         for answer in &answers {
             self.push_line(text, *answer)?;
+            counts.add(answer.is_held());
         }
-        Ok(answered)
+        Ok(len)
     }
 }
 
 // The addresses of the whole lines of `bytes`, or none, and the length of these lines.
-fn addresses_of(alloc: Global, bytes: &[u8]) -> Result<(Vec<Option<u64>>, Answered), AllocError> {
+fn addresses_of(alloc: Global, bytes: &[u8]) -> Result<(Vec<Option<u64>>, usize), AllocError> {
     let mut addresses = Vec::with_capacity(alloc, bytes.len() / 8)?;
     let mut len = 0;
-    let mut missing = 0;
     while let Some(line) = first_line(&bytes[len..]) {
-        let address = parse_address(line.trim_ascii());
-        addresses.push(address)?;
+        addresses.push(parse_address(line.trim_ascii()))?;
         len += line.len() + 1;
-        missing += u64::from(address.is_none());
     }
-    Ok((addresses, Answered { len, missing }))
+    Ok((addresses, len))
 }
 
 // The bytes before the first line feed.
@@ -80,9 +86,9 @@ fn first_line(bytes: &[u8]) -> Option<&[u8]> {
     Some(&bytes[..len])
 }
 
-/// Answers the lines of `input` until it ends, each as soon as its line feed has come, and returns how many of them
-/// have no address, at most `u64::MAX`. The last line may have no line feed. A read that was interrupted is tried
-/// again. Of an unfinished line at most 19 bytes are kept.
+/// Answers the lines of `input` until it ends, each as soon as its line feed has come, and returns how many addresses
+/// they have, how many of these were found, and how many lines have none. The last line may have no line feed. A read
+/// that was interrupted is tried again. Of an unfinished line at most 19 bytes are kept.
 ///
 /// # Errors
 ///
@@ -94,15 +100,15 @@ pub fn answer_lines<R: Read, S: Sink>(
     lookup: Lookup<'_>,
     input: &mut R,
     out: &mut S,
-) -> Result<u64, StreamError> {
+) -> Result<Counts, StreamError> {
     let mut lines = Lines {
         alloc,
-        names: Names::new(alloc, places, lookup, places.functions.len())?,
+        names: Names::with_room(alloc, places, lookup)?,
         line: Vec::new(alloc),
-        missing: 0,
+        counts: Counts::new(),
     };
     pass_stream(alloc, &mut lines, CHUNK, input, out)?;
-    Ok(lines.missing)
+    Ok(lines.counts)
 }
 
 // What answers lines that come in parts.
@@ -111,17 +117,15 @@ struct Lines<'b, 'a> {
     names: Names<'b, 'a>,
     // What is kept of the last line so far.
     line: Vec<u8>,
-    // How many lines have no address.
-    missing: u64,
+    counts: Counts,
 }
 
 impl Lines<'_, '_> {
     // Answers the whole lines of the kept text and the next part, and keeps the rest.
     fn push(&mut self, part: &[u8], out: &mut Vec<u8>) -> Result<(), AllocError> {
         self.line.extend_from_slice(part)?;
-        let answered = self.names.push_answers(&self.line, out)?;
-        self.missing = self.missing.saturating_add(answered.missing);
-        self.line = kept_of(self.alloc, &self.line[answered.len..])?;
+        let len = self.names.push_answers(&self.line, &mut self.counts, out)?;
+        self.line = kept_of(self.alloc, &self.line[len..])?;
         Ok(())
     }
 }

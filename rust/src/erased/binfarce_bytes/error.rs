@@ -4,9 +4,9 @@
 
 use crate::erased::binfarce_bytes::parser::UnexpectedEof;
 use crate::shim::alloc::AllocError;
-use std::error::Error;
-use std::fmt;
-use std::num::TryFromIntError;
+use crate::shim::error::Error;
+use core::fmt;
+use core::num::TryFromIntError;
 
 /// Why a file could not be read.
 #[derive(Debug, Clone, Copy, PartialEq, Eq, Hash)]

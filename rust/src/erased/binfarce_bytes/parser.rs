@@ -5,9 +5,9 @@
 pub use crate::erased::binfarce_bytes::text::{parse_null_string, up_to_nul, utf8_text};
 use crate::shim::ToSigned;
 use crate::erased::binfarce_bytes::{ByteOrder, ParseError};
-use std::error::Error;
-use std::fmt;
-use std::ops::Range;
+use crate::shim::error::Error;
+use core::fmt;
+use core::ops::Range;
 
 /// The bytes end too soon.
 #[derive(Debug, Clone, Copy)]

@@ -78,7 +78,7 @@ fn first_text(bytes: &[u8], len: usize) -> Option<&str> {
 
 /// The bytes as a text, without a copy; `None` where they aren't UTF-8.
 pub fn utf8_text(bytes: &[u8]) -> Option<&str> {
-    match std::str::from_utf8(bytes) {
+    match core::str::from_utf8(bytes) {
         Ok(text) => Some(text),
         Err(_) => None,
     }

@@ -26,6 +26,15 @@ pub(crate) fn give(text: &[u8], out: &mut [u8]) -> Text {
     }
 }
 
+/// Ends a text in a buffer with a NUL, and returns where that is. See `binfarce.h`.
+pub fn binfarce_terminate(out: &mut [u8], length: usize) -> usize {
+    let end = length.min(out.len().saturating_sub(1));
+    if end < out.len() {
+        out[end] = 0;
+    }
+    end
+}
+
 /// Writes as much as has room into a buffer. The rest of the buffer is unchanged.
 pub(crate) fn put<T: Copy>(given: &[T], out: &mut [T]) {
     let count = given.len().min(out.len());

@@ -10,7 +10,7 @@ use crate::erased::binfarce::{ByteOrder, FunctionSymbol, ParseError, elf32, elf6
 use crate::erased::binfarce_elf::class::Width;
 use crate::shim::alloc::{AllocError, Global};
 use crate::shim::ptr;
-use std::str;
+use core::str;
 
 // The function symbols of a file and the size of their section, or the refusal.
 type Found = Result<(Vec<Function>, u64), ParseError>;

@@ -8,7 +8,7 @@ use crate::erased::binfarce_c::functions::start;
 use crate::erased::binfarce_c::status::{NONE, NOT_UTF8, OK, OUT_OF_MEMORY};
 use crate::erased::binfarce::demangle::{self, Demangled, Kind, crate_of, push_trimmed};
 use crate::shim::alloc::Global;
-use std::str;
+use core::str;
 
 /// What `binfarce_demangle` returns: `struct binfarce_name`.
 #[repr(C)]

@@ -6,8 +6,8 @@ use crate::erased::binfarce_c::functions::start;
 use crate::erased::binfarce_c::headers::order_of;
 use crate::erased::binfarce_c::status::{NONE, NOT_UTF8, OK, status_of};
 use crate::erased::binfarce::{ByteOrder, ParseError, elf32, elf64, macho, pe};
-use std::ops::Range;
-use std::str;
+use core::ops::Range;
+use core::str;
 
 // What was sought, if the file has it, or the refusal.
 type Sought<T> = Result<Option<T>, ParseError>;

@@ -23,6 +23,9 @@ pub(crate) const UNKNOWN_FORMAT: u32 = 4;
 /// A sum of sizes is 2^64 or more.
 pub(crate) const TOO_LARGE: u32 = 5;
 
+/// The version: 0.3.0.
+const VERSION: u32 = 3 << 8;
+
 /// The number of a reader's refusal.
 pub(crate) fn status_of(error: ParseError) -> u32 {
     match error {
@@ -42,6 +45,11 @@ pub(crate) fn detail_of(error: ParseError) -> u32 {
         ParseError::UnexpectedSectionType { actual, .. } => actual,
         _ => 0,
     }
+}
+
+/// The version of the library: `BINFARCE_VERSION_NUMBER`.
+pub fn binfarce_version() -> u32 {
+    VERSION
 }
 
 /// Writes the text of a status into a buffer, and returns its whole length. See `binfarce.h`.

@@ -11,7 +11,7 @@ use crate::erased::binfarce_c::status::{
 use crate::erased::binfarce_tools::list::{Out, list};
 use crate::erased::binfarce_tools::report::{ReportError, report};
 use crate::shim::alloc::Global;
-use std::str;
+use core::str;
 
 /// The listing of a file's function symbols, in a buffer. See `binfarce.h`.
 pub fn binfarce_list(alloc: Global, file: &[u8], section: &[u8], out: &mut [u8]) -> Text {

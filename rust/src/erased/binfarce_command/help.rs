@@ -19,7 +19,7 @@ usage: binfarce COMMAND [OPTION..] ..
   filter [--full] [NAME..]           standard input, or the names, with readable names
   at [OPTION..] FILE [ADDRESS..]
                                      the function symbol at each address, and the offset in it
-  at --return --annotate FILE        standard input, as by RUST_BACKTRACE=full, with symbols
+  at --return --annotate FILE..      standard input, as by RUST_BACKTRACE=full, with symbols
   section FILE [SECTION]             the bytes of a section, or a line for each section
 
   COMMAND --help                     help on a command
@@ -51,16 +51,17 @@ const SIZE: &str = "\
 usage: binfarce size [OPTION..] FILE..
 
 Writes a line for each crate: the sum of the sizes of its function symbols, and its
-name; last the sum of all, and the size of the section.
+name, the largest first; last the sum of all, and the size of the section. A byte that
+several function symbols have counts once, for the innermost.
 
   --by=KEY         sums by crate, function, generic (functions that differ by their
-                   generic arguments, with their number), or section (of all)
+                   generic arguments, with their number), or function-section (of
+                   all sections); or by section: the bytes of each section in the
+                   file and in memory, headers and gaps, and the file's size
   --std            the crates of Rust's standard library as one, [std]
   --percent        each sum's share of the section, or of the sum of all sections
   -n N, --first=N  the N largest sums, and one of all others
-  --json           each sum as a JSON object
-                   (with one of these five the largest sum comes first, and each
-                   byte counts once; without, overlapping symbols count twice)
+  --json           each sum as a JSON object, and one of the sum of all
 ";
 
 const DIFF: &str = "\
@@ -70,7 +71,7 @@ Writes a line for each crate whose sum differs: its size in OLD and in NEW, the
 change, and its name; the largest change first, and last the sums of all. Each byte
 counts once.
 
-  --by=KEY         sums by crate, function, generic or section
+  --by=KEY         sums by crate, function, generic or function-section
   --std            the crates of Rust's standard library as one, [std]
   --percent        each change in per cent of the old sum
   -n N, --first=N  the N largest changes, and one of all others
@@ -83,6 +84,7 @@ usage: binfarce map [OPTION..] FILE
 
 Draws the sums of `binfarce size` as an SVG picture, the largest first.
 
+  --std            the crates of Rust's standard library as one, [std]
   --folded         no picture, but a line for each function symbol: its crate,
                    modules and name, separated by `;`, and its size, as tools for
                    flame graphs read it
@@ -98,6 +100,7 @@ Writes standard input with its mangled Rust names readable, or each NAME on a li
 
 const AT: &str = "\
 usage: binfarce at [OPTION..] FILE [ADDRESS..]
+       binfarce at --annotate [OPTION..] FILE..
 
 Writes a line for each address: the function symbol that holds it, and the offset in
 it. Without an ADDRESS the addresses are the lines of standard input.
@@ -105,11 +108,14 @@ it. Without an ADDRESS the addresses are the lines of standard input.
   --return         the addresses are return addresses, as RUST_BACKTRACE=full prints:
                    the call before each is looked up
   --annotate       copies standard input, with <name+0x1f> after each address in it,
-                   which is 0x and 4 to 16 digits, or an offset in FILE: FILE+0x1f2e
+                   which is 0x and 4 to 16 digits, or an offset in FILE: FILE+0x1f2e;
+                   of several files the first that has the address names it
   --bare           with --annotate: words of 8 to 16 digits without 0x, too
   --base=ADDRESS   where the file is loaded; without it addresses are the file's own
-  --maps=MAPS      takes the base from a copy of /proc/PID/maps
+  --maps=MAPS      takes the base from a copy of /proc/PID/maps; - is standard input,
+                   with --annotate the text itself, which is then read to its end
   --as=NAME        the file's name in MAPS and in a text
+                   (of several files --base and --as come once for each, in order)
   --dynamic        by the dynamic symbol table of an ELF file (.dynsym)
   --section=NAME   the symbols of a section of an ELF file; of Mach-O and PE files
                    .text is the code section, and there is no other name
@@ -124,7 +130,7 @@ usage: binfarce section FILE [SECTION]
 Writes the bytes of the section, or without SECTION a line for each section. A
 section of a Mach-O file is named SECTION or SEGMENT,SECTION.
 
-  --json           an object for each section
+  --json           an object for each section, with its type and flags
 ";
 
 // The options of all commands that take function symbols of `.text` by default.

@@ -5,11 +5,22 @@
 use crate::erased::binfarce_elf::class::{Class, Word};
 use crate::erased::binfarce_elf::sections::Section;
 
+// The type of a section without bytes in the file, and the flag of one that has memory (gABI, "Sections").
+const SHT_NOBITS: u32 = 8;
+
+const SHF_ALLOC: u64 = 2;
+
 impl<C: Class> Section<C> {
     /// The section's type (`sh_type`): 1 for code and data (`SHT_PROGBITS`), 2 for the symbol table (`SHT_SYMTAB`), 3
     /// for a string table (`SHT_STRTAB`), 8 where it has no bytes in the file (`SHT_NOBITS`).
     pub fn section_type(&self) -> Word {
         self.kind
+    }
+
+    /// The section's flags (`sh_flags`): 1 where it is writable in memory (`SHF_WRITE`), 2 where it has memory
+    /// (`SHF_ALLOC`), 4 where it has instructions (`SHF_EXECINSTR`), and others.
+    pub fn flags(&self) -> C {
+        self.flags
     }
 
     /// The address of the section's first byte in memory (`sh_addr`); 0 where it has none.
@@ -26,5 +37,23 @@ impl<C: Class> Section<C> {
     /// memory and no bytes in the file.
     pub fn size(&self) -> C {
         self.size
+    }
+
+    /// How many bytes the section has in the file: its size, but 0 where its type is `SHT_NOBITS`.
+    pub fn file_size(&self) -> u64 {
+        if self.kind == SHT_NOBITS {
+            0
+        } else {
+            self.size.widened()
+        }
+    }
+
+    /// How many bytes the section has in memory: its size where its flags have `SHF_ALLOC`, else 0.
+    pub fn memory_size(&self) -> u64 {
+        if self.flags.widened() & SHF_ALLOC == 0 {
+            0
+        } else {
+            self.size.widened()
+        }
     }
 }

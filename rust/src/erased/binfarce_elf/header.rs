@@ -5,7 +5,7 @@
 use crate::erased::binfarce_elf::class::{Class, Half, Word};
 use crate::erased::binfarce_bytes::ByteOrder;
 use crate::erased::binfarce_bytes::parser::{UnexpectedEof, number_at};
-use std::fmt;
+use core::fmt;
 
 /// The file header (gABI, "ELF Header"), without its identification.
 #[derive(Clone, Copy)]

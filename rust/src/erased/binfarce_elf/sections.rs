@@ -8,8 +8,8 @@ use crate::erased::binfarce_bytes::parser::{
     Stream, UnexpectedEof, parse_null_string, range, slice_at, to_index,
 };
 use crate::erased::binfarce_bytes::{ByteOrder, ParseError};
-use std::marker::PhantomData;
-use std::ops::Range;
+use core::marker::PhantomData;
+use core::ops::Range;
 
 /// A section header's values (gABI, "Section Header"), and the section's index. It borrows nothing.
 #[derive(Debug, Clone, Copy)]
@@ -17,6 +17,7 @@ pub struct Section<C> {
     pub(crate) index: Half,
     pub(crate) name_offset: Word,
     pub(crate) kind: Word,
+    pub(crate) flags: C,
     pub(crate) address: C,
     pub(crate) link: Word,
     pub(crate) offset: C,
@@ -31,6 +32,7 @@ impl<C: Class> Section<C> {
             index: self.index,
             name_offset: self.name_offset,
             kind: self.kind,
+            flags: self.flags.widened(),
             address: self.address.widened(),
             link: self.link,
             offset: self.offset.widened(),
@@ -115,7 +117,7 @@ pub fn section_at<C: Class>(
     let mut s = Stream::new_at(bytes, start, byte_order)?;
     let name_offset = s.read()?;
     let kind = s.read()?;
-    s.skip_len(C::SIZE)?; // flags
+    let flags = s.read()?;
     let address = s.read()?;
     let offset = s.read()?;
     let size = s.read()?;
@@ -126,6 +128,7 @@ pub fn section_at<C: Class>(
         index,
         name_offset,
         kind,
+        flags,
         address,
         link,
         offset,

@@ -13,8 +13,8 @@ use crate::erased::binfarce_tools::list::Sink;
 use crate::erased::binfarce_tools::report::{ReportError, write_made};
 use crate::erased::binfarce_tools::tables::Tables;
 use crate::shim::alloc::{AllocError, Global};
-use std::error::Error;
-use std::fmt;
+use crate::shim::error::Error;
+use core::fmt;
 
 /// The sums of all sizes of two files, each byte counted once.
 #[derive(Debug, Clone, Copy, PartialEq)]
@@ -65,7 +65,8 @@ impl From<AllocError> for DiffError {
 /// A line is `{old:>10} {new:>10} {change:>11} {key}`; the change has its sign. Before the key it has, if that is
 /// wanted, the change in per cent of the old sum, with two decimals and to the right of 10 columns, as `+12.50%`:
 /// rounded toward zero, and `new` where the old sum is 0. `[N others]` is the key of the line that sums up the changes
-/// past the first. An object has the members `file`, which is the new one's name, `name`, `old`, `new` and `change`.
+/// past the first. An object has the members `file`, which is the new one's name, `name`, `old`, `new`, `change` and, if
+/// that is wanted, `percent`, which is `null` where the old sum is 0.
 ///
 /// # Errors
 ///
@@ -86,11 +87,11 @@ pub fn diff<S: Sink>(
 }
 
 // What `keyed_in` gives of the old file.
-fn old_keyed_in(
+fn old_keyed_in<'a>(
     alloc: Global,
-    old: &Tables<'_>,
+    old: &'a Tables<'_>,
     grouping: Grouping,
-) -> Result<(Vec<Keyed>, Option<u64>), DiffError> {
+) -> Result<(Vec<Keyed<'a>>, Option<u64>), DiffError> {
     match keyed_in(alloc, old, grouping) {
         Ok(keyed) => Ok(keyed),
         Err(error) => Err(DiffError {
@@ -105,8 +106,8 @@ fn text_of(
     alloc: Global,
     figures: &Figures,
     form: Form<'_>,
-    old: &[Keyed],
-    new: &[Keyed],
+    old: &[Keyed<'_>],
+    new: &[Keyed<'_>],
 ) -> Result<(String, Growth), AllocError> {
     let mut all = claims_of(alloc, old)?;
     let new_claims = claims_of(alloc, new)?;

@@ -9,7 +9,7 @@ use crate::erased::binfarce_figures::sums::Figures;
 use crate::erased::binfarce_tools::json::{Form, push_number_member, push_start, push_text_member};
 use crate::erased::binfarce_tools::report::CrateSums;
 use crate::shim::alloc::{AllocError, Global};
-use std::cmp::Reverse;
+use core::cmp::Reverse;
 use crate::shim::collections::BTreeMap;
 
 /// A key, with two numbers that are counted for it.
@@ -101,7 +101,7 @@ impl Layout<'_> {
             Form::Objects(file, _) => {
                 push_start(text, file)?;
                 push_text_member(text, "name", Some(name))?;
-                push_members(text, self.columns, sum, other)?;
+                self.push_members(text, sum, other)?;
                 text.push_str("}\n")
             }
         }
@@ -130,6 +130,47 @@ impl Layout<'_> {
             write!(text, "{per_cent:>3}.{}{}% ", share / 10 % 10, share % 10)?;
         }
         Ok(())
+    }
+
+    // Appends the members of two numbers.
+    fn push_members(&self, text: &mut String, sum: u64, other: u64) -> Result<(), AllocError> {
+        match self.columns {
+            Columns::Sums(whole) => {
+                push_number_member(text, "size", sum)?;
+                push_number_member(text, "copies", other)?;
+                self.push_share_member(text, sum, whole)
+            }
+            Columns::Changes => {
+                push_number_member(text, "old", sum)?;
+                push_number_member(text, "new", other)?;
+                write!(
+                    text,
+                    ",\"change\":{}{}",
+                    minus(sum, other),
+                    sum.abs_diff(other)
+                )?;
+                self.push_growth_member(text, sum, other)
+            }
+        }
+    }
+
+    // Appends the member of the share of a size in the whole, if it is wanted.
+    fn push_share_member(&self, text: &mut String, size: u64, whole: u64) -> Result<(), AllocError> {
+        if !self.figures.has_percent {
+            return Ok(());
+        }
+        push_percent_member(text, "", hundredths(size, whole))
+    }
+
+    // Appends the member of a change in per cent of the old sum, if it is wanted.
+    fn push_growth_member(&self, text: &mut String, old: u64, new: u64) -> Result<(), AllocError> {
+        if !self.figures.has_percent {
+            return Ok(());
+        }
+        if old == 0 {
+            return text.push_str(",\"percent\":null");
+        }
+        push_percent_member(text, minus(old, new), hundredths(old.abs_diff(new), old))
     }
 
     // Appends a change with its sign, and if it is wanted, in per cent of the old sum.
@@ -202,19 +243,18 @@ fn push_padded(text: &mut String, label: &str, width: usize) -> Result<(), Alloc
     write!(text, "{:>blanks$}{label} ", "")
 }
 
-// Appends the members of two numbers.
-fn push_members(text: &mut String, columns: Columns, sum: u64, other: u64) -> Result<(), AllocError> {
-    match columns {
-        Columns::Sums(_) => {
-            push_number_member(text, "size", sum)?;
-            push_number_member(text, "copies", other)
-        }
-        Columns::Changes => {
-            push_number_member(text, "old", sum)?;
-            push_number_member(text, "new", other)?;
-            let sign = if other < sum { "-" } else { "" };
-            let size = sum.abs_diff(other);
-            write!(text, ",\"change\":{sign}{size}")
-        }
-    }
+// The minus of a change as a number.
+fn minus(old: u64, new: u64) -> &'static str {
+    if new < old { "-" } else { "" }
+}
+
+// Appends the member of a number of hundredths of a per cent.
+fn push_percent_member(text: &mut String, sign: &str, n: u128) -> Result<(), AllocError> {
+    let per_cent = n / 100;
+    write!(
+        text,
+        ",\"percent\":{sign}{per_cent}.{}{}",
+        n / 10 % 10,
+        n % 10
+    )
 }

@@ -61,5 +61,10 @@ fn opens(shape: Shape, before: char, c: char) -> bool {
 
 // Whether generic arguments may follow this character.
 fn may_have_arguments(before: char) -> bool {
-    before == ':' || before == '_' || before.is_ascii_alphanumeric() || !before.is_ascii()
+    before == ':' || is_of_name(before)
+}
+
+/// Whether a character is one of a name.
+pub(crate) fn is_of_name(c: char) -> bool {
+    c == '_' || c.is_ascii_alphanumeric() || !c.is_ascii()
 }

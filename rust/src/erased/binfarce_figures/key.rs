@@ -3,11 +3,13 @@
 //! What sizes are summed by.
 
 use crate::shim::{String, Vec};
-use crate::erased::binfarce_figures::generic::{Shape, push_rewritten};
+use crate::erased::binfarce_figures::generic::{Shape, is_of_name, push_rewritten};
+use crate::erased::binfarce_figures::stacks::push_stack;
 use crate::erased::binfarce::SectionFunction;
-use crate::erased::binfarce_names::demangle::Demangler;
+use crate::erased::binfarce_legacy::legacy;
+use crate::erased::binfarce_names::demangle::{Demangler, push_crate};
+use crate::erased::binfarce_text::suffixes::without_llvm;
 use crate::erased::binfarce_tools::list::push_section;
-use crate::erased::binfarce_tools::report::put_crate;
 use crate::erased::binfarce_tools::tables::Tables;
 use crate::shim::alloc::{AllocError, Global};
 
@@ -15,7 +17,7 @@ use crate::shim::alloc::{AllocError, Global};
 #[derive(Debug, Clone, Copy, PartialEq)]
 #[non_exhaustive]
 pub enum Key {
-    /// The crate, as in `report`.
+    /// The crate: that of `crate_of`, and for a legacy name that begins with `<` the name before its first `::`.
     Crate,
     /// The trimmed name.
     Function,
@@ -23,6 +25,8 @@ pub enum Key {
     Generic,
     /// The section: its name, or its number in brackets where it has none. Where one section is selected, it is `text`.
     Section,
+    /// The crate, and the parts of the trimmed name, with `;` between them.
+    Stack,
 }
 
 /// How sizes are grouped.
@@ -35,25 +39,27 @@ pub struct Grouping {
 }
 
 /// A function symbol's place and size, with its key.
-pub struct Keyed {
+pub struct Keyed<'a> {
     /// The number of its section.
     pub section: u32,
     /// Its address.
     pub address: u64,
     /// Its size in bytes.
     pub size: u64,
+    /// Its stored name.
+    pub name: &'a str,
     /// Its key.
     pub key: String,
 }
 
 /// The function symbols of a selection with their keys; with the section's size, if one is selected.
-pub(crate) fn keyed_of(
+pub(crate) fn keyed_of<'a>(
     alloc: Global,
     tables: &Tables<'_>,
-    functions: &[SectionFunction<'_>],
+    functions: &[SectionFunction<'a>],
     size: Option<u64>,
     grouping: Grouping,
-) -> Result<Vec<Keyed>, AllocError> {
+) -> Result<Vec<Keyed<'a>>, AllocError> {
     let mut demangler = Demangler::new(alloc);
     let mut keyed = Vec::with_capacity(alloc, functions.len())?;
     for function in functions {
@@ -62,10 +68,58 @@ pub(crate) fn keyed_of(
             section: function.section,
             address: function.function.address,
             size: function.function.size,
+            name: function.function.name,
             key,
         })?;
     }
     Ok(keyed)
+}
+
+/// Overwrites the text by the crate that a function of this name is counted for.
+pub(crate) fn put_crate(alloc: Global, text: &mut String, name: &str) -> Result<(), AllocError> {
+    text.clear();
+    if push_crate(alloc, text, name)? {
+        return Ok(());
+    }
+    put_inner_crate(alloc, text, name)?;
+    if text.as_str().is_empty() {
+        return text.push_str("[unknown]");
+    }
+    Ok(())
+}
+
+// Overwrites the text by the crate of the type or trait that a legacy name begins with; empty if there is none.
+fn put_inner_crate(alloc: Global, text: &mut String, name: &str) -> Result<(), AllocError> {
+    text.clear();
+    match legacy::mangling(without_llvm(name)) {
+        Some((part, _)) => {
+            let mut path = String::new(alloc);
+            legacy::push_trimmed(&mut path, part)?;
+            put_last_name(text, first_part(path.as_str()))
+        }
+        None => Ok(()),
+    }
+}
+
+// A path up to its first `::`, or all of it.
+fn first_part(path: &str) -> &str {
+    match path.split_once("::") {
+        Some((first, _)) => first,
+        None => path,
+    }
+}
+
+// Overwrites the text by the name that a front ends with.
+fn put_last_name(text: &mut String, front: &str) -> Result<(), AllocError> {
+    text.clear();
+    for c in front.chars() {
+        if is_of_name(c) {
+            text.push(c)?;
+        } else {
+            text.clear();
+        }
+    }
+    Ok(())
 }
 
 // The key of a function symbol.
@@ -99,6 +153,7 @@ fn key_of(
         }
         Key::Section if size.is_some() => key.push_str("text")?,
         Key::Section => push_section(&mut key, tables, function.section)?,
+        Key::Stack => push_stack(alloc, demangler, &mut key, name)?,
     }
     Ok(key)
 }

@@ -4,7 +4,7 @@
 
 use crate::shim::Vec;
 use crate::shim::alloc::AllocError;
-use std::cmp::Reverse;
+use core::cmp::Reverse;
 
 /// What a listing is sorted by.
 #[derive(Debug, Clone, Copy, PartialEq)]
@@ -29,7 +29,7 @@ pub struct Row<'a> {
     pub size: u64,
     /// The text for its name.
     pub name: &'a str,
-    /// What follows the name in a JSON object; empty in a line.
+    /// What follows the name in a JSON object; empty in a line. Of rows that are summed, the stored name.
     pub tail: &'a str,
 }
 

@@ -3,6 +3,7 @@
 //! Listings in an order, of the first lines alone, and with other names.
 
 use crate::shim::{CollectIn, String, Vec};
+use crate::erased::binfarce_figures::key::put_crate;
 use crate::erased::binfarce_figures::order::{Order, Row, sort};
 use crate::erased::binfarce::SectionFunction;
 use crate::erased::binfarce_names::demangle::Demangler;
@@ -12,7 +13,6 @@ use crate::erased::binfarce_tools::json::{
     Form, push_address_member, push_number_member, push_start, push_text_member,
 };
 use crate::erased::binfarce_tools::list::{ListError, Sink, push_section_part};
-use crate::erased::binfarce_tools::report::put_crate;
 use crate::erased::binfarce_tools::tables::Tables;
 use crate::erased::binfarce_tools::writing::write_whole;
 use crate::shim::alloc::{AllocError, Global};

@@ -3,69 +3,80 @@
 //! Function symbols as stacks.
 
 use crate::shim::String;
+use crate::erased::binfarce_figures::claims::claims_of;
 use crate::erased::binfarce_figures::generic::{Shape, push_rewritten};
-use crate::erased::binfarce_figures::rows::list_of;
-use crate::erased::binfarce::SectionFunction;
+use crate::erased::binfarce_figures::key::{Grouping, Key, Keyed, put_crate};
+use crate::erased::binfarce_figures::order::Row;
+use crate::erased::binfarce_figures::sums::keyed_in;
 use crate::erased::binfarce_names::demangle::Demangler;
-use crate::erased::binfarce_tools::list::{ListError, Sink};
-use crate::erased::binfarce_tools::report::put_crate;
+use crate::erased::binfarce_tools::list::Sink;
+use crate::erased::binfarce_tools::report::{ReportError, write_made};
 use crate::erased::binfarce_tools::tables::Tables;
-use crate::erased::binfarce_tools::writing::write_whole;
 use crate::shim::alloc::{AllocError, Global};
 
-/// Writes a line for each function symbol that the tables were read for, as tools for flame graphs read it: a stack, a
-/// blank, and the size in bytes.
+/// Writes a line for each function symbol that adds bytes to the sum of `sum_by`, as tools for flame graphs read it: a
+/// stack, a blank, and the number of these bytes.
 ///
-/// A stack is the crate that a report counts the function symbol for, and the parts of the trimmed name, which `::`
+/// A stack is the crate that `sum_by` counts the function symbol for, and the parts of the trimmed name, which `::`
 /// outside of brackets separates, with `;` between them. The first part is left out where it is the crate: of a crate
 /// `foo` the function `foo::bar` is `foo;bar`, and `foo` is `foo`, as `foo;foo` is `foo::foo`. A `;` in a name is shown
-/// as `:`. The lines are in the order of `list`, and are made before the first byte is written.
+/// as `:`. With `joins_std` the stack of all functions of Rust's standard library is `[std]`. Inner function symbols come before outer ones. The lines are made before the first byte is written.
 ///
 /// # Errors
 ///
-/// Those of `list_tables`.
+/// Those of `sum_by`.
 pub fn fold_tables<S: Sink>(
     alloc: Global,
     tables: &Tables<'_>,
+    joins_std: bool,
     out: &mut S,
-) -> Result<(), ListError> {
-    let selected = tables.functions(alloc)?;
-    let (functions, _) = list_of(alloc, selected)?;
-    let text = stacks_of(alloc, &functions)?;
-    write_whole(out, text.as_bytes())
+) -> Result<(), ReportError> {
+    let grouping = Grouping {
+        key: Key::Stack,
+        joins_std,
+    };
+    let (keyed, _) = keyed_in(alloc, tables, grouping)?;
+    write_made(out, stacks_of(alloc, &keyed))
 }
 
-// The lines of function symbols.
-fn stacks_of(alloc: Global, functions: &[SectionFunction<'_>]) -> Result<String, AllocError> {
-    let mut demangler = Demangler::new(alloc);
+// The lines of function symbols with their stacks.
+fn stacks_of(alloc: Global, keyed: &[Keyed<'_>]) -> Result<String, AllocError> {
+    let claims = claims_of(alloc, keyed)?;
     let mut text = String::new(alloc);
-    for function in functions {
-        push_line(alloc, &mut demangler, &mut text, *function)?;
+    for claim in &claims {
+        push_claim(&mut text, *claim)?;
     }
     Ok(text)
 }
 
-// Appends the line of a function symbol.
-fn push_line(
+// Appends the line of a function symbol with its stack, if it adds bytes.
+fn push_claim(text: &mut String, claim: Row<'_>) -> Result<(), AllocError> {
+    if claim.size == 0 {
+        return Ok(());
+    }
+    writeln!(text, "{} {}", claim.name, claim.size)
+}
+
+/// Appends the stack of a stored name.
+pub(crate) fn push_stack(
     alloc: Global,
     demangler: &mut Demangler,
     text: &mut String,
-    function: SectionFunction<'_>,
+    name: &str,
 ) -> Result<(), AllocError> {
     let mut crate_name = String::new(alloc);
-    put_crate(alloc, &mut crate_name, function.function.name)?;
+    put_crate(alloc, &mut crate_name, name)?;
     let mut trimmed = String::new(alloc);
-    demangler.push_trimmed(&mut trimmed, function.function.name)?;
+    demangler.push_trimmed(&mut trimmed, name)?;
     let mut root = String::new(alloc);
     push_rewritten(&mut root, Shape::Stack, crate_name.as_str())?;
     let mut parts = String::new(alloc);
     push_rewritten(&mut parts, Shape::Stack, trimmed.as_str())?;
-    push_stack(text, root, parts.as_str())?;
-    writeln!(text, " {}", function.function.size)
+    push_below(text, root, parts.as_str())
 }
 
 // Appends the crate and the parts of a name, unless the first of these is the crate.
-fn push_stack(text: &mut String, root: String, parts: &str) -> Result<(), AllocError> {
+fn push_below(text: &mut String, root: String, parts: &str) -> Result<(), AllocError> {
     let is_crate = parts == root.as_str();
     let mut below = root;
     below.push_str(";")?;

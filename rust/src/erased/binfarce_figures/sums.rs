@@ -9,7 +9,7 @@ use crate::erased::binfarce_figures::key::{Grouping, Keyed, keyed_of};
 use crate::erased::binfarce_figures::order::Row;
 use crate::erased::binfarce_figures::rows::list_of;
 use crate::erased::binfarce::SectionFunction;
-use crate::erased::binfarce_tools::json::Form;
+use crate::erased::binfarce_tools::json::{Form, push_number_member, push_start};
 use crate::erased::binfarce_tools::list::Sink;
 use crate::erased::binfarce_tools::report::{CrateSums, ReportError, add_size, write_made};
 use crate::erased::binfarce_tools::tables::Tables;
@@ -29,12 +29,14 @@ pub struct Figures {
 
 /// Writes a line for each key: the sum of the sizes of its function symbols, the greatest first, those of one size in
 /// the order of the keys' bytes; and the lines for the whole, as `report_tables` does. A byte that several symbols of a
-/// section have counts for the first of them in the order of addresses.
+/// section have counts for the innermost of them: the one that begins last, of these the shortest, and of these the one
+/// whose stored name is least.
 ///
 /// A line is `{sum:>10} {key}`. Before the key it has the share of the section, or of all sections in the sum of all
 /// sizes, as `{percent:>3}.{hundredths:02}% `, if that is wanted; and for `Key::Generic` the number of function symbols
 /// as `{copies:>6} `. `[N others]` is the key of the line that sums up those past the first. An object has the members
-/// `file`, `name`, `size` and `copies`, and there is none for the whole.
+/// `file`, `name`, `size`, `copies` and, if that is wanted, `percent`; the last one, for the whole, has `file`, `sum` and
+/// of one section `text`, its size.
 ///
 /// # Errors
 ///
@@ -55,11 +57,11 @@ pub fn sum_by<S: Sink>(
 /// # Errors
 ///
 /// Those of `report_tables`, but for `Write`.
-pub(crate) fn keyed_in(
+pub(crate) fn keyed_in<'a>(
     alloc: Global,
-    tables: &Tables<'_>,
+    tables: &'a Tables<'_>,
     grouping: Grouping,
-) -> Result<(Vec<Keyed>, Option<u64>), ReportError> {
+) -> Result<(Vec<Keyed<'a>>, Option<u64>), ReportError> {
     let selected = tables.functions(alloc)?;
     let (functions, size) = list_of(alloc, selected)?;
     if total_of(&functions) > u128::from(u64::MAX) {
@@ -79,7 +81,7 @@ fn text_of(
     alloc: Global,
     figures: &Figures,
     form: Form<'_>,
-    keyed: &[Keyed],
+    keyed: &[Keyed<'_>],
     size: Option<u64>,
 ) -> Result<String, AllocError> {
     let claims = claims_of(alloc, keyed)?;
@@ -117,18 +119,34 @@ pub(crate) fn sums_of(
     })
 }
 
-// Appends the lines of the sum of all, and of the section's size; no objects for these.
+// Appends the lines of the sum of all, and of the section's size; one object of both.
 fn push_whole(
     text: &mut String,
     form: Form<'_>,
     total: u64,
     size: Option<u64>,
 ) -> Result<(), AllocError> {
-    if form == Form::Lines {
-        writeln!(text, "sum {total}")?;
-        if let Some(size) = size {
-            writeln!(text, "text {size}")?;
+    match form {
+        Form::Lines => {
+            writeln!(text, "sum {total}")?;
+            if let Some(size) = size {
+                writeln!(text, "text {size}")?;
+            }
+            Ok(())
+        }
+        Form::Objects(file, _) => {
+            push_start(text, file)?;
+            push_number_member(text, "sum", total)?;
+            push_section_member(text, size)?;
+            text.push_str("}\n")
         }
     }
-    Ok(())
+}
+
+// Appends the member of the section's size, if there is one.
+fn push_section_member(text: &mut String, size: Option<u64>) -> Result<(), AllocError> {
+    match size {
+        Some(size) => push_number_member(text, "text", size),
+        None => Ok(()),
+    }
 }

@@ -357,7 +357,7 @@ fn push_name(
     name: &[u8],
     out: &mut Vec<u8>,
 ) -> Result<bool, AllocError> {
-    let name_text = std::str::from_utf8(name).unwrap();
+    let name_text = core::str::from_utf8(name).unwrap();
     names
         .demangler
         .short_text(&mut names.text, name_text, full, MAX_TEXT + 1)?;

@@ -12,8 +12,8 @@ pub(crate) mod write;
 use crate::shim::Vec;
 use self::parts::{bodies_end, has_names, has_one_table};
 use crate::shim::alloc::{AllocError, Global};
-use std::error::Error;
-use std::fmt;
+use crate::shim::error::Error;
+use core::fmt;
 
 /// The class and the byte order that a file is written in.
 #[derive(Debug, Clone, Copy)]

@@ -22,8 +22,8 @@ pub enum Fault {
     List(ListError),
 }
 
-impl std::fmt::Display for Fault {
-    fn fmt(&self, f: &mut std::fmt::Formatter<'_>) -> std::fmt::Result {
+impl core::fmt::Display for Fault {
+    fn fmt(&self, f: &mut core::fmt::Formatter<'_>) -> core::fmt::Result {
         match self {
             Fault::Usage => write!(f, "usage: binfarce-list FILE [SECTION]"),
             Fault::File => write!(f, "binfarce-list: cannot read file"),
@@ -32,7 +32,7 @@ impl std::fmt::Display for Fault {
     }
 }
 
-impl std::error::Error for Fault {}
+impl crate::shim::error::Error for Fault {}
 
 impl From<Failure> for Fault {
     fn from(e: Failure) -> Self {

@@ -15,7 +15,7 @@ use crate::erased::binfarce_bytes::functions::{FunctionSymbol, SectionFunction, 
 use crate::erased::binfarce_bytes::parser::parse_null_string;
 use crate::erased::binfarce_bytes::sizes::{RowAddress, arrange};
 use crate::shim::alloc::{AllocError, Global};
-use std::mem;
+use core::mem;
 
 // The bits of a row's type that make it an entry for a debugger, and those that say where the symbol is defined.
 const N_STAB: u8 = 0xE0;

@@ -5,7 +5,7 @@
 use crate::shim::{String, Vec};
 use crate::erased::binfarce_macho::commands::{LC_SEGMENT_64, commands};
 use crate::erased::binfarce_macho::header::MachoHeader;
-use crate::erased::binfarce_macho::sections::{SECTION_LENGTH, Section, section_at};
+use crate::erased::binfarce_macho::sections::{SECTION_LENGTH, Section, flags_at, section_at};
 use crate::erased::binfarce_macho::symbols::{Extent, text_extent};
 use crate::erased::binfarce_bytes::functions::Selection;
 use crate::erased::binfarce_bytes::parser::number_at;
@@ -165,10 +165,7 @@ fn extent_at(file: &[u8], start: usize) -> Extent {
 }
 
 fn has_instructions(file: &[u8], start: usize) -> bool {
-    match number_at::<u32>(file, start + 64, ByteOrder::LittleEndian) {
-        Ok(flags) => flags & S_ATTR_INSTRUCTIONS != 0,
-        Err(_) => false,
-    }
+    flags_at(file, start) & S_ATTR_INSTRUCTIONS != 0
 }
 
 fn name_at(alloc: Global, file: &[u8], start: usize) -> Result<Option<String>, AllocError> {

@@ -10,12 +10,12 @@ use crate::erased::binfarce_bytes::parser::{
     Stream, UnexpectedEof, number_at, range, slice_at, to_index, up_to_nul, utf8_text,
 };
 use crate::erased::binfarce_bytes::{ByteOrder, ParseError};
-use std::ops::Range;
+use core::ops::Range;
 
 pub(crate) const SECTION_LENGTH: usize = 80;
 
-/// A section (`section_64`): its names, its address, and the offset and size of its bytes. The names are slices of the
-/// file.
+/// A section (`section_64`): its names, its address, the offset and size of its bytes, and its flags. The names are
+/// slices of the file.
 #[derive(Debug, Clone, Copy)]
 pub struct Section<'a> {
     pub(crate) segment_name: &'a str,
@@ -23,6 +23,7 @@ pub struct Section<'a> {
     pub(crate) address: u64,
     pub(crate) offset: u32,
     pub(crate) size: u64,
+    pub(crate) flags: u32,
 }
 
 impl Section<'_> {
@@ -226,9 +227,15 @@ pub(crate) fn section_at(bytes: &[u8], start: usize) -> Result<Option<Section<'_
                 address,
                 offset,
                 size,
+                flags: flags_at(bytes, start),
             })),
         },
     }
+}
+
+// The flags of the section whose structure begins at `start`; 0 where they are truncated.
+pub(crate) fn flags_at(bytes: &[u8], start: usize) -> u32 {
+    number_at(bytes, start + 64, ByteOrder::LittleEndian).unwrap_or(0)
 }
 
 // The name in a field's bytes: those up to the first NUL, or all where there is none.

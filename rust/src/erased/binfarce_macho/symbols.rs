@@ -42,12 +42,12 @@ fn text_section(file: &[u8], header: MachoHeader) -> Result<Section<'_>, ParseEr
 
 /// The tables that the first `LC_SYMTAB` command of a file with this header names; `None` without one. Refused as
 /// `functions` of a reader is, up to there.
-pub fn symbol_table(file: &[u8], header: MachoHeader) -> Result<Option<SymbolTable>, ParseError> {
+pub fn symbol_table(file: &[u8], header: MachoHeader) -> Result<Option<SymtabCommand>, ParseError> {
     let command = symbol_command(file, header)?;
     named_table(file, command)
 }
 
-fn named_table(bytes: &[u8], command: Option<Command>) -> Result<Option<SymbolTable>, ParseError> {
+fn named_table(bytes: &[u8], command: Option<Command>) -> Result<Option<SymtabCommand>, ParseError> {
     match command {
         None => Ok(None),
         Some(command) => Ok(Some(symbol_table_at(bytes, command)?)),
@@ -58,7 +58,7 @@ fn named_table(bytes: &[u8], command: Option<Command>) -> Result<Option<SymbolTa
 /// where they don't lie in the file.
 pub fn symbols_by(
     file: &[u8],
-    table: Option<SymbolTable>,
+    table: Option<SymtabCommand>,
 ) -> Result<Option<SymbolBytes<'_>>, ParseError> {
     match table {
         None => Ok(None),
@@ -94,21 +94,21 @@ fn some_size(section: Section<'_>) -> Result<Section<'_>, ParseError> {
 /// The body of a symbol table's command (`symtab_command`): the offset and the number of rows of the symbol table, and
 /// the offset and the size in bytes of the string table.
 #[derive(Clone, Copy)]
-pub struct SymbolTable {
+pub struct SymtabCommand {
     pub symbol_offset: u32,
     pub row_count: u32,
     pub strings_offset: u32,
     pub strings_size: u32,
 }
 
-fn symbol_table_at(bytes: &[u8], command: Command) -> Result<SymbolTable, UnexpectedEof> {
+fn symbol_table_at(bytes: &[u8], command: Command) -> Result<SymtabCommand, UnexpectedEof> {
     let body = command.offset.checked_add(8).ok_or(UnexpectedEof {})?;
     let mut s = Stream::new_at(bytes, body, ByteOrder::LittleEndian)?;
     let symbol_offset = s.read()?;
     let row_count = s.read()?;
     let strings_offset = s.read()?;
     let strings_size = s.read()?;
-    Ok(SymbolTable {
+    Ok(SymtabCommand {
         symbol_offset,
         row_count,
         strings_offset,

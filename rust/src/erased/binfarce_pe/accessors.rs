@@ -32,4 +32,29 @@ impl<'a> Section<'a> {
     pub fn size(&self) -> u32 {
         self.size_of_raw_data
     }
+
+    /// The section's flags (`Characteristics`): 0x20 where it has code (`IMAGE_SCN_CNT_CODE`), 0x80000000 where it is
+    /// writable in memory (`IMAGE_SCN_MEM_WRITE`), and others. 0 where the file ends before them.
+    pub fn characteristics(&self) -> u32 {
+        self.characteristics
+    }
+
+    /// How many bytes of the file are the section's: `SizeOfRawData`, but 0 where `PointerToRawData` is 0.
+    pub fn file_size(&self) -> u32 {
+        if self.pointer_to_raw_data == 0 {
+            0
+        } else {
+            self.size_of_raw_data
+        }
+    }
+
+    /// How many bytes the section has in memory: `VirtualSize`, or `SizeOfRawData` where that is 0, as in an object
+    /// file.
+    pub fn memory_size(&self) -> u32 {
+        if self.virtual_size == 0 {
+            self.size_of_raw_data
+        } else {
+            self.virtual_size
+        }
+    }
 }

@@ -7,14 +7,14 @@ use crate::erased::binfarce_pe::header::image_base;
 use crate::erased::binfarce_pe::parts::{SECTION_LENGTH, TableOffsets, Text, text_in};
 use crate::erased::binfarce_pe::sections::{Table, section_at, section_table};
 use crate::erased::binfarce_pe::symbols::{
-    SYMBOL_LENGTH, SymbolRow, SymbolTable, is_function, name_of, symbol_of, symbol_table,
+    CoffTable, SYMBOL_LENGTH, SymbolRow, is_function, name_of, symbol_of, symbol_table,
 };
 use crate::erased::binfarce_bytes::functions::{FunctionSymbol, SectionFunction, Selection};
 use crate::erased::binfarce_bytes::parser::{number_at, slice_at, to_index};
 use crate::erased::binfarce_bytes::sizes::{RowAddress, arrange};
 use crate::erased::binfarce_bytes::{ByteOrder, ParseError};
 use crate::shim::alloc::{AllocError, Global};
-use std::mem;
+use core::mem;
 
 const IMAGE_SYM_CLASS_EXTERNAL: u8 = 2;
 
@@ -106,7 +106,7 @@ pub fn section_name<'a>(sections: Table<'a>, number: u32) -> Option<&'a str> {
 pub fn functions_of<'a>(
     alloc: Global,
     sections: SelectedSections<'_>,
-    symbols: SymbolTable<'a>,
+    symbols: CoffTable<'a>,
 ) -> Result<Vec<SectionFunction<'a>>, AllocError> {
     let mut functions = Vec::new(alloc);
     if !keeps_some(sections, symbols) {
@@ -166,7 +166,7 @@ fn position_of(sections: SelectedSections<'_>, row: SymbolRow) -> Option<u32> {
 // The position among the selected sections of the one in which a row ends sizes, and the row's name where it is kept.
 fn ending_of<'a>(
     sections: SelectedSections<'_>,
-    symbols: SymbolTable<'a>,
+    symbols: CoffTable<'a>,
     number: usize,
     row: SymbolRow,
 ) -> Option<(u32, Option<&'a str>)> {
@@ -189,7 +189,7 @@ fn ending_of<'a>(
 // The position among the selected sections of the one that a row is kept of.
 fn kept_in(
     sections: SelectedSections<'_>,
-    symbols: SymbolTable<'_>,
+    symbols: CoffTable<'_>,
     number: usize,
     row: SymbolRow,
 ) -> Option<u32> {
@@ -206,7 +206,7 @@ fn kept_in(
 // The name of a row that is kept of the section that it names, if that is selected.
 fn function_name<'a>(
     sections: SelectedSections<'_>,
-    symbols: SymbolTable<'a>,
+    symbols: CoffTable<'a>,
     number: usize,
     row: SymbolRow,
 ) -> Option<&'a str> {
@@ -264,7 +264,7 @@ struct Held<'a> {
 }
 
 // Whether a row is kept of a selected section. Nothing is allocated.
-fn keeps_some(sections: SelectedSections<'_>, symbols: SymbolTable<'_>) -> bool {
+fn keeps_some(sections: SelectedSections<'_>, symbols: CoffTable<'_>) -> bool {
     let row_count = symbols.rows.len() / SYMBOL_LENGTH;
     let mut next = 0;
     while next < row_count {
@@ -283,7 +283,7 @@ fn keeps_some(sections: SelectedSections<'_>, symbols: SymbolTable<'_>) -> bool 
 fn rows_by_section<'a>(
     alloc: Global,
     sections: SelectedSections<'_>,
-    symbols: SymbolTable<'a>,
+    symbols: CoffTable<'a>,
 ) -> Result<Vec<Held<'a>>, AllocError> {
     let (_, count) = span_of(sections);
     let row_count = symbols.rows.len() / SYMBOL_LENGTH;

@@ -4,10 +4,10 @@
 
 use crate::erased::binfarce_pe::parts::{SECTION_LENGTH, TableOffsets};
 use crate::erased::binfarce_bytes::parser::{
-    Stream, UnexpectedEof, range, slice_at, to_index, up_to_nul, utf8_text,
+    Stream, UnexpectedEof, number_at, range, slice_at, to_index, up_to_nul, utf8_text,
 };
 use crate::erased::binfarce_bytes::{ByteOrder, ParseError};
-use std::ops::Range;
+use core::ops::Range;
 
 /// A section header's values ("Section Table"), and the section's index, counted from 0.
 ///
@@ -19,6 +19,7 @@ pub struct Section<'a> {
     pub(crate) virtual_address: u32,
     pub(crate) size_of_raw_data: u32,
     pub(crate) pointer_to_raw_data: u32,
+    pub(crate) characteristics: u32,
     pub(crate) index: u16,
 }
 
@@ -186,9 +187,15 @@ pub(crate) fn section_at(
             virtual_address,
             size_of_raw_data,
             pointer_to_raw_data,
+            characteristics: characteristics_at(bytes, start),
             index,
         })),
     }
+}
+
+// The flags of the section whose header begins at `start`; 0 where they are truncated.
+fn characteristics_at(bytes: &[u8], start: usize) -> u32 {
+    number_at(bytes, start + 36, ByteOrder::LittleEndian).unwrap_or(0)
 }
 
 // The bytes up to the first NUL, or all where there is none, as UTF-8.

@@ -17,7 +17,7 @@ const IMAGE_SYM_DTYPE_FUNCTION: u16 = 2;
 
 /// The records of a symbol table, and the bytes from the string table on, which comes after them.
 #[derive(Clone, Copy)]
-pub struct SymbolTable<'a> {
+pub struct CoffTable<'a> {
     pub rows: &'a [u8],
     pub strings: &'a [u8],
 }
@@ -37,14 +37,14 @@ pub(crate) struct SymbolRow {
 pub(crate) fn symbol_table<'a>(
     file: &'a [u8],
     places: TableOffsets,
-) -> Result<SymbolTable<'a>, ParseError> {
+) -> Result<CoffTable<'a>, ParseError> {
     let offset = places.symbols;
     if offset >= file.len() as u64 {
         return Err(ParseError::UnexpectedEof);
     }
     let rows = slice_at(file, to_index(offset), to_index(places.symbols_size))?;
     let strings = &file[to_index(offset + places.symbols_size)..];
-    Ok(SymbolTable { rows, strings })
+    Ok(CoffTable { rows, strings })
 }
 
 #[inline]
@@ -53,7 +53,7 @@ pub(crate) fn is_function(row: SymbolRow) -> bool {
 }
 
 // A row's name: its own 8 bytes, or the text in the string table.
-pub(crate) fn name_of<'a>(table: SymbolTable<'a>, number: usize, row: SymbolRow) -> Option<&'a str> {
+pub(crate) fn name_of<'a>(table: CoffTable<'a>, number: usize, row: SymbolRow) -> Option<&'a str> {
     if row.zeroes == 0 {
         parse_null_string(table.strings, row.offset as usize)
     } else {
@@ -62,7 +62,7 @@ pub(crate) fn name_of<'a>(table: SymbolTable<'a>, number: usize, row: SymbolRow)
     }
 }
 
-pub(crate) fn symbol_of(table: SymbolTable<'_>, number: usize) -> SymbolRow {
+pub(crate) fn symbol_of(table: CoffTable<'_>, number: usize) -> SymbolRow {
     symbol_at(table.rows, number * SYMBOL_LENGTH).unwrap()
 }
 

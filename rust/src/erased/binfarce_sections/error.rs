@@ -6,8 +6,8 @@ use crate::erased::binfarce::ParseError;
 use crate::erased::binfarce_tables::ReadError;
 use crate::erased::binfarce_tools::list::ListError;
 use crate::shim::alloc::AllocError;
-use std::error::Error;
-use std::fmt;
+use crate::shim::error::Error;
+use core::fmt;
 
 /// Why the sections of a file were not listed, or the bytes of one were not given.
 #[derive(Debug, PartialEq)]

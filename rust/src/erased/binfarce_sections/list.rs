@@ -4,6 +4,7 @@
 
 use crate::shim::String;
 use crate::erased::binfarce_sections::error::SectionError;
+use crate::erased::binfarce_sections::kinds::SectionType;
 use crate::erased::binfarce_sections::sections::{Section, Sections, sections_of};
 use crate::erased::binfarce_sections::tables::read;
 use crate::erased::binfarce::ParseError;
@@ -35,7 +36,8 @@ pub fn list_sections<S: Sink>(alloc: Global, file: &[u8], out: &mut S) -> Result
 }
 
 /// As `list_sections`, from a source, in either form; an object has the members `file`, `segment`, `section`,
-/// `address`, `offset` and `size`, and `null` for a name that isn't there. Of the source only these bytes are read: the
+/// `address`, `offset`, `size`, `type` (its name, or its number where it has none) and `flags`, and `null` for a name
+/// or a type that isn't there. Of the source only these bytes are read: the
 /// first 8 bytes, and those that `read_sections` of `binfarce_tables` reads of a file of that format.
 ///
 /// # Errors
@@ -98,8 +100,19 @@ fn push_object(text: &mut String, file: &str, section: Section<'_>) -> Result<()
     push_address_member(text, section.address)?;
     push_number_member(text, "offset", section.offset)?;
     push_number_member(text, "size", section.size)?;
+    push_type_member(text, section.kind)?;
+    push_number_member(text, "flags", section.flags)?;
     text.push_str("}\n")?;
     Ok(())
+}
+
+/// Appends the member `type`, after a comma: the type's name, or where it has none its number; `null` in PE.
+pub(crate) fn push_type_member(text: &mut String, kind: SectionType) -> Result<(), AllocError> {
+    match (kind.name(), kind.number()) {
+        (Some(name), _) => push_text_member(text, "type", Some(name)),
+        (None, Some(number)) => push_number_member(text, "type", u64::from(number)),
+        (None, None) => push_text_member(text, "type", None),
+    }
 }
 
 // Appends the line of a section to the text.
@@ -115,7 +128,11 @@ fn push_head(text: &mut String, address: u64, offset: u64, size: u64) -> Result<
 }
 
 // Writes a section's name, in Mach-O after its segment's.
-fn push_name(text: &mut String, segment: Option<&str>, name: Option<&str>) -> Result<(), AllocError> {
+pub(crate) fn push_name(
+    text: &mut String,
+    segment: Option<&str>,
+    name: Option<&str>,
+) -> Result<(), AllocError> {
     let Some(name) = name else {
         return Ok(());
     };

@@ -3,6 +3,7 @@
 //! The sections of a file of any format, one after the other.
 
 use crate::erased::binfarce_sections::error::SectionError;
+use crate::erased::binfarce_sections::kinds::SectionType;
 use crate::erased::binfarce::{ByteOrder, Format, ParseError, detect_format, macho, pe};
 use crate::erased::binfarce_elf::parts::{AnySections, is_named_in, name_in, sections_of_file};
 use crate::erased::binfarce_elf::sections as elf_sections;
@@ -24,9 +25,19 @@ pub struct Section<'a> {
     /// Its size in bytes (`sh_size`, `size`), as the file states it. In a PE file, the smaller one of `VirtualSize` and
     /// `SizeOfRawData`, or the other one where one is 0.
     pub size: u64,
-    /// Whether it has bytes in the file: not in ELF where its type is `SHT_NOBITS`, not in Mach-O where its offset is
-    /// 0, and not in PE where `PointerToRawData` or `SizeOfRawData` is 0.
+    /// Whether it has bytes in the file: not in ELF where its type is `SHT_NOBITS`, not in Mach-O where it is filled
+    /// with zeros by its type, or its offset is 0, and not in PE where `PointerToRawData` or `SizeOfRawData` is 0.
     pub has_bytes: bool,
+    /// Its type.
+    pub kind: SectionType,
+    /// Its flags (`sh_flags`, `flags`, `Characteristics`); 0 in a Mach-O or PE file that ends before them.
+    pub flags: u64,
+    /// How many bytes it has in the file, as the file states it: its size, or 0 if it has none there. In a PE file
+    /// `SizeOfRawData`, which an image rounds up.
+    pub file_size: u64,
+    /// How many bytes it has in memory: in ELF its size where its flags have `SHF_ALLOC`, else 0; in Mach-O its size; in
+    /// PE `VirtualSize`, or `SizeOfRawData` where that is 0, as in an object file.
+    pub memory_size: u64,
 }
 
 /// An iterator over the sections of a file, in file order. It borrows the file's bytes.
@@ -133,6 +144,10 @@ fn elf_section<'a>(names: Option<&'a [u8]>, section: elf_sections::Section<u64>)
         offset: section.offset(),
         size: section.size(),
         has_bytes: section.section_type() != SHT_NOBITS,
+        kind: SectionType::Elf(section.section_type()),
+        flags: section.flags(),
+        file_size: section.file_size(),
+        memory_size: section.memory_size(),
     }
 }
 
@@ -147,7 +162,11 @@ fn macho_section(section: macho::Section<'_>) -> Section<'_> {
         address: section.address(),
         offset: u64::from(section.offset()),
         size: section.size(),
-        has_bytes: section.offset() != 0,
+        has_bytes: !(section.is_zero_filled() || section.offset() == 0),
+        kind: SectionType::Macho(section.section_type()),
+        flags: u64::from(section.flags()),
+        file_size: section.file_size(),
+        memory_size: section.size(),
     }
 }
 
@@ -159,6 +178,10 @@ fn pe_section(section: pe::Section<'_>) -> Section<'_> {
         offset: u64::from(section.offset()),
         size: u64::from(pe_size(section.virtual_size(), section.size())),
         has_bytes: section.offset() != 0 && section.size() != 0,
+        kind: SectionType::Pe,
+        flags: u64::from(section.characteristics()),
+        file_size: u64::from(section.file_size()),
+        memory_size: u64::from(section.memory_size()),
     }
 }
 

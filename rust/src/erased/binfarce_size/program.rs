@@ -23,8 +23,8 @@ pub enum Fault {
     Report(ReportError),
 }
 
-impl std::fmt::Display for Fault {
-    fn fmt(&self, f: &mut std::fmt::Formatter<'_>) -> std::fmt::Result {
+impl core::fmt::Display for Fault {
+    fn fmt(&self, f: &mut core::fmt::Formatter<'_>) -> core::fmt::Result {
         match self {
             Fault::Usage => write!(f, "usage: binfarce-size FILE [SECTION]"),
             Fault::File => write!(f, "binfarce-size: cannot read file"),
@@ -33,7 +33,7 @@ impl std::fmt::Display for Fault {
     }
 }
 
-impl std::error::Error for Fault {}
+impl crate::shim::error::Error for Fault {}
 
 impl From<Failure> for Fault {
     fn from(e: Failure) -> Self {

@@ -13,7 +13,9 @@ use crate::erased::binfarce_macho::functions::functions_of;
 use crate::erased::binfarce_macho::header::{MachoHeader, parse_header};
 use crate::erased::binfarce_macho::numbered::{SelectedSections, is_object, selected_sections};
 use crate::erased::binfarce_macho::parts::{commands_end, holds_commands, load_address};
-use crate::erased::binfarce_macho::symbols::{SYMBOL_LENGTH, SymbolBytes, SymbolTable, symbol_table};
+use crate::erased::binfarce_macho::symbols::{
+    SYMBOL_LENGTH, SymbolBytes, SymtabCommand, symbol_table,
+};
 use crate::shim::alloc::Global;
 
 // The number of the header's bytes that are read.
@@ -108,7 +110,7 @@ pub fn read<S: Source>(
 // The content of the load commands: the selected sections, and where the symbol table is.
 struct Found {
     sections: SelectedSections,
-    table: Option<SymbolTable>,
+    table: Option<SymtabCommand>,
     is_object: bool,
 }
 
@@ -141,7 +143,7 @@ fn read_symbols<S: Source>(
     source: &S,
     log: &mut S::Log,
     len: u64,
-    table: Option<SymbolTable>,
+    table: Option<SymtabCommand>,
 ) -> Result<Option<SymbolParts>, ReadError> {
     let table = match table {
         None => return Ok(None),

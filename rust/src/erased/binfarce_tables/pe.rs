@@ -16,7 +16,7 @@ use crate::erased::binfarce_pe::parts::{
     text_in,
 };
 use crate::erased::binfarce_pe::sections::Table;
-use crate::erased::binfarce_pe::symbols::SymbolTable;
+use crate::erased::binfarce_pe::symbols::CoffTable;
 use crate::shim::alloc::Global;
 
 // The length of the MS-DOS stub in bytes.
@@ -45,7 +45,7 @@ impl Parts {
     ///
     /// `OutOfMemory`, only instead of a list that isn't empty.
     pub fn functions(&self, alloc: Global) -> Result<Vec<SectionFunction<'_>>, ParseError> {
-        let symbols = SymbolTable {
+        let symbols = CoffTable {
             rows: &self.records.rows,
             strings: &self.records.strings,
         };

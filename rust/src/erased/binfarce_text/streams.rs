@@ -4,8 +4,8 @@
 
 use crate::shim::Vec;
 use crate::shim::alloc::{AllocError, Global};
-use std::error::Error;
-use std::fmt;
+use crate::shim::error::Error;
+use core::fmt;
 use crate::shim::io::{ErrorKind, Read};
 
 /// Why a stream was not passed to its end.

@@ -23,7 +23,7 @@ pub fn push_head(text: &mut String, address: u64, size: u64) -> Result<(), Alloc
 fn push_head_of_28(text: &mut String, address: u64, size: u64) -> Result<(), AllocError> {
     let mut head = [b' '; 28];
     put_head(&mut head, address, size);
-    text.push_str(std::str::from_utf8(&head).unwrap())
+    text.push_str(core::str::from_utf8(&head).unwrap())
 }
 
 // Puts an address and a size into 28 blanks.

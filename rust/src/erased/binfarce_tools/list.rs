@@ -10,8 +10,8 @@ use crate::erased::binfarce_tools::writing::write_whole;
 use crate::erased::binfarce::{ParseError, SectionFunction};
 use crate::erased::binfarce_names::demangle::Demangler;
 use crate::shim::alloc::{AllocError, Global};
-use std::error::Error;
-use std::fmt;
+use crate::shim::error::Error;
+use core::fmt;
 use crate::shim::io::Write;
 
 /// A sink of bytes.

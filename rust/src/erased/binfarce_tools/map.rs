@@ -46,8 +46,8 @@ pub fn map_tables<S: Sink>(
     write_made(out, picture(alloc, title, &sums))
 }
 
-// The whole picture.
-fn picture(alloc: Global, title: &str, sums: &CrateSums) -> Result<String, AllocError> {
+/// The picture of sums, which have to be those of shares, with this title. The only error is a failed allocation.
+pub fn picture(alloc: Global, title: &str, sums: &CrateSums) -> Result<String, AllocError> {
     let bars = bars_of(alloc, sums)?;
     chart(alloc, title, bars.as_slice(), sums.section_size)
 }

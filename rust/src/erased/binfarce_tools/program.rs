@@ -12,7 +12,7 @@ use crate::shim::fs::File;
 use crate::shim::io::{self, ErrorKind, Read};
 use std::process::ExitCode;
 use crate::shim::env;
-use std::fmt;
+use core::fmt;
 
 /// A failure that every program can have. A program's own fault is made of it.
 #[derive(Debug, Clone, Copy, PartialEq)]

@@ -11,8 +11,8 @@ use crate::erased::binfarce::{FunctionSymbol, ParseError};
 use crate::erased::binfarce_names::demangle::push_crate;
 use crate::shim::alloc::{AllocError, Global};
 use crate::shim::collections::BTreeMap;
-use std::error::Error;
-use std::fmt;
+use crate::shim::error::Error;
+use core::fmt;
 
 // The label in a report for symbols without a crate.
 const UNKNOWN_CRATE: &str = "[unknown]";

@@ -43,6 +43,27 @@ impl<'a> Tables<'a> {
         Self::Whole { file, section }
     }
 
+    /// The tables, unless their function symbols are refused: then `functions` fails only where an allocation does.
+    /// Those of a file read at offsets may be refused where its format is unknown, and for a Mach-O file's rows.
+    ///
+    /// # Errors
+    ///
+    /// Those of `functions`.
+    pub fn accepted(self, alloc: Global) -> Result<Tables<'a>, ListError> {
+        if self.may_be_refused() {
+            self.functions(alloc)?;
+        }
+        Ok(self)
+    }
+
+    // Whether the function symbols may be refused: those that were read or made of an answer aren't.
+    fn may_be_refused(&self) -> bool {
+        match self {
+            Tables::Elf(_) | Tables::Pe(_) | Tables::Made { .. } => false,
+            Tables::Macho(_) | Tables::Unknown | Tables::Whole { .. } => true,
+        }
+    }
+
     /// The function symbols that the tables were read for, by the symbol table that they were read by. Those of a
     /// section are, for the symbol table, the answer of `functions_of_file`, and those of all sections that of
     /// `all_functions` of a reader.

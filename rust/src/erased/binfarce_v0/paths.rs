@@ -89,6 +89,7 @@ fn print_closed_path(
 }
 
 // `"N" <namespace> <path> <identifier>`, with its `N` at `at`.
+#[cfg_attr(not(debug_assertions), inline(always))]
 fn print_nested(
     printer: &mut Printer<'_>,
     here: Nesting,

@@ -4,6 +4,8 @@
 //! of 2^64 or more is invalid.
 
 use crate::erased::binfarce_text::digits::hex_value;
+use crate::erased::binfarce_text::strides::STRIDE;
+use crate::shim::simd::prelude::*;
 
 /// The byte at a position, and 0 from the end on.
 #[cfg_attr(not(debug_assertions), inline(always))]
@@ -95,9 +97,36 @@ pub fn optional_base_62_number(part: &[u8], tag: u8, at: usize) -> Option<(u64, 
     }
 }
 
-// The position after the longest run of base-62 digits from a position on.
+// How many of 16 bytes are base-62 digits before the first that isn't.
+#[cfg_attr(not(debug_assertions), inline(always))]
+fn digit_run(bytes: &[u8]) -> usize {
+    let v = u8x16::from_slice(bytes);
+    let letter = (v | u8x16::splat(0x20)) - u8x16::splat(b'a');
+    let digit = v - u8x16::splat(b'0');
+    let is_other = letter.simd_ge(u8x16::splat(26)) & digit.simd_ge(u8x16::splat(10));
+    let others = is_other.to_bitmask();
+    if others == 0 {
+        STRIDE
+    } else {
+        others.trailing_zeros() as usize
+    }
+}
+
+// The position after the longest run of base-62 digits from a position on: a disambiguator has up to eleven.
 #[cfg_attr(not(debug_assertions), inline(always))]
 fn digits_end(part: &[u8], start: usize) -> usize {
+    if part.len() - start >= STRIDE {
+        let run = digit_run(&part[start..start + STRIDE]);
+        if run < STRIDE {
+            return start + run;
+        }
+    }
+    digits_end_slowly(part, start)
+}
+
+// The same, one byte at a time.
+#[inline(never)]
+fn digits_end_slowly(part: &[u8], start: usize) -> usize {
     let mut end = start;
     while end < part.len() && is_digit_62(part[end]) {
         end += 1;

@@ -5,7 +5,9 @@
 use crate::erased::binfarce_v0_grammar::forms::{
     ConstForm, FunctionForm, Listed, basic_type, const_form, function_form, lifetime_form,
 };
-use crate::erased::binfarce_v0_grammar::identifiers::{identifier_at, undisambiguated_at};
+use crate::erased::binfarce_v0_grammar::identifiers::{
+    identifier_at, identifier_name_at, undisambiguated_at,
+};
 use crate::erased::binfarce_v0_grammar::numbers::{back_reference, byte_at, optional_base_62_number};
 use crate::erased::binfarce_v0_grammar::positions::eat;
 
@@ -40,7 +42,7 @@ pub fn read_path(part: &str, levels_left: usize, at: usize) -> Option<usize> {
     let bytes = part.as_bytes();
     match byte_at(bytes, at) {
         b'C' => {
-            let (_root, end) = identifier_at(part, at + 1)?;
+            let (_root, end) = identifier_name_at(part, at + 1)?;
             Some(end)
         }
         b'N' => {

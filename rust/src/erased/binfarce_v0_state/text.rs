@@ -120,7 +120,7 @@ impl Leaf for Disambiguator {
     fn push(self, out: &mut String) -> Result<(), AllocError> {
         let mut shown = [0; 18];
         let start = put_disambiguator(&mut shown, self.0);
-        out.push_str(std::str::from_utf8(&shown[start..]).unwrap())
+        out.push_str(core::str::from_utf8(&shown[start..]).unwrap())
     }
 }
 

@@ -12,7 +12,7 @@ use crate::erased::binfarce_addresses::address::parse_address;
 use crate::erased::binfarce_figures::key::Key;
 use crate::erased::binfarce_figures::order::Order;
 use crate::shim::alloc::Global;
-use std::fmt;
+use core::fmt;
 
 /// A command.
 #[derive(Debug, Clone, Copy, PartialEq)]
@@ -67,11 +67,11 @@ pub enum Flag {
     Section,
     /// Keeps hashes.
     Full,
-    /// Where the file is loaded.
+    /// Where the file is loaded: of several files once for each.
     Base,
     /// Names a file in the form of `/proc/PID/maps`, which says where the file is loaded.
     Maps,
-    /// The file's name in maps and in a text.
+    /// The file's name in maps and in a text: of several files once for each.
     As,
     /// The addresses are return addresses.
     Return,
@@ -137,6 +137,7 @@ fn key_named(name: &str) -> Option<Key> {
     match name {
         "crate" => Some(Key::Crate),
         "function" => Some(Key::Function),
+        "function-section" => Some(Key::Section),
         "generic" => Some(Key::Generic),
         "section" => Some(Key::Section),
         _ => None,
@@ -152,7 +153,7 @@ impl Takes {
             Takes::Address => "an address",
             Takes::Count => "a number",
             Takes::Order => "address, size or name",
-            Takes::Key => "crate, function, generic or section",
+            Takes::Key => "crate, function, function-section, generic or section",
         }
     }
 
@@ -221,7 +222,7 @@ impl Command {
                 Sort, First, NoTotal, Raw, Full, Json, Section, Dynamic, All, Help,
             ],
             Command::Size => &[By, First, Percent, Std, Json, Section, Dynamic, All, Help],
-            Command::Map => &[Folded, Section, Dynamic, All, Help],
+            Command::Map => &[Std, Folded, Section, Dynamic, All, Help],
             Command::Diff => &[
                 By, First, Percent, Std, Json, FailAbove, Section, Dynamic, All, Help,
             ],
@@ -249,6 +250,8 @@ pub enum Wrong<'a> {
     Exclusive(Flag, Flag),
     /// The first option needs the second.
     Needs(Flag, Flag),
+    /// The option is given otherwise than once for each of the files.
+    NotEach(Flag),
     /// The word isn't an address.
     NoAddress(&'a str),
     /// The file at this path has no line that is a mapping.
@@ -308,6 +311,13 @@ impl<'a> fmt::Display for Wrong<'a> {
                 let first = one.name();
                 let second = other.name();
                 write!(f, "{first} needs {second}")
+            }
+            Wrong::NotEach(flag) => {
+                let name = flag.name();
+                write!(
+                    f,
+                    "{name} comes once for each file, in their order, or not at all"
+                )
             }
             Wrong::NoAddress(word) => write!(f, "not an address: {word}"),
             Wrong::NotMaps(path) => write!(f, "no line of {path} is one of /proc/PID/maps"),
@@ -496,9 +506,6 @@ fn check<'a>(command: Command, given: &Arguments<'a>) -> Result<(), Wrong<'a>> {
     if are_given(given, Flag::Annotate, Flag::Json) {
         return Err(Wrong::Exclusive(Flag::Annotate, Flag::Json));
     }
-    if are_given(given, Flag::Percent, Flag::Json) {
-        return Err(Wrong::Exclusive(Flag::Percent, Flag::Json));
-    }
     if is_of_bytes(command, given.operands.as_slice()) && given.has(Flag::Json) {
         return Err(Wrong::BytesAsJson);
     }
@@ -508,11 +515,25 @@ fn check<'a>(command: Command, given: &Arguments<'a>) -> Result<(), Wrong<'a>> {
     if given.has(Flag::Bare) && !given.has(Flag::Annotate) {
         return Err(Wrong::Needs(Flag::Bare, Flag::Annotate));
     }
-    check_operands(
-        command,
-        given.has(Flag::Annotate),
-        given.operands.as_slice(),
-    )
+    if given.has(Flag::Annotate) && !is_each(given, Flag::Base) {
+        return Err(Wrong::NotEach(Flag::Base));
+    }
+    if given.has(Flag::Annotate) && !is_each(given, Flag::As) {
+        return Err(Wrong::NotEach(Flag::As));
+    }
+    check_operands(command, given.operands.as_slice())
+}
+
+// Whether an option comes as often as there are files, or not at all; of one file it may come often.
+fn is_each(given: &Arguments<'_>, flag: Flag) -> bool {
+    let files = given.operands.len();
+    let times = times_given(given.options.as_slice(), flag.name());
+    files < 2 || times == 0 || times == files
+}
+
+// How many of these options have this name.
+fn times_given(options: &[(Flag, &str)], name: &str) -> usize {
+    options.iter().filter(|it| it.0.name() == name).count()
 }
 
 // Whether both options are given.
@@ -526,11 +547,7 @@ fn is_of_bytes(command: Command, operands: &[&str]) -> bool {
 }
 
 // What is wrong with the operands of a command.
-fn check_operands<'a>(
-    command: Command,
-    annotates: bool,
-    operands: &[&'a str],
-) -> Result<(), Wrong<'a>> {
+fn check_operands<'a>(command: Command, operands: &[&'a str]) -> Result<(), Wrong<'a>> {
     match operands {
         _ if command == Command::Filter => Ok(()),
         [] => Err(Wrong::NoFile(command)),
@@ -538,7 +555,7 @@ fn check_operands<'a>(
         [_, _, word, ..] if command == Command::Section || command == Command::Diff => Err(
             Wrong::TooMany(word),
         ),
-        [_, word, ..] if annotates || command == Command::Map => Err(Wrong::TooMany(word)),
+        [_, word, ..] if command == Command::Map => Err(Wrong::TooMany(word)),
         _ => Ok(()),
     }
 }

@@ -52,7 +52,7 @@ pub fn answer(alloc: Global, call: &str) -> Result<String, AllocError> {
             let mut out = Out::new(Vec::new(alloc));
             let ended = write_whole(&mut out, b"text");
             let taken = out.into_inner();
-            String::formatted(alloc, format_args!("{ended:?} {:?}", std::str::from_utf8(&taken)))
+            String::formatted(alloc, format_args!("{ended:?} {:?}", core::str::from_utf8(&taken)))
         }
         "texts" => texts(alloc),
         _ => {
@@ -87,7 +87,7 @@ fn texts(alloc: Global) -> Result<String, AllocError> {
         text,
         " {:?} {ended:?} {:?}",
         sums.get("a"),
-        std::str::from_utf8(&taken)
+        core::str::from_utf8(&taken)
     )?;
     Ok(text)
 }
@@ -99,7 +99,7 @@ pub fn parts(alloc: Global, file: &[u8]) -> Result<String, AllocError> {
         write!(text, "{format:?} ")?;
     }
     if let Ok(names) = part(alloc, &file, &mut (), 216, 18) {
-        write!(text, "{:?}", std::str::from_utf8(&names))?;
+        write!(text, "{:?}", core::str::from_utf8(&names))?;
     }
     Ok(text)
 }

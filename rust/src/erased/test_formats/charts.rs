@@ -47,7 +47,7 @@ pub fn chart_of(alloc: Global, section_size: &str, words: &str) -> Result<String
     }
     let mut bars = Bars::new(alloc);
     for (size, name) in &names {
-        bars.push(std::str::from_utf8(name).unwrap_or("no text"), *size)?;
+        bars.push(core::str::from_utf8(name).unwrap_or("no text"), *size)?;
     }
     bars.picture(alloc, section_size.parse().unwrap_or(0))
 }

@@ -6,7 +6,7 @@ use crate::shim::{CollectIn, String, Vec};
 use crate::erased::test_formats::symbols::{address_of, functions_text, push_found, symbols_text};
 use crate::erased::binfarce::{FunctionSymbol, ParseError, elf32, elf64};
 use crate::shim::alloc::{AllocError, Global};
-use std::ops::Range;
+use core::ops::Range;
 use crate::erased::test_samples::elf::Layout;
 
 /// The answer of the reader of 32 bits.

@@ -5,12 +5,12 @@
 use crate::shim::{String, Vec};
 use crate::erased::binfarce_tables::ReadError;
 use crate::erased::binfarce_tools::SymbolTable;
-use crate::erased::binfarce_tools::list::{Out, list, list_tables};
+use crate::erased::binfarce_tools::list::{ListError, Out, list, list_tables};
 use crate::erased::binfarce_tools::map::{map, map_tables};
 use crate::erased::binfarce_tools::report::{report, report_tables};
-use crate::erased::binfarce_tools::tables::{Selection, read};
+use crate::erased::binfarce_tools::tables::{Selection, Tables, read};
 use crate::shim::alloc::{AllocError, Global};
-use std::fmt::Display;
+use core::fmt::Display;
 
 // What is written, and behind it the text of the fault.
 fn text_of<E: Display>(
@@ -52,9 +52,26 @@ pub fn text_of_section(
     }
 }
 
+// The listing of the tables of a section, or the words of what they are refused for: before they are asked for anything.
+fn listing_of_accepted(alloc: Global, section: &str, file: &[u8]) -> Result<String, AllocError> {
+    let tables = match Tables::whole(file, section).accepted(alloc) {
+        Ok(tables) => tables,
+        Err(refusal) => return String::formatted(alloc, format_args!("{refusal}")),
+    };
+    let mut out = Out::new(Vec::new(alloc));
+    match list_tables(alloc, &tables, &mut out) {
+        Ok(()) => text_of::<ListError>(alloc, Ok(()), out.into_inner()),
+        Err(late) => String::formatted(alloc, format_args!("late: {late}")),
+    }
+}
+
 /// All three; one that is the same as that before it isn't repeated.
 pub fn all_texts(alloc: Global, section: &str, file: &[u8]) -> Result<String, AllocError> {
     let mut texts = text_of_section(alloc, "list", section, file)?;
+    let accepted = listing_of_accepted(alloc, section, file)?;
+    if accepted.as_str() != texts.as_str() {
+        texts.push_str(&accepted)?;
+    }
     let report = text_of_section(alloc, "report", section, file)?;
     let picture = text_of_section(alloc, "map", section, file)?;
     if report.as_str() != texts.as_str() {

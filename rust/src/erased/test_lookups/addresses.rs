@@ -10,13 +10,13 @@ use crate::erased::binfarce_addresses::at::{Places, at, at_tables};
 use crate::erased::binfarce_addresses::stream::{
     StreamError, answer_lines, push_lines as push_lines_of,
 };
-use crate::erased::binfarce_addresses::{Lookup, parse_address};
+use crate::erased::binfarce_addresses::{Counts, Lookup, Module, parse_address};
 use crate::erased::binfarce_tools::SymbolTable;
 use crate::erased::binfarce_tools::json::Form;
 use crate::erased::binfarce_tools::list::Out;
 use crate::erased::binfarce_tools::tables::{Selection, read};
 use crate::shim::alloc::Global;
-use std::cell::Cell;
+use core::cell::Cell;
 use crate::shim::io::{self, ErrorKind, Read, Write};
 use crate::erased::test_samples::elf::ELF64_LITTLE;
 use crate::erased::test_samples::first_bytes;
@@ -50,7 +50,6 @@ fn lookup_of(words: &str, is_return: bool) -> io::Result<Lookup<'static>> {
         origin: number(linked, true)?,
         is_return,
         form: Form::Lines,
-        is_bare: false,
         name: b"app",
     })
 }
@@ -108,6 +107,7 @@ struct Input<'a> {
     places: &'a Places<'static>,
     lookup: Lookup<'a>,
     annotates: bool,
+    is_bare: bool,
     text: &'a [u8],
 }
 
@@ -129,21 +129,24 @@ pub(crate) fn push_answers(
         places: &places,
         lookup: lookup_of(base, is_return)?,
         annotates: false,
+        is_bare: false,
         text: &lines,
     };
     let target = Target::taking(alloc, usize::MAX);
     let (ended, answers) = answered(&input, Source::of(&lines), target);
-    let missing = ended.unwrap_or(u64::MAX);
+    let Ok(counts) = ended else {
+        return known(None);
+    };
     text.extend_from_slice(&answers)?;
-    push_number(text, missing)?;
+    push_number(text, counts.missing)?;
     push_words(text, "missing")?;
-    if !are_short_calls_answered(&input, &answers, missing) {
+    if !are_short_calls_answered(&input, &answers, counts) {
         push_words(text, ", but not by short calls")?;
     }
     if !are_failed_calls_reported(&input, &answers)? {
         push_words(text, ", but not where calls fail")?;
     }
-    if !are_parts_answered(&input, &answers, missing)? {
+    if !are_parts_answered(&input, &answers, counts)? {
         push_words(text, ", but not in parts")?;
     }
     Ok(())
@@ -163,21 +166,18 @@ pub(crate) fn push_annotated_text(
     let Ok(places) = Places::of_file(alloc, &ELF64_LITTLE, ".text") else {
         return known(None);
     };
-    let lookup = Lookup {
-        is_bare,
-        ..lookup_of(base, is_return)?
-    };
     let input = Input {
         alloc,
         places: &places,
-        lookup,
+        lookup: lookup_of(base, is_return)?,
         annotates: true,
+        is_bare,
         text: &lines,
     };
     let start = text.len();
-    push_annotated(alloc, &places, lookup, &lines, text)?;
+    let counts = push_annotated(alloc, &[input.module()], is_bare, &lines, text)?;
     let answers = Vec::from_slice(alloc, text.get(start..).unwrap_or(&[]))?;
-    if !are_short_calls_answered(&input, &answers, 0) {
+    if !are_short_calls_answered(&input, &answers, counts) {
         push_words(text, ", but not by short calls")?;
     }
     if !are_failed_calls_reported(&input, &answers)? {
@@ -186,17 +186,32 @@ pub(crate) fn push_annotated_text(
     Ok(())
 }
 
+impl<'a> Input<'a> {
+    fn module(&self) -> Module<'a> {
+        Module {
+            places: self.places,
+            lookup: self.lookup,
+        }
+    }
+}
+
 // The result for what a reader gives, and the output that a writer takes.
 fn answered<R: Read>(
     input: &Input<'_>,
     reader: R,
     target: Target,
-) -> (Result<u64, StreamError>, Vec<u8>) {
+) -> (Result<Counts, StreamError>, Vec<u8>) {
     let mut reader = reader;
     let mut out = Out::new(target);
     let (alloc, places, lookup) = (input.alloc, input.places, input.lookup);
     let ended = if input.annotates {
-        annotate_stream(alloc, places, lookup, &mut reader, &mut out).map(|()| 0)
+        annotate_stream(
+            alloc,
+            &[input.module()],
+            input.is_bare,
+            &mut reader,
+            &mut out,
+        )
     } else {
         answer_lines(alloc, places, lookup, &mut reader, &mut out)
     };
@@ -204,21 +219,21 @@ fn answered<R: Read>(
 }
 
 // Reads and writes of every length, of which most end within a line, and interrupted reads, which are tried again.
-fn are_short_calls_answered(input: &Input<'_>, answers: &[u8], missing: u64) -> bool {
+fn are_short_calls_answered(input: &Input<'_>, answers: &[u8], counts: Counts) -> bool {
     for most in 1..=input.text.len() {
         let source = Source {
             most,
             ..Source::of(input.text)
         };
         let (ended, taken) = answered(input, source, Target::taking(input.alloc, most));
-        if ended != Ok(missing) || taken.as_slice() != answers {
+        if ended != Ok(counts) || taken.as_slice() != answers {
             return false;
         }
     }
     let unflushed = Cell::new(0);
     let source = InterruptedSource::of(input.text, &unflushed);
     let (ended, taken) = answered(input, source, Target::taking(input.alloc, usize::MAX));
-    ended == Ok(missing) && taken.as_slice() == answers
+    ended == Ok(counts) && taken.as_slice() == answers
 }
 
 fn whole_lines(text: &[u8]) -> usize {
@@ -230,7 +245,13 @@ fn whole_lines(text: &[u8]) -> usize {
 fn is_first(input: &Input<'_>, came: &[u8], answers: &[u8], taken: &[u8]) -> io::Result<bool> {
     if input.annotates {
         let mut all = Vec::new(input.alloc);
-        push_annotated(input.alloc, input.places, input.lookup, came, &mut all)?;
+        push_annotated(
+            input.alloc,
+            &[input.module()],
+            input.is_bare,
+            came,
+            &mut all,
+        )?;
         return Ok(all.as_slice() == taken);
     }
     Ok(answers.starts_with(taken) && whole_lines(taken) == whole_lines(came))
@@ -267,7 +288,7 @@ fn are_failed_calls_reported(input: &Input<'_>, answers: &[u8]) -> io::Result<bo
 }
 
 // A text in two parts is answered as in one, whatever the parts are. A last line without a line feed waits for it.
-fn are_parts_answered(input: &Input<'_>, answers: &[u8], missing: u64) -> io::Result<bool> {
+fn are_parts_answered(input: &Input<'_>, answers: &[u8], counts: Counts) -> io::Result<bool> {
     if input.text.last() != Some(&b'\n') {
         return Ok(true);
     }
@@ -277,10 +298,20 @@ fn are_parts_answered(input: &Input<'_>, answers: &[u8], missing: u64) -> io::Re
         let first = push_lines_of(input.alloc, input.places, input.lookup, part, &mut text)?;
         let rest = input.text.get(first.len..).unwrap_or(&[]);
         let second = push_lines_of(input.alloc, input.places, input.lookup, rest, &mut text)?;
-        let is_missing = first.missing.checked_add(second.missing) == Some(missing);
-        if second.len != rest.len() || !is_missing || text.as_slice() != answers {
+        if second.len != rest.len()
+            || sum(first.counts, second.counts) != Some(counts)
+            || text.as_slice() != answers
+        {
             return Ok(false);
         }
     }
     Ok(true)
+}
+
+fn sum(first: Counts, second: Counts) -> Option<Counts> {
+    Some(Counts {
+        asked: first.asked.checked_add(second.asked)?,
+        found: first.found.checked_add(second.found)?,
+        missing: first.missing.checked_add(second.missing)?,
+    })
 }

@@ -116,8 +116,8 @@ fn bytes_of(of: &Asking<'_>, part: &[u8]) -> io::Result<Vec<u8>> {
 // How many lines a part of a file has, which must be the first of these, and the words of the refusal.
 fn lines_of(of: &Asking<'_>, all: &[u8], part: &[u8]) -> io::Result<Vec<u8>> {
     let found = whole(of.alloc, of.kind, part, Asked::Lines);
-    let all = std::str::from_utf8(all).unwrap_or("");
-    let written = std::str::from_utf8(&found.text).unwrap_or("");
+    let all = core::str::from_utf8(all).unwrap_or("");
+    let written = core::str::from_utf8(&found.text).unwrap_or("");
     let mut words = Vec::new(of.alloc);
     push_number(&mut words, written.lines().count() as u64)?;
     if !are_first_of(all, written) {

@@ -3,7 +3,7 @@
 //! A source that counts its calls, and fails where a test says so.
 
 use crate::erased::binfarce_bytes::source::Source;
-use std::cell::RefCell;
+use core::cell::RefCell;
 use crate::shim::io::{self, Error, ErrorKind};
 
 /// An offset and a size.

@@ -28,7 +28,6 @@ const AS_THEY_ARE: Lookup<'static> = Lookup {
     origin: 0,
     is_return: false,
     form: Form::Lines,
-    is_bare: false,
     name: b"a",
 };
 
@@ -38,7 +37,6 @@ const AS_OBJECTS: Lookup<'static> = Lookup {
     origin: 0,
     is_return: false,
     form: Form::Objects("a", ""),
-    is_bare: false,
     name: b"a",
 };
 
@@ -55,7 +53,7 @@ fn are_lines(alloc: Global) -> Row {
     );
     let written = out.into_inner();
     match result {
-        Ok(()) => Ok(written.is_whole()),
+        Ok(_) => Ok(written.is_whole()),
         Err(ListError::OutOfMemory) if written.is_empty => Err(AllocError),
         Err(_) => Ok(false),
     }
@@ -72,7 +70,7 @@ fn is_answered(alloc: Global, lookup: Lookup<'_>, answers: &str, text: &[u8]) ->
     let result = answer_lines(alloc, &places, lookup, &mut input, &mut out);
     let written = out.into_inner();
     match result {
-        Ok(missing) => Ok(missing == 0 && written.is_whole()),
+        Ok(counts) => Ok(counts.found == 2 && counts.missing == 0 && written.is_whole()),
         Err(StreamError::OutOfMemory) if written.is_beginning() => Err(AllocError),
         Err(_) => Ok(false),
     }

@@ -2,7 +2,7 @@
 
 //! What a value is printed as.
 
-use std::fmt;
+use core::fmt;
 use crate::shim::io::Write;
 use crate::erased::test_samples::expected::Expected;
 

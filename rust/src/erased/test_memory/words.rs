@@ -8,7 +8,7 @@ use crate::erased::binfarce_image::image::ImageError;
 use crate::erased::binfarce_tools::list::ListError;
 use crate::erased::binfarce_tools::report::ReportError;
 use crate::shim::alloc::AllocError;
-use std::fmt;
+use core::fmt;
 use crate::erased::test_image_samples::tally::Tally;
 
 const UNEXPECTED_TYPE: ParseError = ParseError::UnexpectedSectionType {

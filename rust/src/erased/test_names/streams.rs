@@ -5,7 +5,7 @@
 use crate::shim::{String, Vec};
 use crate::erased::binfarce_filtering::stream::{StreamError, filter_stream};
 use crate::shim::alloc::Global;
-use std::cell::Cell;
+use core::cell::Cell;
 use crate::shim::io::{self, Error, ErrorKind};
 use crate::erased::test_samples::interruptions::{InterruptedSource, InterruptedTarget};
 use crate::erased::test_samples::streams::{Source, Target};
@@ -62,7 +62,7 @@ pub fn push_failed(alloc: Global, line: &mut String, text: &[u8]) -> io::Result<
 }
 
 fn push_shown(line: &mut String, shown: &[u8]) -> io::Result<()> {
-    match std::str::from_utf8(shown) {
+    match core::str::from_utf8(shown) {
         Ok(shown) => Ok(line.push_str(shown)?),
         Err(_) => Err(Error::from(ErrorKind::InvalidData)),
     }

@@ -3,7 +3,7 @@
 //! A reader and a writer of which every other call is interrupted, and which know how many bytes are not flushed.
 
 use crate::erased::test_samples::streams::{Source, Target};
-use std::cell::Cell;
+use core::cell::Cell;
 use crate::shim::io::{self, Error, ErrorKind, Read, Write};
 
 /// Reads from its source. The first call and every second one after it are interrupted.

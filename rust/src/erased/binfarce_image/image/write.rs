@@ -162,6 +162,7 @@ fn push_section_header(
         &[
             (fields.name, u64::from(name(part))),
             (fields.kind, u64::from(kind(part))),
+            (fields.flags, 0),
             (fields.addr, 0),
             (fields.offset, place as u64),
             (fields.size, body_length(part, class) as u64),

@@ -1,14 +1,13 @@
-// From crates/binfarce_command/src/at.rt, by tools/erase.
+// From crates/binfarce_jobs/src/at.rt, by tools/erase.
 
-//! `binfarce at [OPTION..] FILE [ADDRESS..]`: the function symbol at each address, in lines or in a text.
+//! `binfarce at [OPTION..] FILE [ADDRESS..]`: the function symbol at each address.
 
 use crate::shim::Vec;
-use crate::erased::binfarce_command::fault::Fault;
-use crate::erased::binfarce_command::show::{Symbols, tables_of};
-use crate::erased::binfarce_addresses::annotate::annotate_stream;
+use crate::erased::binfarce_jobs::fault::Fault;
+use crate::erased::binfarce_jobs::show::{Symbols, tables_of};
 use crate::erased::binfarce_addresses::at::{Places, write_lines};
 use crate::erased::binfarce_addresses::stream::answer_lines;
-use crate::erased::binfarce_addresses::{Lookup, parse_address};
+use crate::erased::binfarce_addresses::{Counts, Lookup, parse_address};
 use crate::erased::binfarce_bytes::format::Format;
 use crate::erased::binfarce_bytes::source::Source;
 use crate::erased::binfarce_tables::ReadError;
@@ -39,7 +38,7 @@ pub fn read_addresses<'a>(alloc: Global, words: &[&'a str]) -> Result<Vec<u64>, 
     Ok(addresses)
 }
 
-/// Symbolizes the addresses, by this lookup and these function symbols. Of the source it reads the headers, the symbol
+/// Symbolizes the addresses, by this lookup and these function symbols, and counts them. Of the source it reads the headers, the symbol
 /// table and the names alone.
 ///
 /// # Errors
@@ -53,7 +52,7 @@ pub fn answer_all<S: Source<Log = ()>, K: Sink>(
     lookup: Lookup<'_>,
     addresses: &[u64],
     out: &mut K,
-) -> Result<(), Fault> {
+) -> Result<Counts, Fault> {
     let tables = tables_of(alloc, source, symbols)?;
     let places = places_of(alloc, &tables)?;
     Ok(write_lines(alloc, &places, lookup, addresses, out)?)
@@ -83,8 +82,12 @@ fn is_elf(format: &Format) -> bool {
     }
 }
 
-// The places of the function symbols.
-fn places_of<'a>(alloc: Global, tables: &'a Tables<'_>) -> Result<Places<'a>, Fault> {
+/// The places of the function symbols of these tables.
+///
+/// # Errors
+///
+/// `Unknown`, `Parse` and `OutOfMemory` as `at` refuses; `SharedAddresses` for all sections of an object file.
+pub fn places_of<'a>(alloc: Global, tables: &'a Tables<'_>) -> Result<Places<'a>, Fault> {
     let places = Places::of_tables(alloc, tables)?;
     if tables.shares_addresses() {
         return Err(Fault::SharedAddresses);
@@ -92,8 +95,8 @@ fn places_of<'a>(alloc: Global, tables: &'a Tables<'_>) -> Result<Places<'a>, Fa
     Ok(places)
 }
 
-/// Symbolizes the addresses in the lines of `input`, each as soon as its line feed has come, and returns how many lines
-/// have none; or annotates those in its text, and returns 0.
+/// Symbolizes the addresses in the lines of `input`, each as soon as its line feed has come, and returns how many there
+/// are, how many were found, and how many lines have none.
 ///
 /// # Errors
 ///
@@ -103,16 +106,11 @@ pub fn answer_input<S: Source<Log = ()>, I: Read, K: Sink>(
     source: &S,
     symbols: &Symbols<'_>,
     lookup: Lookup<'_>,
-    annotates: bool,
     input: &mut I,
     out: &mut K,
-) -> Result<u64, Fault> {
+) -> Result<Counts, Fault> {
     let tables = tables_of(alloc, source, symbols)?;
     let places = places_of(alloc, &tables)?;
-    if annotates {
-        annotate_stream(alloc, &places, lookup, input, out)?;
-        return Ok(0);
-    }
-    let missing = answer_lines(alloc, &places, lookup, input, out)?;
-    Ok(missing)
+    let counts = answer_lines(alloc, &places, lookup, input, out)?;
+    Ok(counts)
 }

@@ -1,9 +1,9 @@
-// From crates/binfarce_command/src/output.rt, by tools/erase.
+// From crates/binfarce_jobs/src/output.rt, by tools/erase.
 
 //! The output of a command: a sink that writes a heading before the first byte that follows it.
 
 use crate::shim::Vec;
-use crate::erased::binfarce_command::fault::Fault;
+use crate::erased::binfarce_jobs::fault::Fault;
 use crate::erased::binfarce_tools::list::Sink;
 use crate::erased::binfarce_tools::report::ReportError;
 use crate::shim::alloc::Global;

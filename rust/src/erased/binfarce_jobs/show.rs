@@ -1,14 +1,16 @@
-// From crates/binfarce_command/src/show.rt, by tools/erase.
+// From crates/binfarce_jobs/src/show.rt, by tools/erase.
 
-//! Shows the function symbols of a file: as a listing, as sums by crate, or as a picture.
+//! Shows the function symbols of a file: as a listing, as sums, or as a picture.
 
 use crate::shim::{CollectIn, Vec};
-use crate::erased::binfarce_command::fault::Fault;
-use crate::erased::binfarce_command::hint::{Hint, hint_on};
+use crate::erased::binfarce_jobs::fault::Fault;
+use crate::erased::binfarce_jobs::hint::{Hint, hint_on};
 use crate::erased::binfarce_bytes::ParseError;
 use crate::erased::binfarce_bytes::format::Format;
 use crate::erased::binfarce_bytes::functions::SectionFunction;
 use crate::erased::binfarce_bytes::source::Source;
+use crate::erased::binfarce_figures::key::Grouping;
+use crate::erased::binfarce_figures::map::map_by;
 use crate::erased::binfarce_figures::rows::{Shown, list_by};
 use crate::erased::binfarce_figures::stacks::fold_tables;
 use crate::erased::binfarce_figures::sums::{Figures, sum_by};
@@ -17,8 +19,6 @@ use crate::erased::binfarce_tables::format::read_format;
 use crate::erased::binfarce_tools::SymbolTable;
 use crate::erased::binfarce_tools::json::Form;
 use crate::erased::binfarce_tools::list::{Sink, list_tables};
-use crate::erased::binfarce_tools::map::map_tables;
-use crate::erased::binfarce_tools::report::report_tables;
 use crate::erased::binfarce_tools::tables::{Selection, Tables, read_tables};
 use crate::shim::alloc::Global;
 
@@ -29,21 +29,12 @@ pub enum Kind {
     Listing,
     /// As a listing in an order, of the first lines, or with other names.
     Rows(Shown),
-    /// As sums by crate.
-    Sums,
-    /// As sums by a key, in an order, of the first lines, or with shares.
+    /// As sums by a key.
     Figures(Figures),
     /// As a picture of these sums.
-    Picture,
-    /// As stacks.
-    Stacks,
-}
-
-impl Kind {
-    // Whether whole sizes are summed, so that symbols which overlap count twice.
-    fn is_summed(self) -> bool {
-        matches!(self, Kind::Sums)
-    }
+    Picture(Grouping),
+    /// As stacks; whether Rust's standard library is joined.
+    Stacks(bool),
 }
 
 /// Which function symbols of a file are taken.
@@ -147,7 +138,7 @@ fn show_section<K: Sink>(
     let (functions, size) = tables.functions(alloc)?.into_list();
     let list: Vec<SectionFunction<'_>> = functions.all.collect_in(alloc)?;
     let size = size.unwrap_or(0);
-    *hint = hint_on(&list, size, kind.is_summed());
+    *hint = hint_on(&list);
     let made = Tables::Made {
         functions: list,
         size,
@@ -167,9 +158,8 @@ fn show_tables<K: Sink>(
     match kind {
         Kind::Listing => Ok(list_tables(alloc, tables, out)?),
         Kind::Rows(shown) => Ok(list_by(alloc, tables, &shown, form, out)?),
-        Kind::Sums => Ok(report_tables(alloc, tables, out)?),
         Kind::Figures(figures) => Ok(sum_by(alloc, tables, &figures, form, out)?),
-        Kind::Picture => Ok(map_tables(alloc, path, tables, out)?),
-        Kind::Stacks => Ok(fold_tables(alloc, tables, out)?),
+        Kind::Picture(grouping) => Ok(map_by(alloc, path, tables, grouping, out)?),
+        Kind::Stacks(joins_std) => Ok(fold_tables(alloc, tables, joins_std, out)?),
     }
 }

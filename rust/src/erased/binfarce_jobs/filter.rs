@@ -1,4 +1,4 @@
-// From crates/binfarce_command/src/filter.rt, by tools/erase.
+// From crates/binfarce_jobs/src/filter.rt, by tools/erase.
 
 //! `binfarce filter [--full] [NAME..]`: demangles the names in a text.
 

@@ -1,17 +1,17 @@
-// From crates/binfarce_command/src/input.rt, by tools/erase.
+// From crates/binfarce_jobs/src/input.rt, by tools/erase.
 
 //! The input of a command: files and standard input.
 
 use crate::shim::Vec;
-use crate::erased::binfarce_command::fault::Fault;
-use crate::erased::binfarce_command::foreign::{FIRST_LENGTH, named_by};
+use crate::erased::binfarce_jobs::fault::Fault;
+use crate::erased::binfarce_jobs::foreign::{FIRST_LENGTH, named_by};
 use crate::erased::binfarce_bytes::format::{Format, detect_format};
 use crate::erased::binfarce_bytes::source::Source;
 use crate::erased::binfarce_sections::error::SectionError;
 use crate::erased::binfarce_tables::{ReadError, part};
 use crate::erased::binfarce_tools::program::is_read_at_offsets;
 use crate::shim::alloc::Global;
-use std::cell::Cell;
+use core::cell::Cell;
 use crate::shim::fs::File;
 use crate::shim::io::{self, Error, ErrorKind, Read, Stdin};
 

@@ -1,13 +1,13 @@
-// From crates/binfarce_command/src/files.rt, by tools/erase.
+// From crates/binfarce_jobs/src/files.rt, by tools/erase.
 
 //! Runs a command on files, one after the other.
 
 use crate::shim::{String, Vec};
-use crate::erased::binfarce_command::fault::Fault;
-use crate::erased::binfarce_command::hint::{Hint, completed, refusal_hints};
-use crate::erased::binfarce_command::input::OpenFile;
-use crate::erased::binfarce_command::output::Output;
-use crate::erased::binfarce_command::show::{Request, show};
+use crate::erased::binfarce_jobs::fault::Fault;
+use crate::erased::binfarce_jobs::hint::{Hint, completed, refusal_hints};
+use crate::erased::binfarce_jobs::input::OpenFile;
+use crate::erased::binfarce_jobs::output::Output;
+use crate::erased::binfarce_jobs::show::{Kind, Request, show};
 use crate::erased::binfarce_bytes::source::Source;
 use crate::erased::binfarce_sections::error::SectionError;
 use crate::shim::alloc::{AllocError, Global};
@@ -68,14 +68,19 @@ fn show_file<F: Read + Source<Log = ()>, Y: System<F>, W: Write>(
         &asked.symbols,
         hint,
         shown.is_ok(),
+        matches!(asked.kind, Kind::Picture(_)),
         out.len(),
     );
     give(system, path, hint);
     reported(alloc, system, path, &input, shown)
 }
 
-// What precedes a file's text.
-fn heading(alloc: Global, path: &str, are_several: bool) -> Result<Vec<u8>, AllocError> {
+/// What precedes a file's text: of several files, its name in a line.
+///
+/// # Errors
+///
+/// `AllocError` where an allocation fails.
+pub fn heading(alloc: Global, path: &str, are_several: bool) -> Result<Vec<u8>, AllocError> {
     if !are_several {
         return Ok(Vec::new(alloc));
     }

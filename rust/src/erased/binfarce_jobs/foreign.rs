@@ -1,9 +1,9 @@
-// From crates/binfarce_command/src/foreign.rt, by tools/erase.
+// From crates/binfarce_jobs/src/foreign.rt, by tools/erase.
 
 //! Files that are recognized by their first bytes, and that no reader reads.
 
 use crate::erased::binfarce_bytes::format::{Format, detect_format};
-use std::fmt;
+use core::fmt;
 
 /// What a file is that no reader reads.
 #[derive(Debug, Clone, Copy, PartialEq)]

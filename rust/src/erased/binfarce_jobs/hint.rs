@@ -1,11 +1,11 @@
-// From crates/binfarce_command/src/hint.rt, by tools/erase.
+// From crates/binfarce_jobs/src/hint.rt, by tools/erase.
 
 //! Hints on files: what a person may want to know beside the result. Standard output and the status don't depend on
 //! them.
 
 use crate::shim::{CollectIn, String, Vec};
-use crate::erased::binfarce_command::fault::Fault;
-use crate::erased::binfarce_command::show::Symbols;
+use crate::erased::binfarce_jobs::fault::Fault;
+use crate::erased::binfarce_jobs::show::Symbols;
 use crate::erased::binfarce_bytes::ParseError;
 use crate::erased::binfarce_bytes::format::Format;
 use crate::erased::binfarce_bytes::functions::SectionFunction;
@@ -17,13 +17,11 @@ use crate::erased::binfarce_tools::SymbolTable;
 use crate::erased::binfarce_tools::list::Out;
 use crate::erased::binfarce_tools::tables::{Selection, read};
 use crate::shim::alloc::Global;
-use std::fmt;
+use core::fmt;
 
 /// A hint on a file.
 #[derive(Debug)]
 pub enum Hint {
-    /// The sizes in the section add up to more than the section's.
-    Overlap,
     /// The file has no function symbol.
     None,
     /// The dynamic symbol table of the file has no function symbol.
@@ -38,14 +36,26 @@ pub enum Hint {
     Dynamic(usize),
     /// The file is stripped, and its debug symbols may be there.
     Stripped(String),
-    /// No address in a function symbol was found.
-    Missed,
+    /// None of so many addresses is in a function symbol.
+    Missed(u64, Loaded),
+    /// There is no address in a text, in which bare words may be some or are not.
+    NoAddress(bool),
+}
+
+/// What is known of where a file is loaded.
+#[derive(Debug, Clone, Copy, PartialEq)]
+pub enum Loaded {
+    /// Nothing: addresses are the file's own.
+    Unknown,
+    /// A base.
+    Base,
+    /// Its mappings.
+    Maps,
 }
 
 impl fmt::Display for Hint {
     fn fmt(&self, f: &mut fmt::Formatter<'_>) -> fmt::Result {
         match self {
-            Hint::Overlap => write!(f, "symbols overlap; --by=crate counts each byte once"),
             Hint::None => write!(f, "no function symbols"),
             Hint::NoneDynamic => write!(f, "no function symbols in .dynsym"),
             Hint::NoneOfPe => write!(
@@ -62,51 +72,57 @@ impl fmt::Display for Hint {
             ),
             Hint::Dynamic(count) => write!(f, "--dynamic --all takes {count} function symbols"),
             Hint::Stripped(places) => write!(f, "its debug symbols may be in {places}"),
-            Hint::Missed => write!(
+            Hint::Missed(count, loaded) => {
+                let why = loaded.words();
+                write!(f, "0 of {count} addresses are in a function symbol; {why}")
+            }
+            Hint::NoAddress(true) => write!(f, "no address in the text"),
+            Hint::NoAddress(false) => write!(
                 f,
-                "no address in a function symbol was found; is --base right?"
+                "no address in the text; --bare takes those without 0x, too"
             ),
         }
     }
 }
 
-/// The hint on a section of this size with these function symbols, which is shown: it has none; or if sizes are summed,
-/// their sum exceeds its size.
-pub fn hint_on(functions: &[SectionFunction<'_>], size: u64, are_summed: bool) -> Option<Hint> {
+impl Loaded {
+    // What would help where no address was found, in words.
+    fn words(self) -> &'static str {
+        match self {
+            Loaded::Unknown => "where the file was loaded, --base or --maps is needed",
+            Loaded::Base => "is --base right?",
+            Loaded::Maps => "are --maps and the addresses of one process?",
+        }
+    }
+}
+
+/// The hint on a section with these function symbols, which is shown: it has none.
+pub fn hint_on(functions: &[SectionFunction<'_>]) -> Option<Hint> {
     if functions.is_empty() {
         return Some(Hint::None);
     }
-    if are_summed && sum_of(functions) > u128::from(size) {
-        return Some(Hint::Overlap);
-    }
     None
-}
-
-// The sum of the sizes.
-fn sum_of(functions: &[SectionFunction<'_>]) -> u128 {
-    functions
-        .iter()
-        .map(|it| u128::from(it.function.size))
-        .sum()
 }
 
 // As many bytes are written at least of a file that has function symbols, where it is shown whole.
 const LEAST: u64 = 20;
 
 /// The hint on a file of which so many bytes are written, if it was shown: the reason that it has no function symbol,
-/// if it has none, or that hint. It is left out where a read or an allocation fails.
+/// if it has none, or that hint. A picture is written of a file without one, too. It is left out where a read or an
+/// allocation fails.
 pub fn completed<S: Source<Log = ()>>(
     alloc: Global,
     source: &S,
     symbols: &Symbols<'_>,
     hint: Option<Hint>,
     is_shown: bool,
+    is_picture: bool,
     len: u64,
 ) -> Option<Hint> {
     match hint {
         _ if !is_shown => None,
         Some(Hint::None) => lack(alloc, source, symbols).unwrap_or(None),
-        None if len < LEAST => lack(alloc, source, symbols).unwrap_or(None),
+        None if is_picture || len < LEAST => lack(alloc, source, symbols).unwrap_or(None),
         hint => hint,
     }
 }
@@ -200,7 +216,7 @@ fn debug_files<S: Source<Log = ()>>(alloc: Global, source: &S) -> Option<String>
     if let Some(link) = section_bytes_of(alloc, source, ".gnu_debuglink") {
         let name = link.split(|byte| *byte == 0).next()?;
         if name.iter().all(u8::is_ascii_graphic) {
-            write!(text, ", or in a file {}", std::str::from_utf8(name).ok()?).ok()?;
+            write!(text, ", or in a file {}", core::str::from_utf8(name).ok()?).ok()?;
         }
     }
     Some(text)

@@ -1,8 +1,8 @@
-// From crates/binfarce_command/src/fault.rt, by tools/erase.
+// From crates/binfarce_jobs/src/fault.rt, by tools/erase.
 
 //! Why a file's result was not written, or not all of it.
 
-use crate::erased::binfarce_command::foreign::Foreign;
+use crate::erased::binfarce_jobs::foreign::Foreign;
 use crate::erased::binfarce_bytes::ParseError;
 use crate::erased::binfarce_filtering::stream::StreamError;
 use crate::erased::binfarce_sections::error::SectionError;
@@ -10,8 +10,8 @@ use crate::erased::binfarce_tables::ReadError;
 use crate::erased::binfarce_tools::list::ListError;
 use crate::erased::binfarce_tools::report::ReportError;
 use crate::shim::alloc::AllocError;
-use std::error::Error;
-use std::fmt;
+use crate::shim::error::Error;
+use core::fmt;
 use crate::shim::io;
 
 /// Why a file's result was not written, or not all of it.

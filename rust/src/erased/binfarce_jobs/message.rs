@@ -1,0 +1,61 @@
+// From crates/binfarce_jobs/src/message.rt, by tools/erase.
+
+//! Why a file is refused, in words and as an object.
+
+use crate::shim::String;
+use crate::erased::binfarce_jobs::fault::Fault;
+use crate::erased::binfarce_sections::error::SectionError;
+use crate::erased::binfarce_tools::json::{push_start, push_text_member};
+use crate::shim::alloc::{AllocError, Global};
+use core::fmt;
+use crate::shim::io::Error;
+
+/// Why a file is refused, in words.
+#[derive(Debug)]
+pub enum Message {
+    /// Its fault.
+    Fault(Fault),
+    /// The system's reason.
+    Reason(String),
+}
+
+impl fmt::Display for Message {
+    fn fmt(&self, f: &mut fmt::Formatter<'_>) -> fmt::Result {
+        match self {
+            Message::Fault(fault) => write!(f, "{fault}"),
+            Message::Reason(words) => write!(f, "{words}"),
+        }
+    }
+}
+
+/// Why a file is refused: the system's reason, where a read or a write failed.
+pub fn message_of(alloc: Global, fault: Fault, reason: Option<Error>) -> Message {
+    match reason {
+        Some(e) if is_of_system(&fault) => match words_of(alloc, &e) {
+            Ok(words) => Message::Reason(words),
+            Err(e) => Message::Fault(Fault::from(e)),
+        },
+        _ => Message::Fault(fault),
+    }
+}
+
+// Whether the system has a reason for it: a failed read or write.
+fn is_of_system(fault: &Fault) -> bool {
+    fault.is_write() || *fault == Fault::Section(SectionError::Unreadable)
+}
+
+/// Appends the refusal of a file as an object.
+pub fn push_refusal(text: &mut String, file: &str, message: &str) -> Result<(), AllocError> {
+    push_start(text, file)?;
+    push_text_member(text, "error", Some(message))?;
+    text.push_str("}\n")
+}
+
+// The system's message without the number that is printed after it.
+fn words_of(alloc: Global, e: &Error) -> Result<String, AllocError> {
+    let text = String::formatted(alloc, format_args!("{e}"))?;
+    match text.as_str().split_once(" (os error ") {
+        Some((words, _)) => String::from_str(alloc, words),
+        None => Ok(text),
+    }
+}

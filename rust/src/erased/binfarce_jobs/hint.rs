@@ -108,8 +108,8 @@ pub fn hint_on(functions: &[SectionFunction<'_>]) -> Option<Hint> {
 const LEAST: u64 = 20;
 
 /// The hint on a file of which so many bytes are written, if it was shown: the reason that it has no function symbol,
-/// if it has none, or that hint. A picture is written of a file without one, too. It is left out where a read or an
-/// allocation fails.
+/// if it has none, or that hint. Of all sections, whose function symbols aren't counted before, few bytes are written
+/// where there is none, but a picture in any case. It is left out where a read or an allocation fails.
 pub fn completed<S: Source<Log = ()>>(
     alloc: Global,
     source: &S,
@@ -119,10 +119,13 @@ pub fn completed<S: Source<Log = ()>>(
     is_picture: bool,
     len: u64,
 ) -> Option<Hint> {
+    let are_all = matches!(symbols.selection, Selection::All);
     match hint {
         _ if !is_shown => None,
         Some(Hint::None) => lack(alloc, source, symbols).unwrap_or(None),
-        None if is_picture || len < LEAST => lack(alloc, source, symbols).unwrap_or(None),
+        None if are_all && (is_picture || len < LEAST) => {
+            lack(alloc, source, symbols).unwrap_or(None)
+        }
         hint => hint,
     }
 }

@@ -2,25 +2,24 @@
 
 //! `binfarce COMMAND [OPTION..] ..`: reads executables, and demangles Rust names.
 
+pub(crate) mod asked;
 pub(crate) mod help;
 pub(crate) mod report;
 
 use crate::shim::{HostRuntime, String, Vec};
+use crate::erased::binfarce_command::asked::{Addresses, asked_of, file_at, name_of};
 use crate::erased::binfarce_command::help::{VERSION, help};
 use crate::erased::binfarce_command::report::{ended, refuse, report};
 use crate::erased::binfarce_addresses::annotate::annotate_stream;
 use crate::erased::binfarce_addresses::at::Places;
-use crate::erased::binfarce_addresses::maps::{NoBase, base_of};
-use crate::erased::binfarce_addresses::{Counts, Lookup, Module, parse_address};
+use crate::erased::binfarce_addresses::{Counts, Lookup, Module};
 use crate::erased::binfarce_bytes::source::Source;
 use crate::erased::binfarce_figures::diff::{DiffError, diff};
 use crate::erased::binfarce_figures::key::{Grouping, Key};
 use crate::erased::binfarce_figures::rows::{Naming, Shown};
 use crate::erased::binfarce_figures::sums::{Figures, sum_by};
 use crate::erased::binfarce_filtering::stream::{StreamError, filter_stream};
-use crate::erased::binfarce_jobs::at::{
-    answer_all, answer_input, load_addresses_of, places_of, read_addresses,
-};
+use crate::erased::binfarce_jobs::at::{answer_all, answer_input, load_addresses_of, places_of};
 use crate::erased::binfarce_jobs::fault::Fault;
 use crate::erased::binfarce_jobs::files::{System, heading, open_input, reported, show_files};
 use crate::erased::binfarce_jobs::filter::lines_of;
@@ -39,7 +38,7 @@ use crate::erased::binfarce_tools::list::Out;
 use crate::erased::binfarce_tools::report::ReportError;
 use crate::erased::binfarce_tools::tables::{Selection, Tables};
 use crate::erased::binfarce_words::words::Flag::{
-    self, All, Annotate, As, Bare, Base, By, Dynamic, FailAbove, First, Folded, Full, Json, Maps,
+    self, All, Annotate, Bare, Base, By, Dynamic, FailAbove, First, Folded, Full, Json, Maps,
     NoTotal, Percent, Raw, Return, Section, Sort, Std,
 };
 use crate::erased::binfarce_words::words::{Arguments, Call, Command, Wrong, read_call};
@@ -56,9 +55,6 @@ pub fn main(rt: HostRuntime) -> ExitCode {
     };
     ExitCode::from(status)
 }
-
-// The longest text that is read before it is annotated, for the maps in it: 256 MiB.
-const LONGEST_LOG: usize = 1 << 28;
 
 // What the word for an argument that isn't UTF-8 begins with, before its position: no argument has it.
 const NOT_UTF8: char = '\0';
@@ -151,160 +147,6 @@ fn run<'a>(rt: &HostRuntime, words: &'a [String]) -> Result<u8, Wrong<'a>> {
     let mut out = Output::new(rt.alloc(), io::writer(rt));
     let done = answer(rt, &call, &asked, &mut out);
     Ok(ended(rt, done, out.into_parts().1))
-}
-
-// What `at` is asked for, beside its files.
-struct Addresses {
-    // The addresses that are given.
-    addresses: Vec<u64>,
-    // Where each of the files is loaded, if that is known.
-    bases: Vec<Option<u64>>,
-    // The text that was read for the maps in it.
-    text: Option<Vec<u8>>,
-}
-
-impl Addresses {
-    fn nothing(alloc: Global) -> Addresses {
-        Addresses {
-            addresses: Vec::new(alloc),
-            bases: Vec::new(alloc),
-            text: None,
-        }
-    }
-
-    // Where the file at this place is loaded.
-    fn base(&self, at: usize) -> Option<u64> {
-        *self.bases.get(at)?
-    }
-}
-
-// What `at` is asked for. `None` where the maps can't be read, which is reported.
-fn asked_of<'a>(rt: &HostRuntime, given: &Arguments<'a>) -> Result<Option<Addresses>, Wrong<'a>> {
-    let alloc = rt.alloc();
-    let mut asked = Addresses::nothing(alloc);
-    if !given.has(Annotate) {
-        asked.addresses = read_addresses(alloc, others(given))?;
-    }
-    let Some(path) = given.value(Maps) else {
-        for at in 0..files_of(given).len() {
-            let base = match nth(given, Base, at) {
-                Some(word) => parse_address(word.as_bytes()),
-                None => None,
-            };
-            push(&mut asked.bases, base).map_err(|_| Wrong::OutOfMemory)?;
-        }
-        return Ok(Some(asked));
-    };
-    let is_input = path == "-";
-    if is_input && !given.has(Annotate) && asked.addresses.is_empty() {
-        return Err(Wrong::Needs(Maps, Annotate));
-    }
-    let read = if is_input {
-        read_log(alloc, &mut rt.stdin())
-    } else {
-        read_file(rt, path)
-    };
-    let maps = match read {
-        Ok(maps) => maps,
-        Err(e) => {
-            let name = if is_input { "standard input" } else { path };
-            let fault = Fault::Section(SectionError::Unreadable);
-            report(rt, name, &message_of(alloc, fault, Some(e)));
-            return Ok(None);
-        }
-    };
-    for at in 0..files_of(given).len() {
-        let base = mapped_base(given, at, path, &maps)?;
-        push(&mut asked.bases, Some(base)).map_err(|_| Wrong::OutOfMemory)?;
-    }
-    if is_input && given.has(Annotate) {
-        asked.text = Some(maps);
-    }
-    Ok(Some(asked))
-}
-
-// Appends a value.
-fn push<T>(list: &mut Vec<T>, value: T) -> Result<(), AllocError> {
-    list.push(value).map_err(|_| AllocError)
-}
-
-// The bytes of the file at this path.
-fn read_file(rt: &HostRuntime, path: &str) -> io::Result<Vec<u8>> {
-    let mut bytes = Vec::new(rt.alloc());
-    File::open(rt, path)?.read_to_end(&mut bytes)?;
-    Ok(bytes)
-}
-
-// The bytes of a log, to its end.
-fn read_log<R: Read>(alloc: Global, input: &mut R) -> io::Result<Vec<u8>> {
-    let mut bytes = Vec::new(alloc);
-    let mut chunk = Vec::filled(alloc, 0, 1 << 16)?;
-    for _ in 0..u64::MAX {
-        if bytes.len() > LONGEST_LOG {
-            return Err(Error::from(ErrorKind::OutOfMemory));
-        }
-        match input.read(chunk.as_mut_slice()) {
-            Ok(0) => return Ok(bytes),
-            Ok(count) => bytes.extend_from_slice(&chunk[..count])?,
-            Err(e) if e.kind() == ErrorKind::Interrupted => {}
-            Err(e) => return Err(e),
-        }
-    }
-    Ok(bytes)
-}
-
-// Where the maps that were read at this path load the file at this place.
-fn mapped_base<'a>(
-    given: &Arguments<'a>,
-    at: usize,
-    path: &'a str,
-    maps: &[u8],
-) -> Result<u64, Wrong<'a>> {
-    match base_of(maps, name_of(given, at)) {
-        Ok(base) => Ok(base),
-        Err(NoBase::NotMaps) => Err(Wrong::NotMaps(path)),
-        Err(NoBase::NotMapped) => Err(Wrong::NotMapped(file_at(given, at), path)),
-    }
-}
-
-// The files of `at`: all operands where a text is annotated, and else the first one.
-fn files_of<'b, 'a>(given: &'b Arguments<'a>) -> &'b [&'a str] {
-    let operands = given.operands.as_slice();
-    if given.has(Annotate) {
-        operands
-    } else {
-        &operands[..operands.len().min(1)]
-    }
-}
-
-// The file at this place.
-fn file_at<'a>(given: &Arguments<'a>, at: usize) -> &'a str {
-    given.operands.get(at).copied().unwrap_or("")
-}
-
-// The value of an option for the file at this place: of one file that which was given last, and of several the one at
-// this place.
-fn nth<'a>(given: &Arguments<'a>, flag: Flag, at: usize) -> Option<&'a str> {
-    if files_of(given).len() < 2 {
-        return given.value(flag);
-    }
-    let mut values = given.options.iter().filter(|it| it.0 == flag);
-    Some(values.nth(at)?.1)
-}
-
-// The name of the file at this place in maps and in a text: the last part of its path, or of the name that is given.
-fn name_of<'a>(given: &Arguments<'a>, at: usize) -> &'a [u8] {
-    let path = nth(given, As, at).unwrap_or(file_at(given, at)).as_bytes();
-    let len = path.iter().rev().take_while(|byte| **byte != b'/').count();
-    &path[path.len() - len..]
-}
-
-// The operands after the first one.
-fn others<'b, 'a>(given: &'b Arguments<'a>) -> &'b [&'a str] {
-    match given.operands.as_slice() {
-        [_, others @ ..] => others,
-        [] => &[],
-    }
 }
 
 // The first operand.

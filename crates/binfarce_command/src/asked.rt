@@ -1,0 +1,176 @@
+//! What `at` is asked for: addresses, and where its files are loaded.
+
+use crate::report::report;
+use binfarce_addresses::maps::{NoBase, base_of};
+use binfarce_addresses::parse_address;
+use binfarce_jobs::at::read_addresses;
+use binfarce_jobs::fault::Fault;
+use binfarce_jobs::message::message_of;
+use binfarce_sections::error::SectionError;
+use binfarce_words::words::Flag::{self, Annotate, As, Base, Maps};
+use binfarce_words::words::{Arguments, Wrong};
+use std::alloc::{AllocError, Global};
+use std::fs::File;
+use std::io::{self, Error, ErrorKind, Input, Read};
+
+// The longest text that is read before it is annotated, for the maps in it: 256 MiB.
+const LONGEST_LOG: usize = 1 << 28;
+
+/// What `at` is asked for, beside its files.
+#[derive(Drop)]
+pub struct Addresses {
+    /// The addresses that are given.
+    pub addresses: Vec<u64>,
+    // Where each of the files is loaded, if that is known.
+    bases: Vec<Option<u64>>,
+    /// The text that was read for the maps in it.
+    pub text: Option<Vec<u8>>,
+}
+
+impl Addresses {
+    /// No address, and no file.
+    pub fn nothing(alloc: Global) -> Addresses {
+        Addresses {
+            addresses: Vec::new(alloc),
+            bases: Vec::new(alloc),
+            text: None,
+        }
+    }
+
+    /// Where the file at this place is loaded.
+    pub fn base(&self, at: usize) -> Option<u64> {
+        *self.bases.get(at)?
+    }
+}
+
+/// What `at` is asked for. `None` where the maps can't be read, which is reported.
+pub fn asked_of<'a>(
+    rt: &HostRuntime,
+    given: &Arguments<'a>,
+) -> Result<Option<Addresses>, Wrong<'a>> {
+    let alloc = rt.alloc();
+    let mut asked = Addresses::nothing(alloc);
+    if !given.has(Annotate) {
+        asked.addresses = read_addresses(alloc, others(given))?;
+    }
+    let Some(path) = given.value(Maps) else {
+        for at in 0..files_of(given).len() {
+            let base = match nth(given, Base, at) {
+                Some(word) => parse_address(word.as_bytes()),
+                None => None,
+            };
+            push(&mut asked.bases, base).map_err(|_| Wrong::OutOfMemory)?;
+        }
+        return Ok(Some(asked));
+    };
+    let is_input = path == "-";
+    if is_input && !given.has(Annotate) && asked.addresses.is_empty() {
+        return Err(Wrong::Needs(Maps, Annotate));
+    }
+    let read = if is_input {
+        read_log(alloc, &mut rt.stdin())
+    } else {
+        read_file(rt, path)
+    };
+    let maps = match read {
+        Ok(maps) => maps,
+        Err(e) => {
+            let name = if is_input { "standard input" } else { path };
+            let fault = Fault::Section(SectionError::Unreadable);
+            report(rt, name, &message_of(alloc, fault, Some(e)));
+            return Ok(None);
+        }
+    };
+    for at in 0..files_of(given).len() {
+        let base = mapped_base(given, at, path, &maps)?;
+        push(&mut asked.bases, Some(base)).map_err(|_| Wrong::OutOfMemory)?;
+    }
+    if is_input && given.has(Annotate) {
+        asked.text = Some(maps);
+    }
+    Ok(Some(asked))
+}
+
+// Appends a value.
+fn push<T: Drop>(list: &mut Vec<T>, value: T) -> Result<(), AllocError> {
+    list.push(value).map_err(|_| AllocError)
+}
+
+// The bytes of the file at this path.
+fn read_file(rt: &HostRuntime, path: &str) -> io::Result<Vec<u8>> {
+    let mut bytes = Vec::new(rt.alloc());
+    File::open(rt, path)?.read_to_end(&mut bytes)?;
+    Ok(bytes)
+}
+
+// The bytes of a log, to its end.
+fn read_log<R: Read>(alloc: Global, input: &mut R) -> io::Result<Vec<u8>> {
+    let mut bytes = Vec::new(alloc);
+    let mut chunk = vec![in alloc; 0; 1 << 16]?;
+    for _ in 0..u64::MAX {
+        if bytes.len() > LONGEST_LOG {
+            return Err(Error::from(ErrorKind::OutOfMemory));
+        }
+        match input.read(chunk.as_mut_slice()) {
+            Ok(0) => return Ok(bytes),
+            Ok(count) => bytes.extend_from_slice(&chunk[..count])?,
+            Err(e) if e.kind() == ErrorKind::Interrupted => {}
+            Err(e) => return Err(e),
+        }
+    }
+    Ok(bytes)
+}
+
+// Where the maps that were read at this path load the file at this place.
+fn mapped_base<'a>(
+    given: &Arguments<'a>,
+    at: usize,
+    path: &'a str,
+    maps: &[u8],
+) -> Result<u64, Wrong<'a>> {
+    match base_of(maps, name_of(given, at)) {
+        Ok(base) => Ok(base),
+        Err(NoBase::NotMaps) => Err(Wrong::NotMaps(path)),
+        Err(NoBase::NotMapped) => Err(Wrong::NotMapped(file_at(given, at), path)),
+    }
+}
+
+// The files of `at`: all operands where a text is annotated, and else the first one.
+fn files_of<'b, 'a>(given: &'b Arguments<'a>) -> &'b [&'a str] {
+    let operands = given.operands.as_slice();
+    if given.has(Annotate) {
+        operands
+    } else {
+        &operands[..operands.len().min(1)]
+    }
+}
+
+/// The file at this place.
+pub fn file_at<'a>(given: &Arguments<'a>, at: usize) -> &'a str {
+    given.operands.get(at).copied().unwrap_or("")
+}
+
+// The value of an option for the file at this place: of one file that which was given last, and of several the one at
+// this place.
+fn nth<'a>(given: &Arguments<'a>, flag: Flag, at: usize) -> Option<&'a str> {
+    if files_of(given).len() < 2 {
+        return given.value(flag);
+    }
+    let mut values = given.options.iter().filter(|it| it.0 == flag);
+    Some(values.nth(at)?.1)
+}
+
+/// The name of the file at this place in maps and in a text: the last part of its path, or of the name that is given.
+pub fn name_of<'a>(given: &Arguments<'a>, at: usize) -> &'a [u8] {
+    let path = nth(given, As, at).unwrap_or(file_at(given, at)).as_bytes();
+    let len = path.iter().rev().take_while(|byte| **byte != b'/').count();
+    &path[path.len() - len..]
+}
+
+// The operands after the first one.
+fn others<'b, 'a>(given: &'b Arguments<'a>) -> &'b [&'a str] {
+    match given.operands.as_slice() {
+        [_, others @ ..] => others,
+        [] => &[],
+    }
+}

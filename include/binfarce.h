@@ -124,8 +124,8 @@ uint32_t binfarce_version(void);
 size_t binfarce_terminate(uint8_t *out, size_t out_length, size_t length);
 
 /*
- * The words of a status, as the programs print them, but without the number of BINFARCE_UNEXPECTED_SECTION_TYPE: its words
- * are "unexpected section type". Returns their length. Does not allocate.
+ * The words of a status, as binfarce-list and binfarce-size print them, but without the number of
+ * BINFARCE_UNEXPECTED_SECTION_TYPE: its words are "unexpected section type". Returns their length. Does not allocate.
  */
 size_t binfarce_status_text(uint32_t status, uint8_t *out, size_t out_length);
 

@@ -21,7 +21,8 @@ use std::{error, io};
 pub enum ParseError {
     /// No section of an ELF file has the requested name, or a Mach-O or PE file has no text section.
     SymbolsSectionIsMissing,
-    /// An ELF file has no symbol table (`.symtab`), or its symbol table links to no section (`.strtab`).
+    /// An ELF file has no such symbol table (`.symtab` or `.dynsym`), or that links to no section (`.strtab` or
+    /// `.dynstr`); or a Mach-O or PE file was asked for `.dynsym`.
     SectionIsMissing(&'static str),
     /// The section that an ELF symbol table links to is no string table.
     UnexpectedSectionType {

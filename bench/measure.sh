@@ -5,7 +5,7 @@
 #   SIZE      (optional) the reporting program, if not the one that cargo has built
 #   PEER      (optional) the program of bench/peer, which makes the same listing by the Rust crate
 #   ROWS      (optional) a file to which each figure is added as a row (results.tsv is one): date, commit, machine, file,
-#             command, ms, MB and instructions, with tabs between them
+#             command, ms, MiB and instructions, with tabs between them
 #   RUNS      (optional) runs of each command, 15
 #   COUNT     (optional) 1 counts instructions too, by callgrind (slow)
 #
@@ -77,7 +77,7 @@ for title, *command in commands:
 PY
     echo
     echo "$(basename "$file"): $(wc -c <"$file") bytes, $(($("$LIST" "$file" | wc -l) - 1)) lines"
-    printf '%-12s %9s %9s %7s %7s %14s\n' command ms peak_MB x_time x_peak instructions
+    printf '%-12s %9s %9s %7s %7s %14s\n' command ms peak_MiB x_time x_peak instructions
     first_time='' first_peak=''
     while read -r it; do
         IFS=$tab

@@ -1,5 +1,5 @@
 #!/usr/bin/env python3
-"""Draws time and peak memory beside each peer and file, as an SVG on standard output: plot.py results.tsv >listing.svg
+"""Draws wall time and peak memory beside each peer and file, as an SVG on standard output: plot.py results.tsv >listing.svg
 
 Each bar is a command's least time, or its peak, as a multiple of the program's on the same file; the program is the line at 1.
 Of each file and command the last row counts.
@@ -8,13 +8,13 @@ Of each file and command the last row counts.
 import math
 import sys
 
-PEERS = {"original": "#b45309", "nm -S": "#64748b", "nm -SC": "#0f766e", "llvm-nm": "#94a3b8", "llvm-nm -C": "#7c3aed"}
-LEFT, TOP, BAR, GAP, WIDE = 150, 64, 11, 16, 300
+PEERS = {"original": "#b45309", "nm -S": "#64748b", "nm -SC": "#0f766e", "llvm-nm": "#2563eb", "llvm-nm -C": "#7c3aed"}
+LEFT, TOP, BAR, GAP, WIDE = 180, 68, 14, 18, 300
 TICKS = (0.25, 0.5, 1, 2, 4, 8, 16, 32)
 
 
 def read(path):
-    """The files in order, and of each file and command the time in ms and the peak in MB."""
+    """The files in order, and of each file and command the time in ms and the peak in MiB."""
     figures = {}
     with open(path, encoding="utf-8") as opened:
         for line in opened:
@@ -39,7 +39,7 @@ def axis(x, bottom, title):
         at = x + place(tick)
         colour, width = ("#0f172a", 1.5) if tick == 1 else ("#e2e8f0", 1)
         yield f'<line x1="{at:.1f}" y1="{TOP - 4}" x2="{at:.1f}" y2="{bottom}" stroke="{colour}" stroke-width="{width}"/>'
-        yield text(at, TOP - 8, f"{tick:g}", 9, "middle", "#64748b")
+        yield text(at, TOP - 8, f"{tick:g}", 11, "middle", "#64748b")
 
 
 def draw(figures):
@@ -49,21 +49,21 @@ def draw(figures):
     yield f'<svg xmlns="http://www.w3.org/2000/svg" width="{width}" height="{height}" viewBox="0 0 {width} {height}" font-family="sans-serif">'
     yield f'<rect width="{width}" height="{height}" fill="white"/>'
     yield text(12, 20, "Listing a file: other programs as multiples of binfarce-list (the line at 1)", 13)
-    columns = (LEFT, "time", 0, "ms"), (LEFT + WIDE + 60, "peak memory", 1, "MB")
+    columns = (LEFT, "wall time", 0, "ms"), (LEFT + WIDE + 60, "peak memory", 1, "MiB")
     for x, title, _, _ in columns:
         yield from axis(x, bottom, title)
     y = TOP
     for file, peers in rows:
         own = figures[file]["program"]
-        yield text(LEFT - 10, y + 10, file, 11, "end")
-        yield text(LEFT - 10, y + 22, f"{own[0]:.3g} ms, {own[1]:.3g} MB", 9, "end", "#64748b")
+        yield text(LEFT - 10, y + 11, file, 12, "end")
+        yield text(LEFT - 10, y + 26, f"{own[0]:.3g} ms, {own[1]:.3g} MiB", 11, "end", "#64748b")
         for peer in peers:
             for x, _, which, unit in columns:
                 ratio = figures[file][peer][which] / own[which]
                 start, end = sorted((place(1), place(ratio)))
                 yield (f'<rect x="{x + start:.1f}" y="{y}" width="{max(end - start, 1):.1f}" height="{BAR - 2}" fill="{PEERS[peer]}">'
                        f"<title>{peer}: {figures[file][peer][which]:g} {unit}</title></rect>")
-                yield text(x + end + 3, y + BAR - 3, f"{ratio:.2g}", 8, "start", "#64748b")
+                yield text(x + end + 3, y + BAR - 3, f"{ratio:.2g}", 11, "start", "#64748b")
             y += BAR
         y += GAP
     x = LEFT

@@ -35,6 +35,7 @@ answer() { sed -n "/^$1/,/^[A-Z][^|]*:/p" "$work/answers" | grep '^[0-9]'; }
 [ "$(answer Programs | wc -l)" = 2 ] || fail "the crate binfarce isn't in two programs"
 binfarce diff "$work/old" "$program" | awk '$3 > 0 && $4 != "[total]" { print $3 + 0 "|" $2 "|" $4 }' | sort >"$work/grown"
 answer What | cut -d'|' -f1-3 | sort | cmp - "$work/grown" || fail "other growth than of binfarce diff"
+[ "$(sqlite3 "$work/db" 'SELECT count(*) FROM sums WHERE ifnull(name, error) IS NULL')" = 0 ] || fail "a row has neither a name nor a reason"
 [ "$(answer Refused | cut -d'|' -f1 | tr '\n' ' ')" = "1 1 " ] || fail "other refusals"
 echo "fleet: one machine, as it must be"
 

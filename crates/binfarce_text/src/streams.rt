@@ -2,12 +2,18 @@
 
 ghost use Rattle.std.specs.Prelude.{◌≡◌, ◌++◌, ◌<◌, [], Bool, true, false, ℕ, List, Option, Some, length, OnOk};
 ghost use Rattle.binfarce_text.specs.Streams.{Fails, Streams};
-ghost use Rattle.binfarce_text.specs.machine.Passing.{BreaksOff, BreaksOffDone, Ends, Goes, Passes, PassesAll, WritesAll};
+ghost use Rattle.binfarce_text.specs.machine.Passing.{BreaksOff, BreaksOffDone, Ends, Goes, Passes, PassesAll, Steps, WritesAll};
 
 use std::alloc::{AllocError, Global};
 use std::error::Error;
 use std::fmt;
 use std::io::{ErrorKind, Read};
+
+// How many bytes are taken at a time: what they make is in memory at once.
+const STEP: usize = 512;
+
+// An output of so many bytes is written before more is taken.
+const LONG: usize = 1 << 16;
 
 /// Why a stream was not passed to its end.
 #[derive(Debug, Clone, Copy, PartialEq, Drop)]
@@ -147,7 +153,7 @@ fn pass_all<R: Read, O, P: Pass<O>>(
     Ok(false)
 }
 
-// Passes the next part.
+// Passes the next part, a few bytes at a time.
 fn pass_part<O, P: Pass<O>>(
     pass: &mut P,
     part: &[u8],
@@ -159,6 +165,34 @@ fn pass_part<O, P: Pass<O>>(
     ensures fails { Fails (P.has_failed output.old) (P.has_failed output.new) result }
 {
     out.clear();
-    pass.take(part, out)?;
-    P::write(output, out.as_slice())
+    let mut at = 0;
+    while at < part.len() {
+        let end = part.len().min(at + STEP);
+        pass_step(pass, &part[at..end], end == part.len(), out, output)?;
+        at = end;
+    }
+    Ok(())
+}
+
+// Takes the next bytes, and writes the output if these are the last ones or it is long; else it waits in `out`, where
+// some may wait before.
+fn pass_step<O, P: Pass<O>>(
+    pass: &mut P,
+    bytes: &[u8],
+    are_last: bool,
+    out: &mut Vec<u8>,
+    output: &mut O,
+) -> Result<(), StreamError>
+    ensures steps { Steps P.Holds P.MayBreakOff pass.old pass.new bytes.now out.old.items out.new.items
+        (P.taken output.old) (P.taken output.new) result }
+    ensures ends { are_last ≡ true → OnOk result (out.new.items ≡ []) }
+    ensures fails { Fails (P.has_failed output.old) (P.has_failed output.new) result }
+{
+    pass.take(bytes, out)?;
+    if !are_last && out.len() < LONG {
+        return Ok(());
+    }
+    P::write(output, out.as_slice())?;
+    out.clear();
+    Ok(())
 }

@@ -33,6 +33,13 @@ Passes {P} Holds May before after part old new (Ok x) =
 Passes {P} Holds May before after part old new (Err e) =
     (e ≢ Read) × ((more : List ℕ) × ((first : P) (text made : List ℕ) → Holds first before text made → May first (text ++ part) (made ++ more)) × Appends old new more)
 
+-- the next bytes of a part were taken: of what waited before and what they made, a beginning was written, and the rest waits; or the output broke off
+abbrev pub Steps : {P : Type 0} → (Holds : P → P → (text made : List ℕ) → Type 0) (May : P → (text made : List ℕ) → Type 0) (before after : P) (bytes waited waits : List ℕ) (old new : Option (List ℕ)) → Result (Unit {0}) StreamError → Type 0
+Steps {P} Holds May before after bytes waited waits old new (Ok x) =
+    (more : List ℕ) × (written : List ℕ) × Goes Holds before after bytes more × (waited ++ more ≡ written ++ waits) × Appends old new written
+Steps {P} Holds May before after bytes waited waits old new (Err e) =
+    (e ≢ Read) × ((written : List ℕ) × ((first : P) (text made rest : List ℕ) → Holds first before text (made ++ waited) → May first (text ++ (bytes ++ rest)) (made ++ written)) × Appends old new written)
+
 -- at the reader's end nothing is left
 abbrev pub HasEnded : (ended : Bool) (left : Option (List ℕ)) → Type 0
 HasEnded true left = IsAtEnd left

@@ -2,3 +2,4 @@ pub mod Lengths
 pub mod Escapes
 pub mod Rows
 pub mod Texts
+pub mod Notes

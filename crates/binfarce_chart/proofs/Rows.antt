@@ -1,14 +1,14 @@
 -- Rows, one after the other.
-use Rattle.std.proofs.Common.{◌≡◌, ℕ, ◌+◌, ◌-◌, ◌*◌, ◌<◌, ◌≤◌, Bool, cond, List, [], ◌∷◌, ◌++◌, length, map, drop, take, reverse, get_or, is_lt, max, nat_cmp, nat_le, true, false, refl, sym, ap, ◌∙◌, arith, append_assoc, append-nil, codes}
+use Rattle.std.proofs.Common.{◌≡◌, ℕ, ◌+◌, ◌-◌, ◌*◌, ◌<◌, Bool, cond, Option, List, [], ◌∷◌, ◌++◌, length, map, drop, take, reverse, get_or, is_lt, nat_cmp, nat_le, true, false, refl, sym, ap, ◌∙◌, arith, append_assoc, append-nil}
 use Rattle.std.specs.List.{filter}
 use Rattle.std.specs.List.Sorted.{IsNonDecreasingBy, IsStableByKey, ties}
-use Rattle.std.proofs.lemmas.List.{drop_more, get_or-map, get_or-reverse, length-append, length-map, length-reverse, length-take, reverse-append, reverse-reverse, take-append-drop}
+use Rattle.std.proofs.lemmas.List.{drop_more, get_or-map, get_or-reverse, length-map, length-reverse, reverse-append, reverse-reverse, take-append-drop}
 use Rattle.std.proofs.lemmas.List.Elements.{filter-append}
 use Rattle.std.proofs.lemmas.List.Sums.{sum_by-append, sum_by-cons}
 use Rattle.std.proofs.lemmas.Bool.Decides.{nat_tests}
 use Rattle.binfarce_chart.specs.declared.bars.Bar.{Bar}
-use Rattle.binfarce_chart.specs.Chart.{Row, Falls, KeepsOrder, bar_length, largest_after, others, shown, total, width}
-use Rattle.binfarce_chart.specs.Svg.{foot, head, picture, row, rows}
+use Rattle.binfarce_chart.specs.Chart.{Row, Falls, KeepsOrder, bar_length, others, total, width, with_others}
+use Rattle.binfarce_chart.specs.Svg.{foot, head, height, note, picture, row, rows}
 use Rattle.binfarce_chart.specs.Views.{bar_view}
 
 -- the sum over what is left, with the first of it
@@ -17,16 +17,17 @@ left_sum bars i d low =
     ap (λ (xs : List Bar). total (map bar_view xs)) (drop_more bars i d low) ∙ sum_by-cons (λ (r : Row). r.size) (bar_view (get_or bars i d)) (map bar_view (drop (i + 1) bars))
 
 -- the row of the first that is left was written
-pub one_row : (bars : List Bar) (i : ℕ) (d : Bar) (sum largest before top : ℕ) (old new all : List ℕ) → i < length bars
-    → new ≡ old ++ row top (bar_view (get_or bars i d)) (bar_length sum before (get_or bars i d).size) (width largest (get_or bars i d).size)
-    → old ++ rows sum largest before top (map bar_view (drop i bars)) ≡ all
-    → new ++ rows sum largest (before + (get_or bars i d).size) (top + 24) (map bar_view (drop (i + 1) bars)) ≡ all
-one_row bars i d sum largest before top old new all low grown is =
+pub one_row : (bars : List Bar) (i : ℕ) (d : Bar) (sum before top : ℕ) (old new all : List ℕ) → i < length bars
+    → new ≡ old ++ row top (bar_view (get_or bars i d)) (bar_length sum before (get_or bars i d).size) (width (bar_length sum before (get_or bars i d).size) (get_or bars i d).size)
+    → old ++ rows sum before top (map bar_view (drop i bars)) ≡ all
+    → new ++ rows sum (before + (get_or bars i d).size) (top + 24) (map bar_view (drop (i + 1) bars)) ≡ all
+one_row bars i d sum before top old new all low grown is =
     let b = get_or bars i d in
-    let line = row top (bar_view b) (bar_length sum before b.size) (width largest b.size) in
-    let others = rows sum largest (before + b.size) (top + 24) (map bar_view (drop (i + 1) bars)) in
+    let share = bar_length sum before b.size in
+    let line = row top (bar_view b) share (width share b.size) in
+    let others = rows sum (before + b.size) (top + 24) (map bar_view (drop (i + 1) bars)) in
     ap (λ (x : List ℕ). x ++ others) grown ∙ append_assoc old line others
-    ∙ sym (ap (λ (xs : List Bar). old ++ rows sum largest before top (map bar_view xs)) (drop_more bars i d low)) ∙ is
+    ∙ sym (ap (λ (xs : List Bar). old ++ rows sum before top (map bar_view xs)) (drop_more bars i d low)) ∙ is
 
 -- sizes that don't fall, turned round
 pub falls : (bars : List Bar) → IsNonDecreasingBy (λ (b : Bar). b.size) bars → Falls (map bar_view (reverse bars))
@@ -69,32 +70,29 @@ keeps bars sorted stable r =
 pub both_parts : (bars : List Row) (n : ℕ) → total (take n bars) + total (drop n bars) ≡ total bars
 both_parts bars n = sym (sum_by-append (λ (r : Row). r.size) (take n bars) (drop n bars)) ∙ ap total (take-append-drop n bars)
 
-pub few : (bars : List Row) → length bars ≤ 40 → shown bars ≡ bars
-few bars le = let test : nat_le (length bars) 40 ≡ true = grind (arith, nat_tests) in rw test refl
-
-pub many : (bars : List Row) → 40 < length bars → shown bars ≡ take 39 bars ++ others (drop 39 bars) ∷ []
-many bars lt = let test : nat_le (length bars) 40 ≡ false = grind (arith, nat_tests) in rw test refl
+pub many : (count : ℕ) (bars : List Row) → count < length bars → with_others count bars ≡ take count bars ++ others (drop count bars) ∷ []
+many count bars lt = let test : nat_le (length bars) count ≡ false = grind (arith, nat_tests) in rw test refl
 
 -- the rows that are shown have the sum of all
-pub shown_sum : (bars : List Row) → total (shown bars) ≡ total bars
-shown_sum bars = by_test (nat_le (length bars) 40)
+pub shown_sum : (count : ℕ) (bars : List Row) → total (with_others count bars) ≡ total bars
+shown_sum count bars = by_test (nat_le (length bars) count)
   where
-    by_test : (b : Bool) → total (cond b bars (take 39 bars ++ others (drop 39 bars) ∷ [])) ≡ total bars
+    by_test : (b : Bool) → total (cond b bars (take count bars ++ others (drop count bars) ∷ [])) ≡ total bars
     by_test true = refl
     by_test false = omega (
       arith,
-      sum_by-append (λ (r : Row). r.size) (take 39 bars) (others (drop 39 bars) ∷ []),
-      sum_by-cons (λ (r : Row). r.size) (others (drop 39 bars)) [],
-      both_parts bars 39,
+      sum_by-append (λ (r : Row). r.size) (take count bars) (others (drop count bars) ∷ []),
+      sum_by-cons (λ (r : Row). r.size) (others (drop count bars)) [],
+      both_parts bars count,
     )
 
 -- a picture, written in parts
-pub picture_is : (title : List ℕ) (bars : List Row) (n sum largest size y : ℕ) (none start more all : List ℕ) → none ≡ [] → n ≡ length bars → sum ≡ total bars → largest ≡ largest_after 0 bars
-    → y ≡ 24 * n + 81 → start ≡ none ++ head title n sum size → more ≡ start ++ rows sum largest 0 64 bars → all ≡ more ++ foot y → all ≡ picture title bars size
-picture_is title bars n sum largest size y none start more all empty count whole greatest low first second third =
-    third ∙ ap (λ (t : List ℕ). t ++ foot y) (second ∙ ap (λ (t : List ℕ). t ++ rows sum largest 0 64 bars) (first ∙ ap (λ (t : List ℕ). t ++ head title n sum size) empty))
-    ∙ append_assoc (head title n sum size) (rows sum largest 0 64 bars) (foot y)
-    ∙ ap (λ (k : ℕ). head title n sum size ++ (rows sum largest 0 64 bars ++ foot k)) low
-    ∙ ap (λ (k : ℕ). head title k sum size ++ (rows sum largest 0 64 bars ++ foot (24 * k + 81))) count
-    ∙ ap (λ (k : ℕ). head title (length bars) k size ++ (rows k largest 0 64 bars ++ foot (24 * length bars + 81))) whole
-    ∙ ap (λ (k : ℕ). head title (length bars) (total bars) size ++ (rows (total bars) k 0 64 bars ++ foot (24 * length bars + 81))) greatest
+pub picture_is : (title : List ℕ) (bars : List Row) (n sum y : ℕ) (size : Option ℕ) (line : Option (List ℕ)) (none start more all : List ℕ) → none ≡ [] → n ≡ height bars → sum ≡ total bars → line ≡ note bars
+    → y ≡ 24 * length bars + 82 → start ≡ none ++ head title n sum size → more ≡ start ++ rows sum 0 64 bars → all ≡ more ++ foot y line → all ≡ picture title bars size
+picture_is title bars n sum y size line none start more all empty count whole noted low first second third =
+    third ∙ ap (λ (t : List ℕ). t ++ foot y line) (second ∙ ap (λ (t : List ℕ). t ++ rows sum 0 64 bars) (first ∙ ap (λ (t : List ℕ). t ++ head title n sum size) empty))
+    ∙ append_assoc (head title n sum size) (rows sum 0 64 bars) (foot y line)
+    ∙ ap (λ (k : ℕ). head title n sum size ++ (rows sum 0 64 bars ++ foot k line)) low
+    ∙ ap (λ (o : Option (List ℕ)). head title n sum size ++ (rows sum 0 64 bars ++ foot (24 * length bars + 82) o)) noted
+    ∙ ap (λ (k : ℕ). head title k sum size ++ (rows sum 0 64 bars ++ foot (24 * length bars + 82) (note bars))) count
+    ∙ ap (λ (k : ℕ). head title (height bars) k size ++ (rows k 0 64 bars ++ foot (24 * length bars + 82) (note bars))) whole

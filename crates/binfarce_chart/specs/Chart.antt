@@ -1,5 +1,5 @@
 -- The bars of a picture: which are shown, and how long they are.
-use Rattle.std.specs.Prelude.{ℕ, zero, suc, ◌+◌, ◌-◌, ◌*◌, ◌/◌, ◌%◌, ◌<◌, ◌≤◌, List, [], ◌∷◌, ◌++◌, length, max, take, drop, codes, nat_le, nat_lt, if◌then◌else◌, slice_index_or}
+use Rattle.std.specs.Prelude.{ℕ, zero, suc, ◌+◌, ◌-◌, ◌*◌, ◌/◌, ◌%◌, ◌<◌, ◌≤◌, List, [], ◌∷◌, ◌++◌, length, max, take, drop, codes, nat_eq, nat_le, nat_lt, Option, Some, None, if◌then◌else◌, slice_index_or}
 use Rattle.std.specs.Fmt.{decimal}
 use Rattle.std.specs.List.{sum_by}
 use Rattle.std.specs.List.Sorted.{IsStableByKey}
@@ -29,9 +29,18 @@ others_label count = codes "[" ++ (decimal count ++ codes " others]")
 abbrev pub others : List Row → Row
 others rows = record { name = others_label (length rows); size = total rows }
 
--- the rows that are shown: all of up to 40; of more, the first 39 and one for the others
-abbrev pub shown : List Row → List Row
-shown rows = if nat_le (length rows) 40 then rows else (take 39 rows ++ (others (drop 39 rows) ∷ []))
+-- the first rows, and if there are more, one for the others
+abbrev pub with_others : (count : ℕ) → List Row → List Row
+with_others count rows = if nat_le (length rows) count then rows else (take count rows ++ (others (drop count rows) ∷ []))
+
+-- how many rows are shown before that of the others: the first ones that are asked for; otherwise all of up to 40, and of more 39
+abbrev pub count_of : (first : Option ℕ) → (all : ℕ) → ℕ
+count_of (Some count) all = count
+count_of None all = if nat_le all 40 then all else 39
+
+-- the rows that are shown
+abbrev pub shown : (first : Option ℕ) → List Row → List Row
+shown first rows = with_others (count_of first (length rows)) rows
 
 -- the length of all bars together: 100 per cent, in hundredths of a per cent
 abbrev pub whole : ℕ
@@ -50,14 +59,9 @@ abbrev pub lengths : ℕ → ℕ → List Row → List ℕ
 lengths total before [] = []
 lengths total before (row ∷ others) = bar_length total before row.size ∷ lengths total (before + row.size) others
 
--- the greatest of a number and the sizes of rows
-abbrev pub largest_after : ℕ → List Row → ℕ
-largest_after most [] = most
-largest_after most (row ∷ others) = largest_after (max row.size most) others
-
--- the width of a bar: the whole for the largest
-abbrev pub width : (largest size : ℕ) → ℕ
-width largest size = (whole * size) / largest
+-- the width of a bar: its length, but of a size above 0 at least 0.30 per cent, so that it is seen
+abbrev pub width : (length size : ℕ) → ℕ
+width length size = if nat_eq size 0 then 0 else max length 30
 
 -- the length differs by less than one unit from the row's share of the whole
 abbrev pub IsWithinOne : ℕ → Row → ℕ → Type 0

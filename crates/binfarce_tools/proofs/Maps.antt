@@ -1,18 +1,19 @@
 -- The bars of sums by crate are those of the crates.
-use Rattle.std.proofs.Common.{◌≡◌, ℕ, ◌<◌, ◌^◌, List, [], ◌∷◌, Result, IfOk, String, string_bytes, map, refl, sym, ap, subst, ◌∙◌}
+use Rattle.std.proofs.Common.{◌≡◌, ℕ, ◌<◌, ◌^◌, List, [], ◌∷◌, Option, None, Result, IfOk, String, string_bytes, map, refl, sym, ap, subst, ◌∙◌}
 use Rattle.std.specs.Global.{Global}
 use Rattle.std.specs.BTreeMap.{IsOrdered}
+use Rattle.std.specs.List.{AllZip}
 use Rattle.std.specs.String.{string_cmp}
 use Rattle.binfarce_chart.specs.Chart as chart
 use Rattle.binfarce_chart.specs.Chart.{Row}
 use Rattle.binfarce_chart.specs.Svg.{IsChartOf}
 use Rattle.binfarce_tools.proofs.CrateLines.{HaveSums, are_crates, have_sums, texts_of}
 use Rattle.binfarce_tools.specs.declared.report.CrateSums.{CrateSums}
-use Rattle.binfarce_tools.specs.Report.{Share, AreCratesOf}
-use Rattle.binfarce.specs.SectionEntries.{SelectedSymbols, as_listed}
-use Rattle.binfarce_tools.specs.Answer.{entries_of}
-use Rattle.binfarce_tools.specs.Sums.{AreSumsOf, AreSumsOfFile}
-use Rattle.binfarce_tools.proofs.Reports.{due}
+use Rattle.binfarce_tools.specs.Report.{Share, AreCratesOf, IsShareOf}
+use Rattle.binfarce.specs.SectionEntries.{SelectedSymbols}
+use Rattle.binfarce.specs.Symbol.{Entry}
+use Rattle.binfarce_tools.specs.Sums.{AreSumsOf}
+use Rattle.binfarce_tools.proofs.Reports.{HoldsList, due}
 use Rattle.binfarce_tools.proofs.Totals.{totals_add_up}
 use Rattle.binfarce_tools.specs.Map.{IsMapOf, IsMapOfShares, crate_rows}
 
@@ -38,14 +39,14 @@ rows_fit shares sums rows are seen =
     subst P (sym (ap (λ (rs : List Row). chart.total rs) seen.2 ∙ totals_add_up shares seen.0 seen.1 ∙ are.total_is)) are.fits
 
 -- the picture of the rows of all crates
-pub of_chart : (title : List ℕ) (shares : List Share) (sums : CrateSums) (rows : List Row) (text : List ℕ) → (names : List (List ℕ)) × AreCratesOf shares names × (rows ≡ crate_rows shares names) → IsChartOf title rows sums.section_size text → IsMapOfShares title shares sums.section_size text
-of_chart title shares sums rows text seen drawn =
-    let P : List Row → Type 0 = λ rs. IsChartOf title rs sums.section_size text in
+pub of_chart : (title : List ℕ) (shares : List Share) (size first : Option ℕ) (rows : List Row) (text : List ℕ) → (names : List (List ℕ)) × AreCratesOf shares names × (rows ≡ crate_rows shares names) → IsChartOf title rows size first text → IsMapOfShares title shares size first text
+of_chart title shares size first rows text seen drawn =
+    let P : List Row → Type 0 = λ rs. IsChartOf title rs size first text in
     (seen.0, seen.1, subst P seen.2 drawn)
 
--- the picture of the sums of a file's answer
-pub of_picture : {Y E : Type 0} (title : List ℕ) (seen : SelectedSymbols) (sums : CrateSums) (made : Result (String Y) E) → AreSumsOfFile seen sums
-    → IfOk made (λ t. (shares : List Share) → AreSumsOf shares sums → IsMapOfShares title shares sums.section_size (string_bytes t)) → IfOk made (λ t. IsMapOf title seen (string_bytes t))
-of_picture title seen sums made are is =
-    due (λ shares text. IsMapOfShares title shares (as_listed seen).section_size text) seen (entries_of seen) sums made refl are.1
-    (subst (λ (n : ℕ). IfOk made (λ t. (shares : List Share) → AreSumsOf shares sums → IsMapOfShares title shares n (string_bytes t))) are.0 is)
+-- the picture of what was got
+pub of_picture : {Y E : Type 0} (title : List ℕ) (seen : SelectedSymbols) (entries : List Entry) (size : Option ℕ) (sums : CrateSums) (made : Result (String Y) E) → HoldsList seen (entries, size) → (shares : List Share) × AllZip IsShareOf entries shares × AreSumsOf shares sums
+    → IfOk made (λ t. (shares : List Share) → AreSumsOf shares sums → IsMapOfShares title shares size None (string_bytes t)) → IfOk made (λ t. IsMapOf title seen (string_bytes t))
+of_picture title seen entries size sums made held are is =
+    due (λ shares text. IsMapOfShares title shares seen.section_size None text) seen entries sums made held.0 are
+    (subst (λ (n : Option ℕ). IfOk made (λ t. (shares : List Share) → AreSumsOf shares sums → IsMapOfShares title shares n None (string_bytes t))) held.1 is)

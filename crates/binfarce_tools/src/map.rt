@@ -13,7 +13,7 @@ ghost use Rattle.binfarce_tools.specs.Writing.{EndsAs, Takes, Fails, Leaves};
 ghost use Rattle.binfarce_tools.specs.Map.{IsMapOf, IsMapOfShares, crate_rows};
 
 use crate::list::Sink;
-use crate::report::{CrateSums, ReportError, sums_of_tables, write_made};
+use crate::report::{CrateSums, ReportError, crate_sums, write_made};
 use crate::tables::Tables;
 use binfarce_chart::bars::Bar;
 use binfarce_chart::svg::chart;
@@ -46,8 +46,8 @@ pub fn map<S: Sink>(
     map_tables(alloc, title, &Tables::whole(file, section), out)
 }
 
-/// As `map`, from the tables of a file: for the selection that they were read for. For all sections the title shows the
-/// sum of all sizes as the section size.
+/// As `map`, from the tables of a file: for the selection that they were read for. For all sections the picture
+/// has no section size.
 ///
 /// # Errors
 ///
@@ -67,19 +67,28 @@ pub fn map_tables<S: Sink>(
     ensures fails { Fails (S.has_failed out.old) (S.has_failed out.new) (outcome_of result) }
     ensures leaves { Leaves out.old out.new (outcome_of result) }
 {
-    let sums = sums_of_tables(alloc, tables)?;
-    write_made(out, picture(alloc, title, &sums))
+    let (functions, size) = tables.functions(alloc)?.into_list();
+    let sums = crate_sums(alloc, functions, size)?;
+    write_made(out, picture(alloc, title, &sums, size, None))
 }
 
-/// The picture of sums, which have to be those of shares, with this title. The only error is a failed allocation.
-pub fn picture(alloc: Global, title: &str, sums: &CrateSums) -> Result<String, AllocError>
+/// The picture of sums, which have to be those of shares, with this title. With it are the section's size, if one is
+/// selected, and of `Some(n)` the first n crates and one bar for all others, if there are any; of `None` the crates
+/// that `map` shows. The only error is a failed allocation.
+pub fn picture(
+    alloc: Global,
+    title: &str,
+    sums: &CrateSums,
+    section_size: Option<u64>,
+    first: Option<usize>,
+) -> Result<String, AllocError>
     requires { (shares : List Share) × AreSumsOf shares sums.now }
     ensures { IfOk result
         (λ t. (shares : List Share) → AreSumsOf shares sums.now
-        → IsMapOfShares title.now shares sums.now.section_size (string_bytes t)) }
+        → IsMapOfShares title.now shares section_size first (string_bytes t)) }
 {
     let bars = bars_of(alloc, sums)?;
-    chart(alloc, title, bars.as_slice(), sums.section_size)
+    chart(alloc, title, bars.as_slice(), section_size, first)
 }
 
 // A bar for each crate, in the order of the crates' bytes.

@@ -19,10 +19,10 @@ chart-requires c =
 
 pub returns : goal.returns
 returns c =
-    let P : List Bar → Type 0 = λ bars. IfOk c.chart.result (λ t. IsChartOf c.args.title.now (map bar_view bars) c.args.sums.now.section_size (string_bytes t)) in
+    let P : List Bar → Type 0 = λ bars. IfOk c.chart.result (λ t. IsChartOf c.args.title.now (map bar_view bars) c.args.section_size c.args.first (string_bytes t)) in
     drawn c.chart.result (subst P c.as_slice.ensures.value c.chart.ensures)
   where
-    drawn : (result : Result (String Global) AllocError) → IfOk result (λ t. IsChartOf c.args.title.now (map bar_view c.in_ok-bars.bars.items) c.args.sums.now.section_size (string_bytes t))
-        → IfOk result (λ t. (shares : List Share) → AreSumsOf shares c.args.sums.now → IsMapOfShares c.args.title.now shares c.args.sums.now.section_size (string_bytes t))
+    drawn : (result : Result (String Global) AllocError) → IfOk result (λ t. IsChartOf c.args.title.now (map bar_view c.in_ok-bars.bars.items) c.args.section_size c.args.first (string_bytes t))
+        → IfOk result (λ t. (shares : List Share) → AreSumsOf shares c.args.sums.now → IsMapOfShares c.args.title.now shares c.args.section_size c.args.first (string_bytes t))
     drawn (Err e) charted = charted
-    drawn (Ok t) charted = λ shares are. of_chart c.args.title.now shares c.args.sums.now (map bar_view c.in_ok-bars.bars.items) (string_bytes t) (c.in_ok-bars.ensures shares are) charted
+    drawn (Ok t) charted = λ shares are. of_chart c.args.title.now shares c.args.section_size c.args.first (map bar_view c.in_ok-bars.bars.items) (string_bytes t) (c.in_ok-bars.ensures shares are) charted

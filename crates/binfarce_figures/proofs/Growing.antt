@@ -1,6 +1,6 @@
 -- Lists that grow by one, side by side.
-use Rattle.std.proofs.Common.{◌≡◌, ℕ, ◌+◌, ◌<◌, List, [], ◌∷◌, ◌++◌, get_or, length, map, subst, sym, take}
-use Rattle.std.proofs.lemmas.List.{map_more}
+use Rattle.std.proofs.Common.{◌≡◌, ◌∙◌, ℕ, ◌+◌, ◌<◌, List, [], ◌∷◌, ◌++◌, ap, drop, get_or, length, map, subst, sym, take}
+use Rattle.std.proofs.lemmas.List.{drop-map, drop_more, map-append, map_more}
 use Rattle.std.proofs.lemmas.Slice.Zip.{all_zipped_more}
 use Rattle.std.specs.List.{AllZip}
 
@@ -27,3 +27,11 @@ through R S T step [] (y ∷ ys) zs a b = absurd a
 through R S T step (x ∷ xs) [] zs a b = absurd a
 through R S T step (x ∷ xs) (y ∷ ys) [] a b = absurd b
 through R S T step (x ∷ xs) (y ∷ ys) (z ∷ zs) a b = (step x y z a.0 b.0, through R S T step xs ys zs a.1 b.1)
+
+-- the values of what is left of a list, the first and the others
+pub mapped_split : {X Y : Type 0} (f : X → Y) (xs : List X) (i : ℕ) (d : X) → i < length xs → drop i (map f xs) ≡ f (get_or xs i d) ∷ drop (i + 1) (map f xs)
+mapped_split {Y = Y} f xs i d lt = drop-map f i xs ∙ ap (map f) (drop_more xs i d lt) ∙ ap (λ (ys : List Y). f (get_or xs i d) ∷ ys) (sym (drop-map f (i + 1) xs))
+
+-- the values of a list that grew by one
+pub map_push : {X Y : Type 0} (f : X → Y) (xs new : List X) (x : X) (y : Y) → new ≡ xs ++ x ∷ [] → f x ≡ y → map f new ≡ map f xs ++ y ∷ []
+map_push {Y = Y} f xs new x y grown is = ap (map f) grown ∙ map-append f xs (x ∷ []) ∙ ap (λ (z : Y). map f xs ++ z ∷ []) is

@@ -1,5 +1,5 @@
 -- The name that a text ends with, character after character.
-use Rattle.std.proofs.Common.{◌≡◌, ℕ, Bool, true, false, List, [], ◌∷◌, ◌++◌, reverse, refl, sym, ap, ◌∙◌, append-nil}
+use Rattle.std.proofs.Common.{◌≡◌, ℕ, Bool, true, false, List, [], ◌∷◌, ◌++◌, reverse, sym, ap, ◌∙◌, append-nil}
 use Rattle.std.specs.Char.{encode_utf8}
 use Rattle.std.specs.Prelude.{encode_utf8_all, if◌then◌else◌}
 use Rattle.std.proofs.lemmas.List.{reverse-append}

@@ -8,9 +8,11 @@ pub mod Spans
 pub mod Places
 pub mod Arguments
 pub mod Widths
-pub mod Adding
+pub mod Numbers
 pub mod Counted
+pub mod Entries
 pub mod Ranked
+pub mod Drawn
 pub mod Summed
 pub mod Got
 pub mod Figured

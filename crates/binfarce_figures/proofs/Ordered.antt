@@ -1,8 +1,10 @@
--- Rows that a sort by a key gives.
-use Rattle.std.proofs.Common.{◌≡◌, ℕ, List, Result, Ok, Err, ap, nat_cmp}
+-- Lists that a sort by a key gives.
+use Rattle.std.proofs.Common.{◌≡◌, ◌∙◌, ℕ, ◌+◌, List, [], ◌∷◌, Result, Ok, Err, ap, arith, map, nat_cmp}
+use Rattle.std.proofs.lemmas.List.{get_or-map, length-map}
 use Rattle.std.specs.Fn.{ComputesKey}
 use Rattle.std.specs.Prelude.{OnOk, IsPermutation}
-use Rattle.std.specs.List.Sorted.{IsSortedByKey, IsStableByKey, IsSortedByKeyClosure, IsStableByKeyClosure}
+use Rattle.std.specs.List.Sorted.{IsSorted, IsSortedByKey, IsStableByKey, IsSortedByKeyClosure, IsStableByKeyClosure}
+use Rattle.std.specs.Ordering.{is_lt}
 use Rattle.std.specs.declared.cmp.Ordering.{Ordering}
 use Rattle.std.specs.declared.cmp.Reverse.{Reverse}
 use denote.Ref.{Bor}
@@ -38,3 +40,12 @@ pub by_falling : {X F E : Type 0} (g : Mut F (Bor X × Unit {0}) (Reverse ℕ)) 
     → OnOk result (IsSortedByKeyClosure g (λ a b. nat_cmp b.0 a.0) f sorted) → IsStableByKeyClosure g (λ a b. nat_cmp b.0 a.0) f rows sorted → OnOk result (IsByKey measure falling rows sorted)
 by_falling g f measure rows sorted result computes same rises keeps =
     by_key_as g f (λ x. reversed (measure x)) (λ a b. nat_cmp b.0 a.0) measure falling rows sorted result computes same rises keeps (λ s. s) (λ s. s)
+
+-- values are sorted as what they are values of
+pub sorted_map : {X Y : Type 0} (f : X → Y) (cmp : Y → Y → Ordering) (xs : List X) → IsSortedByKey f cmp xs → IsSorted cmp (map f xs)
+sorted_map f cmp [] rises = λ k d le lt. absurd (omega (arith, lt))
+sorted_map f cmp (x ∷ xs) rises = λ k d le lt.
+    let n = length-map (x ∷ xs) f in
+    let first = get_or-map f (x ∷ xs) k x d (omega (arith, n, lt)) in
+    let next = get_or-map f (x ∷ xs) (k + 1) x d (omega (arith, n, lt)) in
+    (λ i. is_lt (cmp (next i) (first i))) ∙ rises k x le (omega (arith, n, lt))

@@ -17,7 +17,7 @@ use Rattle.binfarce_figures.specs.declared.rows.Shown.{Shown}
 use Rattle.binfarce_figures.specs.RowListing.{IsListingBy, IsListingOf, IsRowOf}
 use Rattle.binfarce_figures.specs.Rows.{IsNameText, IsTailText}
 use Rattle.binfarce_figures.specs.machine.Listings.{IsNamed, named_values}
-use Rattle.binfarce_figures.specs.machine.Keyed.{Values, row_values}
+use Rattle.binfarce_figures.specs.machine.Listings.{Values, row_values}
 use Rattle.binfarce_figures.proofs.Got.{IsListOf}
 use Rattle.binfarce_figures.proofs.Growing.{same_values, through}
 

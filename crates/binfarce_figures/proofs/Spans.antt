@@ -4,7 +4,7 @@ use Rattle.std.specs.Prelude.{if◌then◌else◌}
 use Rattle.std.proofs.lemmas.Bool.Decides.{nat_tests}
 use Rattle.binfarce_figures.specs.Claims.{count}
 use Rattle.binfarce_figures.specs.declared.claims.Span.{Span}
-use Rattle.binfarce_figures.specs.machine.Spans.{Ascend, CoverMore, covers, gaps}
+use Rattle.binfarce_figures.specs.machine.Spans.{Ascend, covers, gaps}
 
 -- how many of a range of numbers pass a test that answers the same for each
 count_same : (test : ℕ → Bool) (v : Bool) (low high : ℕ) → low ≤ high → ((n : ℕ) → low ≤ n → n < high → test n ≡ v) → count test high ≡ count test low + (if v then high - low else 0)

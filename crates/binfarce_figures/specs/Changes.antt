@@ -15,11 +15,9 @@ use Rattle.binfarce_tools.specs.declared.report.ReportError.{ReportError}
 use Rattle.binfarce_tools.specs.declared.tables.Tables.{Tables}
 use Rattle.binfarce_figures.specs.declared.diff.DiffError.{DiffError}
 use Rattle.binfarce_figures.specs.declared.diff.Growth.{Growth}
-use Rattle.binfarce_figures.specs.declared.key.Grouping.{Grouping}
-use Rattle.binfarce_figures.specs.declared.order.Row.{Row}
 use Rattle.binfarce_figures.specs.declared.sums.Figures.{Figures}
-use Rattle.binfarce_figures.specs.Figures.{AreClaimsOf, AreRowsOf, hundredths, numbers_of, percent_member, row_of, shares_of}
-use Rattle.binfarce_figures.specs.Keys.{section_keys}
+use Rattle.binfarce_figures.specs.Claims.{IsSumOf}
+use Rattle.binfarce_figures.specs.Figures.{AreRowsOf, AreSharesIn, hundredths, numbers_of, percent_member, row_of}
 
 -- the distance of two numbers
 abbrev pub difference : (old new : ℕ) → ℕ
@@ -80,11 +78,6 @@ change_members shown old new =
 abbrev pub change_row : Figures → Style → (name : List ℕ) → (old new : ℕ) → List ℕ
 change_row shown style name old new = row_of style (change_columns shown old new) (change_members shown old new) name
 
--- growth is that of the sums of all sizes
-pub record IsGrowthOf (old new : List Share) (growth : Growth) : Type 0 where
-  pub old_is : growth.old ≡ total old
-  pub new_is : growth.new ≡ total new
-
 -- text is that of the changes from shares to others: a row for each key of either file whose sums differ, the greatest difference first, and that of the sums of all sizes
 abbrev pub IsTextOfChanges : Figures → Style → (old new : List Share) → List ℕ → Type 0
 IsTextOfChanges shown style old new text =
@@ -123,20 +116,16 @@ EndsFor asked outcome = EndsAs ReportFits (MemoryIn asked.file asked.section) (a
 abbrev pub EndsForBoth : (old new : Asked) → Outcome → Type 0
 EndsForBoth old new outcome = EndsAfter (answer_for old) (EndsFor old) (EndsFor new) outcome
 
--- claims are those of a file's answer: what its function symbols add, with their keys
-abbrev pub AreClaimsIn : Grouping → SelectedSymbols → List Row → Type 0
-AreClaimsIn grouping selected claims = AreClaimsOf grouping (section_keys selected.section_name selected.section_size) selected.entries claims
-
 -- text is that of the changes between two files' answers
 abbrev pub AreChangesBy : Figures → Style → SelectedSymbols × SelectedSymbols → List ℕ → Type 0
 AreChangesBy shown style selected text =
-    (before : List Row) × (after : List Row) × AreClaimsIn shown.grouping selected.0 before × AreClaimsIn shown.grouping selected.1 after
-    × IsTextOfChanges shown style (shares_of before) (shares_of after) text
+    (before : List Share) × (after : List Share) × AreSharesIn shown.grouping selected.0 before × AreSharesIn shown.grouping selected.1 after
+    × IsTextOfChanges shown style before after text
 
 -- growth is that between two files' answers
-abbrev pub IsGrowthBy : Grouping → SelectedSymbols × SelectedSymbols → Growth → Type 0
-IsGrowthBy grouping selected growth =
-    (before : List Row) × (after : List Row) × AreClaimsIn grouping selected.0 before × AreClaimsIn grouping selected.1 after × IsGrowthOf (shares_of before) (shares_of after) growth
+pub record IsGrowthBy (selected : SelectedSymbols × SelectedSymbols) (growth : Growth) : Type 0 where
+  pub old_is : IsSumOf selected.0 growth.old
+  pub new_is : IsSumOf selected.1 growth.new
 
 -- a result without its value, and without whose the error is
 abbrev pub ended : Result Growth DiffError → Result (Unit {0}) ReportError

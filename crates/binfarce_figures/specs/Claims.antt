@@ -1,45 +1,58 @@
--- How many bytes each row adds to those before it.
-use Rattle.std.specs.Prelude.{ℕ, ◌+◌, ◌*◌, ◌^◌, zero, suc, Bool, not, ◌&&◌, List, [], ◌∷◌, nat_le, nat_lt, if◌then◌else◌}
+-- How many bytes each function symbol adds to those before it.
+use Rattle.std.specs.Prelude.{◌≡◌, ℕ, ◌+◌, ◌*◌, ◌^◌, zero, suc, Bool, not, ◌&&◌, List, [], ◌∷◌, IsPermutation, nat_le, nat_lt, if◌then◌else◌}
 use Rattle.std.specs.Cmp.Lexicographic.{slice_cmp}
-use Rattle.std.specs.List.{list_any}
+use Rattle.std.specs.List.{list_any, sum_by}
+use Rattle.std.specs.List.Sorted.{IsSorted}
 use Rattle.std.specs.Ordering.{nat_cmp, ordering_then}
 use Rattle.std.specs.declared.cmp.Ordering.{Ordering}
-use Rattle.binfarce_figures.specs.Order.{IsByKey}
-use Rattle.binfarce_figures.specs.declared.order.Row.{Row}
+use Rattle.binfarce.specs.SectionEntries.{SectionEntry, SelectedSymbols}
 
--- where a row begins: at its address, in a range for its section alone
-abbrev pub place_of : Row → ℕ
-place_of row = row.section * 2 ^ 65 + row.address
+-- where an entry begins: at its address, in a range for its section alone
+abbrev pub place_of : SectionEntry → ℕ
+place_of e = e.section * 2 ^ 65 + e.entry.address
 
--- inner rows come before outer ones: of two the one that begins last, of one place the shorter one, and of one size the one whose stored name is less
-abbrev pub inner_cmp : Row → Row → Ordering
-inner_cmp a b = ordering_then (ordering_then (nat_cmp (place_of b) (place_of a)) (nat_cmp a.size b.size)) (slice_cmp nat_cmp a.tail.now b.tail.now)
+-- inner entries come before outer ones: of two the one that begins last, of one place the shorter one, and of one size the one whose stored name is less
+abbrev pub inner_cmp : SectionEntry → SectionEntry → Ordering
+inner_cmp a b = ordering_then (ordering_then (nat_cmp (place_of b) (place_of a)) (nat_cmp a.entry.size b.entry.size)) (slice_cmp nat_cmp a.entry.name b.entry.name)
 
--- sorted is rows, inner ones before outer ones
-abbrev pub IsInward : List Row → List Row → Type 0
-IsInward rows sorted = IsByKey (λ row. row) inner_cmp rows sorted
+-- sorted is entries, inner ones before outer ones
+pub record IsInward (entries sorted : List SectionEntry) : Type 0 where
+  pub same : IsPermutation entries sorted
+  pub rises : IsSorted inner_cmp sorted
 
--- a row has the byte at a place
-abbrev pub has : (place : ℕ) → Row → Bool
-has place row = nat_le (place_of row) place && nat_lt place (place_of row + row.size)
+-- an entry has the byte at a place
+abbrev pub has : (place : ℕ) → SectionEntry → Bool
+has place e = nat_le (place_of e) place && nat_lt place (place_of e + e.entry.size)
 
 -- how many of the numbers below n pass a test
 abbrev pub count : (ℕ → Bool) → ℕ → ℕ
 count test zero = 0
 count test (suc n) = count test n + (if test n then 1 else 0)
 
--- how many bytes of a row none of those before it has
-abbrev pub new_bytes : (before : List Row) → Row → ℕ
-new_bytes before row = count (λ n. not (list_any (has (place_of row + n)) before)) row.size
+-- how many bytes of an entry none of those before it has
+abbrev pub new_bytes : (before : List SectionEntry) → SectionEntry → ℕ
+new_bytes before e = count (λ n. not (list_any (has (place_of e + n)) before)) e.entry.size
 
--- a row with another size
-abbrev pub with_size : Row → ℕ → Row
-with_size row size = record row { size = size }
+-- an entry with another size
+abbrev pub with_size : SectionEntry → ℕ → SectionEntry
+with_size e size = record { section = e.section; entry = record { name = e.entry.name; address = e.entry.address; size = size } }
 
--- rows with the bytes that each adds as its size
-abbrev pub claimed_after : (before : List Row) → List Row → List Row
+-- entries with the bytes that each adds as its size
+abbrev pub claimed_after : (before : List SectionEntry) → List SectionEntry → List SectionEntry
 claimed_after before [] = []
-claimed_after before (row ∷ others) = with_size row (new_bytes before row) ∷ claimed_after (row ∷ before) others
+claimed_after before (e ∷ others) = with_size e (new_bytes before e) ∷ claimed_after (e ∷ before) others
 
-abbrev pub claimed : List Row → List Row
-claimed rows = claimed_after [] rows
+abbrev pub claimed : List SectionEntry → List SectionEntry
+claimed entries = claimed_after [] entries
+
+-- claims are entries with the bytes that each adds, where each byte counts for the innermost that has it
+abbrev pub AreClaimsOf : (entries claims : List SectionEntry) → Type 0
+AreClaimsOf entries claims = (sorted : List SectionEntry) × IsInward entries sorted × (claims ≡ claimed sorted)
+
+-- the sum of all sizes
+abbrev pub sum_of_sizes : List SectionEntry → ℕ
+sum_of_sizes entries = sum_by (λ e. e.entry.size) entries
+
+-- n is how many bytes the function symbols of a file's answer have: each byte counts once
+abbrev pub IsSumOf : SelectedSymbols → ℕ → Type 0
+IsSumOf selected n = (claims : List SectionEntry) × AreClaimsOf selected.entries claims × (n ≡ sum_of_sizes claims)

@@ -1,5 +1,5 @@
 -- The text of sums by a key.
-use Rattle.std.specs.Prelude.{◌≡◌, ℕ, ◌*◌, ◌/◌, ◌%◌, Bool, true, false, List, [], ◌∷◌, ◌++◌, length, map, take, drop, filter, Option, Some, None, unwrap_or, codes, nat_eq, nat_lt, if◌then◌else◌}
+use Rattle.std.specs.Prelude.{◌≡◌, ℕ, ◌*◌, ◌/◌, ◌%◌, Bool, true, false, List, [], ◌∷◌, ◌++◌, length, map, take, drop, filter, Option, Some, None, Result, Ok, Err, unwrap_or, codes, nat_eq, nat_lt, if◌then◌else◌}
 use Rattle.std.specs.Fmt.{decimal}
 use Rattle.std.specs.List.{AllZip, flat_map, sum_by}
 use Rattle.std.specs.Str.{bytes_eq}
@@ -9,32 +9,22 @@ use Rattle.binfarce_tools.specs.Json.{Style, lines, objects, number_member, obje
 use Rattle.binfarce_tools.specs.Listing.{pad_left, size_text}
 use Rattle.binfarce_tools.specs.Map.{IsMapOfShares}
 use Rattle.binfarce_tools.specs.Report.{Share, AreCratesOf, sum_of, total, total_line}
+use Rattle.binfarce_tools.specs.declared.report.ReportError.{ReportError}
 use Rattle.binfarce_figures.specs.declared.key.Grouping.{Grouping}
 use Rattle.binfarce_figures.specs.declared.key.Key.{Key}
 use Rattle.binfarce_figures.specs.declared.key.Key.TheVariants.{Generic, Stack}
-use Rattle.binfarce_figures.specs.declared.order.Row.{Row}
 use Rattle.binfarce_figures.specs.declared.figures.Figure.{Figure}
 use Rattle.binfarce_figures.specs.declared.sums.Figures.{Figures}
-use Rattle.binfarce_figures.specs.Claims.{IsInward, claimed}
+use Rattle.binfarce_figures.specs.Claims.{AreClaimsOf}
 use Rattle.binfarce_figures.specs.Rows.{count_of}
 use Rattle.binfarce_figures.specs.RowListing.{last_line}
 use Rattle.binfarce_figures.specs.Keys.{IsKeyOf, section_keys}
 use Rattle.binfarce_figures.specs.Order.{IsByKey, falling}
 
--- row is that of an entry, with its key as its name and its stored name as its tail
-pub record IsKeyRow (grouping : Grouping) (sections : ℕ → List ℕ) (e : SectionEntry) (row : Row) : Type 0 where
-  pub section_is : row.section ≡ e.section
-  pub address_is : row.address ≡ e.entry.address
-  pub size_is : row.size ≡ e.entry.size
-  pub name_is : IsKeyOf grouping sections e row.name.now
-  pub tail_is : row.tail.now ≡ e.entry.name
-
--- the share of a row: its key, and its size
-abbrev pub share_of : Row → Share
-share_of row = record { name = row.name.now; size = row.size }
-
-abbrev pub shares_of : List Row → List Share
-shares_of rows = map share_of rows
+-- share is that of a claim: its key, and the bytes that it adds
+pub record IsShareOf (grouping : Grouping) (sections : ℕ → List ℕ) (claim : SectionEntry) (share : Share) : Type 0 where
+  pub name_is : IsKeyOf grouping sections claim share.name
+  pub size_is : share.size ≡ claim.entry.size
 
 -- how many shares have a key
 abbrev pub copies_of : List Share → List ℕ → ℕ
@@ -129,27 +119,35 @@ IsTextOfShares shown style size shares text =
     × AreRowsOf (sum_row shown style (unwrap_or size (total shares))) shown.first (λ size copies. size) (numbers_of (sum_of shares) (copies_of shares) names) rows
     × (text ≡ rows ++ whole_text style size (total shares))
 
--- rows are those of entries with their keys, where each byte counts for the innermost that has it
-abbrev pub AreClaimsOf : Grouping → (ℕ → List ℕ) → List SectionEntry → List Row → Type 0
-AreClaimsOf grouping sections entries claims =
-    (rows sorted : List Row) × AllZip (IsKeyRow grouping sections) entries rows × IsInward rows sorted × (claims ≡ claimed sorted)
+-- shares are those of the claims of entries
+abbrev pub AreSharesOf : Grouping → (ℕ → List ℕ) → List SectionEntry → List Share → Type 0
+AreSharesOf grouping sections entries shares = (claims : List SectionEntry) × AreClaimsOf entries claims × AllZip (IsShareOf grouping sections) claims shares
+
+-- so of a file's answer
+abbrev pub AreSharesIn : Grouping → SelectedSymbols → List Share → Type 0
+AreSharesIn grouping selected shares = AreSharesOf grouping (section_keys selected.section_name selected.section_size) selected.entries shares
 
 -- text shows what the function symbols of a file's answer add
-abbrev pub IsShownBy : Grouping → (Shows : (size : Option ℕ) → (claims : List Row) → List ℕ → Type 0) → SelectedSymbols → List ℕ → Type 0
-IsShownBy grouping Shows selected text = (claims : List Row) × AreClaimsOf grouping (section_keys selected.section_name selected.section_size) selected.entries claims × Shows selected.section_size claims text
+abbrev pub IsShownBy : Grouping → (Shows : (size : Option ℕ) → List Share → List ℕ → Type 0) → SelectedSymbols → List ℕ → Type 0
+IsShownBy grouping Shows selected text = (shares : List Share) × AreSharesIn grouping selected shares × Shows selected.section_size shares text
 
 -- text is that of the sums of a file's answer
 abbrev pub AreFiguresBy : Figures → Style → SelectedSymbols → List ℕ → Type 0
-AreFiguresBy shown style = IsShownBy shown.grouping (λ size claims text. IsTextOfShares shown style size (shares_of claims) text)
+AreFiguresBy shown style = IsShownBy shown.grouping (IsTextOfShares shown style)
 
--- text is the picture of these sums with this title, beside the section's size, or for all sections the sum of all
-abbrev pub IsPictureBy : (title : List ℕ) → Grouping → SelectedSymbols → List ℕ → Type 0
-IsPictureBy title grouping = IsShownBy grouping (λ size claims text. IsMapOfShares title (shares_of claims) (unwrap_or size (total (shares_of claims))) text)
+-- text is the picture of these sums with this title, of the first ones if so many are asked for
+abbrev pub IsPictureBy : (title : List ℕ) → Grouping → (first : Option ℕ) → SelectedSymbols → List ℕ → Type 0
+IsPictureBy title grouping first = IsShownBy grouping (λ size shares text. IsMapOfShares title shares size first text)
 
 -- `{key} {size}`, and a line feed, of those that add bytes
-abbrev pub claim_line : Row → List ℕ
-claim_line row = if nat_eq row.size 0 then [] else row.name.now ++ (codes " " ++ (decimal row.size ++ 10 ∷ []))
+abbrev pub claim_line : Share → List ℕ
+claim_line share = if nat_eq share.size 0 then [] else share.name ++ (codes " " ++ (decimal share.size ++ 10 ∷ []))
 
 -- text has the stacks of a file's answer: a line for each function symbol that adds bytes
 abbrev pub AreStacksIn : (joins_std : Bool) → SelectedSymbols → List ℕ → Type 0
-AreStacksIn joins_std = IsShownBy (record { key = Stack; joins_std = joins_std }) (λ size claims text. text ≡ flat_map claim_line claims)
+AreStacksIn joins_std = IsShownBy (record { key = Stack; joins_std = joins_std }) (λ size shares text. text ≡ flat_map claim_line shares)
+
+-- a result without its value
+abbrev pub ended : Result ℕ ReportError → Result (Unit {0}) ReportError
+ended (Ok n) = Ok tt
+ended (Err e) = Err e

@@ -1,6 +1,6 @@
 -- Definitions that only private contracts cite.
 pub mod Got
-pub mod Keyed
+pub mod Shares
 pub mod Counts
 pub mod Compared
 pub mod Columns

@@ -1,58 +1,48 @@
-//! How many bytes each row adds to those before it.
+//! How many bytes each function symbol adds to those before it.
 
-ghost use Rattle.std.specs.Prelude.{◌≡◌, ◌<◌, ◌≤◌, ◌^◌, IfOk, OnOk, reverse};
+ghost use Rattle.std.specs.Prelude.{◌≡◌, ◌<◌, ◌≤◌, ◌^◌, map, IfOk, OnOk, reverse};
+ghost use Rattle.binfarce.specs.SymbolViews.{section_function_view};
 ghost use Rattle.binfarce_figures.specs.Claims;
+ghost use Rattle.binfarce_figures.specs.Claims.{AreClaimsOf};
 ghost use Rattle.binfarce_figures.specs.machine.Falling.{Falls, inner_key};
-ghost use Rattle.binfarce_figures.specs.machine.Keyed.{AreClaimsWith, keyed_values, row_values};
 ghost use Rattle.binfarce_figures.specs.machine.Spans.{Ascend, CoverMore, gaps};
 
-use crate::key::Keyed;
-use crate::order::Row;
+use binfarce::{FunctionSymbol, SectionFunction};
 use std::alloc::{AllocError, Global};
 use std::cmp::Reverse;
 
 // Addresses and their ends, from section to section.
 const RANGE: u128 = 36893488147419103232;
 
-/// How many bytes each function symbol adds to its key's sum, as rows with the keys: a byte that several of a section
-/// have counts for the innermost of them. That is the one that begins last, of these the shortest, and of these the one
-/// whose stored name is least.
+/// Function symbols with the bytes that each adds to its key's sum as its size: a byte that several of a section have
+/// counts for the innermost of them. That is the one that begins last, of these the shortest, and of these the one
+/// whose stored name is least. Inner ones come before outer ones.
 pub(crate) fn claims_of<'a>(
     alloc: Global,
-    keyed: &'a [Keyed<'_>],
-) -> Result<Vec<Row<'a>>, AllocError>
-    ensures { IfOk result (λ v. AreClaimsWith keyed.entry.now v.items) }
+    functions: Vec<SectionFunction<'a>>,
+) -> Result<Vec<SectionFunction<'a>>, AllocError>
+    ensures { IfOk result
+        (λ v. AreClaimsOf (map section_function_view functions.entry.items) (map section_function_view v.items)) }
 {
-    let mut rows: Vec<Row<'_>> = keyed.iter().map(row_of).collect(alloc)?;
-    rows.sort_by_key(|row| inner_key(*row))?;
-    claimed(alloc, &rows)
+    let mut sorted = functions;
+    sorted.sort_by_key(|function| inner_key(*function))?;
+    claimed(alloc, &sorted)
 }
 
-// The row of a function symbol with its key.
-fn row_of<'a>(keyed: &'a Keyed<'_>) -> Row<'a>
-    ensures { row_values result ≡ keyed_values keyed.entry.now }
+// Where a function symbol begins.
+fn place_of(function: SectionFunction<'_>) -> u128
+    ensures is { result ≡ Claims.place_of (section_function_view function.entry) }
+    ensures below { result < 2 ^ 98 }
 {
-    Row {
-        section: keyed.section,
-        address: keyed.address,
-        size: keyed.size,
-        name: keyed.key.as_str(),
-        tail: keyed.name,
-    }
+    u128::from(function.section) * RANGE + u128::from(function.function.address)
 }
 
-// Where a row begins.
-fn place_of(row: Row<'_>) -> u128
-    ensures { result ≡ Claims.place_of row.entry }
+// What function symbols are sorted by: inner ones come before outer ones.
+fn inner_key<'a>(function: SectionFunction<'a>) -> (Reverse<u128>, u64, &'a str)
+    ensures { result ≡ inner_key function.entry }
 {
-    u128::from(row.section) * RANGE + u128::from(row.address)
-}
-
-// What rows are sorted by: inner ones come before outer ones.
-fn inner_key<'a>(row: Row<'a>) -> (Reverse<u128>, u64, &'a str)
-    ensures { result ≡ inner_key row.entry }
-{
-    (Reverse(place_of(row)), row.size, row.tail)
+    let FunctionSymbol { name, size, .. } = function.function;
+    (Reverse(place_of(function)), size, name)
 }
 
 // Bytes from one place up to another.
@@ -62,21 +52,38 @@ struct Span {
     end: u128,
 }
 
-// Rows with the bytes that each adds as its size.
-fn claimed<'a>(alloc: Global, rows: &[Row<'a>]) -> Result<Vec<Row<'a>>, AllocError>
-    requires { Falls rows.now }
-    ensures { IfOk result (λ v. v.items ≡ Claims.claimed rows.now) }
+// Function symbols with the bytes that each adds as its size.
+fn claimed<'a>(
+    alloc: Global,
+    functions: &[SectionFunction<'a>],
+) -> Result<Vec<SectionFunction<'a>>, AllocError>
+    requires { Falls (map section_function_view functions.now) }
+    ensures { IfOk result
+        (λ v. map section_function_view v.items ≡ Claims.claimed (map section_function_view functions.now)) }
 {
-    let mut claims = Vec::with_capacity(alloc, rows.len())?;
+    let mut claims = Vec::with_capacity(alloc, functions.len())?;
     let mut spans = Vec::new(alloc);
-    for row in rows {
-        let place = place_of(*row);
-        let end = place + u128::from(row.size);
+    for function in functions {
+        let place = place_of(*function);
+        let end = place + u128::from(function.function.size);
         let added = cover(&mut spans, place, end)?;
         let size = added as u64;
-        claims.push(Row { size, ..*row })?;
+        claims.push(with_size(*function, size))?;
     }
     Ok(claims)
+}
+
+// A function symbol with another size.
+fn with_size<'a>(function: SectionFunction<'a>, size: u64) -> SectionFunction<'a>
+    ensures { section_function_view result ≡ Claims.with_size (section_function_view function.entry) size }
+{
+    SectionFunction {
+        section: function.section,
+        function: FunctionSymbol {
+            size,
+            ..function.function
+        },
+    }
 }
 
 // Adds the bytes from a place up to another to the spans of bytes, of which none begins before it, and of which the

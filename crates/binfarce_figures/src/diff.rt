@@ -1,29 +1,25 @@
 //! How the sums of two files differ.
 
-ghost use Rattle.std.specs.Prelude.{◌≡◌, ◌≢◌, ◌<◌, ◌^◌, true, Some, Ok, Err, IfOk, IfErr, MatchResult};
-ghost use Rattle.std.specs.List.{sum_by};
+ghost use Rattle.std.specs.Prelude.{◌≡◌, ◌≢◌, true, Some, Ok, Err, IfOk, IfErr, MatchResult};
 ghost use Rattle.std.specs.String.{string_bytes};
 ghost use Rattle.binfarce.specs.SectionEntries.{SelectedSymbols};
 ghost use Rattle.binfarce_tools.specs.Json.{style_of};
-ghost use Rattle.binfarce_tools.specs.Report.{total};
 ghost use Rattle.binfarce_tools.specs.ReportWords.{outcome_of};
-ghost use Rattle.binfarce_tools.specs.Tables.{section_names};
 ghost use Rattle.binfarce_tools.specs.Writing.{Takes, Fails, Leaves};
 ghost use Rattle.binfarce_tools.specs.declared.report.ReportError.TheVariants.{Write};
 ghost use Rattle.binfarce_figures.specs.Changes.{AreChangesBy, AreTablesFor, Asked, EndsFor, EndsForBoth, IsGrowthBy, IsWhose, answer_for, both, ended};
 ghost use Rattle.binfarce_figures.specs.machine.Compared.{IsTextWith};
-ghost use Rattle.binfarce_figures.specs.machine.Got.{AreKeyedIn};
+ghost use Rattle.binfarce_figures.specs.machine.Got.{AreClaimsIn};
+ghost use Rattle.binfarce_figures.specs.machine.Shares.{AddUp};
 
-use crate::claims::claims_of;
 use crate::figures::{Columns, Figure, Layout};
-use crate::key::{Grouping, Keyed};
-use crate::order::Row;
-use crate::sums::{Figures, keyed_in, sums_of};
+use crate::sums::{Claims, Counting, Figures, add_claims, claims_in};
 use binfarce_tools::json::Form;
 use binfarce_tools::list::Sink;
 use binfarce_tools::report::{ReportError, write_made};
 use binfarce_tools::tables::Tables;
 use std::alloc::{AllocError, Global};
+use std::collections::BTreeMap;
 use std::error::Error;
 use std::fmt;
 
@@ -113,32 +109,28 @@ pub fn diff<S: Sink>(
     ensures growth { (before after : Asked) (selected : SelectedSymbols × SelectedSymbols)
         → AreTablesFor before old.now → AreTablesFor after new.now
         → both (answer_for before) (answer_for after) ≡ Some (Ok selected)
-        → IfOk result (λ g. IsGrowthBy figures.now.grouping selected g) }
+        → IfOk result (IsGrowthBy selected) }
     ensures whose { (before : Asked) → AreTablesFor before old.now → IfErr result (IsWhose before) }
     ensures fails { Fails (S.has_failed out.old) (S.has_failed out.new) (outcome_of (ended result)) }
     ensures leaves { Leaves out.old out.new (outcome_of (ended result)) }
 {
-    let (old_keyed, _) = old_keyed_in(alloc, old, figures.grouping)?;
-    let (new_keyed, _) = keyed_in(alloc, new, figures.grouping)?;
-    let (text, growth) = text_of(alloc, figures, form, &old_keyed, &new_keyed)?;
-    write_made(out, Ok(text))?;
-    Ok(growth)
+    let old = old_claims(alloc, old)?;
+    let new = claims_in(alloc, new)?;
+    write_made(out, text_of(alloc, figures, form, &old, &new))?;
+    Ok(Growth {
+        old: old.total,
+        new: new.total,
+    })
 }
 
-// What `keyed_in` gives of the old file.
-fn old_keyed_in<'a>(
-    alloc: Global,
-    old: &'a Tables<'_>,
-    grouping: Grouping,
-) -> Result<(Vec<Keyed<'a>>, Option<u64>), DiffError>
+// What the old file's function symbols add.
+fn old_claims<'b, 'a>(alloc: Global, old: &'b Tables<'a>) -> Result<Claims<'b, 'a>, DiffError>
     ensures got { (before : Asked) → AreTablesFor before old.entry.now → MatchResult result
-        (λ r. AreKeyedIn grouping before.which before.file before.section (section_names old.entry.now) r.0.items r.1)
-        (λ e. EndsFor before (outcome_of (Err e.error))) }
-    ensures fits { MatchResult result (λ r. sum_by (λ k. k.size) r.0.items < 2 ^ 64)
-        (λ e. (e.is_of_old ≡ true) × (e.error ≢ Write)) }
+        (AreClaimsIn before.which before.file before.section) (λ e. EndsFor before (outcome_of (Err e.error))) }
+    ensures total { MatchResult result AddUp (λ e. (e.is_of_old ≡ true) × (e.error ≢ Write)) }
 {
-    match keyed_in(alloc, old, grouping) {
-        Ok(keyed) => Ok(keyed),
+    match claims_in(alloc, old) {
+        Ok(claims) => Ok(claims),
         Err(error) => Err(DiffError {
             error,
             is_of_old: true,
@@ -146,25 +138,20 @@ fn old_keyed_in<'a>(
     }
 }
 
-// The whole text, and the sums of all sizes.
+// The whole text.
 fn text_of(
     alloc: Global,
     figures: &Figures,
     form: Form<'_>,
-    old: &[Keyed<'_>],
-    new: &[Keyed<'_>],
-) -> Result<(String, Growth), AllocError>
-    requires { (sum_by (λ k. k.size) old.now < 2 ^ 64) × (sum_by (λ k. k.size) new.now < 2 ^ 64) }
-    ensures { IfOk result (λ r. IsTextWith figures.now (style_of form.entry) old.now new.now (string_bytes r.0) r.1) }
+    old: &Claims<'_, '_>,
+    new: &Claims<'_, '_>,
+) -> Result<String, AllocError>
+    requires { AddUp old.now × AddUp new.now }
+    ensures { IfOk result (λ t. IsTextWith figures.now (style_of form.entry) old.now new.now (string_bytes t)) }
 {
-    let mut all = claims_of(alloc, old)?;
-    let new_claims = claims_of(alloc, new)?;
-    // The old file's sums have the names of both.
-    for row in &new_claims {
-        all.push(Row { size: 0, ..*row })?;
-    }
-    let old_sums = sums_of(alloc, &all, false)?;
-    let new_sums = sums_of(alloc, &new_claims, false)?;
+    let mut numbers = BTreeMap::new(alloc);
+    add_claims(alloc, old, figures.grouping, Counting::Old, &mut numbers)?;
+    add_claims(alloc, new, figures.grouping, Counting::New, &mut numbers)?;
     let columns = Columns::Changes;
     let layout = Layout {
         alloc,
@@ -172,13 +159,12 @@ fn text_of(
         form,
         columns,
     };
-    let mut text = layout.rows(&old_sums, &new_sums)?;
-    let (old, new) = (old_sums.total, new_sums.total);
+    let mut text = layout.rows(&numbers)?;
     let total = Figure {
         name: "[total]",
-        sum: old,
-        other: new,
+        sum: old.total,
+        other: new.total,
     };
     layout.push_row(&mut text, total)?;
-    Ok((text, Growth { old, new }))
+    Ok(text)
 }

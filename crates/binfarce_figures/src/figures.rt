@@ -5,16 +5,15 @@ ghost use Rattle.std.specs.List.{sum_by};
 ghost use Rattle.std.specs.String.{string_bytes};
 ghost use Rattle.binfarce_tools.specs.Listing.{pad_left, size_text};
 ghost use Rattle.binfarce_tools.specs.Report.{Share, AreCratesOf, sum_of};
-ghost use Rattle.binfarce_tools.specs.Sums.{AreSumsOf, sum_at};
 ghost use Rattle.binfarce_figures.specs.Changes.{change_text, growth_member, growth_part, growth_text, minus, sign};
 ghost use Rattle.binfarce_figures.specs.Figures.{copies_part, figure_row, figure_rows, figure_view, hundredths, numbers_of, others_row, percent_member, percent_part, share_member};
-ghost use Rattle.binfarce_figures.specs.machine.Columns.{AreSummed, AreRowsFor, columns_text, has_row, members_text, rank, row_text};
+ghost use Rattle.binfarce_figures.specs.machine.Columns.{AreRowsFor, columns_text, has_row, members_text, rank, row_text};
+ghost use Rattle.binfarce_figures.specs.machine.Counts.{AreNumbersOf};
 
 use crate::key::Key;
 use crate::rows::count_of;
-use crate::sums::Figures;
+use crate::sums::{Figures, Numbers};
 use binfarce_tools::json::{Form, push_number_member, push_start, push_text_member};
-use binfarce_tools::report::CrateSums;
 use std::alloc::{AllocError, Global};
 use std::cmp::Reverse;
 use std::collections::BTreeMap;
@@ -49,33 +48,30 @@ pub(crate) struct Layout<'a> {
 }
 
 impl Layout<'_> {
-    /// The rows of the first figures that these sums and others have for the names of these, and the one that sums up
-    /// all others.
-    pub(crate) fn rows(&self, sums: &CrateSums, others: &CrateSums) -> Result<String, AllocError>
-        requires { (first : List Share) × (second : List Share) × AreSummed first second sums.now others.now }
-        ensures { IfOk result (λ t. (first second : List Share) → AreSummed first second sums.now others.now
+    /// The rows of the first figures of keys with these numbers, and the one that sums up all others.
+    pub(crate) fn rows(&self, numbers: &BTreeMap<String, Numbers>) -> Result<String, AllocError>
+        requires { (first : List Share) × (second : List Share) × AreNumbersOf first second numbers.now }
+        ensures { IfOk result (λ t. (first second : List Share) → AreNumbersOf first second numbers.now
             → AreRowsFor self.now first second (string_bytes t)) }
     {
-        let mut rows = self.figures_of(sums, others)?;
+        let mut rows = self.figures_of(numbers)?;
         rows.sort_by_key(|row| Reverse(rank(self.columns, row.sum, row.other)))?;
         self.first_rows(&rows)
     }
 
-    // The figures of the names of sums, in the order of their bytes.
+    // The figures of keys with these numbers, in the order of the keys' bytes.
     fn figures_of<'b>(
         &self,
-        sums: &'b CrateSums,
-        others: &CrateSums,
+        numbers: &'b BTreeMap<String, Numbers>,
     ) -> Result<Vec<Figure<'b>>, AllocError>
-        ensures { IfOk result (λ v. (first second : List Share)
-            → AreSumsOf first sums.entry.now → AreSumsOf second others.now
+        ensures { IfOk result (λ v. (first second : List Share) → AreNumbersOf first second numbers.entry.now
             → (names : List (List ℕ)) × AreCratesOf first names × (map figure_view v.items ≡ filter
             (λ n. has_row self.now.columns n.1.0 n.1.1) (numbers_of (sum_of first) (sum_of second) names))) }
     {
         let mut figures = Vec::new(self.alloc);
-        for (name, sum) in sums.crates.iter() {
-            let (name, sum) = (name.as_str(), *sum);
-            let other = size_at(&others.crates, name);
+        for (name, pair) in numbers.iter() {
+            let name = name.as_str();
+            let Numbers { sum, other } = *pair;
             if has_row(self.columns, sum, other) {
                 figures.push(Figure { name, sum, other })?;
             }
@@ -230,13 +226,6 @@ impl Layout<'_> {
         }
         Ok(())
     }
-}
-
-// The sum at a name, 0 where there is none.
-fn size_at(sums: &BTreeMap<String, u64>, name: &str) -> u64
-    ensures { result ≡ sum_at sums.now name.now }
-{
-    sums.get(name).copied().unwrap_or(0)
 }
 
 // Whether a figure has a row: of changes, whether its sums differ.

@@ -14,8 +14,7 @@ ghost use Rattle.binfarce_tools.specs.Writing.{EndsAs, Takes, Fails, Leaves};
 ghost use Rattle.binfarce_figures.specs.Rows.{IsNameText, IsTailText, count_of};
 ghost use Rattle.binfarce_figures.specs.RowListing.{IsListingBy};
 ghost use Rattle.binfarce_tools.specs.Json.{style_of};
-ghost use Rattle.binfarce_figures.specs.machine.Listings.{IsNamed, IsTextFor, named_values, shown_row, shown_rows};
-ghost use Rattle.binfarce_figures.specs.machine.Keyed.{row_values};
+ghost use Rattle.binfarce_figures.specs.machine.Listings.{IsNamed, IsTextFor, named_values, row_values, shown_row, shown_rows};
 
 use crate::key::put_crate;
 use crate::order::{Order, Row, sort};

@@ -1,10 +1,10 @@
 //! Function symbols as stacks.
 
-ghost use Rattle.std.specs.Prelude.{◌≡◌, ◌++◌, ◌<◌, ◌^◌, ℕ, List, Option, codes, IfOk, OnOk};
-ghost use Rattle.std.specs.List.{flat_map, sum_by};
+ghost use Rattle.std.specs.Prelude.{◌≡◌, ◌++◌, ℕ, List, Option, codes, IfOk, OnOk};
+ghost use Rattle.std.specs.List.{flat_map};
 ghost use Rattle.std.specs.String.{string_bytes};
 ghost use Rattle.binfarce.specs.declared.SymbolTable.{SymbolTable};
-ghost use Rattle.binfarce_tools.specs.Report.{ReportFits};
+ghost use Rattle.binfarce_tools.specs.Report.{Share, ReportFits};
 ghost use Rattle.binfarce_tools.specs.ReportWords.{outcome_of};
 ghost use Rattle.binfarce_tools.specs.Answer.{selected_answer, MemoryIn};
 ghost use Rattle.binfarce_tools.specs.Tables.{AreTablesOf};
@@ -12,13 +12,12 @@ ghost use Rattle.binfarce_tools.specs.Writing.{EndsAs, Takes, Fails, Leaves};
 ghost use Rattle.binfarce_figures.specs.Figures.{AreStacksIn, claim_line};
 ghost use Rattle.binfarce_figures.specs.Keys.{IsCrateOf, IsTrimmedOf};
 ghost use Rattle.binfarce_figures.specs.Stacks.{stack, stack_of};
-ghost use Rattle.binfarce_figures.specs.machine.Keyed.{AreClaimsWith};
+ghost use Rattle.binfarce_figures.specs.declared.key.Key.TheVariants.{Stack};
+ghost use Rattle.binfarce_figures.specs.machine.Shares.{AreSharesWith};
 
-use crate::claims::claims_of;
 use crate::generic::{Shape, push_rewritten};
-use crate::key::{Grouping, Key, Keyed, put_crate};
-use crate::order::Row;
-use crate::sums::keyed_in;
+use crate::key::{Grouping, Key, put_crate, put_key};
+use crate::sums::{Claims, claims_in};
 use binfarce_names::demangle::Demangler;
 use binfarce_tools::list::Sink;
 use binfarce_tools::report::{ReportError, write_made};
@@ -51,35 +50,47 @@ pub fn fold_tables<S: Sink>(
     ensures fails { Fails (S.has_failed out.old) (S.has_failed out.new) (outcome_of result) }
     ensures leaves { Leaves out.old out.new (outcome_of result) }
 {
+    let claims = claims_in(alloc, tables)?;
+    write_made(out, stacks_of(alloc, &claims, joins_std))
+}
+
+// The lines of function symbols with their stacks.
+fn stacks_of(alloc: Global, claims: &Claims<'_, '_>, joins_std: bool) -> Result<String, AllocError>
+    ensures { IfOk result (λ t. (shares : List Share)
+        × AreSharesWith (record { key = Stack; joins_std = joins_std }) claims.now shares
+        × (string_bytes t ≡ flat_map claim_line shares)) }
+{
     let grouping = Grouping {
         key: Key::Stack,
         joins_std,
     };
-    let (keyed, _) = keyed_in(alloc, tables, grouping)?;
-    write_made(out, stacks_of(alloc, &keyed))
-}
-
-// The lines of function symbols with their stacks.
-fn stacks_of(alloc: Global, keyed: &[Keyed<'_>]) -> Result<String, AllocError>
-    ensures { IfOk result (λ t. (claims : List Row) × AreClaimsWith keyed.now claims
-        × (string_bytes t ≡ flat_map claim_line claims)) }
-{
-    let claims = claims_of(alloc, keyed)?;
+    let mut demangler = Demangler::new(alloc);
+    let mut stack = String::new(alloc);
     let mut text = String::new(alloc);
-    for claim in &claims {
-        push_claim(&mut text, *claim)?;
+    for claim in &claims.list {
+        put_key(
+            alloc,
+            &mut demangler,
+            &mut stack,
+            claims.tables,
+            *claim,
+            claims.size,
+            grouping,
+        )?;
+        push_claim(&mut text, stack.as_str(), claim.function.size)?;
     }
     Ok(text)
 }
 
-// Appends the line of a function symbol with its stack, if it adds bytes.
-fn push_claim(text: &mut String, claim: Row<'_>) -> Result<(), AllocError>
-    ensures { OnOk result (string_bytes text.new ≡ string_bytes text.old ++ claim_line claim.entry) }
+// Appends the line of a function symbol with this stack, if it adds bytes.
+fn push_claim(text: &mut String, stack: &str, size: u64) -> Result<(), AllocError>
+    ensures { OnOk result (string_bytes text.new
+        ≡ string_bytes text.old ++ claim_line (record { name = stack.now; size = size })) }
 {
-    if claim.size == 0 {
+    if size == 0 {
         return Ok(());
     }
-    writeln!(text, "{} {}", claim.name, claim.size)
+    writeln!(text, "{stack} {size}")
 }
 
 /// Appends the stack of a stored name.

@@ -1,9 +1,7 @@
 -- What is shown of figures, by what their two numbers are.
-use Rattle.std.specs.Prelude.{ℕ, Bool, true, List, All, Contains, filter, map}
+use Rattle.std.specs.Prelude.{ℕ, Bool, true, List, filter}
 use Rattle.binfarce_tools.specs.Json.{style_of}
 use Rattle.binfarce_tools.specs.Report.{Share, AreCratesOf, sum_of}
-use Rattle.binfarce_tools.specs.Sums.{AreSumsOf}
-use Rattle.binfarce_tools.specs.declared.report.CrateSums.{CrateSums}
 use Rattle.binfarce_figures.specs.declared.figures.Columns.{Columns}
 use Rattle.binfarce_figures.specs.declared.figures.Columns.TheVariants.{Sums, Changes}
 use Rattle.binfarce_figures.specs.declared.figures.Layout.{Layout}
@@ -30,12 +28,6 @@ has_row Changes sum other = differ sum other
 abbrev pub rank : Columns → (sum other : ℕ) → ℕ
 rank (Sums whole) sum other = sum
 rank Changes sum other = difference sum other
-
--- sums are those of two lists of shares, and the first has all names of the second
-pub record AreSummed (first second : List Share) (sums others : CrateSums) : Type 0 where
-  pub first_are : AreSumsOf first sums
-  pub second_are : AreSumsOf second others
-  pub among : (names : List (List ℕ)) → AreCratesOf first names → All (Contains names) (map (λ s. s.name) second)
 
 -- text has the rows of the names of the first
 abbrev pub AreRowsFor : Layout → (first second : List Share) → (text : List ℕ) → Type 0

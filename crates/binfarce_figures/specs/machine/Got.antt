@@ -1,6 +1,5 @@
 -- The function symbols of a selection, as they are got of a file's answer.
 use Rattle.std.specs.Prelude.{◌≡◌, ℕ, List, Option, Some, None, Ok, Err}
-use Rattle.std.specs.List.{AllZip}
 use Rattle.binfarce.specs.SectionEntries.{SectionEntry, SelectedSymbols}
 use Rattle.binfarce.specs.declared.SymbolTable.{SymbolTable}
 use Rattle.binfarce_tools.specs.Report.{ReportFits}
@@ -8,10 +7,10 @@ use Rattle.binfarce_tools.specs.ReportWords.{outcome_of}
 use Rattle.binfarce_tools.specs.Answer.{selected_answer, MemoryIn}
 use Rattle.binfarce_tools.specs.Writing.{EndsAs}
 use Rattle.binfarce_tools.specs.declared.report.ReportError.{ReportError}
-use Rattle.binfarce_figures.specs.declared.key.Grouping.{Grouping}
-use Rattle.binfarce_figures.specs.declared.key.Keyed.{Keyed}
-use Rattle.binfarce_figures.specs.Keys.{section_keys}
-use Rattle.binfarce_figures.specs.machine.Keyed.{IsKeyed}
+use Rattle.binfarce_tools.specs.Tables.{section_names}
+use Rattle.binfarce_figures.specs.declared.sums.Claims.{Claims}
+use Rattle.binfarce_figures.specs.Claims.{AreClaimsOf}
+use Rattle.binfarce_figures.specs.machine.Shares.{entries_of}
 
 -- entries and a size are those of a file's answer for a selection, of which a report can be made, and so are the sections' names where there is no size
 abbrev pub AreGot : SymbolTable → (file : List ℕ) → (section : Option (List ℕ)) → (ℕ → Option (List ℕ)) → List SectionEntry → (size : Option ℕ) → Type 0
@@ -23,6 +22,6 @@ AreGot which file section names entries size =
 abbrev pub IsFaultOf : SymbolTable → (file : List ℕ) → (section : Option (List ℕ)) → ReportError → Type 0
 IsFaultOf which file section e = EndsAs ReportFits (MemoryIn file section) (selected_answer which section file) (outcome_of (Err e))
 
--- so values with keys are got, in place of entries
-abbrev pub AreKeyedIn : Grouping → SymbolTable → (file : List ℕ) → (section : Option (List ℕ)) → (ℕ → Option (List ℕ)) → List Keyed → (size : Option ℕ) → Type 0
-AreKeyedIn grouping which file section names keyed size = (entries : List SectionEntry) × AreGot which file section names entries size × AllZip (IsKeyed grouping (section_keys names size)) entries keyed
+-- claims are those of such entries
+abbrev pub AreClaimsIn : SymbolTable → (file : List ℕ) → (section : Option (List ℕ)) → Claims → Type 0
+AreClaimsIn which file section claims = (entries : List SectionEntry) × AreGot which file section (section_names claims.tables.now) entries claims.size × AreClaimsOf entries (entries_of claims)

@@ -11,7 +11,6 @@ use Rattle.binfarce_figures.specs.declared.rows.Named.{Named}
 use Rattle.binfarce_figures.specs.declared.rows.Naming.{Naming}
 use Rattle.binfarce_figures.specs.RowListing.{IsListingOf, listing, row_text}
 use Rattle.binfarce_figures.specs.Rows.{IsNameText, IsTailText}
-use Rattle.binfarce_figures.specs.machine.Keyed.{Values}
 
 -- the value is an entry with what is shown of its name
 pub record IsNamed (naming : Naming) (style : Style) (e : SectionEntry) (n : Named) : Type 0 where
@@ -19,7 +18,14 @@ pub record IsNamed (naming : Naming) (style : Style) (e : SectionEntry) (n : Nam
   pub name_is : IsNameText naming e.entry.name (string_bytes n.name)
   pub tail_is : IsTailText style e.entry.name (string_bytes n.tail)
 
--- what its row has
+-- what a row has, whatever it points to: a section's number, an address, a size, a name and its tail
+abbrev pub Values : Type 0
+Values = ℕ × (ℕ × (ℕ × (List ℕ × List ℕ)))
+
+abbrev pub row_values : Row → Values
+row_values row = (row.section, (row.address, (row.size, (row.name.now, row.tail.now))))
+
+-- what the row of a value has
 abbrev pub named_values : Named → Values
 named_values n = (n.function.section, (n.function.function.address, (n.function.function.size, (string_bytes n.name, string_bytes n.tail))))
 

@@ -1,4 +1,4 @@
-use Rattle.std.proofs.Common.{◌≡◌, ℕ, ◌≤◌, ◌&&◌, ◌||◌, ap, arith, max, nat_le, nat_lt, refl, reverse, sym}
+use Rattle.std.proofs.Common.{◌≡◌, ℕ, ◌&&◌, ◌||◌, ap, arith, max, nat_le, nat_lt, reverse}
 use Rattle.binfarce_figures.specs.machine.Spans.{covers}
 use Rattle.binfarce_figures.proofs.claims.cover.Goals as goal
 

@@ -1,26 +1,33 @@
-use Rattle.std.proofs.Common.{◌≡◌, ◌<◌, ◌^◌, ℕ, List, string_bytes, unwrap_or, sym, ap, subst, ◌∙◌}
+use Rattle.std.proofs.Common.{◌≡◌, ◌<◌, ◌^◌, ℕ, List, map, string_bytes, sym, ap, subst, ◌∙◌}
 use Rattle.std.proofs.lemmas.Result.{IfOk-weaker}
-use Rattle.binfarce_tools.specs.Map.{IsMapOfShares}
+use Rattle.binfarce_chart.specs.Chart.{total as bars_total}
+use Rattle.binfarce_chart.specs.Views.{bar_view}
+use Rattle.binfarce_chart.specs.declared.bars.Bar.{Bar}
+use Rattle.binfarce_chart.specs.Svg.{IsChartOf}
+use Rattle.binfarce_chart.specs.Chart.{Row}
+use Rattle.binfarce_tools.specs.Map.{crate_rows}
 use Rattle.binfarce_tools.specs.Report.{total}
-use Rattle.binfarce_tools.specs.Sums.{AreSumsOf}
-use Rattle.binfarce_figures.specs.declared.order.Row.{Row}
-use Rattle.binfarce_figures.specs.Figures.{shares_of}
-use Rattle.binfarce_figures.proofs.Summed.{claims_fit}
+use Rattle.binfarce_tools.proofs.Totals.{totals_add_up}
+use Rattle.binfarce_figures.proofs.Counted.{ones}
+use Rattle.binfarce_figures.proofs.Summed.{of_claims}
 use Rattle.binfarce_figures.proofs.map.picture_of.Goals as goal
 
-pub sums_of-requires : goal.sums_of-requires
-sums_of-requires c =
-    let P : List Row → Type 0 = λ rs. total (shares_of rs) < 2 ^ 64 in
-    subst P (sym c.deref.ensures.value) (claims_fit c.args.keyed.now c.in_ok-claims.claims.items c.in_ok-claims.ensures c.requires)
-
-pub picture-requires : goal.picture-requires
-picture-requires c =
-    let are = subst (λ (rs : List Row). AreSumsOf (shares_of rs) c.in_ok-sums.sums) c.deref.ensures.value c.in_ok-sums.ensures in
-    (shares_of c.in_ok-claims.claims.items, record { sums_are = are.sums_are; crates_are = are.crates_are; total_is = are.total_is; fits = are.fits })
+pub chart-requires : goal.chart-requires
+chart-requires c =
+    let (shares, with, adds) = c.in_ok-add_claims.ensures in
+    let numbers = c.add_claims.new.numbers in
+    let are = of_claims c.args.grouping c.args.claims.now shares c.new-numbers.result numbers c.requires c.new-numbers.ensures.empty with adds in
+    let P : List Bar → Type 0 = λ bars. bars_total (map bar_view bars) < 2 ^ 64 in
+    let (names, crates, bars) = c.in_ok-bars.ensures shares (ones shares) are in
+    let sum : bars_total (map bar_view c.in_ok-bars.bars.items) ≡ total shares = ap (λ (rs : List Row). bars_total rs) bars ∙ totals_add_up shares names crates in
+    subst P (sym c.as_slice.ensures.value) (subst (λ (n : ℕ). n < 2 ^ 64) (sym sum) are.sums_fit)
 
 pub returns : goal.returns
 returns c =
-    let claims = c.in_ok-claims.claims.items in
-    let are = subst (λ (rs : List Row). AreSumsOf (shares_of rs) c.in_ok-sums.sums) c.deref.ensures.value c.in_ok-sums.ensures in
-    let whole : c.unwrap_or.result ≡ unwrap_or c.args.size (total (shares_of claims)) = c.unwrap_or.ensures ∙ ap (unwrap_or c.args.size) (sym are.total_is) in
-    IfOk-weaker c.picture.result _ _ (λ t is. (claims, c.in_ok-claims.ensures, subst (λ (n : ℕ). IsMapOfShares c.args.title.now (shares_of claims) n (string_bytes t)) whole (is (shares_of claims) (record { sums_are = are.sums_are; crates_are = are.crates_are; total_is = are.total_is; fits = are.fits })))) c.picture.ensures
+    let (shares, with, adds) = c.in_ok-add_claims.ensures in
+    let claims = c.args.claims.now in
+    let numbers = c.add_claims.new.numbers in
+    let are = of_claims c.args.grouping claims shares c.new-numbers.result numbers c.requires c.new-numbers.ensures.empty with adds in
+    let (names, crates, bars) = c.in_ok-bars.ensures shares (ones shares) are in
+    let shown = ap (map bar_view) c.as_slice.ensures.value ∙ bars in
+    IfOk-weaker c.chart.result _ _ (λ t is. (shares, with, (names, crates, subst (λ (rs : List Row). IsChartOf c.args.title.now rs claims.size c.args.first (string_bytes t)) shown is))) c.chart.ensures

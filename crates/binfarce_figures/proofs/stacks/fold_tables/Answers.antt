@@ -1,7 +1,6 @@
 use Rattle.std.proofs.Common.{◌≡◌}
 use Rattle.std.specs.List.{flat_map}
 use Rattle.binfarce_tools.specs.ReportWords.{outcome_of}
-use Rattle.binfarce_tools.specs.Tables.{section_names}
 use Rattle.binfarce_figures.specs.declared.key.Grouping.{Grouping}
 use Rattle.binfarce_figures.specs.declared.key.Key.TheVariants.{Stack}
 use Rattle.binfarce_figures.specs.Figures.{claim_line}
@@ -11,5 +10,5 @@ use Rattle.binfarce_figures.proofs.stacks.fold_tables.Goals as goal
 pub returns-clause-takes : goal.returns-clause-takes
 returns-clause-takes g c = λ which file section are.
     let grouping : Grouping = record { key = Stack; joins_std = c.args.joins_std } in
-    figured grouping (λ size claims text. text ≡ flat_map claim_line claims) which file section (section_names c.args.tables.now) c.in_ok-keyed.keyed.items c.in_ok-keyed.field-0-1 c.deref.result.now c.stacks_of.result _ _ (outcome_of c.write_made.result)
-    (c.in_ok-keyed.ensures.got which file section are) c.deref.ensures.value c.stacks_of.ensures c.write_made.ensures.takes
+    figured grouping (λ size shares text. text ≡ flat_map claim_line shares) which file section c.in_ok-claims.claims c.stacks_of.result _ _ (outcome_of c.write_made.result)
+    (c.in_ok-claims.ensures.got which file section are) c.stacks_of.ensures c.write_made.ensures.takes

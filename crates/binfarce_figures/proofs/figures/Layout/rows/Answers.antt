@@ -13,10 +13,10 @@ pub first_rows-requires : goal.first_rows-requires
 first_rows-requires c =
     let columns = c.args.self.now.columns in
     let rows = c.sort_by_key.new.self.items in
-    let (first, second, both) = c.requires in
-    let seen = c.in_ok-rows.ensures first second both.first_are both.second_are in
+    let (first, second, are) = c.requires in
+    let seen = c.in_ok-rows.ensures first second are in
     let P : List Figure → Type 0 = λ fs. (sum_by (λ (f : Figure). f.sum) fs < 2 ^ 64) × (sum_by (λ (f : Figure). f.other) fs < 2 ^ 64) in
-    subst P (sym c.deref.ensures.value) (both_fit first second c.args.sums.now c.args.others.now (λ x. has_row columns x.1.0 x.1.1) seen.0 c.in_ok-rows.rows.items rows both seen.1 seen.2 c.sort_by_key.ensures.permutation)
+    subst P (sym c.deref.ensures.value) (both_fit first second c.args.numbers.now (λ x. has_row columns x.1.0 x.1.1) seen.0 c.in_ok-rows.rows.items rows are seen.1 seen.2 c.sort_by_key.ensures.permutation)
 
 pub returns : goal.returns
 returns c =
@@ -24,7 +24,7 @@ returns c =
     let sorted = c.in_ok-sort_by_key.ensures in
     let by_rank = by_falling {E = Unit {0}} _ _ (λ (f : Figure). rank layout.columns f.sum f.other) c.in_ok-rows.rows.items c.sort_by_key.new.self.items (Ok tt)
     (always_returns_same _ (λ a r. r ≡ reversed (rank layout.columns a.0.now.sum a.0.now.other)) _ (λ a r q k. (reversed_is r (rank layout.columns a.0.now.sum a.0.now.other) (search rules), search rules))) sorted.permutation sorted.sorted sorted.stable in
-    IfOk-weaker c.first_rows.result _ _ (λ t is first second both.
-    let seen = c.in_ok-rows.ensures first second both.first_are both.second_are in
+    IfOk-weaker c.first_rows.result _ _ (λ t is first second are.
+    let seen = c.in_ok-rows.ensures first second are in
     (seen.0, seen.1, (c.sort_by_key.new.self.items, (c.in_ok-rows.rows.items, seen.2, by_rank), is ∙ ap (λ (fs : List Figure). figure_rows (row_text layout) layout.figures.now.first fs) c.deref.ensures.value)))
     c.first_rows.ensures

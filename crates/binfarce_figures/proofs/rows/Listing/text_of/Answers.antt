@@ -6,8 +6,7 @@ use Rattle.binfarce.specs.SymbolViews.{section_function_view}
 use Rattle.binfarce_tools.specs.Json.{style_of}
 use Rattle.binfarce_figures.specs.declared.order.Row.{Row}
 use Rattle.binfarce_figures.specs.declared.rows.Named.{Named}
-use Rattle.binfarce_figures.specs.machine.Listings.{named_values, shown_rows}
-use Rattle.binfarce_figures.specs.machine.Keyed.{row_values}
+use Rattle.binfarce_figures.specs.machine.Listings.{named_values, row_values, shown_rows}
 use Rattle.binfarce_figures.proofs.RowListings.{rows_are}
 use Rattle.binfarce_figures.proofs.rows.Listing.text_of.Goals as goal
 

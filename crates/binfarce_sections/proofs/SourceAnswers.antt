@@ -117,6 +117,6 @@ pub unwritten : {X : Type 0} (r : Result X SectionError) (e : ReadError) → (Is
 unwritten {X = X} r e is = err_is (λ (x : Result X SectionError). IfErr x (λ s. s ≢ Write)) r (error_of e) is (not_written e)
 
 -- the sink fails with a failed write alone
-pub unfailed : (old : Bool) (e : SectionError) → e ≢ Write → Fails old old (Err e)
-unfailed old Write is = absurd (is refl)
-unfailed old e is = refl
+pub unfailed : (X : Type 0) (old : Bool) (e : SectionError) → e ≢ Write → Fails {X = X} old old (Err e)
+unfailed X old Write is = absurd (is refl)
+unfailed X old e is = refl

@@ -20,7 +20,7 @@ use Rattle.binfarce_sections.specs.machine.Tables.{ReadsTables}
 
 module _ (style : Style) (first : Option ℕ) (len : ℕ) where
   -- the sums of the sections that were opened
-  pub sums_opened : (walk : Option (Walk Section)) (sections : Sections) (old new : Option (List ℕ)) (r : Result (Unit {0}) SectionError)
+  pub sums_opened : (walk : Option (Walk Section)) (sections : Sections) (old new : Option (List ℕ)) (r : Result ℕ SectionError)
       → Opens walk (Ok sections) → TakesSums style first len (Some (sections_left sections)) old new r → TakesSums style first len walk old new r
   sums_opened None sections old new r opened takes = absurd opened
   sums_opened (Some walk) sections old new r opened takes = subst (λ (w : Walk Section). TakesSums style first len (Some w) old new r) opened takes
@@ -35,9 +35,9 @@ module _ (style : Style) (first : Option ℕ) (len : ℕ) where
       subst (λ (s : SectionError). TakesReadSums style first len may_fail (Some walk) old old (Err s)) (sym is.2) (ended_sums walk is.0 old is.1)
 
   -- what is taken of bytes in memory may be taken of a source
-  pub sums_read : (may_fail : Bool) (walk : Option (Walk Section)) (old new : Option (List ℕ)) (r : Result (Unit {0}) SectionError) → TakesSums style first len walk old new r → TakesReadSums style first len may_fail walk old new r
-  sums_read may_fail None old new (Err OutOfMemory) takes = let e : Path (Result (Unit {0}) SectionError) (Err OutOfMemory) (Err Unknown) = takes.0 in absurd cc
-  sums_read may_fail None old new (Err Unreadable) takes = let e : Path (Result (Unit {0}) SectionError) (Err Unreadable) (Err Unknown) = takes.0 in absurd cc
+  pub sums_read : (may_fail : Bool) (walk : Option (Walk Section)) (old new : Option (List ℕ)) (r : Result ℕ SectionError) → TakesSums style first len walk old new r → TakesReadSums style first len may_fail walk old new r
+  sums_read may_fail None old new (Err OutOfMemory) takes = let e : Path (Result ℕ SectionError) (Err OutOfMemory) (Err Unknown) = takes.0 in absurd cc
+  sums_read may_fail None old new (Err Unreadable) takes = let e : Path (Result ℕ SectionError) (Err Unreadable) (Err Unknown) = takes.0 in absurd cc
   sums_read may_fail (Some walk) old new (Err OutOfMemory) takes = takes
   sums_read may_fail (Some walk) old new (Err Unreadable) takes = absurd takes
   sums_read may_fail walk old new r takes = takes
@@ -50,7 +50,7 @@ module _ (style : Style) (first : Option ℕ) (len : ℕ) where
   sums_unread may_fail file reading.OutOfMemory old has = nothing old
 
   -- a call that writes sums isn't unreadable
-  pub sums_surely : (walk : Walk Section) (old new : Option (List ℕ)) (r : Result (Unit {0}) SectionError) → TakesSums style first len (Some walk) old new r → IfErr r (λ e. e ≢ Unreadable)
+  pub sums_surely : (walk : Walk Section) (old new : Option (List ℕ)) (r : Result ℕ SectionError) → TakesSums style first len (Some walk) old new r → IfErr r (λ e. e ≢ Unreadable)
   sums_surely walk old new (Ok x) takes = tt
   sums_surely walk old new (Err e) takes = λ is. subst (λ (s : SectionError). TakesSums style first len (Some walk) old new (Err s)) is takes
 

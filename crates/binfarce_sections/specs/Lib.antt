@@ -3,6 +3,7 @@ pub mod Section
 pub mod Named
 pub mod Lines
 pub mod Sums
+pub mod Changes
 pub mod Results
 pub mod Views
 pub mod Parts

@@ -77,22 +77,22 @@ TakesReadLines style may_fail sections old new (Err Unreadable) = (may_fail ≡ 
 TakesReadLines style may_fail sections old new (Err OutOfMemory) = Appends old new []
 TakesReadLines style may_fail sections old new result = TakesLines style sections old new result
 
--- the text of the sums of the sections was taken, or where a write failed, a beginning of it; else nothing, also where the walk over the sections ends with a refusal
-abbrev pub TakesSums : Style → (first : Option ℕ) → (file_length : ℕ) → Option (Walk Section) → Option (List ℕ) → Option (List ℕ) → Result (Unit {0}) SectionError → Type 0
+-- the text of the sums of the sections was taken, and the file's length is returned; or where a write failed, a beginning of it was taken; else nothing, also where the walk over the sections ends with a refusal
+abbrev pub TakesSums : Style → (first : Option ℕ) → (file_length : ℕ) → Option (Walk Section) → Option (List ℕ) → Option (List ℕ) → Result ℕ SectionError → Type 0
 TakesSums style first file_length None old new result = (result ≡ Err Unknown) × Appends old new []
-TakesSums style first file_length (Some walk) old new (Ok x) = (text : List ℕ) × (walk.refusal ≡ None) × AreSumsOf style first file_length walk.items text × Appends old new text
+TakesSums style first file_length (Some walk) old new (Ok length) = (text : List ℕ) × (length ≡ file_length) × (walk.refusal ≡ None) × AreSumsOf style first file_length walk.items text × Appends old new text
 TakesSums style first file_length (Some walk) old new (Err (Parse e)) = (walk.refusal ≡ Some (refusal_of e)) × Appends old new []
 TakesSums style first file_length (Some walk) old new (Err OutOfMemory) = Appends old new []
 TakesSums style first file_length (Some walk) old new (Err Write) = (text : List ℕ) × (walk.refusal ≡ None) × AreSumsOf style first file_length walk.items text × AppendsBeginning old new text
 TakesSums style first file_length (Some walk) old new (Err e) = ⊥
 
 -- the same for a source
-abbrev pub TakesReadSums : Style → (first : Option ℕ) → (file_length : ℕ) → Bool → Option (Walk Section) → Option (List ℕ) → Option (List ℕ) → Result (Unit {0}) SectionError → Type 0
+abbrev pub TakesReadSums : Style → (first : Option ℕ) → (file_length : ℕ) → Bool → Option (Walk Section) → Option (List ℕ) → Option (List ℕ) → Result ℕ SectionError → Type 0
 TakesReadSums style first file_length may_fail sections old new (Err Unreadable) = (may_fail ≡ true) × Appends old new []
 TakesReadSums style first file_length may_fail sections old new (Err OutOfMemory) = Appends old new []
 TakesReadSums style first file_length may_fail sections old new result = TakesSums style first file_length sections old new result
 
 -- whether the sink has failed afterwards: it has where a write failed; otherwise this is unchanged
-abbrev pub Fails : Bool → Bool → Result (Unit {0}) SectionError → Type 0
+abbrev pub Fails : {X : Type 0} → Bool → Bool → Result X SectionError → Type 0
 Fails old new (Err Write) = new ≡ true
 Fails old new result = new ≡ old

@@ -2,6 +2,7 @@
 #![tactic(auto)]
 
 pub mod bytes;
+pub mod changes;
 pub mod error;
 pub mod kinds;
 mod laws;

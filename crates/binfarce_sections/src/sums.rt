@@ -41,7 +41,8 @@ pub struct Share<'a> {
 }
 
 /// Writes a row for each section of a file: how many of the file's bytes count for it, and how many it has in memory.
-/// A row for the bytes that count for none follows, then the file's length, which is the sum of the first numbers.
+/// A row for the bytes that count for none follows, then the file's length, which is the sum of the first numbers. The
+/// length is returned.
 ///
 /// A byte that several sections have counts for the first of them, in the order of their offsets, those of one offset in
 /// file order; a section counts as far as it lies in the file. The greatest comes first, those of one number of bytes
@@ -64,7 +65,7 @@ pub fn sum_sections<F: Source, S: Sink>(
     first: Option<usize>,
     form: Form<'_>,
     out: &mut S,
-) -> Result<(), SectionError>
+) -> Result<u64, SectionError>
     ensures takes { (file : List ℕ) → F.bytes source.now ≡ Some file
         → TakesReadSums (style_of form.entry) first (length file) (F.may_fail source.now)
         (sections_of (format_of file) file) (S.taken out.old) (S.taken out.new) result }
@@ -78,7 +79,7 @@ pub fn sum_sections<F: Source, S: Sink>(
     write_sums(alloc, sections, tables.file_length(), first, form, out)
 }
 
-// Writes the rows of all sections that are left.
+// Writes the rows of all sections that are left, and returns the file's length.
 fn write_sums<S: Sink>(
     alloc: Global,
     sections: Sections<'_>,
@@ -86,13 +87,16 @@ fn write_sums<S: Sink>(
     first: Option<usize>,
     form: Form<'_>,
     out: &mut S,
-) -> Result<(), SectionError>
+) -> Result<u64, SectionError>
     ensures takes { TakesSums (style_of form.entry) first file_length (Some (sections_left sections.entry))
         (S.taken out.old) (S.taken out.new) result }
     ensures fails { Fails (S.has_failed out.old) (S.has_failed out.new) result }
 {
     let text = text_of(alloc, sections, file_length, first, form)?;
-    write_whole(out, text.as_bytes()).map_err(|_| SectionError::Write)
+    match write_whole(out, text.as_bytes()) {
+        Ok(()) => Ok(file_length),
+        Err(_) => Err(SectionError::Write),
+    }
 }
 
 // The whole text.
@@ -112,7 +116,10 @@ fn text_of(
 
 // The sections that are left, without inactive ones.
 #[tactic(auto, using(crate::proofs::SumRows::kept_more))]
-fn active_of<'a>(alloc: Global, sections: Sections<'a>) -> Result<Vec<Section<'a>>, SectionError>
+pub(crate) fn active_of<'a>(
+    alloc: Global,
+    sections: Sections<'a>,
+) -> Result<Vec<Section<'a>>, SectionError>
     ensures { AreActive (sections_left sections.entry) result }
 {
     let mut active = Vec::new(alloc);
@@ -144,7 +151,7 @@ fn is_inactive(kind: SectionType) -> bool
 const SHT_NULL: u32 = 0;
 
 // The shares of sections, the greatest first.
-fn ranked_of<'a>(
+pub(crate) fn ranked_of<'a>(
     alloc: Global,
     mut sections: Vec<Section<'a>>,
     file_length: u64,
@@ -248,7 +255,7 @@ fn push_each(text: &mut String, form: Form<'_>, shares: &[Share<'_>]) -> Result<
 }
 
 // How many rows are shown of so many.
-fn count_of(first: Option<usize>, all: usize) -> usize
+pub(crate) fn count_of(first: Option<usize>, all: usize) -> usize
     ensures { result ≡ count_of first all }
 {
     first.map_or(all, |first| first.min(all))
@@ -386,7 +393,7 @@ fn push_plain_object(
 }
 
 // Appends a member whose value is a number, which may have more than 64 bits.
-fn push_long_member(text: &mut String, name: &str, value: u128) -> Result<(), AllocError>
+pub(crate) fn push_long_member(text: &mut String, name: &str, value: u128) -> Result<(), AllocError>
     ensures { OnOk result (string_bytes text.new ≡ string_bytes text.old ++ number_member name.now value) }
 {
     write!(text, ",\"{name}\":{value}")

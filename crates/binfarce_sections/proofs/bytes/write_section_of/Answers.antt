@@ -28,7 +28,7 @@ pub returns-in_err-bytes-clause-fails : goal.returns-in_err-bytes-clause-fails
 returns-in_err-bytes-clause-fails g c =
     let old = g.S.Sink.has_failed c.args.out.now in
     let e = c.in_err-bytes.field-0.0 in
-    err_is (λ r. Fails old old r) c.from_residual.result e c.from_residual.ensures (unfailed old e c.in_err-bytes.ensures.unwritten)
+    err_is (λ r. Fails old old r) c.from_residual.result e c.from_residual.ensures (unfailed (Unit {0}) old e c.in_err-bytes.ensures.unwritten)
 
 pub returns-in_err-bytes-clause-only : goal.returns-in_err-bytes-clause-only
 returns-in_err-bytes-clause-only g c = λ file known.

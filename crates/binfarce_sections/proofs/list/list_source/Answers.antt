@@ -39,7 +39,7 @@ pub returns-in_err-sections-clause-fails : goal.returns-in_err-sections-clause-f
 returns-in_err-sections-clause-fails g c =
     let old = g.S.Sink.has_failed c.args.out.now in
     let e = c.in_err-sections.field-0.0 in
-    err_is (λ r. Fails old old r) c.from_residual-in_err-sections.result e c.from_residual-in_err-sections.ensures (unfailed old e c.in_err-sections.ensures.unwritten)
+    err_is (λ r. Fails old old r) c.from_residual-in_err-sections.result e c.from_residual-in_err-sections.ensures (unfailed (Unit {0}) old e c.in_err-sections.ensures.unwritten)
 
 pub returns-in_err-tables-clause-only : goal.returns-in_err-tables-clause-only
 returns-in_err-tables-clause-only g c = λ file known. converted_only _ (c.in_err-tables.ensures.only file known) c.from_residual.ensures

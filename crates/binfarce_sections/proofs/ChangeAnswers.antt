@@ -1,0 +1,77 @@
+-- What is read and taken for the changes between two files.
+use Rattle.std.proofs.Common.{◌≡◌, ℕ, Bool, List, ◌++◌, length, Option, Some, None, Ok, Err, refl, sym, ap, subst, ◌∙◌}
+use Rattle.binfarce.specs.Walk.{Walk}
+use Rattle.binfarce_tables.specs.declared.error.ReadError.{ReadError}
+use Rattle.binfarce_tables.specs.declared.error.ReadError.TheVariants as reading
+use Rattle.binfarce_tools.specs.Json.{style_of}
+use Rattle.binfarce_sections.specs.declared.changes.Layout.{Layout}
+use Rattle.binfarce_sections.specs.declared.changes.Parts.{Parts}
+use Rattle.binfarce_sections.specs.declared.error.SectionError.{SectionError}
+use Rattle.binfarce_sections.specs.declared.error.SectionError.TheVariants.{Unknown, Parse, NoSection, NoBytes, PastEnd, OutOfMemory, Write, Unreadable}
+use Rattle.binfarce_sections.specs.declared.sections.Sections.{Sections}
+use Rattle.binfarce_sections.specs.Changes.{AreChangesOf, ArePartsIn, IsReason, Part, answer_of, change_row, change_rows, total_row}
+use Rattle.binfarce_sections.specs.Results.{error_of}
+use Rattle.binfarce_sections.specs.Section.{Section}
+use Rattle.binfarce_sections.specs.Views.{Opens, sections_left}
+use Rattle.binfarce_sections.specs.machine.Changed.{AreLeft, IsTextFor, ReadsParts, parts_view}
+use Rattle.binfarce_sections.specs.machine.Tables.{ReadsTables}
+
+-- why nothing was read
+pub parts_unread : (may_fail : Bool) (file : List ℕ) (e : ReadError) → ReadsTables may_fail file (Err e) → IsReason may_fail (answer_of file) (error_of e)
+parts_unread may_fail file (reading.Refused p) has = subst (λ (w : Option (Walk Section)). IsReason may_fail w (Parse p)) (sym has) refl
+parts_unread may_fail file reading.Unreadable has = has
+parts_unread may_fail file reading.OutOfMemory has = tt
+
+-- why the sections weren't opened
+pub parts_unopened : (may_fail : Bool) (walk : Option (Walk Section)) (e : SectionError) → Opens walk (Err e) → IsReason may_fail walk e
+parts_unopened may_fail None e is = subst (λ (s : SectionError). IsReason may_fail None s) (sym is) tt
+parts_unopened may_fail (Some walk) e is = subst (λ (s : SectionError). IsReason may_fail (Some walk) s) (sym is.2) (ap (λ (w : Walk Section). w.refusal) is.1)
+
+-- why there are no parts of those that were
+left_reason : (may_fail : Bool) (walk : Walk Section) (len : ℕ) (e : SectionError) → AreLeft len walk (Err e) → IsReason may_fail (Some walk) e
+left_reason may_fail walk len (Parse p) is = is
+left_reason may_fail walk len OutOfMemory is = tt
+left_reason may_fail walk len Unknown is = absurd is
+left_reason may_fail walk len NoSection is = absurd is
+left_reason may_fail walk len NoBytes is = absurd is
+left_reason may_fail walk len PastEnd is = absurd is
+left_reason may_fail walk len Write is = absurd is
+left_reason may_fail walk len Unreadable is = absurd is
+
+pub parts_unmade : (may_fail : Bool) (walk : Option (Walk Section)) (sections : Sections) (len : ℕ) (e : SectionError) → Opens walk (Ok sections) → AreLeft len (sections_left sections) (Err e) → IsReason may_fail walk e
+parts_unmade may_fail None sections len e opened is = absurd opened
+parts_unmade may_fail (Some walk) sections len e opened is = subst (λ (w : Walk Section). IsReason may_fail (Some w) e) opened (left_reason may_fail (sections_left sections) len e is)
+
+-- the parts of those that were opened
+opened_is : (walk : Option (Walk Section)) (sections : Sections) → Opens walk (Ok sections) → walk ≡ Some (sections_left sections)
+opened_is None sections opened = absurd opened
+opened_is (Some walk) sections opened = ap (λ (w : Walk Section). Some w) (sym opened)
+
+pub parts_read : (may_fail : Bool) (file : List ℕ) (sections : Sections) (p : Parts) (len : ℕ) (parts : List Part) → Opens (answer_of file) (Ok sections) → len ≡ length file → ArePartsIn len (sections_left sections) parts
+    → p.file_length ≡ len → parts_view p ≡ parts → ReadsParts may_fail file (Ok p)
+parts_read may_fail file sections p len parts opened long are len_is parts_are = (
+  sections_left sections,
+  opened_is (answer_of file) sections opened,
+  subst (λ (n : ℕ). ArePartsIn n (sections_left sections) (parts_view p)) (sym len_is) (subst (λ (ps : List Part). ArePartsIn len (sections_left sections) ps) (sym parts_are) are),
+  len_is ∙ long,
+)
+
+-- the text of the changes between such files
+pub changes_of : (layout : Layout) (first : Option ℕ) (may fail : Bool) (before after : List ℕ) (old new : Parts) (text : List ℕ)
+    → ReadsParts may before (Ok old) → ReadsParts fail after (Ok new) → IsTextFor layout first old new text → AreChangesOf layout.has_percent (style_of layout.form) first before after text
+changes_of layout first may fail before after old new text (was, was_answer, were, was_long) (is, is_answer, are, is_long) (changes, from, text_is) = (
+  was,
+  is,
+  was_answer,
+  is_answer,
+  (
+    parts_view old,
+    parts_view new,
+    changes,
+    subst (λ (n : ℕ). ArePartsIn n was (parts_view old)) was_long were,
+    subst (λ (n : ℕ). ArePartsIn n is (parts_view new)) is_long are,
+    from,
+    text_is
+        ∙ (λ i. change_rows layout.has_percent (style_of layout.form) first changes ++ change_row layout.has_percent (style_of layout.form) (total_row (was_long i) (is_long i) (parts_view old) (parts_view new))),
+  ),
+)

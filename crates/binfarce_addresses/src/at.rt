@@ -158,9 +158,7 @@ impl<'a> Places<'a> {
         ensures held { IfOk result (λ held. held ≡ is_held self.now lookup.entry address) }
     {
         let mut names = Names::new(alloc, self, lookup, 0)?;
-        let answer = names.answer_to(Some(address));
-        names.push_line(text, answer)?;
-        Ok(answer.found.is_some())
+        names.push_address_line(text, address)
     }
 }
 
@@ -264,10 +262,11 @@ pub fn write_lines<S: Sink>(
     ensures fails { Fails (S.has_failed out.old) (S.has_failed out.new) (outcome_of result) }
     ensures leaves { Leaves out.old out.new (outcome_of result) }
 {
+    let mut names = Names::with_room(alloc, places, lookup)?;
     let mut text = Vec::new(alloc);
     let mut counts = Counts::new();
     for address in addresses {
-        let held = places.push_line(alloc, &mut text, lookup, *address)?;
+        let held = names.push_address_line(&mut text, *address)?;
         counts.add(Some(held));
     }
     write_whole(out, text.as_slice())?;

@@ -1,11 +1,12 @@
 //! The readable names of function symbols, each made at most once.
 
-ghost use Rattle.std.specs.Prelude.{◌≡◌, ◌<◌, ◌+◌, ◌++◌, [], ℕ, List, Option, length, slice_set, IfOk, IfSome, OnOk};
+ghost use Rattle.std.specs.Prelude.{◌≡◌, ◌<◌, ◌+◌, ◌++◌, [], ℕ, List, Option, Some, codes, length, slice_set, IfOk, IfSome, OnOk};
 ghost use Rattle.std.specs.String.{string_bytes};
 ghost use Rattle.binfarce.specs.Symbol.{Entry};
-ghost use Rattle.binfarce_tools.specs.Json.{lines, objects};
+ghost use Rattle.binfarce_tools.specs.Json.{lines, objects, text_member};
 ghost use Rattle.binfarce_addresses.specs.Annotated.{at_offset};
-ghost use Rattle.binfarce_addresses.specs.Lines.{address_value, symbol_members};
+ghost use Rattle.binfarce_addresses.specs.Counts.{is_held};
+ghost use Rattle.binfarce_addresses.specs.Lines.{IsLineAt, address_value, symbol_members};
 ghost use Rattle.binfarce_addresses.specs.Module.{names_module};
 ghost use Rattle.binfarce_addresses.specs.Stream.{IsAnswerIn, IsAnswerOf};
 ghost use Rattle.binfarce_addresses.specs.declared.lookup.Lookup.{Lookup};
@@ -157,8 +158,8 @@ impl<'b, 'a> Names<'b, 'a> {
 
     fn ends_at(&self, found: Option<Found>) -> Option<(u8, u8)> {
         let (place, _) = found?;
-        let own = || Some(self.places.functions.get(place)?.name.as_bytes());
-        let name = self.name_at(place).or_else(own)?;
+        let own = || Some(self.places.functions.get(place)?.name);
+        let name = self.name_at(place).or_else(own)?.as_bytes();
         Some((*name.first()?, *name.last()?))
     }
 
@@ -176,6 +177,22 @@ impl<'b, 'a> Names<'b, 'a> {
                 text.extend_from_slice(self.object_of(file, answer)?.as_bytes())
             }
         }
+    }
+
+    // Appends the line of an address to the text. Returns whether a function symbol holds it.
+    pub(crate) fn push_address_line(
+        &mut self,
+        text: &mut Vec<u8>,
+        address: u64,
+    ) -> Result<bool, AllocError>
+        ensures line { IfOk result (λ _. (line : List ℕ) × IsLineAt self.old.0 self.old.1 address line
+            × (text.new.items ≡ text.old.items ++ line)) }
+        ensures held { IfOk result (λ held. held ≡ is_held self.old.0 self.old.1 address) }
+        ensures same { self.new ≡ self.old }
+    {
+        let answer = self.answer_to(Some(address));
+        self.push_line(text, answer)?;
+        Ok(answer.found.is_some())
     }
 
     // Appends the line that is no object.
@@ -226,11 +243,29 @@ impl<'b, 'a> Names<'b, 'a> {
             push_text_member(text, "name", None)?;
             return push_text_member(text, "offset", None);
         };
+        self.push_name_member(text, place)?;
+        push_number_member(text, "offset", offset)
+    }
+
+    // Appends the member of the name of the function symbol at a place, and keeps the name, if there is room for it.
+    fn push_name_member(&mut self, text: &mut String, place: usize) -> Result<(), AllocError>
+        requires { place < length self.old.0 }
+        ensures name { OnOk result
+            ((name : List ℕ) × IsNamedAt self.old.0 place name
+            × (string_bytes text.new ≡ string_bytes text.old ++ text_member (codes "name") (Some name))) }
+        ensures same { self.new ≡ self.old }
+    {
+        if let Some(name) = self.name_at(place) {
+            return push_text_member(text, "name", Some(name));
+        }
         let mut name = String::new(self.alloc);
         self.demangler
             .push_shown(&mut name, self.places.at(place).name)?;
-        push_text_member(text, "name", Some(name.as_str()))?;
-        push_number_member(text, "offset", offset)
+        let from = self.text.as_str().len();
+        self.text.push_str(name.as_str())?;
+        let to = self.text.as_str().len();
+        keep(&mut self.kept, place, (from, to));
+        push_text_member(text, "name", Some(name.as_str()))
     }
 
     // Appends the readable name of the function symbol at a place to the text, and keeps it, if there is room for it.
@@ -243,7 +278,7 @@ impl<'b, 'a> Names<'b, 'a> {
         ensures same { self.new ≡ self.old }
     {
         if let Some(name) = self.name_at(place) {
-            return text.extend_from_slice(name);
+            return text.extend_from_slice(name.as_bytes());
         }
         let from = self.text.as_str().len();
         self.demangler
@@ -255,11 +290,11 @@ impl<'b, 'a> Names<'b, 'a> {
 
     // The name that is kept at a place.
     #[inline(always)]
-    fn name_at(&self, place: usize) -> Option<&[u8]>
+    fn name_at(&self, place: usize) -> Option<&str>
         ensures { IfSome result (λ name. IsNamedAt self.now.0 place name.now) }
     {
         match self.kept.get(place) {
-            Some((from, to)) if from < to => self.text.as_bytes().get(*from..*to),
+            Some((from, to)) if from < to => self.text.as_str().get(*from..*to),
             _ => None,
         }
     }

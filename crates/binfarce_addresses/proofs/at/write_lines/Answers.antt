@@ -1,8 +1,9 @@
-use Rattle.std.proofs.Common.{ℕ, List, sym, subst, arith}
+use Rattle.std.proofs.Common.{◌≡◌, ◌∙◌, ℕ, List, get_or, sym, subst, arith}
 use Rattle.std.proofs.lemmas.List.{take_all}
 use Rattle.binfarce.specs.Symbol.{Entry}
-use Rattle.binfarce_addresses.specs.Counts.{AreCountsOf, answers_at}
-use Rattle.binfarce_addresses.specs.Lines.{AreLinesOf}
+use Rattle.binfarce_addresses.specs.Counts.{AreCountsOf, answers_at, is_held}
+use Rattle.binfarce_addresses.specs.Lines.{AreLinesOf, IsLineAt}
+use Rattle.binfarce_addresses.specs.declared.lookup.Lookup.{Lookup}
 use Rattle.binfarce_addresses.proofs.AddressLines.{err_outcome, err_takes, one_counted, one_line}
 use Rattle.binfarce_addresses.proofs.at.write_lines.Goals as goal
 
@@ -12,10 +13,15 @@ loop-address-preserved g c =
     let lookup = c.args.lookup in
     let addresses = c.args.addresses.now in
     let k = c.loop-address.address-index in
+    let named = c.loop-address.invariant.named in
     let line = c.in_ok-held.ensures.line in
+    let held = c.in_ok-held.held in
     record {
-      lines = one_line entries lookup addresses k line.0 c.loop-address.text.items c.push_line.new.text.items c.loop-address-test.true c.loop-address.invariant.lines line.1 line.2;
-      counts = one_counted entries lookup addresses k c.in_ok-held.held c.loop-address.counts c.add.new.self c.loop-address-test.true c.loop-address.invariant.counts c.in_ok-held.ensures.held c.add.ensures;
+      named = c.in_ok-held.ensures.same ∙ named;
+      lines = one_line entries lookup addresses k line.0 c.loop-address.text.items c.push_address_line.new.text.items c.loop-address-test.true c.loop-address.invariant.lines
+          (subst (λ (s : List Entry × Lookup). IsLineAt s.0 s.1 (get_or addresses k 0) line.0) named line.1) line.2;
+      counts = one_counted entries lookup addresses k held c.loop-address.counts c.add.new.self c.loop-address-test.true c.loop-address.invariant.counts
+          (subst (λ (s : List Entry × Lookup). held ≡ is_held s.0 s.1 (get_or addresses k 0)) named c.in_ok-held.ensures.held) c.add.ensures;
     }
 
 pub returns-in_err-write_whole-clause-outcome : goal.returns-in_err-write_whole-clause-outcome

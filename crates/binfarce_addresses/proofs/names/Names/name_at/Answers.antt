@@ -11,6 +11,6 @@ returns-in-Some c =
     let part = c.in-Some.field-0.now in
     let here : Path (ℕ × ℕ) (get_or c.self.inside.kept.items place (0, 0)) (part.0, part.1) = ap (λ (ks : List (ℕ × ℕ)). get_or ks place (0, 0)) (sym c.deref.ensures.value) ∙ sym (c.in-Some.ensures.lookup.3.1 (0, 0)) in
     let kept = c.self.invariant place part.0 part.1 here c.if-from-to.true in
-    if_some c.get-in-Some.result _ _ _ c.get-in-Some.ensures.lookup.0
+    if_some c.get-in-Some.result _ _ _ c.get-in-Some.ensures.cases
     (λ name is. subst (λ (es : List Entry). IsNamedAt es place name.now) (ap (λ (s : List Entry × Lookup). s.0) c.self.view_is)
-    (subst (IsNamedAt c.self.inside.places.now place) (sym (is.2 ∙ ap (λ (xs : List ℕ). take (part.1 - part.0) (drop part.0 xs)) c.as_bytes.ensures.value)) kept.1))
+    (subst (IsNamedAt c.self.inside.places.now place) (sym (is.0 ∙ ap (λ (xs : List ℕ). take (part.1 - part.0) (drop part.0 xs)) c.as_str.ensures.value)) kept.1))

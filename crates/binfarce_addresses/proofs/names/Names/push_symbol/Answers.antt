@@ -13,17 +13,12 @@ use Rattle.binfarce_addresses.proofs.names.Names.push_symbol.Goals as goal
 pub returns-clause-symbol : goal.returns-clause-symbol
 returns-clause-symbol c =
     let entries = c.args.self.now.0 in
-    let name = c.as_str.result.now in
-    let place = c.in-Some.place in
     let offset_is = c.in-Some.offset in
-    let shown = c.in_ok-push_shown.ensures.shown in
-    let at = subst (λ (es : List Entry). IsAtPlace es place (function_view c.at.result)) (ap (λ (s : List Entry × Lookup). s.0) c.self.view_is) c.at.ensures in
-    let is : name ≡ shown.0 = c.as_str.ensures.value ∙ shown.2 ∙ ap (λ (xs : List ℕ). xs ++ shown.0) c.new-name.ensures.bytes in
-    let made = subst (IsNamedAt entries place) (sym is) (named entries place (function_view c.at.result) shown.0 at shown.1) in
-    let symbol : Option (List ℕ × ℕ) = Some (name, offset_is) in
+    let member = c.in_ok-push_name_member.ensures.name in
+    let symbol : Option (List ℕ × ℕ) = Some (member.0, offset_is) in
     let shift = number_member (codes "offset") offset_is in
     on_ok_weaker c.push_number_member.result (λ offset. (
       symbol,
-      subst (λ (o : Option (ℕ × ℕ)). IsSymbolAt entries o symbol) (sym c.in-Some.is) (name, made, refl),
-      offset ∙ ap (λ (xs : List ℕ). xs ++ shift) c.in_ok-push_text_member-2.ensures ∙ append_assoc (string_bytes c.args.text.now) (text_member (codes "name") (Some name)) shift,
+      subst (λ (o : Option (ℕ × ℕ)). IsSymbolAt entries o symbol) (sym c.in-Some.is) (member.0, member.1, refl),
+      offset ∙ ap (λ (xs : List ℕ). xs ++ shift) member.2 ∙ append_assoc (string_bytes c.args.text.now) (text_member (codes "name") (Some member.0)) shift,
     )) c.push_number_member.ensures

@@ -14,6 +14,7 @@ import pathlib
 import random
 import re
 import runpy
+import struct
 import subprocess
 import sys
 import tempfile
@@ -72,6 +73,18 @@ def assembled(name, size, *rows):
     lines = (f'.type "{name}",@function\n.set "{name}", .text + {at}\n.size "{name}", {size}\n' for name, at, size in rows)
     printed("gcc", "-c", "-o", f"{scratch}/{name}.o", "-x", "assembler", "-", given=f".text\n.skip {size}\n{''.join(lines)}")
     return f"{scratch}/{name}.o"
+
+def of_one_name(count, length):
+    """The path of an ELF file of so many functions of 16 bytes, which share a name of so many letters."""
+    names = b"\0.text\0.symtab\0.strtab\0.shstrtab\0"
+    rows = bytes(24) + b"".join(struct.pack("<IBBHQQ", 1, 18, 0, 1, 16 * at, 16) for at in range(count))
+    parts = rows, b"\0" + b"a" * length + b"\0", names
+    starts = [64 + sum(map(len, parts[:at])) for at in range(4)]
+    sections = [(0,) * 10, (1, 8, 6, 0, 64, 16 * count, 0, 0, 1, 0), *((name, kind, 0, 0, start, len(part), link, 1, 1, size) for name, kind, link, size, start, part
+                in zip((7, 15, 23), (2, 3, 3), (3, 0, 0), (24, 0, 0), starts, parts))]
+    header = b"\x7fELF\2\1\1" + bytes(9) + struct.pack("<HHIQQQIHHHHHH", 3, 62, 1, 0, 0, starts[3], 0, 64, 0, 0, 64, 5, 4)
+    pathlib.Path(f"{scratch}/one-name").write_bytes(header + b"".join(parts) + b"".join(struct.pack("<IIQQQQIIQQ", *it) for it in sections))
+    return f"{scratch}/one-name"
 
 folders, temporary = [pathlib.Path(it).resolve() for it in sys.argv[1:]], tempfile.TemporaryDirectory()
 folder = folders[0]
@@ -385,8 +398,27 @@ for count, sums in ((None, "120 .symtab|33 .shstrtab|32 .text|18 .strtab"), ("2"
     sums = [it.split(" ", 1) for it in f"{sums}|384 [headers and gaps]".split("|")]
     lines = "".join(f"{size:>10} {0:10} {name}\n" for size, name in sums)
     ends(0, lines + "sum 587\n", "", "binfarce", "size", "--by=section", *(["-n", count] if count else []), sample)
-for word, *words in (("diff", "diff", old, new), ("--std", "size", "--std", old), ("--all", "size", "--all", old)):
+for word, *words in (("--std", "size", "--std", old), ("--all", "size", "--all", old), ("--percent", "size", "--percent", old), ("--dynamic", "diff", "--dynamic", old, new)):
     ends(2, "", f"binfarce: {word} is for functions, as --by=function-section; --by=section is not", "binfarce", *words, "--by=section")
+# How they change, from readelf's rows: the bytes of each section in the file and in memory, and what is left of the file.
+def sections_of(path):
+    rows = re.findall(r"\[ *[1-9]\d*\] (\S+) +(\w+) +\w+ +\w+ +(\w+) +\w+ (.*)", printed("readelf", "-SW", path))
+    sums = {name: [0 if kind == "NOBITS" else int(size, 16), int(size, 16) if "A" in rest else 0] for name, kind, size, rest in rows}
+    sums["[headers and gaps]"] = [os.path.getsize(path) - sum(it[0] for it in sums.values()), 0]
+    return sums
+was, now = sections_of(old), sections_of(new)
+differ = sorted(((name, *was.get(name, [0, 0]), *now.get(name, [0, 0])) for name in {**was, **now} if was.get(name) != now.get(name)),
+                key=lambda it: (-abs(it[3] - it[1]), -abs(it[4] - it[2]), it[0]))
+assert len(differ) > 1, "no sections differ"
+whole = ("[total]", *(sum(it[k] for it in sums.values()) for sums in (was, now) for k in (0, 1)))
+def changed(rows):
+    return "".join(f"{b:10} {d:10} {d - b:+11} {e - c:+11} {name}\n" for name, b, c, d, e in rows)
+ends(0, changed([*differ, whole]), "", "binfarce", "diff", "--by=section", old, new)
+others = (f"[{len(differ) - 1} others]", *(sum(it[k] for it in differ[1:]) for k in (1, 2, 3, 4)))
+ends(0, changed([differ[0], others, whole]), "", "binfarce", "diff", "--by=section", "-n", "1", old, new)
+for *paths, lines in ((missing, of_sys, f"{lost}\nbinfarce: {of_sys}: {is_text}"), (of_sys, missing, f"binfarce: {of_sys}: {is_text}\n{lost}"),
+                      (byte, "/dev/null", f"binfarce: {byte}: {unknown}\nbinfarce: /dev/null: {unknown}")):
+    ends(1, "", lines, "binfarce", "diff", "--by=section", *paths)
 
 # The changes of these sums, and a limit for their growth.
 changes = (("b", 9, 0, "-9", "-100.00%"), ("a", 24, 32, "+8", "+33.33%"), ("[unknown]", 2, 0, "-2", "-100.00%"), ("[total]", 39, 36, "-3", "-7.69%"))
@@ -394,8 +426,18 @@ for words, percent in (((), "{0:.0}"), (("--percent",), "{0:>10} ")):
     lines = "".join(f"{was:10} {now:10} {change:>11} {percent.format(growth)}{name}\n" for name, was, now, change, growth in changes)
     ends(0, lines, "", "binfarce", "diff", *words, "--fail-above=0", old, new)
 lines = f"{0:10} {9:10} {'+9':>11} b\n{32:10} {26:10} {'-6':>11} [2 others]\n{36:10} {39:10} {'+3':>11} [total]\n"
-for limit, status, line in ((3, 0, ""), (2, 3, "binfarce: the sum grew by 3 bytes")):
-    ends(status, lines, line, "binfarce", "diff", "-n", "1", "--fail-above", str(limit), new, old)
+for limit, status in (("3", 0), ("2", 3), ("9%", 0), ("8%", 3)):
+    line = f"binfarce: {old}: the sum grew by 3 bytes, and --fail-above allows {limit}" if status else ""
+    ends(status, lines, line, "binfarce", "diff", "-n", "1", "--fail-above", limit, new, old)
+# A limit for the sums themselves: of two files, one is above it.
+line = f"binfarce: {old}: the sum is 39 bytes, and --fail-above allows 38"
+ends(0, printed(folder / "binfarce", "size", old), "", "binfarce", "size", "--fail-above=39", old)
+ends(3, printed(folder / "binfarce", "size", old, new), line, "binfarce", "size", "--fail-above=38", old, new)
+ends(3, printed(folder / "binfarce", "size", "--by=section", sample), f"binfarce: {sample}: the sum is 587 bytes, and --fail-above allows 586",
+     "binfarce", "size", "--by=section", "--fail-above=586", sample)
+for line, *words in (("--fail-above=2% is for diff; size takes a number of bytes", "size", "--fail-above=2%", old), ("--folded and --first exclude each other", "map", "--folded", "-n2", old),
+                     ("--fail-above takes a number of bytes, or of per cent as 2%, and not 2.5%", "diff", "--fail-above=2.5%", old, new)):
+    ends(2, "", f"binfarce: {line}", "binfarce", *words)
 # Both files that are refused are reported, in their order.
 for *paths, lines in ((missing, of_sys, f"{lost}\nbinfarce: {of_sys}: {is_text}"), ("/dev/null", missing, f"{lost}\nbinfarce: /dev/null: {unknown}"),
                       ("/dev/null", byte, f"binfarce: /dev/null: {unknown}\nbinfarce: {byte}: {unknown}")):
@@ -403,6 +445,12 @@ for *paths, lines in ((missing, of_sys, f"{lost}\nbinfarce: {of_sys}: {is_text}"
 for line, path in ((lost, missing), (f"binfarce: {of_sys}: {is_text}", of_sys)):
     ends(1, "", line, "binfarce", "diff", old, path)
     ends(1, "", line, "binfarce", "diff", path, old)
+
+# Sums keep a name once, and answers are written before all are made: 4,000 functions share a name of 100 kB in a file of 196 kB.
+path, name = of_one_name(4000, 100000), "a" * 100000
+for lines, *words in ((f"{64000:10} {name}\nsum 64000\ntext 64000\n", "size", "--by=function", "-n", "1"), (f"{64000:10} {64000:10} {'+0':>11} [total]\n", "diff", "--by=function", path)):
+    ends(0, lines, "", "binfarce", *words, path, under=("sh", "-c", 'ulimit -v 65536; exec "$0" "$@"'))
+ends(0, "", "", "binfarce", "at", path, given=b"8\n" * 4000, to=subprocess.DEVNULL, under=("sh", "-c", 'ulimit -v 131072; exec "$0" "$@"'))
 
 # Stacks, also of a function whose name is its crate's alone; JSON objects, as the lines have them, also of a name with characters
 # that JSON escapes.

@@ -4,7 +4,7 @@ use Rattle.std.specs.declared.io.ErrorKind.{ErrorKind}
 use Rattle.std.specs.declared.io.ErrorKind.TheVariants.{BrokenPipe}
 use Rattle.binfarce_jobs.specs.declared.fault.Fault.{Fault}
 use Rattle.binfarce_jobs.specs.Faults.{is_write}
-use Rattle.binfarce_jobs.specs.declared.fault.Fault.TheVariants.{Missing, Grown}
+use Rattle.binfarce_jobs.specs.declared.fault.Fault.TheVariants.{Missing}
 use Rattle.binfarce_words.specs.declared.words.Wrong.{Wrong}
 use Rattle.binfarce_words.specs.declared.words.Wrong.TheVariants.{OutOfMemory}
 
@@ -23,14 +23,13 @@ is_broken_pipe (Some kind) = false
 abbrev pub write_status : Option ErrorKind → ℕ
 write_status reason = if is_broken_pipe reason then 0 else 1
 
--- 2 for lines without an address, 3 for a growth that isn't allowed, and 1 for any other fault
+-- 2 for lines without an address, and 1 for any other fault
 abbrev pub fault_status : Fault → ℕ
 fault_status (Missing count) = 2
-fault_status (Grown by) = 3
 fault_status fault = 1
 
--- the status of work that is done, or done except for files that were refused, or that ended early; the reason is that of a failed write
-abbrev pub status_of : Result Bool Fault → Option ErrorKind → ℕ
-status_of (Ok true) reason = 0
-status_of (Ok false) reason = 1
-status_of (Err fault) reason = if is_write fault then write_status reason else fault_status fault
+-- the status of work that is done, or done except for files that were refused, or that ended early: 3 where all is done and a sum is above its limit; the reason is that of a failed write
+abbrev pub status_of : Result Bool Fault → (is_above : Bool) → Option ErrorKind → ℕ
+status_of (Ok true) is_above reason = if is_above then 3 else 0
+status_of (Ok false) is_above reason = 1
+status_of (Err fault) is_above reason = if is_write fault then write_status reason else fault_status fault

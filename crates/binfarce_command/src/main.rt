@@ -12,7 +12,7 @@ use binfarce_addresses::annotate::annotate_stream;
 use binfarce_addresses::at::Places;
 use binfarce_addresses::{Counts, Lookup, Module};
 use binfarce_bytes::source::Source;
-use binfarce_figures::diff::{DiffError, diff};
+use binfarce_figures::diff::{DiffError, Growth, diff};
 use binfarce_figures::key::{Grouping, Key};
 use binfarce_figures::rows::{Naming, Shown};
 use binfarce_figures::sums::{Figures, sum_by};
@@ -23,12 +23,14 @@ use binfarce_jobs::files::{System, heading, open_input, reported, show_files};
 use binfarce_jobs::filter::lines_of;
 use binfarce_jobs::hint::{Hint, Loaded, lack};
 use binfarce_jobs::input::{FileOrStdin, OpenFile};
-use binfarce_jobs::limit::judged;
+use binfarce_jobs::limit::{above, grown};
 use binfarce_jobs::message::{Message, message_of, push_refusal};
 use binfarce_jobs::output::Output;
 use binfarce_jobs::section::{Asked, write_sections};
 use binfarce_jobs::show::{Kind, Request, Symbols, tables_of};
+use binfarce_sections::changes::diff_sections;
 use binfarce_sections::error::SectionError;
+use binfarce_sections::sums::sum_sections;
 use binfarce_tables::ReadError;
 use binfarce_tools::SymbolTable::{Dynsym, Symtab};
 use binfarce_tools::json::Form;
@@ -36,8 +38,8 @@ use binfarce_tools::list::Out;
 use binfarce_tools::report::ReportError;
 use binfarce_tools::tables::{Selection, Tables};
 use binfarce_words::words::Flag::{
-    self, All, Annotate, Bare, Base, By, Dynamic, FailAbove, First, Folded, Full, Json, Maps,
-    NoTotal, Percent, Raw, Return, Section, Sort, Std,
+    self, All, Annotate, Bare, Base, Dynamic, First, Folded, Full, Json, Maps, NoTotal, Percent,
+    Raw, Return, Section, Sort, Std,
 };
 use binfarce_words::words::{Arguments, Call, Command, Wrong, read_call};
 use std::alloc::{AllocError, Global};
@@ -129,14 +131,6 @@ fn run<'a>(rt: &HostRuntime, words: &'a [String]) -> Result<u8, Wrong<'a>> {
         return Err(Wrong::NotUtf8(at));
     }
     let call = call?;
-    if let Call::Run(command, given) = &call {
-        if let Some(word) = unfit(*command, given) {
-            let _ = eprintln!(rt;
-                "binfarce: {word} is for functions, as --by=function-section; --by=section is not"
-            );
-            return Ok(2);
-        }
-    }
     let asked = match &call {
         Call::Run(Command::At, given) => match asked_of(rt, given)? {
             Some(asked) => asked,
@@ -145,8 +139,9 @@ fn run<'a>(rt: &HostRuntime, words: &'a [String]) -> Result<u8, Wrong<'a>> {
         _ => Addresses::nothing(rt.alloc()),
     };
     let mut out = Output::new(rt.alloc(), io::writer(rt));
-    let done = answer(rt, &call, &asked, &mut out);
-    Ok(ended(rt, done, out.into_parts().1))
+    let mut is_above = false;
+    let done = answer(rt, &call, &asked, &mut out, &mut is_above);
+    Ok(ended(rt, done, is_above, out.into_parts().1))
 }
 
 // The first operand.
@@ -164,12 +159,13 @@ fn has_any(given: &Arguments<'_>, flags: &[Flag]) -> bool {
     flags.iter().any(|flag| given.has(*flag))
 }
 
-// Runs a call, and flushes the output. `false` where a file was refused.
+// Runs a call, and flushes the output. `false` where a file was refused. Sets whether a sum is above its limit.
 fn answer<W: Write>(
     rt: &HostRuntime,
     call: &Call<'_>,
     asked: &Addresses,
     out: &mut Output<W>,
+    is_above: &mut bool,
 ) -> Result<bool, Fault> {
     let is_done = match call {
         Call::Help(topic) => {
@@ -179,10 +175,15 @@ fn answer<W: Write>(
         Call::Version => print(VERSION, out)?,
         Call::Run(command, given) => {
             let refusals = String::new(rt.alloc());
-            let host = Host { rt, refusals };
+            let host = Host {
+                rt,
+                refusals,
+                is_above: false,
+            };
             let mut work = Work { host, given, out };
             let is_done = work.run(*command, asked)?;
             work.print_refusals()?;
+            *is_above = work.host.is_above;
             is_done
         }
     };
@@ -211,10 +212,14 @@ impl<'a, W: Write> Work<'a, '_, W> {
         let given = self.given;
         match command {
             Command::List => self.show_all(listing_of(given)),
-            Command::Size if sums_sections(given) => self.sum_sections(),
+            Command::Size if given.is_by_section() => self.sum_sections(),
             Command::Size => self.show_all(Kind::Figures(figures_of(given))),
             Command::Map if given.has(Folded) => self.show_all(Kind::Stacks(given.has(Std))),
-            Command::Map => self.show_all(Kind::Picture(figures_of(given).grouping)),
+            Command::Map => {
+                let figures = figures_of(given);
+                self.show_all(Kind::Picture(figures.grouping, figures.first))
+            }
+            Command::Diff if given.is_by_section() => self.compare_sections(),
             Command::Diff => self.compare(),
             Command::Filter => self.filter(),
             Command::At => self.symbolize(asked),
@@ -238,6 +243,7 @@ impl<'a, W: Write> Work<'a, '_, W> {
             kind,
             symbols: symbols_of(self.given, false),
             is_json: self.given.has(Json),
+            limit: self.given.limit(),
         };
         // Objects have the names of their files, and need no headings.
         let most = if asked.is_json { 1 } else { usize::MAX };
@@ -263,7 +269,10 @@ impl<'a, W: Write> Work<'a, '_, W> {
         };
         let form = form_of(given, paths.1);
         match diff(alloc, old, new, &figures_of(given), form, self.out) {
-            Ok(growth) => judged(growth, given.count(FailAbove)),
+            Ok(growth) => {
+                self.host.warn(paths.1, grown(growth, given.limit()));
+                Ok(true)
+            }
             Err(DiffError { error, .. }) if error == ReportError::Write => Err(Fault::from(error)),
             Err(DiffError { error, is_of_old }) => {
                 let path = if is_of_old { paths.0 } else { paths.1 };
@@ -291,6 +300,68 @@ impl<'a, W: Write> Work<'a, '_, W> {
             &mut unseen,
         ) {
             self.host.report(path, Fault::from(e), None);
+        }
+    }
+
+    // Compares the bytes of the sections of two files. `false` where one is refused.
+    fn compare_sections(&mut self) -> Result<bool, Fault> {
+        let given = self.given;
+        let alloc = self.host.rt.alloc();
+        let paths = (first(given), second(given).unwrap_or(""));
+        let old = open_input(alloc, &mut self.host, paths.0);
+        let new = open_input(alloc, &mut self.host, paths.1);
+        let (Some(old), Some(new)) = (&old, &new) else {
+            self.check_sections(paths.0, old.as_ref())?;
+            self.check_sections(paths.1, new.as_ref())?;
+            return Ok(false);
+        };
+        let form = form_of(given, paths.1);
+        let first = given.count(First);
+        let has_percent = given.has(Percent);
+        match diff_sections(alloc, old, new, first, has_percent, form, self.out) {
+            Ok((old, new)) => {
+                let growth = Growth { old, new };
+                self.host.warn(paths.1, grown(growth, given.limit()));
+                Ok(true)
+            }
+            Err(e) if e.is_of_old => {
+                reported(
+                    alloc,
+                    &mut self.host,
+                    paths.0,
+                    old,
+                    Err(Fault::from(e.error)),
+                )?;
+                self.check_sections(paths.1, Some(new))?;
+                Ok(false)
+            }
+            Err(e) => reported(
+                alloc,
+                &mut self.host,
+                paths.1,
+                new,
+                Err(Fault::from(e.error)),
+            ),
+        }
+    }
+
+    // Reports the file at this path if its sections can't be summed, where it could be opened.
+    fn check_sections(
+        &mut self,
+        path: &str,
+        file: Option<&OpenFile<FileOrStdin>>,
+    ) -> Result<(), Fault> {
+        let Some(file) = file else {
+            return Ok(());
+        };
+        let alloc = self.host.rt.alloc();
+        let mut unseen = Out::new(Vec::new(alloc));
+        match sum_sections(alloc, file, &mut (), None, Form::Lines, &mut unseen) {
+            Ok(_) => Ok(()),
+            Err(e) => {
+                reported(alloc, &mut self.host, path, file, Err(Fault::from(e)))?;
+                Ok(())
+            }
         }
     }
 
@@ -494,10 +565,27 @@ impl<'a, W: Write> Work<'a, '_, W> {
         let mut are_shown = true;
         for path in given.operands.as_slice() {
             self.out.begin(heading(alloc, path, are_several)?);
-            are_shown &= self.write_sections(path, Asked::Sums(given.count(First)))?;
+            are_shown &= self.sum_sections_of(path)?;
             self.print_refusals()?;
         }
         Ok(are_shown)
+    }
+
+    // Writes how many bytes of the file at this path its sections have.
+    fn sum_sections_of(&mut self, path: &str) -> Result<bool, Fault> {
+        let given = self.given;
+        let alloc = self.host.rt.alloc();
+        let Some(file) = open_input(alloc, &mut self.host, path) else {
+            return Ok(false);
+        };
+        let form = form_of(given, path);
+        match sum_sections(alloc, &file, &mut (), given.count(First), form, self.out) {
+            Ok(length) => {
+                self.host.warn(path, above(length, given.limit()));
+                Ok(true)
+            }
+            Err(e) => reported(alloc, &mut self.host, path, &file, Err(Fault::from(e))),
+        }
     }
 
     // Writes what is asked for of the sections of the file at this path.
@@ -553,27 +641,6 @@ fn listing_of(given: &Arguments<'_>) -> Kind {
     })
 }
 
-// Whether the bytes of files are summed by section.
-fn sums_sections(given: &Arguments<'_>) -> bool {
-    given.value(By) == Some("section")
-}
-
-// What sums of files by section don't go with: the comparison, or an option for function symbols.
-fn unfit(command: Command, given: &Arguments<'_>) -> Option<&'static str> {
-    if !sums_sections(given) {
-        return None;
-    }
-    match command {
-        Command::Diff => Some("diff"),
-        _ if given.has(Std) => Some("--std"),
-        _ if given.has(Percent) => Some("--percent"),
-        _ if given.has(Section) => Some("--section"),
-        _ if given.has(Dynamic) => Some("--dynamic"),
-        _ if given.has(All) => Some("--all"),
-        _ => None,
-    }
-}
-
 // What sizes are summed by, and how the sums are shown.
 fn figures_of(given: &Arguments<'_>) -> Figures {
     Figures {
@@ -608,11 +675,12 @@ fn symbols_of<'a>(given: &Arguments<'a>, are_all: bool) -> Symbols<'a> {
     Symbols { which, selection }
 }
 
-// The system around a command, and the objects of the files that were refused.
+// The system around a command, the objects of the files that were refused, and whether a sum is above its limit.
 #[derive(Drop)]
 struct Host<'a> {
     rt: &'a HostRuntime,
     refusals: String,
+    is_above: bool,
 }
 
 impl Host<'_> {
@@ -652,6 +720,13 @@ impl Host<'_> {
             }
         }
         Ok(found)
+    }
+
+    // Gives the hint, if there is one.
+    fn warn(&mut self, path: &str, hint: Option<Hint>) {
+        if let Some(hint) = hint {
+            self.hint(path, hint);
+        }
     }
 
     // Reports why a file is refused, and keeps its object.
@@ -701,6 +776,7 @@ impl System<FileOrStdin> for Host<'_> {
 
     fn hint(&mut self, path: &str, hint: Hint) {
         let rt = self.rt;
+        self.is_above |= matches!(hint, Hint::Above(..) | Hint::Grown(..));
         let _ = eprintln!(rt; "binfarce: {path}: {hint}");
     }
 }

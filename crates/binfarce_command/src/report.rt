@@ -23,10 +23,16 @@ pub fn refuse(rt: &HostRuntime, wrong: &Wrong<'_>) -> u8
 
 /// Prints why the work failed, if it did, and returns the program's exit status. A reader that closes the output is no
 /// failure.
-pub fn ended(rt: &HostRuntime, done: Result<bool, Fault>, reason: Option<Error>) -> u8
-    ensures { result ≡ status_of done (option_map error_kind reason) }
+pub fn ended(
+    rt: &HostRuntime,
+    done: Result<bool, Fault>,
+    is_above: bool,
+    reason: Option<Error>,
+) -> u8
+    ensures { result ≡ status_of done is_above (option_map error_kind reason) }
 {
     match done {
+        Ok(true) if is_above => 3,
         Ok(is_done) => u8::from(!is_done),
         Err(fault) if !fault.is_write() => {
             let _ = eprintln!(rt; "binfarce: {fault}");
@@ -47,7 +53,6 @@ fn status(fault: &Fault) -> u8
 {
     match fault {
         Fault::Missing(_) => 2,
-        Fault::Grown(_) => 3,
         _ => 1,
     }
 }

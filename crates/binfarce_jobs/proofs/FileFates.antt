@@ -24,7 +24,7 @@ use Rattle.binfarce_jobs.specs.Input.{IsForeign, IsReadOf, IsUnreadable}
 use Rattle.binfarce_jobs.proofs.Streams.{format_of_beginning}
 use Rattle.binfarce_jobs.specs.Show.{Fits, IsAskedText, IsShownText, MayEnd, MemoryFor, TakesText, answer_for, answer_taken, is_taken}
 use Rattle.binfarce_jobs.specs.declared.fault.Fault.{Fault}
-use Rattle.binfarce_jobs.specs.declared.fault.Fault.TheVariants.{Report, Section, Stream, Unsupported, NotUtf8, SharedAddresses, Missing, Grown}
+use Rattle.binfarce_jobs.specs.declared.fault.Fault.TheVariants.{Report, Section, Stream, Unsupported, NotUtf8, SharedAddresses, Missing}
 use Rattle.binfarce_jobs.specs.declared.output.Output.{Output}
 use Rattle.binfarce_jobs.specs.declared.show.Request.{Request}
 
@@ -135,7 +135,6 @@ never_written (Unsupported kind) is = cc
 never_written NotUtf8 is = cc
 never_written SharedAddresses is = cc
 never_written (Missing count) is = cc
-never_written (Grown by) is = cc
 
 -- a fault of the whole call is none of the file
 of_call : (e : Fault) → is_of_call e ≡ true → failure e ≡ wrong_usage
@@ -146,7 +145,6 @@ of_call (Unsupported kind) is = absurd cc
 of_call NotUtf8 is = absurd cc
 of_call SharedAddresses is = absurd cc
 of_call (Missing count) is = refl
-of_call (Grown by) is = refl
 
 module _ {W : Type 0} (contents : W → Option (List ℕ)) (asked : Request) (path : List ℕ) (MayFail : Type 0) (file : List ℕ) (old mid : Output W) where
   -- a file whose showing failed

@@ -21,7 +21,7 @@ use Rattle.binfarce_tools.specs.Writing.{EndsAs, Fails, Takes}
 use Rattle.binfarce_tools.proofs.Lines.{nothing}
 use Rattle.binfarce_tools.proofs.Reports.{got}
 use Rattle.binfarce_tools.proofs.Selected.{sized_in}
-use Rattle.binfarce_jobs.specs.Faults.{list_fault, no_memory_fault, outcome_of}
+use Rattle.binfarce_jobs.specs.Faults.{failure, list_fault, no_memory_fault, outcome_of}
 use Rattle.binfarce_jobs.specs.Hints.{IsHintOn, count_of, hint_on}
 use Rattle.binfarce_jobs.specs.declared.fault.Fault.{Fault}
 use Rattle.binfarce_jobs.specs.declared.hint.Hint.{Hint}
@@ -64,7 +64,7 @@ module _ (which : SymbolTable) (file name : List ℕ) where
   pub none_left : (Fits : SelectedSymbols → Type 0) (list : Selected) (result : Result (Unit {0}) Fault) → GetsIn which file (Some name) (Ok list) → IsErrAnd result (λ f. f ≡ no_memory_fault) → EndsAs Fits (MemoryIn file (Some name)) (selected_answer which (Some name) file) (outcome_of result)
   none_left Fits list (Ok x) gets is = absurd is
   none_left Fits list (Err f) gets is =
-      subst (λ (f : Fault). EndsAs Fits (MemoryIn file (Some name)) (selected_answer which (Some name) file) (outcome_of (Err f))) (sym is) (by_answer (selected_answer which (Some name) file) gets)
+      subst (λ (f : Fault). EndsAs Fits (MemoryIn file (Some name)) (selected_answer which (Some name) file) (failure f)) (sym is) (by_answer (selected_answer which (Some name) file) gets)
     where
       by_answer : (answer : Option (Result SelectedSymbols Refusal)) → GetsAs HoldsLeft (MemoryIn file (Some name)) answer (Ok list) → EndsAs Fits (MemoryIn file (Some name)) answer writing.no_memory
       by_answer None gets = absurd gets
@@ -75,20 +75,20 @@ module _ (which : SymbolTable) (file name : List ℕ) where
 pub unmade : {X : Type 0} (Holds : SelectedSymbols → X → Type 0) (Fits : SelectedSymbols → Type 0) (memory : Result SelectedSymbols Refusal → Type 0) (answer : Option (Result SelectedSymbols Refusal)) (e : ListError) (result : Result (Unit {0}) Fault)
     → GetsAs Holds memory answer (Err e) → IsErrAnd result (λ f. f ≡ list_fault e) → EndsAs Fits memory answer (outcome_of result)
 unmade Holds Fits memory answer e (Ok x) gets is = absurd is
-unmade Holds Fits memory answer e (Err f) gets is = subst (λ (f : Fault). EndsAs Fits memory answer (outcome_of (Err f))) (sym is) (by_answer answer gets)
+unmade Holds Fits memory answer e (Err f) gets is = subst (λ (f : Fault). EndsAs Fits memory answer (failure f)) (sym is) (by_answer answer gets)
   where
-    by_answer : (answer : Option (Result SelectedSymbols Refusal)) → GetsAs Holds memory answer (Err e) → EndsAs Fits memory answer (outcome_of (Err (list_fault e)))
-    by_answer None gets = let P : ListError → Type 0 = λ e. EndsAs Fits memory None (outcome_of (Err (list_fault e))) in subst P (sym gets) refl
-    by_answer (Some (Ok listed)) gets = let P : ListError → Type 0 = λ e. EndsAs Fits memory (Some (Ok listed)) (outcome_of (Err (list_fault e))) in subst P (sym gets.1) (inl refl)
-    by_answer (Some (Err refusal)) (inl (p, same, is)) = let P : ListError → Type 0 = λ e. EndsAs Fits memory (Some (Err refusal)) (outcome_of (Err (list_fault e))) in subst P (sym is) (inl (ap writing.refused same))
-    by_answer (Some (Err refusal)) (inr (needs, is)) = let P : ListError → Type 0 = λ e. EndsAs Fits memory (Some (Err refusal)) (outcome_of (Err (list_fault e))) in subst P (sym is) (inr (needs, refl))
+    by_answer : (answer : Option (Result SelectedSymbols Refusal)) → GetsAs Holds memory answer (Err e) → EndsAs Fits memory answer (failure (list_fault e))
+    by_answer None gets = let P : ListError → Type 0 = λ e. EndsAs Fits memory None (failure (list_fault e)) in subst P (sym gets) refl
+    by_answer (Some (Ok listed)) gets = let P : ListError → Type 0 = λ e. EndsAs Fits memory (Some (Ok listed)) (failure (list_fault e)) in subst P (sym gets.1) (inl refl)
+    by_answer (Some (Err refusal)) (inl (p, same, is)) = let P : ListError → Type 0 = λ e. EndsAs Fits memory (Some (Err refusal)) (failure (list_fault e)) in subst P (sym is) (inl (ap writing.refused same))
+    by_answer (Some (Err refusal)) (inr (needs, is)) = let P : ListError → Type 0 = λ e. EndsAs Fits memory (Some (Err refusal)) (failure (list_fault e)) in subst P (sym is) (inr (needs, refl))
 
 -- and nothing is written
 module _ (e : ListError) (result : Result (Unit {0}) Fault) where
   pub untaken : (IsText : SelectedSymbols → List ℕ → Type 0) (answer : Option (Result SelectedSymbols Refusal)) (old : Option (List ℕ)) → e ≢ listing.Write → IsErrAnd result (λ f. f ≡ list_fault e) → Takes IsText answer old old (outcome_of result)
   untaken IsText answer old other is = by_result result is
     where
-      by_error : (e : ListError) → e ≢ listing.Write → Takes IsText answer old old (outcome_of (Err (list_fault e)))
+      by_error : (e : ListError) → e ≢ listing.Write → Takes IsText answer old old (failure (list_fault e))
       by_error listing.Unknown other = nothing old
       by_error (listing.Parse p) other = nothing old
       by_error listing.OutOfMemory other = nothing old
@@ -96,12 +96,12 @@ module _ (e : ListError) (result : Result (Unit {0}) Fault) where
 
       by_result : (result : Result (Unit {0}) Fault) → IsErrAnd result (λ f. f ≡ list_fault e) → Takes IsText answer old old (outcome_of result)
       by_result (Ok x) is = absurd is
-      by_result (Err f) is = subst (λ (f : Fault). Takes IsText answer old old (outcome_of (Err f))) (sym is) (by_error e other)
+      by_result (Err f) is = subst (λ (f : Fault). Takes IsText answer old old (failure f)) (sym is) (by_error e other)
 
   pub unfailed : (failed : Bool) → e ≢ listing.Write → IsErrAnd result (λ f. f ≡ list_fault e) → Fails failed failed (outcome_of result)
   unfailed failed other is = by_result result is
     where
-      by_error : (e : ListError) → e ≢ listing.Write → Fails failed failed (outcome_of (Err (list_fault e)))
+      by_error : (e : ListError) → e ≢ listing.Write → Fails failed failed (failure (list_fault e))
       by_error listing.Unknown other = refl
       by_error (listing.Parse p) other = refl
       by_error listing.OutOfMemory other = refl
@@ -109,9 +109,9 @@ module _ (e : ListError) (result : Result (Unit {0}) Fault) where
 
       by_result : (result : Result (Unit {0}) Fault) → IsErrAnd result (λ f. f ≡ list_fault e) → Fails failed failed (outcome_of result)
       by_result (Ok x) is = absurd is
-      by_result (Err f) is = subst (λ (f : Fault). Fails failed failed (outcome_of (Err f))) (sym is) (by_error e other)
+      by_result (Err f) is = subst (λ (f : Fault). Fails failed failed (failure f)) (sym is) (by_error e other)
 
 -- so where an allocation failed
 pub none_taken : (IsText : SelectedSymbols → List ℕ → Type 0) (answer : Option (Result SelectedSymbols Refusal)) (old : Option (List ℕ)) (result : Result (Unit {0}) Fault) → IsErrAnd result (λ f. f ≡ no_memory_fault) → Takes IsText answer old old (outcome_of result)
 none_taken IsText answer old (Ok x) is = absurd is
-none_taken IsText answer old (Err f) is = subst (λ (f : Fault). Takes IsText answer old old (outcome_of (Err f))) (sym is) (nothing old)
+none_taken IsText answer old (Err f) is = subst (λ (f : Fault). Takes IsText answer old old (failure f)) (sym is) (nothing old)

@@ -13,7 +13,7 @@ use Rattle.binfarce_tools.specs.Tables.{ReadsAs}
 use Rattle.binfarce_tools.specs.declared.tables.Tables.{Tables}
 use Rattle.binfarce_tools.specs.declared.list.ListError.TheVariants as listing
 use Rattle.binfarce_tools.specs.Writing.{Fails, Outcome, written, write_failed, unknown_format, refused, no_memory, too_large, unreadable, wrong_usage}
-use Rattle.binfarce_jobs.specs.At.{HasPlaces, IsShared, counted_outcome, share_addresses}
+use Rattle.binfarce_jobs.specs.At.{HasPlaces, IsShared, share_addresses}
 use Rattle.binfarce_jobs.specs.Faults.{failure, list_fault, outcome_of, read_fault}
 use Rattle.binfarce_jobs.specs.Show.{AreTablesFor, MemoryFor, answer_for}
 use Rattle.binfarce_jobs.specs.declared.show.Symbols.{Symbols}
@@ -30,13 +30,9 @@ still failed too_large other = refl
 still failed unreadable other = refl
 still failed wrong_usage other = refl
 
-pub still_so : (failed : Bool) (e : Fault) (result : Result (Unit {0}) Fault) → IsErrAnd result (λ f. f ≡ e) → failure e ≢ write_failed → Fails failed failed (outcome_of result)
+pub still_so : {X : Type 0} (failed : Bool) (e : Fault) (result : Result X Fault) → IsErrAnd result (λ f. f ≡ e) → failure e ≢ write_failed → Fails failed failed (outcome_of result)
 still_so failed e (Ok x) is other = absurd is
 still_so failed e (Err f) is other = subst (λ (f : Fault). Fails failed failed (failure f)) (sym is) (still failed (failure e) other)
-
-pub lines_still_so : (failed : Bool) (e : Fault) (result : Result Counts Fault) → IsErrAnd result (λ f. f ≡ e) → failure e ≢ write_failed → Fails failed failed (counted_outcome result)
-lines_still_so failed e (Ok x) is other = absurd is
-lines_still_so failed e (Err f) is other = subst (λ (f : Fault). Fails failed failed (failure f)) (sym is) (still failed (failure e) other)
 
 -- sections that share addresses are those of a file that is answered
 shared_answer : (answer : Option (Result SelectedSymbols Refusal)) → addresses_are_shared answer ≡ true → (seen : SelectedSymbols) × (answer ≡ Some (Ok seen))

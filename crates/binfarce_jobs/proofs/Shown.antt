@@ -16,33 +16,26 @@ use Rattle.binfarce_tools.specs.Writing.{Outcome, EndsAs, ProgramEndsAs, refused
 use Rattle.binfarce_tools.specs.declared.list.ListError.{ListError}
 use Rattle.binfarce_tools.specs.declared.list.ListError.TheVariants as listing
 use Rattle.binfarce_tools.specs.declared.report.ReportError.{ReportError}
-use Rattle.binfarce_addresses.specs.declared.counts.Counts.{Counts}
-use Rattle.binfarce_jobs.specs.At.{counted_outcome}
-use Rattle.binfarce_jobs.specs.Faults.{list_fault, read_fault, outcome_of}
+use Rattle.binfarce_jobs.specs.Faults.{failure, list_fault, outcome_of, read_fault}
 use Rattle.binfarce_jobs.specs.declared.fault.Fault.{Fault}
 use Rattle.binfarce_jobs.specs.declared.fault.Fault.TheVariants.{Report}
 use Rattle.binfarce_jobs.specs.Show.{AreTablesFor, answer_for, is_taken}
 use Rattle.binfarce_jobs.specs.declared.show.Kind.{Kind}
 use Rattle.binfarce_jobs.specs.declared.show.Symbols.{Symbols}
 
-list_ended : (e : ListError) (P : Outcome → Type 0) → P (list.outcome_of (Err e)) → P (outcome_of (Err (list_fault e)))
+list_ended : (e : ListError) (P : Outcome → Type 0) → P (list.outcome_of (Err e)) → P (failure (list_fault e))
 list_ended listing.Unknown P h = h
 list_ended (listing.Parse e) P h = h
 list_ended listing.OutOfMemory P h = h
 list_ended listing.Write P h = h
 
-pub of_list : (e : ListError) (result : Result (Unit {0}) Fault) (P : Outcome → Type 0) → IsErrAnd result (λ f. f ≡ list_fault e) → P (list.outcome_of (Err e)) → P (outcome_of result)
+pub of_list : {X : Type 0} (e : ListError) (result : Result X Fault) (P : Outcome → Type 0) → IsErrAnd result (λ f. f ≡ list_fault e) → P (list.outcome_of (Err e)) → P (outcome_of result)
 of_list e (Ok x) P is h = absurd is
-of_list e (Err fault) P is h = subst (λ (f : Fault). P (outcome_of (Err f))) (sym is) (list_ended e P h)
-
--- the same of a call that returns counts
-pub counted_list : (e : ListError) (result : Result Counts Fault) (P : Outcome → Type 0) → IsErrAnd result (λ f. f ≡ list_fault e) → P (list.outcome_of (Err e)) → P (counted_outcome result)
-counted_list e (Ok x) P is h = absurd is
-counted_list e (Err fault) P is h = subst (λ (f : Fault). P (counted_outcome (Err f))) (sym is) (list_ended e P h)
+of_list e (Err fault) P is h = subst (λ (f : Fault). P (failure f)) (sym is) (list_ended e P h)
 
 pub of_report : (e : ReportError) (result : Result (Unit {0}) Fault) (P : Outcome → Type 0) → IsErrAnd result (λ f. f ≡ Report e) → P (report.outcome_of (Err e)) → P (outcome_of result)
 of_report e (Ok x) P is h = absurd is
-of_report e (Err fault) P is h = subst (λ (f : Fault). P (outcome_of (Err f))) (sym is) h
+of_report e (Err fault) P is h = subst (λ (f : Fault). P (failure f)) (sym is) h
 
 -- the same, where the call is the one for this kind
 pub list_in : (P : Kind → Outcome → Type 0) (kind found : Kind) → kind ≡ found → (e : ListError) (result : Result (Unit {0}) Fault) → IsErrAnd result (λ f. f ≡ list_fault e) → P found (list.outcome_of (Err e)) → P kind (outcome_of result)
@@ -55,9 +48,9 @@ report_in P kind found is e result err h = of_report e result (λ (o : Outcome).
 pub unread : (MayFail : Type 0) {T : Type 0} (AreTables : T → Type 0) (Fits : SelectedSymbols → Type 0) (memory : Result SelectedSymbols Refusal → Type 0) (answer : Option (Result SelectedSymbols Refusal)) (e : ReadError) (result : Result (Unit {0}) Fault)
     → ReadsAs AreTables MayFail answer (Err e) → IsErrAnd result (λ f. f ≡ read_fault e) → ProgramEndsAs MayFail Fits memory answer (outcome_of result)
 unread MayFail AreTables Fits memory answer e (Ok x) reads is = absurd is
-unread MayFail AreTables Fits memory answer e (Err f) reads is = subst (λ (f : Fault). ProgramEndsAs MayFail Fits memory answer (outcome_of (Err f))) (sym is) (by_error e reads)
+unread MayFail AreTables Fits memory answer e (Err f) reads is = subst (λ (f : Fault). ProgramEndsAs MayFail Fits memory answer (failure f)) (sym is) (by_error e reads)
   where
-    by_error : (e : ReadError) → ReadsAs AreTables MayFail answer (Err e) → ProgramEndsAs MayFail Fits memory answer (outcome_of (Err (read_fault e)))
+    by_error : (e : ReadError) → ReadsAs AreTables MayFail answer (Err e) → ProgramEndsAs MayFail Fits memory answer (failure (read_fault e))
     by_error (Refused p) reads = inr (inr (subst (λ (a : Option (Result SelectedSymbols Refusal)). EndsAs Fits memory a (refused (refusal_of p))) (sym reads) (inl refl)))
     by_error Unreadable reads = inl (reads, refl)
     by_error OutOfMemory reads = inr (inl refl)

@@ -60,11 +60,6 @@ abbrev pub lines_end : Result Counts StreamError → Result Counts Fault
 lines_end (Ok counts) = Ok counts
 lines_end (Err e) = Err (Stream e)
 
--- the outcome of a call that returns counts
-abbrev pub counted_outcome : Result Counts Fault → Outcome
-counted_outcome (Ok counts) = written
-counted_outcome (Err fault) = failure fault
-
 -- the function symbols that are taken share addresses: those of all sections of an object file
 abbrev pub share_addresses : Symbols → (file : List ℕ) → Bool
 share_addresses symbols file = addresses_are_shared (answer_for symbols file)

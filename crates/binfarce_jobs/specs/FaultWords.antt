@@ -12,7 +12,7 @@ use Rattle.binfarce_tools.specs.ReportWords.{report_words}
 use Rattle.binfarce_tools.specs.declared.report.ReportError.TheVariants as sums
 use Rattle.binfarce_jobs.specs.Foreign.{foreign_words}
 use Rattle.binfarce_jobs.specs.declared.fault.Fault.{Fault}
-use Rattle.binfarce_jobs.specs.declared.fault.Fault.TheVariants.{Report, Section, Stream, Unsupported, NotUtf8, SharedAddresses, Missing, Grown}
+use Rattle.binfarce_jobs.specs.declared.fault.Fault.TheVariants.{Report, Section, Stream, Unsupported, NotUtf8, SharedAddresses, Missing}
 
 -- of a refusal: an ELF file without a symbol table may have a dynamic one
 abbrev pub refused_words : Refusal → List ℕ
@@ -37,7 +37,6 @@ fault_words (Stream e) = stream_words e
 fault_words (Unsupported kind) = foreign_words kind
 fault_words NotUtf8 = codes "not UTF-8"
 fault_words SharedAddresses = codes "its sections share addresses; --section=NAME takes one of them"
-fault_words (Grown by) = codes "the sum grew by " ++ (decimal by ++ codes " bytes")
 fault_words (Missing count) = missing_words count
 
 -- the refusal of a file as a JSON object: its file, and the printed text

@@ -15,7 +15,7 @@ use Rattle.binfarce_tools.specs.Writing.{Outcome, written, write_failed, unknown
 use Rattle.binfarce_tools.specs.declared.list.ListError.{ListError}
 use Rattle.binfarce_tools.specs.declared.report.ReportError.TheVariants as sums
 use Rattle.binfarce_jobs.specs.declared.fault.Fault.{Fault}
-use Rattle.binfarce_jobs.specs.declared.fault.Fault.TheVariants.{Report, Section, Stream, Unsupported, NotUtf8, SharedAddresses, Missing, Grown}
+use Rattle.binfarce_jobs.specs.declared.fault.Fault.TheVariants.{Report, Section, Stream, Unsupported, NotUtf8, SharedAddresses, Missing}
 
 -- an allocation failed
 abbrev pub no_memory_fault : Fault
@@ -55,10 +55,9 @@ failure (Unsupported kind) = wrong_usage
 failure NotUtf8 = wrong_usage
 failure SharedAddresses = wrong_usage
 failure (Missing count) = wrong_usage
-failure (Grown by) = wrong_usage
 
 -- the outcome of the work on a file
-abbrev pub outcome_of : Result (Unit {0}) Fault → Outcome
+abbrev pub outcome_of : {X : Type 0} → Result X Fault → Outcome
 outcome_of (Ok x) = written
 outcome_of (Err fault) = failure fault
 
@@ -73,7 +72,6 @@ is_write fault = is_failed_write (failure fault)
 -- a fault of the whole call, when all files and lines are done
 abbrev pub is_of_call : Fault → Bool
 is_of_call (Missing count) = true
-is_of_call (Grown by) = true
 is_of_call fault = false
 
 -- a file is refused for it

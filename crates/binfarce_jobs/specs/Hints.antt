@@ -11,6 +11,7 @@ use Rattle.binfarce_bytes.specs.Format.{format_of}
 use Rattle.binfarce_bytes.specs.declared.format.Format.{Format}
 use Rattle.binfarce_bytes.specs.declared.format.Format.TheVariants as formats
 use Rattle.binfarce_tools.specs.Answer.{entries_of, selected_answer}
+use Rattle.binfarce_words.specs.WordViews.{limit_words}
 use Rattle.binfarce_jobs.specs.declared.hint.Hint.{Hint}
 use Rattle.binfarce_jobs.specs.declared.hint.Hint.TheVariants as hints
 use Rattle.binfarce_jobs.specs.declared.hint.Loaded.{Loaded}
@@ -32,6 +33,8 @@ hint_words (hints.Others count) = codes "no function symbols in the section; --a
 hint_words (hints.Dynamic count) = codes "--dynamic --all takes " ++ (decimal count ++ codes " function symbols")
 hint_words (hints.Stripped places) = codes "its debug symbols may be in " ++ string_bytes places
 hint_words (hints.Missed count loaded) = codes "0 of " ++ (decimal count ++ (codes " addresses are in a function symbol; " ++ loaded_words loaded))
+hint_words (hints.Above sum most) = codes "the sum is " ++ (decimal sum ++ (codes " bytes, and --fail-above allows " ++ decimal most))
+hint_words (hints.Grown by limit) = codes "the sum grew by " ++ (decimal by ++ (codes " bytes, and --fail-above allows " ++ limit_words limit))
 hint_words (hints.NoAddress true) = codes "no address in the text"
 hint_words (hints.NoAddress false) = codes "no address in the text; --bare takes those without 0x, too"
 

@@ -1,10 +1,22 @@
 -- Limits on sums.
-use Rattle.std.specs.Prelude.{ℕ, ◌-◌, nat_lt, Bool, true, Option, Some, None, Result, Ok, Err, if◌then◌else◌}
-use Rattle.binfarce_jobs.specs.declared.fault.Fault.{Fault}
-use Rattle.binfarce_jobs.specs.declared.fault.Fault.TheVariants.{Grown}
+use Rattle.std.specs.Prelude.{ℕ, ◌-◌, ◌*◌, nat_lt, Bool, Option, Some, None, if◌then◌else◌}
+use Rattle.binfarce_jobs.specs.declared.hint.Hint.{Hint}
+use Rattle.binfarce_jobs.specs.declared.hint.Hint.TheVariants.{Above, Grown}
 use Rattle.binfarce_figures.specs.declared.diff.Growth.{Growth}
+use Rattle.binfarce_words.specs.declared.words.Limit.{Limit}
+use Rattle.binfarce_words.specs.declared.words.Limit.TheVariants.{Bytes, Percent}
 
--- the growth from one sum to another is allowed, or is more than this limit
-abbrev pub judged : Growth → (limit : Option ℕ) → Result Bool Fault
-judged growth None = Ok true
-judged growth (Some limit) = if nat_lt limit (growth.new - growth.old) then Err (Grown (growth.new - growth.old)) else Ok true
+-- a sum is more than this limit; a limit in per cent is one on growth
+abbrev pub above : (sum : ℕ) → (limit : Option Limit) → Option Hint
+above sum (Some (Bytes most)) = if nat_lt most sum then Some (Above sum most) else None
+above sum limit = None
+
+-- the growth of a sum by so many bytes is more than so many bytes, or so many per cent of the old sum
+abbrev pub is_above : (old by : ℕ) → Limit → Bool
+is_above old by (Bytes most) = nat_lt most by
+is_above old by (Percent most) = nat_lt (most * old) (100 * by)
+
+-- a sum grew by more than this limit
+abbrev pub grown : Growth → (limit : Option Limit) → Option Hint
+grown growth (Some limit) = if is_above growth.old (growth.new - growth.old) limit then Some (Grown (growth.new - growth.old) limit) else None
+grown growth None = None

@@ -6,6 +6,7 @@ use Rattle.binfarce.specs.declared.Format.{Format}
 use Rattle.binfarce.specs.declared.Format.TheVariants as formats
 use Rattle.binfarce.specs.Refusal.{Refusal, symbols_section_is_missing}
 use Rattle.binfarce.specs.SectionEntries.{SelectedSymbols}
+use Rattle.binfarce_figures.specs.Claims.{IsSumOf}
 use Rattle.binfarce_figures.specs.Figures.{AreFiguresBy, AreStacksIn, IsPictureBy}
 use Rattle.binfarce_figures.specs.RowListing.{IsListingBy}
 use Rattle.binfarce_tools.specs.Json.{Style, lines, objects}
@@ -27,8 +28,13 @@ abbrev pub IsTextOf : Kind → (path : List ℕ) → Style → SelectedSymbols �
 IsTextOf Listing path style = IsListingOf
 IsTextOf (Rows shown) path style = IsListingBy shown style
 IsTextOf (Figures figures) path style = AreFiguresBy figures style
-IsTextOf (Picture grouping) path style = IsPictureBy path grouping
+IsTextOf (Picture grouping first) path style = IsPictureBy path grouping first
 IsTextOf (Stacks joins_std) path style = AreStacksIn joins_std
+
+-- the sum that was seen is that of a file's answer, where sums are shown
+abbrev pub HasSum : Kind → SelectedSymbols → (sum : Option ℕ) → Type 0
+HasSum (Figures figures) selected sum = (n : ℕ) × (sum ≡ Some n) × IsSumOf selected n
+HasSum kind selected sum = Unit {0}
 
 -- the name of the section that is selected; empty for all sections
 abbrev pub selected_name : Option (List ℕ) → List ℕ
@@ -44,7 +50,7 @@ abbrev pub Fits : Kind → SelectedSymbols → Type 0
 Fits Listing = ListingFits
 Fits (Rows shown) = ListingFits
 Fits (Figures figures) = ReportFits
-Fits (Picture grouping) = ReportFits
+Fits (Picture grouping first) = ReportFits
 Fits (Stacks joins_std) = ReportFits
 
 -- the section can be selected in a file of this format: in a Mach-O or PE file `.text` is the code section, and there is no other name

@@ -10,8 +10,8 @@ ghost use Rattle.binfarce_tools.specs.Answer.{addresses_are_shared, entries_of, 
 ghost use Rattle.binfarce_tools.specs.Tables.{AreTablesOf};
 ghost use Rattle.binfarce_tools.specs.declared.SymbolTable.{SymbolTable};
 ghost use Rattle.binfarce_tools.specs.Writing.{ProgramEndsAs, Takes, Fails, Leaves, write_failed};
-ghost use Rattle.binfarce_jobs.specs.At.{AnswersInput, HasPlaces, IsShared, addresses_of, counted_outcome, is_elf, linked_and_origin, share_addresses};
-ghost use Rattle.binfarce_jobs.specs.Faults.{failure};
+ghost use Rattle.binfarce_jobs.specs.At.{AnswersInput, HasPlaces, IsShared, addresses_of, is_elf, linked_and_origin, share_addresses};
+ghost use Rattle.binfarce_jobs.specs.Faults.{failure, outcome_of};
 ghost use Rattle.binfarce_jobs.specs.Show.{MemoryFor, answer_for};
 ghost use Rattle.binfarce_words.specs.WordViews.{Gives};
 
@@ -70,18 +70,18 @@ pub fn answer_all<S: Source<Log = ()>, K: Sink>(
     ensures outcome { (file : List ℕ) → S.bytes source.now ≡ Some file
         → share_addresses symbols.now file ≡ false
         → ProgramEndsAs (S.may_fail source.now ≡ true) ListingFits
-        (MemoryFor symbols.now file) (answer_for symbols.now file) (counted_outcome result) }
+        (MemoryFor symbols.now file) (answer_for symbols.now file) (outcome_of result) }
     ensures shared { (file : List ℕ) → S.bytes source.now ≡ Some file
         → share_addresses symbols.now file ≡ true
         → IsShared (S.may_fail source.now ≡ true) result }
     ensures takes { (file : List ℕ) → S.bytes source.now ≡ Some file
         → Takes (AreLinesAt lookup.entry addresses.now)
-        (answer_for symbols.now file) (K.taken out.old) (K.taken out.new) (counted_outcome result) }
+        (answer_for symbols.now file) (K.taken out.old) (K.taken out.new) (outcome_of result) }
     ensures counts { (file : List ℕ) (selected : SelectedSymbols) → S.bytes source.now ≡ Some file
         → answer_for symbols.now file ≡ Some (Ok selected)
         → IfOk result (AreCountsOf (answers_at (entries_of selected) lookup.entry addresses.now)) }
-    ensures fails { Fails (K.has_failed out.old) (K.has_failed out.new) (counted_outcome result) }
-    ensures leaves { Leaves out.old out.new (counted_outcome result) }
+    ensures fails { Fails (K.has_failed out.old) (K.has_failed out.new) (outcome_of result) }
+    ensures leaves { Leaves out.old out.new (outcome_of result) }
 {
     let tables = tables_of(alloc, source, symbols)?;
     let places = places_of(alloc, &tables)?;
@@ -154,7 +154,7 @@ pub fn answer_input<S: Source<Log = ()>, I: Read, K: Sink>(
         (share_addresses symbols.now file) (MemoryFor symbols.now file)
         (answer_for symbols.now file) lookup.entry
         (I.remaining input.old) (I.remaining input.new) (K.taken out.old) (K.taken out.new) result }
-    ensures fails { Fails (K.has_failed out.old) (K.has_failed out.new) (counted_outcome result) }
+    ensures fails { Fails (K.has_failed out.old) (K.has_failed out.new) (outcome_of result) }
 {
     let tables = tables_of(alloc, source, symbols)?;
     let places = places_of(alloc, &tables)?;

@@ -32,8 +32,6 @@ pub enum Fault {
     SharedAddresses,
     /// This many lines of standard input have no address; all lines were answered.
     Missing(u64),
-    /// The sum grew by so many bytes, more than is allowed.
-    Grown(u64),
 }
 
 impl Fault {
@@ -53,7 +51,7 @@ impl Fault {
     pub fn is_of_file(&self) -> bool
         ensures { result ≡ is_of_file self.now }
     {
-        !self.is_write() && !matches!(self, Fault::Missing(_) | Fault::Grown(_))
+        !self.is_write() && !matches!(self, Fault::Missing(_))
     }
 }
 
@@ -76,7 +74,6 @@ impl fmt::Display for Fault {
                 f,
                 "its sections share addresses; --section=NAME takes one of them"
             ),
-            Fault::Grown(by) => write!(f, "the sum grew by {by} bytes"),
             Fault::Missing(1) => write!(f, "1 line without an address"),
             Fault::Missing(count) => write!(f, "{count} lines without an address"),
         }

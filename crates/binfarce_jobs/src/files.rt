@@ -9,8 +9,9 @@ ghost use Rattle.binfarce_jobs.specs.Input.{IsForeign, IsReadOf, IsUnreadable, b
 use crate::fault::Fault;
 use crate::hint::{Hint, completed, refusal_hints};
 use crate::input::OpenFile;
+use crate::limit::above;
 use crate::output::Output;
-use crate::show::{Kind, Request, show};
+use crate::show::{Kind, Request, Seen, show};
 use binfarce_bytes::source::Source;
 use binfarce_sections::error::SectionError;
 use std::alloc::{AllocError, Global};
@@ -96,18 +97,27 @@ fn show_file<F: Read + Source<Log = ()> + Drop, Y: System<F>, W: Write>(
     let Some(input) = open_input(alloc, system, path) else {
         return Ok(false);
     };
-    let mut hint = None;
-    let shown = show_source(alloc, asked, path, &input, &mut hint, out);
+    let mut seen = Seen {
+        hint: None,
+        sum: None,
+    };
+    let shown = show_source(alloc, asked, path, &input, &mut seen, out);
+    let Seen { hint, sum } = seen;
     let hint = completed(
         alloc,
         &input,
         &asked.symbols,
         hint,
         shown.is_ok(),
-        matches!(asked.kind, Kind::Picture(_)),
+        matches!(asked.kind, Kind::Picture(..)),
         out.len(),
     );
     give(system, path, hint);
+    let excess = match sum {
+        Some(sum) => above(sum, asked.limit),
+        None => None,
+    };
+    give(system, path, excess);
     reported(alloc, system, path, &input, shown)
 }
 
@@ -132,14 +142,14 @@ fn show_source<S: Source<Log = ()>, W: Write>(
     asked: &Request<'_>,
     path: &str,
     source: &S,
-    hint: &mut Option<Hint>,
+    seen: &mut Seen,
     out: &mut Output<W>,
 ) -> Result<(), Fault>
     ensures { (file : List ℕ) → S.bytes source.now ≡ Some file
         → ShowsSource asked.now path.now (S.may_fail source.now ≡ true) file (pending out.old)
         (W.contents (writer_of out.old)) (W.contents (writer_of out.new)) (taken W.contents out.new) result }
 {
-    show(alloc, asked, path, source, hint, out)?;
+    show(alloc, asked, path, source, seen, out)?;
     out.end()
 }
 

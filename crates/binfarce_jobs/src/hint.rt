@@ -1,5 +1,5 @@
-//! Hints on files: what a person may want to know beside the result. Standard output and the status don't depend on
-//! them.
+//! Hints on files: what a person may want to know beside the result. Standard output doesn't depend on them, and the
+//! status on those alone that say that a limit is exceeded.
 
 ghost use Rattle.std.specs.Prelude.{◌≡◌, ℕ, List, Some, IfOk, length};
 ghost use Rattle.binfarce_bytes.specs.Selection.{section_of};
@@ -18,6 +18,7 @@ use binfarce_tables::format::read_format;
 use binfarce_tools::SymbolTable;
 use binfarce_tools::list::Out;
 use binfarce_tools::tables::{Selection, read};
+use binfarce_words::words::Limit;
 use std::alloc::Global;
 use std::fmt;
 
@@ -42,6 +43,10 @@ pub enum Hint {
     Missed(u64, Loaded),
     /// There is no address in a text, in which bare words may be some or are not.
     NoAddress(bool),
+    /// The sum is so many bytes, more than so many that are allowed.
+    Above(u64, usize),
+    /// The sum grew by so many bytes, more than is allowed.
+    Grown(u64, Limit),
 }
 
 /// What is known of where a file is loaded.
@@ -82,6 +87,14 @@ impl fmt::Display for Hint {
                 let why = loaded.words();
                 write!(f, "0 of {count} addresses are in a function symbol; {why}")
             }
+            Hint::Above(sum, most) => write!(
+                f,
+                "the sum is {sum} bytes, and --fail-above allows {most}"
+            ),
+            Hint::Grown(by, limit) => write!(
+                f,
+                "the sum grew by {by} bytes, and --fail-above allows {limit}"
+            ),
             Hint::NoAddress(true) => write!(f, "no address in the text"),
             Hint::NoAddress(false) => write!(
                 f,

@@ -1,4 +1,4 @@
-//! The sections of a file: the bytes of one, a line for each, or how many of the file's bytes each has.
+//! The sections of a file: the bytes of one, or a line for each.
 
 ghost use Rattle.std.specs.Prelude.{◌≡◌, ℕ, List, Some};
 ghost use Rattle.binfarce_sections.specs.Results.{Fails};
@@ -9,7 +9,6 @@ use binfarce_bytes::source::Source;
 use binfarce_sections::bytes::write_section_of;
 use binfarce_sections::error::SectionError;
 use binfarce_sections::list::list_source;
-use binfarce_sections::sums::sum_sections;
 use binfarce_tools::json::Form;
 use binfarce_tools::list::Sink;
 use std::alloc::Global;
@@ -21,8 +20,6 @@ pub enum Asked<'a> {
     Bytes(&'a str),
     /// A line for each section.
     Lines,
-    /// How many of the file's bytes each section has, of the first ones if there is a number.
-    Sums(Option<usize>),
 }
 
 /// Writes what is asked for of the sections. Only the section headers, the section names, and the bytes of the named
@@ -30,7 +27,7 @@ pub enum Asked<'a> {
 ///
 /// # Errors
 ///
-/// Those of `write_section_of`, `list_source` and `sum_sections`.
+/// Those of `write_section_of` and `list_source`.
 pub fn write_sections<S: Source<Log = ()>, K: Sink>(
     alloc: Global,
     source: &S,
@@ -46,6 +43,5 @@ pub fn write_sections<S: Source<Log = ()>, K: Sink>(
     match asked {
         Asked::Bytes(name) => write_section_of(alloc, source, &mut (), name, out),
         Asked::Lines => list_source(alloc, source, &mut (), form, out),
-        Asked::Sums(first) => sum_sections(alloc, source, &mut (), first, form, out),
     }
 }

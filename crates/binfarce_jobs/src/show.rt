@@ -1,15 +1,16 @@
 //! Shows the function symbols of a file: as a listing, as sums, or as a picture.
 
-ghost use Rattle.std.specs.Prelude.{◌≡◌, ℕ, List, Option, true, Some, IfOk};
+ghost use Rattle.std.specs.Prelude.{◌≡◌, ℕ, List, Option, true, Ok, Some, IfOk};
 ghost use Rattle.binfarce_bytes.specs.Selection.{section_of};
 ghost use Rattle.binfarce_tools.specs.Json.{style_of};
+ghost use Rattle.binfarce.specs.SectionEntries.{SelectedSymbols};
 ghost use Rattle.binfarce_tools.specs.Answer.{selected_answer, MemoryIn};
 ghost use Rattle.binfarce_tools.specs.Tables.{AreTablesOf, ReadsAs};
 ghost use Rattle.binfarce_tools.specs.declared.SymbolTable.{SymbolTable};
 ghost use Rattle.binfarce_tools.specs.Writing.{EndsAs, Takes, Fails, Leaves};
 ghost use Rattle.binfarce_jobs.specs.Faults.{outcome_of};
 ghost use Rattle.binfarce_jobs.specs.Hints.{IsHintOn};
-ghost use Rattle.binfarce_jobs.specs.Show.{AreTablesFor, Fits, IsTextOf, MayEnd, TakesText, answer_for, is_taken, style_for};
+ghost use Rattle.binfarce_jobs.specs.Show.{AreTablesFor, Fits, HasSum, IsTextOf, MayEnd, TakesText, answer_for, is_taken, style_for};
 
 use crate::fault::Fault;
 use crate::hint::{Hint, hint_on};
@@ -28,6 +29,7 @@ use binfarce_tools::SymbolTable;
 use binfarce_tools::json::Form;
 use binfarce_tools::list::{Sink, list_tables};
 use binfarce_tools::tables::{Selection, Tables, read_tables};
+use binfarce_words::words::Limit;
 use std::alloc::Global;
 
 /// How function symbols are shown.
@@ -39,8 +41,8 @@ pub enum Kind {
     Rows(Shown),
     /// As sums by a key.
     Figures(Figures),
-    /// As a picture of these sums.
-    Picture(Grouping),
+    /// As a picture of these sums: of the first ones, and of all others in one.
+    Picture(Grouping, Option<usize>),
     /// As stacks; whether Rust's standard library is joined.
     Stacks(bool),
 }
@@ -63,6 +65,17 @@ pub struct Request<'a> {
     pub symbols: Symbols<'a>,
     /// Whether they are shown as JSON objects.
     pub is_json: bool,
+    /// The most that a file's sum may be, where sums are shown.
+    pub limit: Option<Limit>,
+}
+
+/// What was seen of a file while it was shown.
+#[derive(Debug, Drop)]
+pub struct Seen {
+    /// The hint on its function symbols, if there is one.
+    pub hint: Option<Hint>,
+    /// The sum of all sizes, each byte counted once, where sums are shown.
+    pub sum: Option<u64>,
 }
 
 /// The tables of the source for these function symbols.
@@ -117,8 +130,8 @@ fn form_for<'a>(asked: &Request<'a>, path: &'a str) -> Form<'a>
     }
 }
 
-/// Writes the requested function symbols of the source, and sets `hint` to the hint on them, if any; a picture's title
-/// is the path. Of the source it reads the headers, the symbol table and the names alone.
+/// Writes the requested function symbols of the source, and sets `seen` to the hint on them, if any, and their sum; a
+/// picture's title is the path. Of the source it reads the headers, the symbol table and the names alone.
 ///
 /// # Errors
 ///
@@ -129,32 +142,36 @@ pub fn show<S: Source<Log = ()>, K: Sink>(
     asked: &Request<'_>,
     path: &str,
     source: &S,
-    hint: &mut Option<Hint>,
+    seen: &mut Seen,
     out: &mut K,
 ) -> Result<(), Fault>
     ensures outcome { (file : List ℕ) → S.bytes source.now ≡ Some file
         → MayEnd (S.may_fail source.now ≡ true) asked.now file (outcome_of result) }
     ensures takes { (file : List ℕ) → S.bytes source.now ≡ Some file
         → TakesText asked.now path.now file (K.taken out.old) (K.taken out.new) (outcome_of result) }
+    ensures sum { (file : List ℕ) (selected : SelectedSymbols) → S.bytes source.now ≡ Some file
+        → answer_for asked.now.symbols file ≡ Some (Ok selected)
+        → IfOk result (λ _. HasSum asked.now.kind selected seen.new.sum) }
     ensures fails { Fails (K.has_failed out.old) (K.has_failed out.new) (outcome_of result) }
     ensures leaves { Leaves out.old out.new (outcome_of result) }
 {
     let tables = tables_of(alloc, source, &asked.symbols)?;
     let form = form_for(asked, path);
     match asked.symbols.selection {
-        Selection::Section(_) => show_section(alloc, asked.kind, path, form, &tables, hint, out),
-        Selection::All => show_tables(alloc, asked.kind, path, form, &tables, out),
+        Selection::Section(_) => show_section(alloc, asked.kind, path, form, &tables, seen, out),
+        Selection::All => show_tables(alloc, asked.kind, path, form, &tables, seen, out),
     }
 }
 
-// Shows the function symbols of a section, which are made once, and sets `hint` to the hint on them, if any.
+// Shows the function symbols of a section, which are made once, and sets `seen` to the hint on them, if any, and their
+// sum.
 fn show_section<K: Sink>(
     alloc: Global,
     kind: Kind,
     path: &str,
     form: Form<'_>,
     tables: &Tables<'_>,
-    hint: &mut Option<Hint>,
+    seen: &mut Seen,
     out: &mut K,
 ) -> Result<(), Fault>
     ensures outcome { (which : SymbolTable) (file name : List ℕ) → AreTablesOf which file (Some name) tables.now
@@ -163,28 +180,33 @@ fn show_section<K: Sink>(
         → Takes (IsTextOf kind path.now (style_of form.entry))
         (selected_answer which (Some name) file) (K.taken out.old) (K.taken out.new) (outcome_of result) }
     ensures hint { (which : SymbolTable) (file name : List ℕ) → AreTablesOf which file (Some name) tables.now
-        → IfOk result (λ _. IsHintOn which file name hint.new) }
+        → IfOk result (λ _. IsHintOn which file name seen.new.hint) }
+    ensures sum { (which : SymbolTable) (file name : List ℕ) (selected : SelectedSymbols)
+        → AreTablesOf which file (Some name) tables.now
+        → selected_answer which (Some name) file ≡ Some (Ok selected)
+        → IfOk result (λ _. HasSum kind selected seen.new.sum) }
     ensures fails { Fails (K.has_failed out.old) (K.has_failed out.new) (outcome_of result) }
     ensures leaves { Leaves out.old out.new (outcome_of result) }
 {
     let (functions, size) = tables.functions(alloc)?.into_list();
     let list: Vec<SectionFunction<'_>> = functions.all.collect(alloc)?;
     let size = size.unwrap_or(0);
-    *hint = hint_on(&list);
+    seen.hint = hint_on(&list);
     let made = Tables::Made {
         functions: list,
         size,
     };
-    show_tables(alloc, kind, path, form, &made, out)
+    show_tables(alloc, kind, path, form, &made, seen, out)
 }
 
-// Shows the function symbols of these tables.
+// Shows the function symbols of these tables, and sets the sum that was seen.
 fn show_tables<K: Sink>(
     alloc: Global,
     kind: Kind,
     path: &str,
     form: Form<'_>,
     tables: &Tables<'_>,
+    seen: &mut Seen,
     out: &mut K,
 ) -> Result<(), Fault>
     ensures outcome { (which : SymbolTable) (file : List ℕ) (section : Option (List ℕ))
@@ -194,14 +216,22 @@ fn show_tables<K: Sink>(
         → AreTablesOf which file section tables.now
         → Takes (IsTextOf kind path.now (style_of form.entry))
         (selected_answer which section file) (K.taken out.old) (K.taken out.new) (outcome_of result) }
+    ensures sum { (which : SymbolTable) (file : List ℕ) (section : Option (List ℕ)) (selected : SelectedSymbols)
+        → AreTablesOf which file section tables.now
+        → selected_answer which section file ≡ Some (Ok selected)
+        → IfOk result (λ _. HasSum kind selected seen.new.sum) }
+    ensures hint { seen.new.hint ≡ seen.old.hint }
     ensures fails { Fails (K.has_failed out.old) (K.has_failed out.new) (outcome_of result) }
     ensures leaves { Leaves out.old out.new (outcome_of result) }
 {
     match kind {
         Kind::Listing => Ok(list_tables(alloc, tables, out)?),
         Kind::Rows(shown) => Ok(list_by(alloc, tables, &shown, form, out)?),
-        Kind::Figures(figures) => Ok(sum_by(alloc, tables, &figures, form, out)?),
-        Kind::Picture(grouping) => Ok(map_by(alloc, path, tables, grouping, out)?),
+        Kind::Figures(figures) => {
+            seen.sum = Some(sum_by(alloc, tables, &figures, form, out)?);
+            Ok(())
+        }
+        Kind::Picture(grouping, first) => Ok(map_by(alloc, path, tables, grouping, first, out)?),
         Kind::Stacks(joins_std) => Ok(fold_tables(alloc, tables, joins_std, out)?),
     }
 }

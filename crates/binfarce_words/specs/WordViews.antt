@@ -8,8 +8,15 @@ use Rattle.binfarce_words.specs.declared.words.Call.{Call}
 use Rattle.binfarce_words.specs.declared.words.Call.TheVariants as calls
 use Rattle.binfarce_words.specs.declared.words.Arguments.{Arguments}
 use Rattle.binfarce_words.specs.declared.words.Reading.{Reading}
+use Rattle.binfarce_words.specs.declared.words.Limit.{Limit}
+use Rattle.binfarce_words.specs.declared.words.Limit.TheVariants.{Bytes, Percent}
 use Rattle.binfarce_words.specs.declared.words.Wrong.{Wrong}
-use Rattle.binfarce_words.specs.declared.words.Wrong.TheVariants.{NoCommand, UnknownCommand, UnknownOption, NoValue, Exclusive, Needs, NotEach, NoAddress, NotMaps, NotMapped, BadValue, NoFile, NoSecondFile, TooMany, BytesAsJson, NotUtf8, OutOfMemory}
+use Rattle.binfarce_words.specs.declared.words.Wrong.TheVariants.{NoCommand, UnknownCommand, UnknownOption, NoValue, Exclusive, Needs, NotEach, NoAddress, NotMaps, NotMapped, BadValue, OnlyFunctions, OnlyGrowth, NoFile, NoSecondFile, TooMany, BytesAsJson, NotUtf8, OutOfMemory}
+
+-- the printed words of a limit
+abbrev pub limit_words : Limit → List ℕ
+limit_words (Bytes most) = decimal most
+limit_words (Percent most) = decimal most ++ codes "%"
 
 abbrev pub given_view : Arguments → words.Arguments
 given_view g = record { options = map (λ it. (it.0, it.1.now)) g.options.items; operands = map (λ t. t.now) g.operands.items }
@@ -39,6 +46,8 @@ wrong_words (NoAddress word) = codes "not an address: " ++ word.now
 wrong_words (NotMaps path) = codes "no line of " ++ (path.now ++ codes " is one of /proc/PID/maps")
 wrong_words (NotMapped file path) = path.now ++ (codes " maps no file named as " ++ (file.now ++ codes "; --as=NAME takes another name"))
 wrong_words (BadValue flag word) = flag_name flag ++ (codes " takes " ++ (words.values_of (words.form_of flag).2 ++ (codes ", and not " ++ word.now)))
+wrong_words (OnlyFunctions flag) = flag_name flag ++ codes " is for functions, as --by=function-section; --by=section is not"
+wrong_words (OnlyGrowth word) = codes "--fail-above=" ++ (word.now ++ codes " is for diff; size takes a number of bytes")
 wrong_words (NoFile command) = codes "no file; binfarce " ++ (command_name command ++ codes " --help shows how it is called")
 wrong_words NoSecondFile = codes "diff compares two files, and has one"
 wrong_words (TooMany word) = codes "one argument too many: " ++ word.now
@@ -59,6 +68,8 @@ wrong_view (NoAddress word) = words.no_address word.now
 wrong_view (NotMaps path) = words.not_maps path.now
 wrong_view (NotMapped file path) = words.not_mapped file.now path.now
 wrong_view (BadValue flag word) = words.not_taken flag word.now
+wrong_view (OnlyFunctions flag) = words.only_functions flag
+wrong_view (OnlyGrowth word) = words.only_growth word.now
 wrong_view (NoFile command) = words.no_file command
 wrong_view NoSecondFile = words.no_second_file
 wrong_view (TooMany word) = words.too_many word.now

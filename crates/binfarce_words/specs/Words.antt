@@ -11,7 +11,9 @@ use Rattle.binfarce_words.specs.declared.words.Command.TheVariants.{List as List
 use Rattle.binfarce_words.specs.declared.words.Flag.{Flag}
 use Rattle.binfarce_words.specs.declared.words.Flag.TheVariants as flags
 use Rattle.binfarce_words.specs.declared.words.Takes.{Takes}
-use Rattle.binfarce_words.specs.declared.words.Takes.TheVariants.{Nothing, Text, Address, Count, Order as TakesOrder, Key as TakesKey}
+use Rattle.binfarce_words.specs.declared.words.Limit.{Limit}
+use Rattle.binfarce_words.specs.declared.words.Limit.TheVariants.{Bytes, Percent}
+use Rattle.binfarce_words.specs.declared.words.Takes.TheVariants.{Nothing, Text, Address, Count, Limit as TakesLimit, Order as TakesOrder, Key as TakesKey}
 use Rattle.binfarce_figures.specs.declared.key.Key.{Key}
 use Rattle.binfarce_figures.specs.declared.key.Key.TheVariants as keys
 use Rattle.binfarce_figures.specs.declared.order.Order.{Order}
@@ -33,8 +35,8 @@ command_name Section = codes "section"
 -- the options of a command, first those that not all commands on function symbols have
 abbrev pub flags_of : Command → List Flag
 flags_of Listing = flags.Sort ∷ flags.First ∷ flags.NoTotal ∷ flags.Raw ∷ flags.Full ∷ flags.Json ∷ flags.Section ∷ flags.Dynamic ∷ flags.All ∷ flags.Help ∷ []
-flags_of Size = flags.By ∷ flags.First ∷ flags.Percent ∷ flags.Std ∷ flags.Json ∷ flags.Section ∷ flags.Dynamic ∷ flags.All ∷ flags.Help ∷ []
-flags_of Map = flags.Std ∷ flags.Folded ∷ flags.Section ∷ flags.Dynamic ∷ flags.All ∷ flags.Help ∷ []
+flags_of Size = flags.By ∷ flags.First ∷ flags.Percent ∷ flags.Std ∷ flags.Json ∷ flags.FailAbove ∷ flags.Section ∷ flags.Dynamic ∷ flags.All ∷ flags.Help ∷ []
+flags_of Map = flags.First ∷ flags.Std ∷ flags.Folded ∷ flags.Section ∷ flags.Dynamic ∷ flags.All ∷ flags.Help ∷ []
 flags_of Diff = flags.By ∷ flags.First ∷ flags.Percent ∷ flags.Std ∷ flags.Json ∷ flags.FailAbove ∷ flags.Section ∷ flags.Dynamic ∷ flags.All ∷ flags.Help ∷ []
 flags_of Filter = flags.Full ∷ flags.Help ∷ []
 flags_of At = flags.Return ∷ flags.Annotate ∷ flags.Bare ∷ flags.Base ∷ flags.Maps ∷ flags.As ∷ flags.Json ∷ flags.Section ∷ flags.Dynamic ∷ flags.All ∷ flags.Help ∷ []
@@ -61,7 +63,7 @@ form_of flags.By = (codes "--by", [], TakesKey)
 form_of flags.Percent = (codes "--percent", [], Nothing)
 form_of flags.Std = (codes "--std", [], Nothing)
 form_of flags.Json = (codes "--json", [], Nothing)
-form_of flags.FailAbove = (codes "--fail-above", [], Count)
+form_of flags.FailAbove = (codes "--fail-above", [], TakesLimit)
 form_of flags.Folded = (codes "--folded", [], Nothing)
 
 -- the order of lines that a name names
@@ -96,6 +98,8 @@ pub data Wrong : Type 0 where
   not_maps : (path : List ℕ) → Wrong
   not_mapped : (file path : List ℕ) → Wrong
   not_taken : (flag : Flag) (word : List ℕ) → Wrong
+  only_functions : (flag : Flag) → Wrong
+  only_growth : (word : List ℕ) → Wrong
   no_file : (command : Command) → Wrong
   no_second_file : Wrong
   too_many : (word : List ℕ) → Wrong
@@ -142,6 +146,24 @@ count_in value = count_of (without_leading_plus value)
 abbrev pub count_given : Flag → Arguments → Option ℕ
 count_given flag given = option_and_then count_in (value_given flag given)
 
+-- the limit that a value is: a number of per cent before `%`, or else a number of bytes
+abbrev pub limit_in : (value : List ℕ) → Option Limit
+limit_in value = if position_or_len (λ b. b == byte "%") value == length value then option_map (λ n. Bytes n) (count_in value)
+    else if length (after_first (λ b. b == byte "%") value) == 0 then option_map (λ n. Percent n) (count_in (before_first (λ b. b == byte "%") value))
+    else None
+
+-- a limit is a number of per cent
+abbrev pub is_percent : Option Limit → Bool
+is_percent (Some (Percent n)) = true
+is_percent limit = false
+
+abbrev pub is_relative : (value : List ℕ) → Bool
+is_relative value = is_percent (limit_in value)
+
+-- the limit that is given
+abbrev pub limit_given : Arguments → Option Limit
+limit_given given = option_and_then limit_in (value_given flags.FailAbove given)
+
 -- the order that is asked for
 abbrev pub order_given : Arguments → Option Order
 order_given given = option_and_then order_named (value_given flags.Sort given)
@@ -156,6 +178,7 @@ values_of Nothing = codes "no value"
 values_of Text = codes "a text"
 values_of Address = codes "an address"
 values_of Count = codes "a number"
+values_of TakesLimit = codes "a number of bytes, or of per cent as 2%"
 values_of TakesOrder = codes "address, size or name"
 values_of TakesKey = codes "crate, function, function-section, generic or section"
 
@@ -165,6 +188,7 @@ is_met_by Nothing value = true
 is_met_by Text value = true
 is_met_by Address value = is_some (address_of value)
 is_met_by Count value = is_some (count_in value)
+is_met_by TakesLimit value = is_some (limit_in value)
 is_met_by TakesOrder value = is_some (order_named value)
 is_met_by TakesKey value = is_some (key_named value)
 
@@ -308,7 +332,43 @@ abbrev pub is_of_bytes : Command → (operands : List (List ℕ)) → Bool
 is_of_bytes Section operands = nat_eq (length operands) 2
 is_of_bytes command operands = false
 
--- what is given is checked: no two options that exclude each other, none without one that it needs, no bytes as JSON; of files whose addresses are in one text each has a base and a name, or none has; the operands
+-- the bytes of sections are summed
+abbrev pub is_section : Option (List ℕ) → Bool
+is_section (Some value) = bytes_eq value (codes "section")
+is_section None = false
+
+abbrev pub is_by_section : Arguments → Bool
+is_by_section given = is_section (value_given flags.By given)
+
+-- the first of these options that is given
+abbrev pub first_given : List Flag → Arguments → Option Flag
+first_given options given = find (λ flag. is_some (value_given flag given)) options
+
+-- the options of a command that only sums of functions have
+abbrev pub options_of_functions : Command → List Flag
+options_of_functions Size = flags.Std ∷ flags.Section ∷ flags.Dynamic ∷ flags.All ∷ flags.Percent ∷ []
+options_of_functions command = flags.Std ∷ flags.Section ∷ flags.Dynamic ∷ flags.All ∷ []
+
+-- the first of them that is given
+abbrev pub of_functions : Command → Arguments → Option Flag
+of_functions command given = first_given (options_of_functions command) given
+
+-- such an option is wrong where sections are summed
+abbrev pub functions_checked : (by_section : Bool) → Option Flag → Result (Unit {0}) Wrong
+functions_checked true (Some flag) = Err (only_functions flag)
+functions_checked by_section flag = Ok tt
+
+-- a limit of one file's sum is a number of bytes
+abbrev pub limit_checked : Command → (limit : Option (List ℕ)) → Result (Unit {0}) Wrong
+limit_checked Size (Some value) = if is_relative value then Err (only_growth value) else Ok tt
+limit_checked command limit = Ok tt
+
+-- how sums are asked for is checked: stacks are whole, sections have no options of functions, and one file's sum has no limit on growth
+abbrev pub sums_checked : Command → Arguments → Result (Unit {0}) Wrong
+sums_checked command given = if are_given flags.Folded flags.First given then Err (exclusive flags.Folded flags.First)
+    else functions_checked (is_by_section given) (of_functions command given) >>= λ x. limit_checked command (value_given flags.FailAbove given)
+
+-- what is given is checked: no two options that exclude each other, none without one that it needs, no bytes as JSON; of files whose addresses are in one text each has a base and a name, or none has; sums; the operands
 abbrev pub checked : Command → Arguments → Result (Unit {0}) Wrong
 checked command given = if are_given flags.All flags.Section given then Err (exclusive flags.All flags.Section)
     else if are_given flags.Raw flags.Full given then Err (exclusive flags.Raw flags.Full)
@@ -318,7 +378,7 @@ checked command given = if are_given flags.All flags.Section given then Err (exc
     else if is_some (value_given flags.Bare given) && not (is_some (value_given flags.Annotate given)) then Err (needs flags.Bare flags.Annotate)
     else if is_some (value_given flags.Annotate given) && not (is_each flags.Base given) then Err (not_each flags.Base)
     else if is_some (value_given flags.Annotate given) && not (is_each flags.As given) then Err (not_each flags.As)
-    else operands_checked command given.operands
+    else sums_checked command given >>= λ x. operands_checked command given.operands
 
 -- the command, or help on it, where that is requested
 abbrev pub call_with : Command → Arguments → Result Call Wrong

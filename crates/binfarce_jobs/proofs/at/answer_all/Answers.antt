@@ -6,8 +6,8 @@ use Rattle.binfarce_bytes.specs.Selection.{section_of}
 use Rattle.binfarce_tools.specs.Writing.{Outcome, Takes, EndsAs, written}
 use Rattle.binfarce_addresses.proofs.AddressLines.{counts_of, ends_of, takes_of}
 use Rattle.binfarce_jobs.specs.Show.{AreTablesFor, MemoryFor, answer_for}
-use Rattle.binfarce_jobs.proofs.Outcomes.{lines_still_so, places_for, shared_places, shared_unread}
-use Rattle.binfarce_jobs.proofs.Shown.{counted_list}
+use Rattle.binfarce_jobs.proofs.Outcomes.{still_so, places_for, shared_places, shared_unread}
+use Rattle.binfarce_jobs.proofs.Shown.{of_list}
 use Rattle.binfarce_jobs.proofs.at.answer_all.Goals as goal
 
 pub returns-in_err-tables-clause-shared : goal.returns-in_err-tables-clause-shared
@@ -24,7 +24,7 @@ returns-in_err-places-clause-shared g c = λ file is shared.
     shared (places_for symbols file c.in_ok-tables.tables (Err c.in_err-places.field-0.0) are (c.in_err-places.ensures.has symbols.which file (section_of symbols.selection) are.0)) c.from_residual-in_err-places.ensures.1
 
 pub returns-in_err-places-clause-fails : goal.returns-in_err-places-clause-fails
-returns-in_err-places-clause-fails g c = lines_still_so (g.K.Sink.has_failed c.args.out.now) c.in_err-places.field-0.0 c.from_residual-in_err-places.result c.from_residual-in_err-places.ensures.1 c.in_err-places.ensures.unwritten
+returns-in_err-places-clause-fails g c = still_so (g.K.Sink.has_failed c.args.out.now) c.in_err-places.field-0.0 c.from_residual-in_err-places.result c.from_residual-in_err-places.ensures.1 c.in_err-places.ensures.unwritten
 
 pub returns-in_err-write_lines-clause-outcome : goal.returns-in_err-write_lines-clause-outcome
 returns-in_err-write_lines-clause-outcome g c = λ file is alone.
@@ -32,7 +32,7 @@ returns-in_err-write_lines-clause-outcome g c = λ file is alone.
     let e = c.in_err-write_lines.field-0.0 in
     let are = c.in_ok-tables.ensures file is in
     let has = places_for symbols file c.in_ok-tables.tables (Ok c.in_ok-places.places) are (c.in_ok-places.ensures.has symbols.which file (section_of symbols.selection) are.0) in
-    inr (inr (counted_list e c.from_residual-in_err-write_lines.result (λ (o : Outcome). EndsAs ListingFits (MemoryFor symbols file) (answer_for symbols file) o) c.from_residual-in_err-write_lines.ensures.1
+    inr (inr (of_list e c.from_residual-in_err-write_lines.result (λ (o : Outcome). EndsAs ListingFits (MemoryFor symbols file) (answer_for symbols file) o) c.from_residual-in_err-write_lines.ensures.1
     (ends_of (MemoryFor symbols file) (answer_for symbols file) c.in_ok-places.places (list.outcome_of (Err e)) has.1 c.in_err-write_lines.ensures.outcome)))
 
 pub returns-in_err-write_lines-clause-takes : goal.returns-in_err-write_lines-clause-takes
@@ -43,7 +43,7 @@ returns-in_err-write_lines-clause-takes g c = λ file is.
     let new = g.K.Sink.taken c.write_lines.new.out in
     let are = c.in_ok-tables.ensures file is in
     let has = places_for symbols file c.in_ok-tables.tables (Ok c.in_ok-places.places) are (c.in_ok-places.ensures.has symbols.which file (section_of symbols.selection) are.0) in
-    counted_list e c.from_residual-in_err-write_lines.result (λ (o : Outcome). Takes (AreLinesAt c.args.lookup c.args.addresses.now) (answer_for symbols file) old new o) c.from_residual-in_err-write_lines.ensures.1
+    of_list e c.from_residual-in_err-write_lines.result (λ (o : Outcome). Takes (AreLinesAt c.args.lookup c.args.addresses.now) (answer_for symbols file) old new o) c.from_residual-in_err-write_lines.ensures.1
     (takes_of (MemoryFor symbols file) (answer_for symbols file) c.in_ok-places.places c.args.lookup c.args.addresses.now old new (list.outcome_of (Err e)) has.1 c.in_err-write_lines.ensures.takes)
 
 pub returns-clause-takes : goal.returns-clause-takes

@@ -2,7 +2,7 @@ use Rattle.std.proofs.Common.{Ok, Err}
 use Rattle.binfarce_bytes.specs.Selection.{section_of}
 use Rattle.binfarce_jobs.specs.At.{share_addresses}
 use Rattle.binfarce_jobs.specs.Show.{AreTablesFor, MemoryFor, answer_for}
-use Rattle.binfarce_jobs.proofs.Outcomes.{lines_still_so, places_for}
+use Rattle.binfarce_jobs.proofs.Outcomes.{still_so, places_for}
 use Rattle.binfarce_jobs.proofs.Lines.{answered_less, answered_lines, unread, without_places}
 use Rattle.binfarce_jobs.proofs.at.answer_input.Goals as goal
 
@@ -19,7 +19,7 @@ returns-in_err-places-clause-answers g c = λ file is.
     (places_for symbols file c.in_ok-tables.tables (Err c.in_err-places.field-0.0) are (c.in_err-places.ensures.has symbols.which file (section_of symbols.selection) are.0)) c.from_residual-in_err-places.ensures.1
 
 pub returns-in_err-places-clause-fails : goal.returns-in_err-places-clause-fails
-returns-in_err-places-clause-fails g c = lines_still_so (g.K.Sink.has_failed c.args.out.now) c.in_err-places.field-0.0 c.from_residual-in_err-places.result c.from_residual-in_err-places.ensures.1 c.in_err-places.ensures.unwritten
+returns-in_err-places-clause-fails g c = still_so (g.K.Sink.has_failed c.args.out.now) c.in_err-places.field-0.0 c.from_residual-in_err-places.result c.from_residual-in_err-places.ensures.1 c.in_err-places.ensures.unwritten
 
 pub returns-in_err-counts-clause-answers : goal.returns-in_err-counts-clause-answers
 returns-in_err-counts-clause-answers g c = λ file is.

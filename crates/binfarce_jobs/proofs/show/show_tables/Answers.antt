@@ -37,7 +37,7 @@ returns-in_ok-sum_by-in-Figures-clause-takes g c = λ which file section are.
 
 pub returns-in_err-map_by-in-Picture-clause-takes : goal.returns-in_err-map_by-in-Picture-clause-takes
 returns-in_err-map_by-in-Picture-clause-takes g c = λ which file section are.
-    report_in (λ (k : Kind) (o : Outcome). Takes (IsTextOf k c.args.path.now (style_of c.args.form)) (selected_answer which section file) (g.K.Sink.taken c.args.out.now) (g.K.Sink.taken c.map_by.new.out) o) c.args.kind (Picture c.in-Picture.grouping) c.in-Picture.is c.in_err-map_by-in-Picture.field-0.0 c.from_residual-in_err-map_by-in-Picture.result c.from_residual-in_err-map_by-in-Picture.ensures.1
+    report_in (λ (k : Kind) (o : Outcome). Takes (IsTextOf k c.args.path.now (style_of c.args.form)) (selected_answer which section file) (g.K.Sink.taken c.args.out.now) (g.K.Sink.taken c.map_by.new.out) o) c.args.kind (Picture c.in-Picture.grouping c.in-Picture.first) c.in-Picture.is c.in_err-map_by-in-Picture.field-0.0 c.from_residual-in_err-map_by-in-Picture.result c.from_residual-in_err-map_by-in-Picture.ensures.1
     (c.in_err-map_by-in-Picture.ensures.takes which file section are)
 
 pub returns-in_ok-map_by-in-Picture-clause-takes : goal.returns-in_ok-map_by-in-Picture-clause-takes

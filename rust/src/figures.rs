@@ -119,7 +119,7 @@ impl Default for Shown {
 pub struct Grouping {
     /// What they are summed by.
     pub key: Key,
-    /// Whether the functions of Rust's standard library, and of the crates that it is built of, have the key `[std]`.
+    /// Whether the functions of the crates that Rust's standard library alone has have the key `[std]`.
     pub joins_std: bool,
 }
 
@@ -129,7 +129,7 @@ impl Grouping {
         Grouping { key, joins_std: false }
     }
 
-    /// Joins the functions of Rust's standard library, and of the crates that it is built of, under the key `[std]`.
+    /// Joins the functions of the crates that Rust's standard library alone has, such as `core`, under the key `[std]`.
     #[must_use]
     pub fn with_std_joined(self) -> Self {
         Grouping { joins_std: true, ..self }

@@ -206,7 +206,7 @@ impl Tables<'_> {
     /// ```
     pub fn map_to<W: Write>(&self, title: &str, grouping: impl Into<Grouping>, output: W) -> io::Result<()> {
         let grouping = grouping.into().into_erased();
-        write_to(output, |sink| map_by(Global, title, &self.0, grouping, sink))
+        write_to(output, |sink| map_by(Global, title, &self.0, grouping, None, sink))
     }
 
     /// Writes a listing in an order, of the first rows, or with other names, as lines or as JSON objects.
@@ -234,7 +234,8 @@ impl Tables<'_> {
         write_to(output, |sink| Ok(list_by(Global, &self.0, &shown.into_erased(), layout.into_erased(), sink)?))
     }
 
-    /// Writes sums by a key, the greatest first, as lines or as JSON objects. A byte of several function symbols counts once.
+    /// Writes sums by a key, the greatest first, as lines or as JSON objects, and returns the sum of all sizes. A byte of several
+    /// function symbols counts once.
     ///
     /// # Errors
     ///
@@ -250,11 +251,12 @@ impl Tables<'_> {
     /// let file = std::fs::read(path)?;
     /// let tables = Tables::new(&file, Selection::Section(".text"), SymbolTable::Symtab)?;
     /// let mut text = Vec::new();
-    /// tables.figures_to(&Figures::by(Key::Function).with_percent(), Layout::Lines, &mut text)?;
+    /// let sum = tables.figures_to(&Figures::by(Key::Function).with_percent(), Layout::Lines, &mut text)?;
+    /// assert_eq!(sum, 16);
     /// assert_eq!(text, b"        16  50.00% foo\nsum 16\ntext 32\n");
     /// # Ok::<(), Box<dyn std::error::Error>>(())
     /// ```
-    pub fn figures_to<W: Write>(&self, figures: &Figures, layout: Layout<'_>, output: W) -> io::Result<()> {
+    pub fn figures_to<W: Write>(&self, figures: &Figures, layout: Layout<'_>, output: W) -> io::Result<u64> {
         write_to(output, |sink| sum_by(Global, &self.0, &figures.into_erased(), layout.into_erased(), sink))
     }
 

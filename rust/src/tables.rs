@@ -3,8 +3,7 @@
 use crate::any::Functions;
 use crate::erased::binfarce::elf32;
 use crate::erased::binfarce_elf::symbol_table;
-use crate::erased::binfarce_figures::claims::claims_of;
-use crate::erased::binfarce_figures::sums::{keyed_in, sums_of};
+use crate::erased::binfarce_figures::sums::{Counting, add_claims, claims_in};
 use crate::erased::binfarce_tables::ReadError;
 use crate::erased::binfarce_tools::functions::{self as functions_of, Selected};
 use crate::erased::binfarce_tools::tables;
@@ -12,6 +11,7 @@ use crate::error::{Error, ParseError};
 use crate::figures::Grouping;
 use crate::shim;
 use crate::shim::alloc::Global;
+use crate::shim::collections::BTreeMap;
 use crate::{FunctionSymbol, SectionFunction};
 use alloc::string::String;
 use alloc::vec::Vec;
@@ -223,13 +223,14 @@ impl<'a> Tables<'a> {
     /// # Ok::<(), Box<dyn std::error::Error>>(())
     /// ```
     pub fn sums_by_key(&self, grouping: impl Into<Grouping>) -> Result<Sums<String>, Error> {
-        let (keyed, section_size) = keyed_in(Global, &self.0, grouping.into().into_erased())?;
-        let sums = sums_of(Global, &claims_of(Global, &keyed)?, false)?;
+        let claims = claims_in(Global, &self.0)?;
+        let mut numbers = BTreeMap::new(Global);
+        add_claims(Global, &claims, grouping.into().into_erased(), Counting::Symbols, &mut numbers)?;
         let mut rows = shim::Vec::new(Global);
-        for (name, size) in sums.crates {
-            rows.push((name.into_std(), size))?;
+        for (name, numbers) in numbers {
+            rows.push((name.into_std(), numbers.sum))?;
         }
-        Ok(Sums { rows: rows.into_std(), total: sums.total, section_size: section_size.unwrap_or(sums.total) })
+        Ok(Sums { rows: rows.into_std(), total: claims.total, section_size: claims.size.unwrap_or(claims.total) })
     }
 
     /// Returns how many bytes the function symbols of each key take, by any key. A byte counts for each function symbol that has

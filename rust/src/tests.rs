@@ -82,7 +82,7 @@ fn sections_of_each_format() {
 }
 
 /// The text that a call writes.
-fn written(write: impl FnOnce(&mut Vec<u8>) -> io::Result<()>) -> String {
+fn written<T>(write: impl FnOnce(&mut Vec<u8>) -> io::Result<T>) -> String {
     let mut text = Vec::new();
     write(&mut text).unwrap();
     String::from_utf8(text).unwrap()

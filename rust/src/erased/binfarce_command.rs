@@ -14,7 +14,7 @@ use crate::erased::binfarce_addresses::annotate::annotate_stream;
 use crate::erased::binfarce_addresses::at::Places;
 use crate::erased::binfarce_addresses::{Counts, Lookup, Module};
 use crate::erased::binfarce_bytes::source::Source;
-use crate::erased::binfarce_figures::diff::{DiffError, diff};
+use crate::erased::binfarce_figures::diff::{DiffError, Growth, diff};
 use crate::erased::binfarce_figures::key::{Grouping, Key};
 use crate::erased::binfarce_figures::rows::{Naming, Shown};
 use crate::erased::binfarce_figures::sums::{Figures, sum_by};
@@ -25,12 +25,14 @@ use crate::erased::binfarce_jobs::files::{System, heading, open_input, reported,
 use crate::erased::binfarce_jobs::filter::lines_of;
 use crate::erased::binfarce_jobs::hint::{Hint, Loaded, lack};
 use crate::erased::binfarce_jobs::input::{FileOrStdin, OpenFile};
-use crate::erased::binfarce_jobs::limit::judged;
+use crate::erased::binfarce_jobs::limit::{above, grown};
 use crate::erased::binfarce_jobs::message::{Message, message_of, push_refusal};
 use crate::erased::binfarce_jobs::output::Output;
 use crate::erased::binfarce_jobs::section::{Asked, write_sections};
 use crate::erased::binfarce_jobs::show::{Kind, Request, Symbols, tables_of};
+use crate::erased::binfarce_sections::changes::diff_sections;
 use crate::erased::binfarce_sections::error::SectionError;
+use crate::erased::binfarce_sections::sums::sum_sections;
 use crate::erased::binfarce_tables::ReadError;
 use crate::erased::binfarce_tools::SymbolTable::{Dynsym, Symtab};
 use crate::erased::binfarce_tools::json::Form;
@@ -38,8 +40,8 @@ use crate::erased::binfarce_tools::list::Out;
 use crate::erased::binfarce_tools::report::ReportError;
 use crate::erased::binfarce_tools::tables::{Selection, Tables};
 use crate::erased::binfarce_words::words::Flag::{
-    self, All, Annotate, Bare, Base, By, Dynamic, FailAbove, First, Folded, Full, Json, Maps,
-    NoTotal, Percent, Raw, Return, Section, Sort, Std,
+    self, All, Annotate, Bare, Base, Dynamic, First, Folded, Full, Json, Maps, NoTotal, Percent,
+    Raw, Return, Section, Sort, Std,
 };
 use crate::erased::binfarce_words::words::{Arguments, Call, Command, Wrong, read_call};
 use crate::shim::alloc::{AllocError, Global};
@@ -131,12 +133,6 @@ fn run<'a>(rt: &HostRuntime, words: &'a [String]) -> Result<u8, Wrong<'a>> {
         return Err(Wrong::NotUtf8(at));
     }
     let call = call?;
-    if let Call::Run(command, given) = &call {
-        if let Some(word) = unfit(*command, given) {
-            let _ = rt.eprintln(format_args!("binfarce: {word} is for functions, as --by=function-section; --by=section is not"));
-            return Ok(2);
-        }
-    }
     let asked = match &call {
         Call::Run(Command::At, given) => match asked_of(rt, given)? {
             Some(asked) => asked,
@@ -145,8 +141,9 @@ fn run<'a>(rt: &HostRuntime, words: &'a [String]) -> Result<u8, Wrong<'a>> {
         _ => Addresses::nothing(rt.alloc()),
     };
     let mut out = Output::new(rt.alloc(), io::writer(rt));
-    let done = answer(rt, &call, &asked, &mut out);
-    Ok(ended(rt, done, out.into_parts().1))
+    let mut is_above = false;
+    let done = answer(rt, &call, &asked, &mut out, &mut is_above);
+    Ok(ended(rt, done, is_above, out.into_parts().1))
 }
 
 // The first operand.
@@ -164,12 +161,13 @@ fn has_any(given: &Arguments<'_>, flags: &[Flag]) -> bool {
     flags.iter().any(|flag| given.has(*flag))
 }
 
-// Runs a call, and flushes the output. `false` where a file was refused.
+// Runs a call, and flushes the output. `false` where a file was refused. Sets whether a sum is above its limit.
 fn answer<W: Write>(
     rt: &HostRuntime,
     call: &Call<'_>,
     asked: &Addresses,
     out: &mut Output<W>,
+    is_above: &mut bool,
 ) -> Result<bool, Fault> {
     let is_done = match call {
         Call::Help(topic) => {
@@ -179,10 +177,15 @@ fn answer<W: Write>(
         Call::Version => print(VERSION, out)?,
         Call::Run(command, given) => {
             let refusals = String::new(rt.alloc());
-            let host = Host { rt, refusals };
+            let host = Host {
+                rt,
+                refusals,
+                is_above: false,
+            };
             let mut work = Work { host, given, out };
             let is_done = work.run(*command, asked)?;
             work.print_refusals()?;
+            *is_above = work.host.is_above;
             is_done
         }
     };
@@ -210,10 +213,14 @@ impl<'a, W: Write> Work<'a, '_, W> {
         let given = self.given;
         match command {
             Command::List => self.show_all(listing_of(given)),
-            Command::Size if sums_sections(given) => self.sum_sections(),
+            Command::Size if given.is_by_section() => self.sum_sections(),
             Command::Size => self.show_all(Kind::Figures(figures_of(given))),
             Command::Map if given.has(Folded) => self.show_all(Kind::Stacks(given.has(Std))),
-            Command::Map => self.show_all(Kind::Picture(figures_of(given).grouping)),
+            Command::Map => {
+                let figures = figures_of(given);
+                self.show_all(Kind::Picture(figures.grouping, figures.first))
+            }
+            Command::Diff if given.is_by_section() => self.compare_sections(),
             Command::Diff => self.compare(),
             Command::Filter => self.filter(),
             Command::At => self.symbolize(asked),
@@ -237,6 +244,7 @@ impl<'a, W: Write> Work<'a, '_, W> {
             kind,
             symbols: symbols_of(self.given, false),
             is_json: self.given.has(Json),
+            limit: self.given.limit(),
         };
         // Objects have the names of their files, and need no headings.
         let most = if asked.is_json { 1 } else { usize::MAX };
@@ -262,7 +270,10 @@ impl<'a, W: Write> Work<'a, '_, W> {
         };
         let form = form_of(given, paths.1);
         match diff(alloc, old, new, &figures_of(given), form, self.out) {
-            Ok(growth) => judged(growth, given.count(FailAbove)),
+            Ok(growth) => {
+                self.host.warn(paths.1, grown(growth, given.limit()));
+                Ok(true)
+            }
             Err(DiffError { error, .. }) if error == ReportError::Write => Err(Fault::from(error)),
             Err(DiffError { error, is_of_old }) => {
                 let path = if is_of_old { paths.0 } else { paths.1 };
@@ -290,6 +301,68 @@ impl<'a, W: Write> Work<'a, '_, W> {
             &mut unseen,
         ) {
             self.host.report(path, Fault::from(e), None);
+        }
+    }
+
+    // Compares the bytes of the sections of two files. `false` where one is refused.
+    fn compare_sections(&mut self) -> Result<bool, Fault> {
+        let given = self.given;
+        let alloc = self.host.rt.alloc();
+        let paths = (first(given), second(given).unwrap_or(""));
+        let old = open_input(alloc, &mut self.host, paths.0);
+        let new = open_input(alloc, &mut self.host, paths.1);
+        let (Some(old), Some(new)) = (&old, &new) else {
+            self.check_sections(paths.0, old.as_ref())?;
+            self.check_sections(paths.1, new.as_ref())?;
+            return Ok(false);
+        };
+        let form = form_of(given, paths.1);
+        let first = given.count(First);
+        let has_percent = given.has(Percent);
+        match diff_sections(alloc, old, new, first, has_percent, form, self.out) {
+            Ok((old, new)) => {
+                let growth = Growth { old, new };
+                self.host.warn(paths.1, grown(growth, given.limit()));
+                Ok(true)
+            }
+            Err(e) if e.is_of_old => {
+                reported(
+                    alloc,
+                    &mut self.host,
+                    paths.0,
+                    old,
+                    Err(Fault::from(e.error)),
+                )?;
+                self.check_sections(paths.1, Some(new))?;
+                Ok(false)
+            }
+            Err(e) => reported(
+                alloc,
+                &mut self.host,
+                paths.1,
+                new,
+                Err(Fault::from(e.error)),
+            ),
+        }
+    }
+
+    // Reports the file at this path if its sections can't be summed, where it could be opened.
+    fn check_sections(
+        &mut self,
+        path: &str,
+        file: Option<&OpenFile<FileOrStdin>>,
+    ) -> Result<(), Fault> {
+        let Some(file) = file else {
+            return Ok(());
+        };
+        let alloc = self.host.rt.alloc();
+        let mut unseen = Out::new(Vec::new(alloc));
+        match sum_sections(alloc, file, &mut (), None, Form::Lines, &mut unseen) {
+            Ok(_) => Ok(()),
+            Err(e) => {
+                reported(alloc, &mut self.host, path, file, Err(Fault::from(e)))?;
+                Ok(())
+            }
         }
     }
 
@@ -493,10 +566,27 @@ impl<'a, W: Write> Work<'a, '_, W> {
         let mut are_shown = true;
         for path in given.operands.as_slice() {
             self.out.begin(heading(alloc, path, are_several)?);
-            are_shown &= self.write_sections(path, Asked::Sums(given.count(First)))?;
+            are_shown &= self.sum_sections_of(path)?;
             self.print_refusals()?;
         }
         Ok(are_shown)
+    }
+
+    // Writes how many bytes of the file at this path its sections have.
+    fn sum_sections_of(&mut self, path: &str) -> Result<bool, Fault> {
+        let given = self.given;
+        let alloc = self.host.rt.alloc();
+        let Some(file) = open_input(alloc, &mut self.host, path) else {
+            return Ok(false);
+        };
+        let form = form_of(given, path);
+        match sum_sections(alloc, &file, &mut (), given.count(First), form, self.out) {
+            Ok(length) => {
+                self.host.warn(path, above(length, given.limit()));
+                Ok(true)
+            }
+            Err(e) => reported(alloc, &mut self.host, path, &file, Err(Fault::from(e))),
+        }
     }
 
     // Writes what is asked for of the sections of the file at this path.
@@ -552,27 +642,6 @@ fn listing_of(given: &Arguments<'_>) -> Kind {
     })
 }
 
-// Whether the bytes of files are summed by section.
-fn sums_sections(given: &Arguments<'_>) -> bool {
-    given.value(By) == Some("section")
-}
-
-// What sums of files by section don't go with: the comparison, or an option for function symbols.
-fn unfit(command: Command, given: &Arguments<'_>) -> Option<&'static str> {
-    if !sums_sections(given) {
-        return None;
-    }
-    match command {
-        Command::Diff => Some("diff"),
-        _ if given.has(Std) => Some("--std"),
-        _ if given.has(Percent) => Some("--percent"),
-        _ if given.has(Section) => Some("--section"),
-        _ if given.has(Dynamic) => Some("--dynamic"),
-        _ if given.has(All) => Some("--all"),
-        _ => None,
-    }
-}
-
 // What sizes are summed by, and how the sums are shown.
 fn figures_of(given: &Arguments<'_>) -> Figures {
     Figures {
@@ -607,10 +676,11 @@ fn symbols_of<'a>(given: &Arguments<'a>, are_all: bool) -> Symbols<'a> {
     Symbols { which, selection }
 }
 
-// The system around a command, and the objects of the files that were refused.
+// The system around a command, the objects of the files that were refused, and whether a sum is above its limit.
 struct Host<'a> {
     rt: &'a HostRuntime,
     refusals: String,
+    is_above: bool,
 }
 
 impl Host<'_> {
@@ -650,6 +720,13 @@ impl Host<'_> {
             }
         }
         Ok(found)
+    }
+
+    // Gives the hint, if there is one.
+    fn warn(&mut self, path: &str, hint: Option<Hint>) {
+        if let Some(hint) = hint {
+            self.hint(path, hint);
+        }
     }
 
     // Reports why a file is refused, and keeps its object.
@@ -699,6 +776,7 @@ impl System<FileOrStdin> for Host<'_> {
 
     fn hint(&mut self, path: &str, hint: Hint) {
         let rt = self.rt;
+        self.is_above |= matches!(hint, Hint::Above(..) | Hint::Grown(..));
         let _ = rt.eprintln(format_args!("binfarce: {path}: {hint}"));
     }
 }

@@ -3,6 +3,7 @@
 //! The sections of executables: a section's bytes by its name, and a list of all sections.
 
 pub mod bytes;
+pub mod changes;
 pub mod error;
 pub mod kinds;
 pub mod list;

@@ -65,7 +65,7 @@ fn answers(alloc: Global, line: &str) -> Result<String, AllocError> {
     let (what, rest) = question.split_once(' ').unwrap_or((question, ""));
     match what {
         "chart" => charts::chart_of(alloc, rest, words),
-        "bars" => charts::bars_of(alloc, words),
+        "bars" => charts::bars_of(alloc, rest, words),
         "image" => images::refusal(alloc, rest),
         "many" if rest == "crates" => large::report_of_crates(alloc),
         "many" => large::listed(alloc, rest),

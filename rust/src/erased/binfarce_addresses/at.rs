@@ -106,9 +106,7 @@ impl<'a> Places<'a> {
         address: u64,
     ) -> Result<bool, AllocError> {
         let mut names = Names::new(alloc, self, lookup, 0)?;
-        let answer = names.answer_to(Some(address));
-        names.push_line(text, answer)?;
-        Ok(answer.found.is_some())
+        names.push_address_line(text, address)
     }
 }
 
@@ -178,10 +176,11 @@ pub fn write_lines<S: Sink>(
     addresses: &[u64],
     out: &mut S,
 ) -> Result<Counts, ListError> {
+    let mut names = Names::with_room(alloc, places, lookup)?;
     let mut text = Vec::new(alloc);
     let mut counts = Counts::new();
     for address in addresses {
-        let held = places.push_line(alloc, &mut text, lookup, *address)?;
+        let held = names.push_address_line(&mut text, *address)?;
         counts.add(Some(held));
     }
     write_whole(out, text.as_slice())?;

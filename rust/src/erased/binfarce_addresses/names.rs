@@ -119,8 +119,8 @@ impl<'b, 'a> Names<'b, 'a> {
 
     fn ends_at(&self, found: Option<Found>) -> Option<(u8, u8)> {
         let (place, _) = found?;
-        let own = || Some(self.places.functions.get(place)?.name.as_bytes());
-        let name = self.name_at(place).or_else(own)?;
+        let own = || Some(self.places.functions.get(place)?.name);
+        let name = self.name_at(place).or_else(own)?.as_bytes();
         Some((*name.first()?, *name.last()?))
     }
 
@@ -132,6 +132,17 @@ impl<'b, 'a> Names<'b, 'a> {
                 text.extend_from_slice(self.object_of(file, answer)?.as_bytes())
             }
         }
+    }
+
+    // Appends the line of an address to the text. Returns whether a function symbol holds it.
+    pub(crate) fn push_address_line(
+        &mut self,
+        text: &mut Vec<u8>,
+        address: u64,
+    ) -> Result<bool, AllocError> {
+        let answer = self.answer_to(Some(address));
+        self.push_line(text, answer)?;
+        Ok(answer.found.is_some())
     }
 
     // Appends the line that is no object.
@@ -165,18 +176,30 @@ impl<'b, 'a> Names<'b, 'a> {
             push_text_member(text, "name", None)?;
             return push_text_member(text, "offset", None);
         };
+        self.push_name_member(text, place)?;
+        push_number_member(text, "offset", offset)
+    }
+
+    // Appends the member of the name of the function symbol at a place, and keeps the name, if there is room for it.
+    fn push_name_member(&mut self, text: &mut String, place: usize) -> Result<(), AllocError> {
+        if let Some(name) = self.name_at(place) {
+            return push_text_member(text, "name", Some(name));
+        }
         let mut name = String::new(self.alloc);
         self.demangler
             .push_shown(&mut name, self.places.at(place).name)?;
-        push_text_member(text, "name", Some(name.as_str()))?;
-        push_number_member(text, "offset", offset)
+        let from = self.text.as_str().len();
+        self.text.push_str(name.as_str())?;
+        let to = self.text.as_str().len();
+        keep(&mut self.kept, place, (from, to));
+        push_text_member(text, "name", Some(name.as_str()))
     }
 
     // Appends the readable name of the function symbol at a place to the text, and keeps it, if there is room for it.
     #[cfg_attr(not(debug_assertions), inline(always))]
     pub(crate) fn push_name(&mut self, text: &mut Vec<u8>, place: usize) -> Result<(), AllocError> {
         if let Some(name) = self.name_at(place) {
-            return text.extend_from_slice(name);
+            return text.extend_from_slice(name.as_bytes());
         }
         let from = self.text.as_str().len();
         self.demangler
@@ -188,9 +211,9 @@ impl<'b, 'a> Names<'b, 'a> {
 
     // The name that is kept at a place.
     #[cfg_attr(not(debug_assertions), inline(always))]
-    fn name_at(&self, place: usize) -> Option<&[u8]> {
+    fn name_at(&self, place: usize) -> Option<&str> {
         match self.kept.get(place) {
-            Some((from, to)) if from < to => self.text.as_bytes().get(*from..*to),
+            Some((from, to)) if from < to => self.text.as_str().get(*from..*to),
             _ => None,
         }
     }

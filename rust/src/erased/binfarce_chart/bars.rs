@@ -5,11 +5,14 @@
 use crate::shim::{String, Vec};
 use crate::shim::alloc::{AllocError, Global};
 
-// The most bars that a picture shows.
-pub(crate) const MOST_BARS: usize = 40;
+// The most bars that a picture shows where no number is asked for.
+const MOST_BARS: usize = 40;
 
 // The length of all bars together, in hundredths of a per cent.
 const WHOLE: u128 = 10_000;
+
+// The least width of a bar of a size above 0, in hundredths of a per cent.
+const LEAST_WIDTH: u64 = 30;
 
 /// A size with a name.
 #[derive(Debug, Clone, Copy)]
@@ -30,6 +33,15 @@ pub(crate) fn falling<'a>(alloc: Global, bars: &[Bar<'a>]) -> Result<Vec<Bar<'a>
     Ok(sorted)
 }
 
+// How many of these bars are shown before that of the others.
+pub(crate) fn count_of(first: Option<usize>, all: usize) -> usize {
+    match first {
+        Some(count) => count,
+        None if all <= MOST_BARS => all,
+        None => MOST_BARS - 1,
+    }
+}
+
 // The label of the bar that sums up so many others.
 pub(crate) fn others(alloc: Global, count: usize) -> Result<String, AllocError> {
     let mut label = String::new(alloc);
@@ -37,31 +49,23 @@ pub(crate) fn others(alloc: Global, count: usize) -> Result<String, AllocError> 
     Ok(label)
 }
 
-// The bars that are shown of these: of more than 40, the first 39, and one with this label for the others.
+// The first bars, and if there are more, one with this label for the others.
 pub(crate) fn shown_of<'a>(
     alloc: Global,
     bars: &[Bar<'a>],
+    count: usize,
     label: &'a str,
 ) -> Result<Vec<Bar<'a>>, AllocError> {
-    if bars.len() <= MOST_BARS {
+    if bars.len() <= count {
         return Vec::from_slice(alloc, bars);
     }
-    let (first, rest) = bars.split_at(MOST_BARS - 1);
+    let (first, rest) = bars.split_at(count);
     let mut shown = Vec::from_slice(alloc, first)?;
     shown.push(Bar {
         name: label,
         size: size_of_all(rest),
     })?;
     Ok(shown)
-}
-
-// The greatest of the sizes.
-pub(crate) fn largest(bars: &[Bar<'_>]) -> u64 {
-    let mut most = 0;
-    for bar in bars {
-        most = bar.size.max(most);
-    }
-    most
 }
 
 // The sum of the sizes.
@@ -78,12 +82,12 @@ pub(crate) fn length_of(total: u64, before: u64, size: u64) -> u64 {
     edge(total, before + size) - edge(total, before)
 }
 
-// The width of a bar of this size beside the largest.
-pub(crate) fn width_of(largest: u64, size: u64) -> u128 {
-    if largest == 0 {
+// The width of a bar of this length and size.
+pub(crate) fn width_of(length: u64, size: u64) -> u64 {
+    if size == 0 {
         return 0;
     }
-    WHOLE * u128::from(size) / u128::from(largest)
+    length.max(LEAST_WIDTH)
 }
 
 // The share of the whole before this point.

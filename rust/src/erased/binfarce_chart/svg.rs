@@ -4,26 +4,35 @@
 
 use crate::shim::String;
 use crate::erased::binfarce_chart::bars::{
-    Bar, MOST_BARS, falling, largest, length_of, others, shown_of, size_of_all, width_of,
+    Bar, count_of, falling, length_of, others, shown_of, size_of_all, width_of,
 };
 use crate::erased::binfarce_text::digits::hex_digit;
 use crate::shim::alloc::{AllocError, Global};
 
+// The name of the bar of names without a crate.
+const UNKNOWN: &str = "[unknown]";
+
 /// The picture of these sizes, as a whole SVG document: a bar for each, the greatest first.
 ///
-/// The sum of the sizes has to be below 2^64. Of more than 40 bars, the last one sums up all from the 40th on. The
-/// longest bar has the whole width. Beside each bar are its share of the sum, in hundredths of a per cent, which add up
-/// to 100.00, and its size in KiB. The title is above them, with the sum and `section_size`. Names and the title are
-/// escaped; the end of a long one is cut. The only error is a failed allocation.
+/// The sum of the sizes has to be below 2^64. Of `Some(n)` the first n bars are shown, of `None` the first 39 where there
+/// are more than 40; if some are left, one bar more sums up all of them. A bar is as long as its share of the sum,
+/// which is beside it in hundredths of a per cent, and adds up to 100.00 with the others; but a bar of a size above 0
+/// has at least 0.30 per cent of the whole width. After its share is its size in KiB. The title is above the bars, with
+/// the sum and, if it is given, `section_size`. Below them a line says what `[unknown]` is, if a bar that is shown has
+/// that name. Without bars the picture says `no function symbols`. Names and the title are escaped; the end of a long
+/// one is cut. The only error is a failed allocation.
 pub fn chart(
     alloc: Global,
     title: &str,
     bars: &[Bar<'_>],
-    section_size: u64,
+    section_size: Option<u64>,
+    first: Option<usize>,
 ) -> Result<String, AllocError> {
     let sorted = falling(alloc, bars)?;
-    let label = others(alloc, sorted.len().saturating_sub(MOST_BARS - 1))?;
-    let shown = shown_of(alloc, sorted.as_slice(), label.as_str())?;
+    let bars = sorted.as_slice();
+    let count = count_of(first, bars.len());
+    let label = others(alloc, bars.len().saturating_sub(count))?;
+    let shown = shown_of(alloc, bars, count, label.as_str())?;
     picture_of(alloc, title, shown.as_slice(), section_size)
 }
 
@@ -32,25 +41,53 @@ fn picture_of(
     alloc: Global,
     title: &str,
     bars: &[Bar<'_>],
-    section_size: u64,
+    section_size: Option<u64>,
 ) -> Result<String, AllocError> {
     let sum = size_of_all(bars);
+    let note = note_of(bars);
+    let height = height_of(bars.len(), note);
     let mut text = String::new(alloc);
-    push_head(&mut text, title, bars.len(), sum, section_size)?;
-    push_rows(&mut text, bars, sum, largest(bars))?;
-    push_foot(&mut text, 24 * bars.len() as u128 + 81)?;
+    push_head(&mut text, title, height, sum, section_size)?;
+    push_rows(&mut text, bars, sum)?;
+    push_foot(&mut text, 24 * bars.len() as u128 + 82, note)?;
     Ok(text)
 }
 
-// The text before so many rows.
+// The line below the bars, if any.
+fn note_of(bars: &[Bar<'_>]) -> Option<&'static str> {
+    if bars.is_empty() {
+        Some("no function symbols")
+    } else if has_unknown(bars) {
+        Some("[unknown]: names in which no crate is named, such as those of C, C++ and assembly")
+    } else {
+        None
+    }
+}
+
+// The height of the picture of so many bars, with this note.
+fn height_of(count: usize, note: Option<&str>) -> u128 {
+    let rows = 24 * count as u128;
+    if note.is_some() { rows + 96 } else { rows + 72 }
+}
+
+// Whether a bar is that of names without a crate.
+fn has_unknown(bars: &[Bar<'_>]) -> bool {
+    bars.iter().any(|bar| is_unknown(bar))
+}
+
+fn is_unknown(bar: &Bar<'_>) -> bool {
+    bar.name == UNKNOWN
+}
+
+// The text before the rows of a document of this height.
 fn push_head(
     text: &mut String,
     title: &str,
-    count: usize,
+    height: u128,
     sum: u64,
-    section_size: u64,
+    section_size: Option<u64>,
 ) -> Result<(), AllocError> {
-    push_opening(text, 24 * count as u128 + 96)?;
+    push_opening(text, height)?;
     push_document_title(text, title)?;
     push_heading(text, title)?;
     push_caption(text, sum, section_size)
@@ -59,7 +96,7 @@ fn push_head(
 fn push_opening(text: &mut String, height: u128) -> Result<(), AllocError> {
     writeln!(
         text,
-        "<svg xmlns=\"http://www.w3.org/2000/svg\" width=\"800\" height=\"{height}\" viewBox=\"0 0 800 {height}\" font-family=\"sans-serif\" font-size=\"14\">"
+        "<svg xmlns=\"http://www.w3.org/2000/svg\" width=\"800\" height=\"{height}\" viewBox=\"0 0 800 {height}\" font-family=\"sans-serif\" font-size=\"16\">"
     )
 }
 
@@ -74,32 +111,45 @@ fn push_document_title(text: &mut String, title: &str) -> Result<(), AllocError>
 
 fn push_heading(text: &mut String, title: &str) -> Result<(), AllocError> {
     text.push_str("<text x=\"8\" y=\"25\" font-weight=\"bold\">")?;
-    push_label(text, 90, title)?;
+    push_label(text, 80, title)?;
     writeln!(text, "</text>")
 }
 
-fn push_caption(text: &mut String, sum: u64, section_size: u64) -> Result<(), AllocError> {
+fn push_caption(text: &mut String, sum: u64, section_size: Option<u64>) -> Result<(), AllocError> {
     text.push_str("<text x=\"8\" y=\"49\">sum ")?;
     push_kib(text, sum)?;
-    text.push_str(", text ")?;
-    push_kib(text, section_size)?;
+    push_section_part(text, section_size)?;
     text.push_str(": share of the sum and size by crate</text>\n")
 }
 
-fn push_foot(text: &mut String, y: u128) -> Result<(), AllocError> {
-    write!(
-        text,
-        "<text x=\"8\" y=\"{y}\" fill=\"#666\">[unknown]: names that are no Rust names, such as those of C, C++ and assembly</text>\n</svg>\n"
-    )
+// The section's size, if there is one.
+fn push_section_part(text: &mut String, size: Option<u64>) -> Result<(), AllocError> {
+    match size {
+        None => Ok(()),
+        Some(size) => {
+            text.push_str(", text ")?;
+            push_kib(text, size)
+        }
+    }
+}
+
+fn push_foot(text: &mut String, y: u128, note: Option<&str>) -> Result<(), AllocError> {
+    match note {
+        None => text.push_str("</svg>\n"),
+        Some(line) => write!(
+            text,
+            "<text x=\"8\" y=\"{y}\" fill=\"#444\">{line}</text>\n</svg>\n"
+        ),
+    }
 }
 
 // The rows of these bars.
-fn push_rows(text: &mut String, bars: &[Bar<'_>], sum: u64, largest: u64) -> Result<(), AllocError> {
+fn push_rows(text: &mut String, bars: &[Bar<'_>], sum: u64) -> Result<(), AllocError> {
     let mut before = 0;
     let mut top = 64u128;
     for bar in bars {
         let share = length_of(sum, before, bar.size);
-        push_row(text, top, *bar, share, width_of(largest, bar.size))?;
+        push_row(text, top, *bar, share, width_of(share, bar.size))?;
         before += bar.size;
         top += 24;
     }
@@ -112,10 +162,10 @@ fn push_row(
     top: u128,
     bar: Bar<'_>,
     share: u64,
-    width: u128,
+    width: u64,
 ) -> Result<(), AllocError> {
     push_row_start(text, top)?;
-    push_label(text, 30, bar.name)?;
+    push_label(text, 26, bar.name)?;
     push_bar(text, width)?;
     push_share(text, share)?;
     push_size(text, bar.size)
@@ -124,32 +174,32 @@ fn push_row(
 fn push_row_start(text: &mut String, top: u128) -> Result<(), AllocError> {
     write!(
         text,
-        "<svg y=\"{top}\" height=\"24\"><svg width=\"236\"><text x=\"8\" y=\"17\">"
+        "<svg y=\"{top}\" height=\"24\"><svg width=\"248\"><text x=\"8\" y=\"18\">"
     )
 }
 
-fn push_bar(text: &mut String, width: u128) -> Result<(), AllocError> {
+fn push_bar(text: &mut String, width: u64) -> Result<(), AllocError> {
     text.push_str(
-        "</text></svg><svg x=\"240\" width=\"360\"><rect y=\"3\" width=\"100%\" height=\"18\" fill=\"#e6e6e6\"/><rect y=\"3\" width=\"",
+        "</text></svg><svg x=\"252\" width=\"324\"><rect y=\"3\" width=\"100%\" height=\"18\" fill=\"#e6e6e6\"/><rect y=\"3\" width=\"",
     )?;
     push_percents(text, width)?;
     write!(text, "%\" height=\"18\" fill=\"#245\"/></svg>")
 }
 
 fn push_share(text: &mut String, share: u64) -> Result<(), AllocError> {
-    text.push_str("<text x=\"664\" y=\"17\" text-anchor=\"end\">")?;
-    push_percents(text, u128::from(share))?;
+    text.push_str("<text x=\"664\" y=\"18\" text-anchor=\"end\">")?;
+    push_percents(text, share)?;
     write!(text, "%</text>")
 }
 
 fn push_size(text: &mut String, size: u64) -> Result<(), AllocError> {
-    text.push_str("<text x=\"792\" y=\"17\" text-anchor=\"end\">")?;
+    text.push_str("<text x=\"792\" y=\"18\" text-anchor=\"end\">")?;
     push_kib(text, size)?;
     writeln!(text, "</text></svg>")
 }
 
 // Hundredths of a per cent, as per cents with two decimals.
-fn push_percents(text: &mut String, n: u128) -> Result<(), AllocError> {
+fn push_percents(text: &mut String, n: u64) -> Result<(), AllocError> {
     write!(text, "{}.{}{}", n / 100, n / 10 % 10, n % 10)
 }
 

@@ -28,15 +28,15 @@ usage: binfarce COMMAND [OPTION..] ..
 
 `--` ends the options, and `-` as a FILE is standard input. Status: 0; 1 if a file
 was refused, a read or a write failed, or memory ran out; 2 for a wrong call, or for
-lines without an address; 3 where `diff --fail-above` found more growth.
+lines without an address; 3 where a sum is above --fail-above.
 ";
 
 const LIST: &str = "\
 usage: binfarce list [OPTION..] FILE..
 
 Writes a line for each function symbol: its address, its size in bytes, and its
-readable name; last the size of the section. Several files are each listed under a
-line with the file's name, and with --all each line has its section's name.
+readable name; last the size of the section. Several files are each listed below
+an empty line and `NAME:`, and with --all each line has its section's name.
 
   --sort=KEY       by rising address, falling size or name (address, size, name),
                    without the last line
@@ -61,6 +61,7 @@ several function symbols have counts once, for the innermost.
   --std            the crates of Rust's standard library as one, [std]
   --percent        each sum's share of the section, or of the sum of all sections
   -n N, --first=N  the N largest sums, and one of all others
+  --fail-above=N   status 3 where the sum of all is more than N bytes
   --json           each sum as a JSON object, and one of the sum of all
 ";
 
@@ -71,11 +72,14 @@ Writes a line for each crate whose sum differs: its size in OLD and in NEW, the
 change, and its name; the largest change first, and last the sums of all. Each byte
 counts once.
 
-  --by=KEY         sums by crate, function, generic or function-section
+  --by=KEY         sums by crate, function, generic or function-section; or by
+                   section: the bytes of each section in the file, and how those
+                   in the file and in memory changed
   --std            the crates of Rust's standard library as one, [std]
   --percent        each change in per cent of the old sum
   -n N, --first=N  the N largest changes, and one of all others
-  --fail-above=N   status 3 where the sum of all grew by more than N bytes
+  --fail-above=N   status 3 where the sum of all grew by more than N bytes, or by
+                   more than N per cent (2%)
   --json           each change as a JSON object
 ";
 
@@ -84,6 +88,7 @@ usage: binfarce map [OPTION..] FILE
 
 Draws the sums of `binfarce size` as an SVG picture, the largest first.
 
+  -n N, --first=N  the N largest sums, and one of all others
   --std            the crates of Rust's standard library as one, [std]
   --folded         no picture, but a line for each function symbol: its crate,
                    modules and name, separated by `;`, and its size, as tools for

@@ -19,8 +19,14 @@ pub fn refuse(rt: &HostRuntime, wrong: &Wrong<'_>) -> u8 {
 
 /// Prints why the work failed, if it did, and returns the program's exit status. A reader that closes the output is no
 /// failure.
-pub fn ended(rt: &HostRuntime, done: Result<bool, Fault>, reason: Option<Error>) -> u8 {
+pub fn ended(
+    rt: &HostRuntime,
+    done: Result<bool, Fault>,
+    is_above: bool,
+    reason: Option<Error>,
+) -> u8 {
     match done {
+        Ok(true) if is_above => 3,
         Ok(is_done) => u8::from(!is_done),
         Err(fault) if !fault.is_write() => {
             let _ = rt.eprintln(format_args!("binfarce: {fault}"));
@@ -39,7 +45,6 @@ pub fn ended(rt: &HostRuntime, done: Result<bool, Fault>, reason: Option<Error>)
 fn status(fault: &Fault) -> u8 {
     match fault {
         Fault::Missing(_) => 2,
-        Fault::Grown(_) => 3,
         _ => 1,
     }
 }

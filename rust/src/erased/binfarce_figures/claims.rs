@@ -1,47 +1,36 @@
 // From crates/binfarce_figures/src/claims.rt, by tools/erase.
 
-//! How many bytes each row adds to those before it.
+//! How many bytes each function symbol adds to those before it.
 
-use crate::shim::{CollectIn, Vec};
-use crate::erased::binfarce_figures::key::Keyed;
-use crate::erased::binfarce_figures::order::Row;
+use crate::shim::Vec;
+use crate::erased::binfarce::{FunctionSymbol, SectionFunction};
 use crate::shim::alloc::{AllocError, Global};
 use core::cmp::Reverse;
 
 // Addresses and their ends, from section to section.
 const RANGE: u128 = 36893488147419103232;
 
-/// How many bytes each function symbol adds to its key's sum, as rows with the keys: a byte that several of a section
-/// have counts for the innermost of them. That is the one that begins last, of these the shortest, and of these the one
-/// whose stored name is least.
+/// Function symbols with the bytes that each adds to its key's sum as its size: a byte that several of a section have
+/// counts for the innermost of them. That is the one that begins last, of these the shortest, and of these the one
+/// whose stored name is least. Inner ones come before outer ones.
 pub(crate) fn claims_of<'a>(
     alloc: Global,
-    keyed: &'a [Keyed<'_>],
-) -> Result<Vec<Row<'a>>, AllocError> {
-    let mut rows: Vec<Row<'_>> = keyed.iter().map(row_of).collect_in(alloc)?;
-    rows.sort_by_key(|row| inner_key(*row))?;
-    claimed(alloc, &rows)
+    functions: Vec<SectionFunction<'a>>,
+) -> Result<Vec<SectionFunction<'a>>, AllocError> {
+    let mut sorted = functions;
+    sorted.sort_by_key(|function| inner_key(*function))?;
+    claimed(alloc, &sorted)
 }
 
-// The row of a function symbol with its key.
-fn row_of<'a>(keyed: &'a Keyed<'_>) -> Row<'a> {
-    Row {
-        section: keyed.section,
-        address: keyed.address,
-        size: keyed.size,
-        name: keyed.key.as_str(),
-        tail: keyed.name,
-    }
+// Where a function symbol begins.
+fn place_of(function: SectionFunction<'_>) -> u128 {
+    u128::from(function.section) * RANGE + u128::from(function.function.address)
 }
 
-// Where a row begins.
-fn place_of(row: Row<'_>) -> u128 {
-    u128::from(row.section) * RANGE + u128::from(row.address)
-}
-
-// What rows are sorted by: inner ones come before outer ones.
-fn inner_key<'a>(row: Row<'a>) -> (Reverse<u128>, u64, &'a str) {
-    (Reverse(place_of(row)), row.size, row.tail)
+// What function symbols are sorted by: inner ones come before outer ones.
+fn inner_key<'a>(function: SectionFunction<'a>) -> (Reverse<u128>, u64, &'a str) {
+    let FunctionSymbol { name, size, .. } = function.function;
+    (Reverse(place_of(function)), size, name)
 }
 
 // Bytes from one place up to another.
@@ -51,18 +40,32 @@ struct Span {
     end: u128,
 }
 
-// Rows with the bytes that each adds as its size.
-fn claimed<'a>(alloc: Global, rows: &[Row<'a>]) -> Result<Vec<Row<'a>>, AllocError> {
-    let mut claims = Vec::with_capacity(alloc, rows.len())?;
+// Function symbols with the bytes that each adds as its size.
+fn claimed<'a>(
+    alloc: Global,
+    functions: &[SectionFunction<'a>],
+) -> Result<Vec<SectionFunction<'a>>, AllocError> {
+    let mut claims = Vec::with_capacity(alloc, functions.len())?;
     let mut spans = Vec::new(alloc);
-    for row in rows {
-        let place = place_of(*row);
-        let end = place + u128::from(row.size);
+    for function in functions {
+        let place = place_of(*function);
+        let end = place + u128::from(function.function.size);
         let added = cover(&mut spans, place, end)?;
         let size = added as u64;
-        claims.push(Row { size, ..*row })?;
+        claims.push(with_size(*function, size))?;
     }
     Ok(claims)
+}
+
+// A function symbol with another size.
+fn with_size<'a>(function: SectionFunction<'a>, size: u64) -> SectionFunction<'a> {
+    SectionFunction {
+        section: function.section,
+        function: FunctionSymbol {
+            size,
+            ..function.function
+        },
+    }
 }
 
 // Adds the bytes from a place up to another to the spans of bytes, of which none begins before it, and of which the

@@ -2,17 +2,15 @@
 
 //! How the sums of two files differ.
 
-use crate::shim::{String, Vec};
-use crate::erased::binfarce_figures::claims::claims_of;
+use crate::shim::String;
 use crate::erased::binfarce_figures::figures::{Columns, Figure, Layout};
-use crate::erased::binfarce_figures::key::{Grouping, Keyed};
-use crate::erased::binfarce_figures::order::Row;
-use crate::erased::binfarce_figures::sums::{Figures, keyed_in, sums_of};
+use crate::erased::binfarce_figures::sums::{Claims, Counting, Figures, add_claims, claims_in};
 use crate::erased::binfarce_tools::json::Form;
 use crate::erased::binfarce_tools::list::Sink;
 use crate::erased::binfarce_tools::report::{ReportError, write_made};
 use crate::erased::binfarce_tools::tables::Tables;
 use crate::shim::alloc::{AllocError, Global};
+use crate::shim::collections::BTreeMap;
 use crate::shim::error::Error;
 use core::fmt;
 
@@ -79,21 +77,19 @@ pub fn diff<S: Sink>(
     form: Form<'_>,
     out: &mut S,
 ) -> Result<Growth, DiffError> {
-    let (old_keyed, _) = old_keyed_in(alloc, old, figures.grouping)?;
-    let (new_keyed, _) = keyed_in(alloc, new, figures.grouping)?;
-    let (text, growth) = text_of(alloc, figures, form, &old_keyed, &new_keyed)?;
-    write_made(out, Ok(text))?;
-    Ok(growth)
+    let old = old_claims(alloc, old)?;
+    let new = claims_in(alloc, new)?;
+    write_made(out, text_of(alloc, figures, form, &old, &new))?;
+    Ok(Growth {
+        old: old.total,
+        new: new.total,
+    })
 }
 
-// What `keyed_in` gives of the old file.
-fn old_keyed_in<'a>(
-    alloc: Global,
-    old: &'a Tables<'_>,
-    grouping: Grouping,
-) -> Result<(Vec<Keyed<'a>>, Option<u64>), DiffError> {
-    match keyed_in(alloc, old, grouping) {
-        Ok(keyed) => Ok(keyed),
+// What the old file's function symbols add.
+fn old_claims<'b, 'a>(alloc: Global, old: &'b Tables<'a>) -> Result<Claims<'b, 'a>, DiffError> {
+    match claims_in(alloc, old) {
+        Ok(claims) => Ok(claims),
         Err(error) => Err(DiffError {
             error,
             is_of_old: true,
@@ -101,22 +97,17 @@ fn old_keyed_in<'a>(
     }
 }
 
-// The whole text, and the sums of all sizes.
+// The whole text.
 fn text_of(
     alloc: Global,
     figures: &Figures,
     form: Form<'_>,
-    old: &[Keyed<'_>],
-    new: &[Keyed<'_>],
-) -> Result<(String, Growth), AllocError> {
-    let mut all = claims_of(alloc, old)?;
-    let new_claims = claims_of(alloc, new)?;
-    // The old file's sums have the names of both.
-    for row in &new_claims {
-        all.push(Row { size: 0, ..*row })?;
-    }
-    let old_sums = sums_of(alloc, &all, false)?;
-    let new_sums = sums_of(alloc, &new_claims, false)?;
+    old: &Claims<'_, '_>,
+    new: &Claims<'_, '_>,
+) -> Result<String, AllocError> {
+    let mut numbers = BTreeMap::new(alloc);
+    add_claims(alloc, old, figures.grouping, Counting::Old, &mut numbers)?;
+    add_claims(alloc, new, figures.grouping, Counting::New, &mut numbers)?;
     let columns = Columns::Changes;
     let layout = Layout {
         alloc,
@@ -124,13 +115,12 @@ fn text_of(
         form,
         columns,
     };
-    let mut text = layout.rows(&old_sums, &new_sums)?;
-    let (old, new) = (old_sums.total, new_sums.total);
+    let mut text = layout.rows(&numbers)?;
     let total = Figure {
         name: "[total]",
-        sum: old,
-        other: new,
+        sum: old.total,
+        other: new.total,
     };
     layout.push_row(&mut text, total)?;
-    Ok((text, Growth { old, new }))
+    Ok(text)
 }

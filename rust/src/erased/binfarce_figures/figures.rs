@@ -5,9 +5,8 @@
 use crate::shim::{String, Vec};
 use crate::erased::binfarce_figures::key::Key;
 use crate::erased::binfarce_figures::rows::count_of;
-use crate::erased::binfarce_figures::sums::Figures;
+use crate::erased::binfarce_figures::sums::{Figures, Numbers};
 use crate::erased::binfarce_tools::json::{Form, push_number_member, push_start, push_text_member};
-use crate::erased::binfarce_tools::report::CrateSums;
 use crate::shim::alloc::{AllocError, Global};
 use core::cmp::Reverse;
 use crate::shim::collections::BTreeMap;
@@ -41,24 +40,22 @@ pub(crate) struct Layout<'a> {
 }
 
 impl Layout<'_> {
-    /// The rows of the first figures that these sums and others have for the names of these, and the one that sums up
-    /// all others.
-    pub(crate) fn rows(&self, sums: &CrateSums, others: &CrateSums) -> Result<String, AllocError> {
-        let mut rows = self.figures_of(sums, others)?;
+    /// The rows of the first figures of keys with these numbers, and the one that sums up all others.
+    pub(crate) fn rows(&self, numbers: &BTreeMap<String, Numbers>) -> Result<String, AllocError> {
+        let mut rows = self.figures_of(numbers)?;
         rows.sort_by_key(|row| Reverse(rank(self.columns, row.sum, row.other)))?;
         self.first_rows(&rows)
     }
 
-    // The figures of the names of sums, in the order of their bytes.
+    // The figures of keys with these numbers, in the order of the keys' bytes.
     fn figures_of<'b>(
         &self,
-        sums: &'b CrateSums,
-        others: &CrateSums,
+        numbers: &'b BTreeMap<String, Numbers>,
     ) -> Result<Vec<Figure<'b>>, AllocError> {
         let mut figures = Vec::new(self.alloc);
-        for (name, sum) in sums.crates.iter() {
-            let (name, sum) = (name.as_str(), *sum);
-            let other = size_at(&others.crates, name);
+        for (name, pair) in numbers.iter() {
+            let name = name.as_str();
+            let Numbers { sum, other } = *pair;
             if has_row(self.columns, sum, other) {
                 figures.push(Figure { name, sum, other })?;
             }
@@ -183,11 +180,6 @@ impl Layout<'_> {
         }
         Ok(())
     }
-}
-
-// The sum at a name, 0 where there is none.
-fn size_at(sums: &BTreeMap<String, u64>, name: &str) -> u64 {
-    sums.get(name).copied().unwrap_or(0)
 }
 
 // Whether a figure has a row: of changes, whether its sums differ.

@@ -2,7 +2,7 @@
 
 //! What sizes are summed by.
 
-use crate::shim::{String, Vec};
+use crate::shim::String;
 use crate::erased::binfarce_figures::generic::{Shape, is_of_name, push_rewritten};
 use crate::erased::binfarce_figures::stacks::push_stack;
 use crate::erased::binfarce::SectionFunction;
@@ -36,43 +36,6 @@ pub struct Grouping {
     pub key: Key,
     /// Whether the functions of Rust's standard library have the key `[std]`: those of the crates that it alone has.
     pub joins_std: bool,
-}
-
-/// A function symbol's place and size, with its key.
-pub struct Keyed<'a> {
-    /// The number of its section.
-    pub section: u32,
-    /// Its address.
-    pub address: u64,
-    /// Its size in bytes.
-    pub size: u64,
-    /// Its stored name.
-    pub name: &'a str,
-    /// Its key.
-    pub key: String,
-}
-
-/// The function symbols of a selection with their keys; with the section's size, if one is selected.
-pub(crate) fn keyed_of<'a>(
-    alloc: Global,
-    tables: &Tables<'_>,
-    functions: &[SectionFunction<'a>],
-    size: Option<u64>,
-    grouping: Grouping,
-) -> Result<Vec<Keyed<'a>>, AllocError> {
-    let mut demangler = Demangler::new(alloc);
-    let mut keyed = Vec::with_capacity(alloc, functions.len())?;
-    for function in functions {
-        let key = key_of(alloc, &mut demangler, tables, *function, size, grouping)?;
-        keyed.push(Keyed {
-            section: function.section,
-            address: function.function.address,
-            size: function.function.size,
-            name: function.function.name,
-            key,
-        })?;
-    }
-    Ok(keyed)
 }
 
 /// Overwrites the text by the crate that a function of this name is counted for.
@@ -122,40 +85,40 @@ fn put_last_name(text: &mut String, front: &str) -> Result<(), AllocError> {
     Ok(())
 }
 
-// The key of a function symbol.
-fn key_of(
+/// Overwrites the text by the key of a function symbol, where one section of this size is selected, or all.
+pub(crate) fn put_key(
     alloc: Global,
     demangler: &mut Demangler,
+    text: &mut String,
     tables: &Tables<'_>,
     function: SectionFunction<'_>,
     size: Option<u64>,
     grouping: Grouping,
-) -> Result<String, AllocError> {
+) -> Result<(), AllocError> {
     let name = function.function.name;
-    let mut key = String::new(alloc);
     if grouping.joins_std {
-        put_crate(alloc, &mut key, name)?;
-        if is_std(key.as_str()) {
-            return String::from_str(alloc, "[std]");
+        put_crate(alloc, text, name)?;
+        if is_std(text.as_str()) {
+            text.clear();
+            return text.push_str("[std]");
         }
         if grouping.key == Key::Crate {
-            return Ok(key);
+            return Ok(());
         }
-        key.clear();
     }
+    text.clear();
     match grouping.key {
-        Key::Crate => put_crate(alloc, &mut key, name)?,
-        Key::Function => demangler.push_trimmed(&mut key, name)?,
+        Key::Crate => put_crate(alloc, text, name),
+        Key::Function => demangler.push_trimmed(text, name),
         Key::Generic => {
             let mut trimmed = String::new(alloc);
             demangler.push_trimmed(&mut trimmed, name)?;
-            push_rewritten(&mut key, Shape::Generic, trimmed.as_str())?;
+            push_rewritten(text, Shape::Generic, trimmed.as_str())
         }
-        Key::Section if size.is_some() => key.push_str("text")?,
-        Key::Section => push_section(&mut key, tables, function.section)?,
-        Key::Stack => push_stack(alloc, demangler, &mut key, name)?,
+        Key::Section if size.is_some() => text.push_str("text"),
+        Key::Section => push_section(text, tables, function.section),
+        Key::Stack => push_stack(alloc, demangler, text, name),
     }
-    Ok(key)
 }
 
 // Whether a crate is one of Rust's standard library, and of nothing else.

@@ -2,18 +2,20 @@
 
 //! Sums by a key as a picture.
 
-use crate::shim::String;
-use crate::erased::binfarce_figures::claims::claims_of;
-use crate::erased::binfarce_figures::key::{Grouping, Keyed};
-use crate::erased::binfarce_figures::sums::{keyed_in, sums_of};
+use crate::shim::{String, Vec};
+use crate::erased::binfarce_figures::key::Grouping;
+use crate::erased::binfarce_figures::sums::{Claims, Counting, Numbers, add_claims, claims_in};
+use crate::erased::binfarce_chart::bars::Bar;
+use crate::erased::binfarce_chart::svg::chart;
 use crate::erased::binfarce_tools::list::Sink;
-use crate::erased::binfarce_tools::map::picture;
 use crate::erased::binfarce_tools::report::{ReportError, write_made};
 use crate::erased::binfarce_tools::tables::Tables;
 use crate::shim::alloc::{AllocError, Global};
+use crate::shim::collections::BTreeMap;
 
 /// Draws the sums of `sum_by`: an SVG document with this title, and a bar for each key, the greatest first. The picture
-/// is that of `binfarce_chart::svg::chart`, and is made before its first byte is written.
+/// is that of `binfarce_chart::svg::chart`, of the first bars if there is a number, and is made before its first byte is
+/// written.
 ///
 /// # Errors
 ///
@@ -23,21 +25,38 @@ pub fn map_by<S: Sink>(
     title: &str,
     tables: &Tables<'_>,
     grouping: Grouping,
+    first: Option<usize>,
     out: &mut S,
 ) -> Result<(), ReportError> {
-    let (keyed, size) = keyed_in(alloc, tables, grouping)?;
-    write_made(out, picture_of(alloc, title, &keyed, size))
+    let claims = claims_in(alloc, tables)?;
+    write_made(out, picture_of(alloc, title, grouping, first, &claims))
 }
 
 // The whole picture.
 fn picture_of(
     alloc: Global,
     title: &str,
-    keyed: &[Keyed<'_>],
-    size: Option<u64>,
+    grouping: Grouping,
+    first: Option<usize>,
+    claims: &Claims<'_, '_>,
 ) -> Result<String, AllocError> {
-    let claims = claims_of(alloc, keyed)?;
-    let mut sums = sums_of(alloc, &claims, false)?;
-    sums.section_size = size.unwrap_or(sums.total);
-    picture(alloc, title, &sums)
+    let mut numbers = BTreeMap::new(alloc);
+    add_claims(alloc, claims, grouping, Counting::Symbols, &mut numbers)?;
+    let bars = bars_of(alloc, &numbers)?;
+    chart(alloc, title, bars.as_slice(), claims.size, first)
+}
+
+// A bar for each key, in the order of the keys' bytes.
+fn bars_of<'a>(
+    alloc: Global,
+    numbers: &'a BTreeMap<String, Numbers>,
+) -> Result<Vec<Bar<'a>>, AllocError> {
+    let mut bars = Vec::new(alloc);
+    for (name, pair) in numbers.iter() {
+        bars.push(Bar {
+            name: name.as_str(),
+            size: pair.sum,
+        })?;
+    }
+    Ok(bars)
 }

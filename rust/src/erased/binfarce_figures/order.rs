@@ -29,7 +29,7 @@ pub struct Row<'a> {
     pub size: u64,
     /// The text for its name.
     pub name: &'a str,
-    /// What follows the name in a JSON object; empty in a line. Of rows that are summed, the stored name.
+    /// What follows the name in a JSON object; empty in a line.
     pub tail: &'a str,
 }
 

@@ -3,11 +3,9 @@
 //! Function symbols as stacks.
 
 use crate::shim::String;
-use crate::erased::binfarce_figures::claims::claims_of;
 use crate::erased::binfarce_figures::generic::{Shape, push_rewritten};
-use crate::erased::binfarce_figures::key::{Grouping, Key, Keyed, put_crate};
-use crate::erased::binfarce_figures::order::Row;
-use crate::erased::binfarce_figures::sums::keyed_in;
+use crate::erased::binfarce_figures::key::{Grouping, Key, put_crate, put_key};
+use crate::erased::binfarce_figures::sums::{Claims, claims_in};
 use crate::erased::binfarce_names::demangle::Demangler;
 use crate::erased::binfarce_tools::list::Sink;
 use crate::erased::binfarce_tools::report::{ReportError, write_made};
@@ -31,30 +29,40 @@ pub fn fold_tables<S: Sink>(
     joins_std: bool,
     out: &mut S,
 ) -> Result<(), ReportError> {
+    let claims = claims_in(alloc, tables)?;
+    write_made(out, stacks_of(alloc, &claims, joins_std))
+}
+
+// The lines of function symbols with their stacks.
+fn stacks_of(alloc: Global, claims: &Claims<'_, '_>, joins_std: bool) -> Result<String, AllocError> {
     let grouping = Grouping {
         key: Key::Stack,
         joins_std,
     };
-    let (keyed, _) = keyed_in(alloc, tables, grouping)?;
-    write_made(out, stacks_of(alloc, &keyed))
-}
-
-// The lines of function symbols with their stacks.
-fn stacks_of(alloc: Global, keyed: &[Keyed<'_>]) -> Result<String, AllocError> {
-    let claims = claims_of(alloc, keyed)?;
+    let mut demangler = Demangler::new(alloc);
+    let mut stack = String::new(alloc);
     let mut text = String::new(alloc);
-    for claim in &claims {
-        push_claim(&mut text, *claim)?;
+    for claim in &claims.list {
+        put_key(
+            alloc,
+            &mut demangler,
+            &mut stack,
+            claims.tables,
+            *claim,
+            claims.size,
+            grouping,
+        )?;
+        push_claim(&mut text, stack.as_str(), claim.function.size)?;
     }
     Ok(text)
 }
 
-// Appends the line of a function symbol with its stack, if it adds bytes.
-fn push_claim(text: &mut String, claim: Row<'_>) -> Result<(), AllocError> {
-    if claim.size == 0 {
+// Appends the line of a function symbol with this stack, if it adds bytes.
+fn push_claim(text: &mut String, stack: &str, size: u64) -> Result<(), AllocError> {
+    if size == 0 {
         return Ok(());
     }
-    writeln!(text, "{} {}", claim.name, claim.size)
+    writeln!(text, "{stack} {size}")
 }
 
 /// Appends the stack of a stored name.

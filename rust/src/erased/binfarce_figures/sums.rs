@@ -5,13 +5,13 @@
 use crate::shim::{String, Vec};
 use crate::erased::binfarce_figures::claims::claims_of;
 use crate::erased::binfarce_figures::figures::{Columns, Layout};
-use crate::erased::binfarce_figures::key::{Grouping, Keyed, keyed_of};
-use crate::erased::binfarce_figures::order::Row;
+use crate::erased::binfarce_figures::key::{Grouping, put_key};
 use crate::erased::binfarce_figures::rows::list_of;
 use crate::erased::binfarce::SectionFunction;
+use crate::erased::binfarce_names::demangle::Demangler;
 use crate::erased::binfarce_tools::json::{Form, push_number_member, push_start};
 use crate::erased::binfarce_tools::list::Sink;
-use crate::erased::binfarce_tools::report::{CrateSums, ReportError, add_size, write_made};
+use crate::erased::binfarce_tools::report::{ReportError, write_made};
 use crate::erased::binfarce_tools::tables::Tables;
 use crate::shim::alloc::{AllocError, Global};
 use crate::shim::collections::BTreeMap;
@@ -27,10 +27,42 @@ pub struct Figures {
     pub has_percent: bool,
 }
 
+/// What the function symbols of a selection add to the sums of their keys.
+pub(crate) struct Claims<'b, 'a> {
+    /// The tables that they were read from.
+    pub tables: &'b Tables<'a>,
+    /// The section's size, if one is selected.
+    pub size: Option<u64>,
+    /// The function symbols, with the bytes that each adds as its size.
+    pub list: Vec<SectionFunction<'b>>,
+    /// The sum of these bytes.
+    pub total: u64,
+}
+
+/// Two numbers of a key.
+#[derive(Debug, Clone, Copy)]
+pub(crate) struct Numbers {
+    /// The sum of the sizes of its function symbols; of two files, in the old one.
+    pub sum: u64,
+    /// How many function symbols have it; of two files, the sum of their sizes in the new one.
+    pub other: u64,
+}
+
+/// What the two numbers of a key are.
+#[derive(Debug, Clone, Copy)]
+pub(crate) enum Counting {
+    /// A sum of sizes and a number of function symbols.
+    Symbols,
+    /// The sums in two files: the function symbol is of the old one.
+    Old,
+    /// The same, and it is of the new one.
+    New,
+}
+
 /// Writes a line for each key: the sum of the sizes of its function symbols, the greatest first, those of one size in
 /// the order of the keys' bytes; and the lines for the whole, as `report_tables` does. A byte that several symbols of a
 /// section have counts for the innermost of them: the one that begins last, of these the shortest, and of these the one
-/// whose stored name is least.
+/// whose stored name is least. The sum of all is returned.
 ///
 /// A line is `{sum:>10} {key}`. Before the key it has the share of the section, or of all sections in the sum of all
 /// sizes, as `{percent:>3}.{hundredths:02}% `, if that is wanted; and for `Key::Generic` the number of function symbols
@@ -47,27 +79,34 @@ pub fn sum_by<S: Sink>(
     figures: &Figures,
     form: Form<'_>,
     out: &mut S,
-) -> Result<(), ReportError> {
-    let (keyed, size) = keyed_in(alloc, tables, figures.grouping)?;
-    write_made(out, text_of(alloc, figures, form, &keyed, size))
+) -> Result<u64, ReportError> {
+    let claims = claims_in(alloc, tables)?;
+    write_made(out, text_of(alloc, figures, form, &claims))?;
+    Ok(claims.total)
 }
 
-/// The function symbols that the tables were read for with their keys, and the section's size, if one is selected.
+/// What the function symbols that the tables were read for add.
 ///
 /// # Errors
 ///
 /// Those of `report_tables`, but for `Write`.
-pub(crate) fn keyed_in<'a>(
+pub(crate) fn claims_in<'b, 'a>(
     alloc: Global,
-    tables: &'a Tables<'_>,
-    grouping: Grouping,
-) -> Result<(Vec<Keyed<'a>>, Option<u64>), ReportError> {
+    tables: &'b Tables<'a>,
+) -> Result<Claims<'b, 'a>, ReportError> {
     let selected = tables.functions(alloc)?;
     let (functions, size) = list_of(alloc, selected)?;
     if total_of(&functions) > u128::from(u64::MAX) {
         return Err(ReportError::TooLarge);
     }
-    Ok((keyed_of(alloc, tables, &functions, size, grouping)?, size))
+    let list = claims_of(alloc, functions)?;
+    let total = total_of(&list) as u64;
+    Ok(Claims {
+        tables,
+        size,
+        list,
+        total,
+    })
 }
 
 // The sum of all sizes.
@@ -81,42 +120,83 @@ fn text_of(
     alloc: Global,
     figures: &Figures,
     form: Form<'_>,
-    keyed: &[Keyed<'_>],
-    size: Option<u64>,
+    claims: &Claims<'_, '_>,
 ) -> Result<String, AllocError> {
-    let claims = claims_of(alloc, keyed)?;
-    let sums = sums_of(alloc, &claims, false)?;
-    let copies = sums_of(alloc, &claims, true)?;
-    let columns = Columns::Sums(size.unwrap_or(sums.total));
+    let mut numbers = BTreeMap::new(alloc);
+    add_claims(
+        alloc,
+        claims,
+        figures.grouping,
+        Counting::Symbols,
+        &mut numbers,
+    )?;
+    let columns = Columns::Sums(claims.size.unwrap_or(claims.total));
     let layout = Layout {
         alloc,
         figures,
         form,
         columns,
     };
-    let mut text = layout.rows(&sums, &copies)?;
-    push_whole(&mut text, form, sums.total, size)?;
+    let mut text = layout.rows(&numbers)?;
+    push_whole(&mut text, form, claims.total, claims.size)?;
     Ok(text)
 }
 
-/// The sums of the sizes of shares by their names, or if they are counted, how many there are of each name.
-pub(crate) fn sums_of(
+/// Adds what function symbols add to the numbers of their keys.
+pub(crate) fn add_claims(
     alloc: Global,
-    shares: &[Row<'_>],
-    counted: bool,
-) -> Result<CrateSums, AllocError> {
-    let mut crates = BTreeMap::new(alloc);
-    let mut total = 0u64;
-    for share in shares {
-        let size = if counted { 1 } else { share.size };
-        total += size;
-        add_size(alloc, &mut crates, share.name, size)?;
+    claims: &Claims<'_, '_>,
+    grouping: Grouping,
+    counting: Counting,
+    numbers: &mut BTreeMap<String, Numbers>,
+) -> Result<(), AllocError> {
+    let mut demangler = Demangler::new(alloc);
+    let mut key = String::new(alloc);
+    for claim in &claims.list {
+        put_key(
+            alloc,
+            &mut demangler,
+            &mut key,
+            claims.tables,
+            *claim,
+            claims.size,
+            grouping,
+        )?;
+        let more = counts(counting, claim.function.size);
+        add(alloc, numbers, key.as_str(), more)?;
     }
-    Ok(CrateSums {
-        crates,
-        total,
-        section_size: total,
-    })
+    Ok(())
+}
+
+// What a function symbol that adds so many bytes adds to the numbers of its key.
+fn counts(counting: Counting, size: u64) -> Numbers {
+    let (sum, other) = match counting {
+        Counting::Symbols => (size, 1),
+        Counting::Old => (size, 0),
+        Counting::New => (0, size),
+    };
+    Numbers { sum, other }
+}
+
+// Adds to the numbers of a key, each up to 2^64 - 1. The key is copied where it has none yet.
+fn add(
+    alloc: Global,
+    numbers: &mut BTreeMap<String, Numbers>,
+    key: &str,
+    more: Numbers,
+) -> Result<(), AllocError> {
+    match numbers.get_mut(key) {
+        Some(found) => {
+            *found = Numbers {
+                sum: found.sum.saturating_add(more.sum),
+                other: found.other.saturating_add(more.other),
+            };
+        }
+        None => {
+            let _ = numbers.insert(String::from_str(alloc, key)?, more)?;
+        }
+    }
+    Ok(())
 }
 
 // Appends the lines of the sum of all, and of the section's size; one object of both.

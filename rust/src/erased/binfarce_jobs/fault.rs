@@ -31,8 +31,6 @@ pub enum Fault {
     SharedAddresses,
     /// This many lines of standard input have no address; all lines were answered.
     Missing(u64),
-    /// The sum grew by so many bytes, more than is allowed.
-    Grown(u64),
 }
 
 impl Fault {
@@ -48,7 +46,7 @@ impl Fault {
 
     /// Whether a file is refused for it: not a failed write, and no fault of the whole call.
     pub fn is_of_file(&self) -> bool {
-        !self.is_write() && !matches!(self, Fault::Missing(_) | Fault::Grown(_))
+        !self.is_write() && !matches!(self, Fault::Missing(_))
     }
 }
 
@@ -66,7 +64,6 @@ impl fmt::Display for Fault {
                 f,
                 "its sections share addresses; --section=NAME takes one of them"
             ),
-            Fault::Grown(by) => write!(f, "the sum grew by {by} bytes"),
             Fault::Missing(1) => write!(f, "1 line without an address"),
             Fault::Missing(count) => write!(f, "{count} lines without an address"),
         }

@@ -6,8 +6,9 @@ use crate::shim::{String, Vec};
 use crate::erased::binfarce_jobs::fault::Fault;
 use crate::erased::binfarce_jobs::hint::{Hint, completed, refusal_hints};
 use crate::erased::binfarce_jobs::input::OpenFile;
+use crate::erased::binfarce_jobs::limit::above;
 use crate::erased::binfarce_jobs::output::Output;
-use crate::erased::binfarce_jobs::show::{Kind, Request, show};
+use crate::erased::binfarce_jobs::show::{Kind, Request, Seen, show};
 use crate::erased::binfarce_bytes::source::Source;
 use crate::erased::binfarce_sections::error::SectionError;
 use crate::shim::alloc::{AllocError, Global};
@@ -60,18 +61,27 @@ fn show_file<F: Read + Source<Log = ()>, Y: System<F>, W: Write>(
     let Some(input) = open_input(alloc, system, path) else {
         return Ok(false);
     };
-    let mut hint = None;
-    let shown = show_source(alloc, asked, path, &input, &mut hint, out);
+    let mut seen = Seen {
+        hint: None,
+        sum: None,
+    };
+    let shown = show_source(alloc, asked, path, &input, &mut seen, out);
+    let Seen { hint, sum } = seen;
     let hint = completed(
         alloc,
         &input,
         &asked.symbols,
         hint,
         shown.is_ok(),
-        matches!(asked.kind, Kind::Picture(_)),
+        matches!(asked.kind, Kind::Picture(..)),
         out.len(),
     );
     give(system, path, hint);
+    let excess = match sum {
+        Some(sum) => above(sum, asked.limit),
+        None => None,
+    };
+    give(system, path, excess);
     reported(alloc, system, path, &input, shown)
 }
 
@@ -94,10 +104,10 @@ fn show_source<S: Source<Log = ()>, W: Write>(
     asked: &Request<'_>,
     path: &str,
     source: &S,
-    hint: &mut Option<Hint>,
+    seen: &mut Seen,
     out: &mut Output<W>,
 ) -> Result<(), Fault> {
-    show(alloc, asked, path, source, hint, out)?;
+    show(alloc, asked, path, source, seen, out)?;
     out.end()
 }
 

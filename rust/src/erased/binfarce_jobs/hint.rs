@@ -1,7 +1,7 @@
 // From crates/binfarce_jobs/src/hint.rt, by tools/erase.
 
-//! Hints on files: what a person may want to know beside the result. Standard output and the status don't depend on
-//! them.
+//! Hints on files: what a person may want to know beside the result. Standard output doesn't depend on them, and the
+//! status on those alone that say that a limit is exceeded.
 
 use crate::shim::{CollectIn, String, Vec};
 use crate::erased::binfarce_jobs::fault::Fault;
@@ -16,6 +16,7 @@ use crate::erased::binfarce_tables::format::read_format;
 use crate::erased::binfarce_tools::SymbolTable;
 use crate::erased::binfarce_tools::list::Out;
 use crate::erased::binfarce_tools::tables::{Selection, read};
+use crate::erased::binfarce_words::words::Limit;
 use crate::shim::alloc::Global;
 use core::fmt;
 
@@ -40,6 +41,10 @@ pub enum Hint {
     Missed(u64, Loaded),
     /// There is no address in a text, in which bare words may be some or are not.
     NoAddress(bool),
+    /// The sum is so many bytes, more than so many that are allowed.
+    Above(u64, usize),
+    /// The sum grew by so many bytes, more than is allowed.
+    Grown(u64, Limit),
 }
 
 /// What is known of where a file is loaded.
@@ -76,6 +81,14 @@ impl fmt::Display for Hint {
                 let why = loaded.words();
                 write!(f, "0 of {count} addresses are in a function symbol; {why}")
             }
+            Hint::Above(sum, most) => write!(
+                f,
+                "the sum is {sum} bytes, and --fail-above allows {most}"
+            ),
+            Hint::Grown(by, limit) => write!(
+                f,
+                "the sum grew by {by} bytes, and --fail-above allows {limit}"
+            ),
             Hint::NoAddress(true) => write!(f, "no address in the text"),
             Hint::NoAddress(false) => write!(
                 f,

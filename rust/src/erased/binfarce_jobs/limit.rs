@@ -2,18 +2,31 @@
 
 //! Limits on sums.
 
-use crate::erased::binfarce_jobs::fault::Fault;
+use crate::erased::binfarce_jobs::hint::Hint;
 use crate::erased::binfarce_figures::diff::Growth;
+use crate::erased::binfarce_words::words::Limit;
 
-/// Whether the growth from one sum to another is allowed: it is no more than this limit, if there is one.
-///
-/// # Errors
-///
-/// `Grown` with the growth where it is more.
-pub fn judged(growth: Growth, limit: Option<usize>) -> Result<bool, Fault> {
+/// The hint on a sum that is more than this limit, if there is one; a limit in per cent is one on growth.
+pub fn above(sum: u64, limit: Option<Limit>) -> Option<Hint> {
+    match limit {
+        Some(Limit::Bytes(most)) if sum > most as u64 => Some(Hint::Above(sum, most)),
+        _ => None,
+    }
+}
+
+/// The hint on a sum that grew by more than this limit, if there is one.
+pub fn grown(growth: Growth, limit: Option<Limit>) -> Option<Hint> {
     let by = growth.new.saturating_sub(growth.old);
     match limit {
-        Some(limit) if by > limit as u64 => Err(Fault::Grown(by)),
-        _ => Ok(true),
+        Some(limit) if is_above(growth.old, by, limit) => Some(Hint::Grown(by, limit)),
+        _ => None,
+    }
+}
+
+// Whether the growth of a sum by so many bytes is above the limit.
+fn is_above(old: u64, by: u64, limit: Limit) -> bool {
+    match limit {
+        Limit::Bytes(most) => by > most as u64,
+        Limit::Percent(most) => 100 * u128::from(by) > most as u128 * u128::from(old),
     }
 }

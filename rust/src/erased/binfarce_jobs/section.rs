@@ -1,12 +1,11 @@
 // From crates/binfarce_jobs/src/section.rt, by tools/erase.
 
-//! The sections of a file: the bytes of one, a line for each, or how many of the file's bytes each has.
+//! The sections of a file: the bytes of one, or a line for each.
 
 use crate::erased::binfarce_bytes::source::Source;
 use crate::erased::binfarce_sections::bytes::write_section_of;
 use crate::erased::binfarce_sections::error::SectionError;
 use crate::erased::binfarce_sections::list::list_source;
-use crate::erased::binfarce_sections::sums::sum_sections;
 use crate::erased::binfarce_tools::json::Form;
 use crate::erased::binfarce_tools::list::Sink;
 use crate::shim::alloc::Global;
@@ -18,8 +17,6 @@ pub enum Asked<'a> {
     Bytes(&'a str),
     /// A line for each section.
     Lines,
-    /// How many of the file's bytes each section has, of the first ones if there is a number.
-    Sums(Option<usize>),
 }
 
 /// Writes what is asked for of the sections. Only the section headers, the section names, and the bytes of the named
@@ -27,7 +24,7 @@ pub enum Asked<'a> {
 ///
 /// # Errors
 ///
-/// Those of `write_section_of`, `list_source` and `sum_sections`.
+/// Those of `write_section_of` and `list_source`.
 pub fn write_sections<S: Source<Log = ()>, K: Sink>(
     alloc: Global,
     source: &S,
@@ -38,6 +35,5 @@ pub fn write_sections<S: Source<Log = ()>, K: Sink>(
     match asked {
         Asked::Bytes(name) => write_section_of(alloc, source, &mut (), name, out),
         Asked::Lines => list_source(alloc, source, &mut (), form, out),
-        Asked::Sums(first) => sum_sections(alloc, source, &mut (), first, form, out),
     }
 }

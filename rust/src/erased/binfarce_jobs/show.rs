@@ -20,6 +20,7 @@ use crate::erased::binfarce_tools::SymbolTable;
 use crate::erased::binfarce_tools::json::Form;
 use crate::erased::binfarce_tools::list::{Sink, list_tables};
 use crate::erased::binfarce_tools::tables::{Selection, Tables, read_tables};
+use crate::erased::binfarce_words::words::Limit;
 use crate::shim::alloc::Global;
 
 /// How function symbols are shown.
@@ -31,8 +32,8 @@ pub enum Kind {
     Rows(Shown),
     /// As sums by a key.
     Figures(Figures),
-    /// As a picture of these sums.
-    Picture(Grouping),
+    /// As a picture of these sums: of the first ones, and of all others in one.
+    Picture(Grouping, Option<usize>),
     /// As stacks; whether Rust's standard library is joined.
     Stacks(bool),
 }
@@ -55,6 +56,17 @@ pub struct Request<'a> {
     pub symbols: Symbols<'a>,
     /// Whether they are shown as JSON objects.
     pub is_json: bool,
+    /// The most that a file's sum may be, where sums are shown.
+    pub limit: Option<Limit>,
+}
+
+/// What was seen of a file while it was shown.
+#[derive(Debug)]
+pub struct Seen {
+    /// The hint on its function symbols, if there is one.
+    pub hint: Option<Hint>,
+    /// The sum of all sizes, each byte counted once, where sums are shown.
+    pub sum: Option<u64>,
 }
 
 /// The tables of the source for these function symbols.
@@ -102,8 +114,8 @@ fn form_for<'a>(asked: &Request<'a>, path: &'a str) -> Form<'a> {
     }
 }
 
-/// Writes the requested function symbols of the source, and sets `hint` to the hint on them, if any; a picture's title
-/// is the path. Of the source it reads the headers, the symbol table and the names alone.
+/// Writes the requested function symbols of the source, and sets `seen` to the hint on them, if any, and their sum; a
+/// picture's title is the path. Of the source it reads the headers, the symbol table and the names alone.
 ///
 /// # Errors
 ///
@@ -114,52 +126,57 @@ pub fn show<S: Source<Log = ()>, K: Sink>(
     asked: &Request<'_>,
     path: &str,
     source: &S,
-    hint: &mut Option<Hint>,
+    seen: &mut Seen,
     out: &mut K,
 ) -> Result<(), Fault> {
     let tables = tables_of(alloc, source, &asked.symbols)?;
     let form = form_for(asked, path);
     match asked.symbols.selection {
-        Selection::Section(_) => show_section(alloc, asked.kind, path, form, &tables, hint, out),
-        Selection::All => show_tables(alloc, asked.kind, path, form, &tables, out),
+        Selection::Section(_) => show_section(alloc, asked.kind, path, form, &tables, seen, out),
+        Selection::All => show_tables(alloc, asked.kind, path, form, &tables, seen, out),
     }
 }
 
-// Shows the function symbols of a section, which are made once, and sets `hint` to the hint on them, if any.
+// Shows the function symbols of a section, which are made once, and sets `seen` to the hint on them, if any, and their
+// sum.
 fn show_section<K: Sink>(
     alloc: Global,
     kind: Kind,
     path: &str,
     form: Form<'_>,
     tables: &Tables<'_>,
-    hint: &mut Option<Hint>,
+    seen: &mut Seen,
     out: &mut K,
 ) -> Result<(), Fault> {
     let (functions, size) = tables.functions(alloc)?.into_list();
     let list: Vec<SectionFunction<'_>> = functions.all.collect_in(alloc)?;
     let size = size.unwrap_or(0);
-    *hint = hint_on(&list);
+    seen.hint = hint_on(&list);
     let made = Tables::Made {
         functions: list,
         size,
     };
-    show_tables(alloc, kind, path, form, &made, out)
+    show_tables(alloc, kind, path, form, &made, seen, out)
 }
 
-// Shows the function symbols of these tables.
+// Shows the function symbols of these tables, and sets the sum that was seen.
 fn show_tables<K: Sink>(
     alloc: Global,
     kind: Kind,
     path: &str,
     form: Form<'_>,
     tables: &Tables<'_>,
+    seen: &mut Seen,
     out: &mut K,
 ) -> Result<(), Fault> {
     match kind {
         Kind::Listing => Ok(list_tables(alloc, tables, out)?),
         Kind::Rows(shown) => Ok(list_by(alloc, tables, &shown, form, out)?),
-        Kind::Figures(figures) => Ok(sum_by(alloc, tables, &figures, form, out)?),
-        Kind::Picture(grouping) => Ok(map_by(alloc, path, tables, grouping, out)?),
+        Kind::Figures(figures) => {
+            seen.sum = Some(sum_by(alloc, tables, &figures, form, out)?);
+            Ok(())
+        }
+        Kind::Picture(grouping, first) => Ok(map_by(alloc, path, tables, grouping, first, out)?),
         Kind::Stacks(joins_std) => Ok(fold_tables(alloc, tables, joins_std, out)?),
     }
 }

@@ -25,7 +25,8 @@ pub struct Share<'a> {
 }
 
 /// Writes a row for each section of a file: how many of the file's bytes count for it, and how many it has in memory.
-/// A row for the bytes that count for none follows, then the file's length, which is the sum of the first numbers.
+/// A row for the bytes that count for none follows, then the file's length, which is the sum of the first numbers. The
+/// length is returned.
 ///
 /// A byte that several sections have counts for the first of them, in the order of their offsets, those of one offset in
 /// file order; a section counts as far as it lies in the file. The greatest comes first, those of one number of bytes
@@ -48,13 +49,13 @@ pub fn sum_sections<F: Source, S: Sink>(
     first: Option<usize>,
     form: Form<'_>,
     out: &mut S,
-) -> Result<(), SectionError> {
+) -> Result<u64, SectionError> {
     let tables = read(alloc, source, log)?;
     let sections = tables.sections()?;
     write_sums(alloc, sections, tables.file_length(), first, form, out)
 }
 
-// Writes the rows of all sections that are left.
+// Writes the rows of all sections that are left, and returns the file's length.
 fn write_sums<S: Sink>(
     alloc: Global,
     sections: Sections<'_>,
@@ -62,9 +63,12 @@ fn write_sums<S: Sink>(
     first: Option<usize>,
     form: Form<'_>,
     out: &mut S,
-) -> Result<(), SectionError> {
+) -> Result<u64, SectionError> {
     let text = text_of(alloc, sections, file_length, first, form)?;
-    write_whole(out, text.as_bytes()).map_err(|_| SectionError::Write)
+    match write_whole(out, text.as_bytes()) {
+        Ok(()) => Ok(file_length),
+        Err(_) => Err(SectionError::Write),
+    }
 }
 
 // The whole text.
@@ -81,7 +85,10 @@ fn text_of(
 }
 
 // The sections that are left, without inactive ones.
-fn active_of<'a>(alloc: Global, sections: Sections<'a>) -> Result<Vec<Section<'a>>, SectionError> {
+pub(crate) fn active_of<'a>(
+    alloc: Global,
+    sections: Sections<'a>,
+) -> Result<Vec<Section<'a>>, SectionError> {
     let mut active = Vec::new(alloc);
     for section in sections {
         push_active(&mut active, section?)?;
@@ -106,7 +113,7 @@ fn is_inactive(kind: SectionType) -> bool {
 const SHT_NULL: u32 = 0;
 
 // The shares of sections, the greatest first.
-fn ranked_of<'a>(
+pub(crate) fn ranked_of<'a>(
     alloc: Global,
     mut sections: Vec<Section<'a>>,
     file_length: u64,
@@ -190,7 +197,7 @@ fn push_each(text: &mut String, form: Form<'_>, shares: &[Share<'_>]) -> Result<
 }
 
 // How many rows are shown of so many.
-fn count_of(first: Option<usize>, all: usize) -> usize {
+pub(crate) fn count_of(first: Option<usize>, all: usize) -> usize {
     first.map_or(all, |first| first.min(all))
 }
 
@@ -300,6 +307,6 @@ fn push_plain_object(
 }
 
 // Appends a member whose value is a number, which may have more than 64 bits.
-fn push_long_member(text: &mut String, name: &str, value: u128) -> Result<(), AllocError> {
+pub(crate) fn push_long_member(text: &mut String, name: &str, value: u128) -> Result<(), AllocError> {
     write!(text, ",\"{name}\":{value}")
 }

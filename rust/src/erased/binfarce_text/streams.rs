@@ -8,6 +8,12 @@ use crate::shim::error::Error;
 use core::fmt;
 use crate::shim::io::{ErrorKind, Read};
 
+// How many bytes are taken at a time: what they make is in memory at once.
+const STEP: usize = 512;
+
+// An output of so many bytes is written before more is taken.
+const LONG: usize = 1 << 16;
+
 /// Why a stream was not passed to its end.
 #[derive(Debug, Clone, Copy, PartialEq)]
 pub enum StreamError {
@@ -99,7 +105,7 @@ fn pass_all<R: Read, O, P: Pass<O>>(
     Ok(false)
 }
 
-// Passes the next part.
+// Passes the next part, a few bytes at a time.
 fn pass_part<O, P: Pass<O>>(
     pass: &mut P,
     part: &[u8],
@@ -107,6 +113,29 @@ fn pass_part<O, P: Pass<O>>(
     output: &mut O,
 ) -> Result<(), StreamError> {
     out.clear();
-    pass.take(part, out)?;
-    P::write(output, out.as_slice())
+    let mut at = 0;
+    while at < part.len() {
+        let end = part.len().min(at + STEP);
+        pass_step(pass, &part[at..end], end == part.len(), out, output)?;
+        at = end;
+    }
+    Ok(())
+}
+
+// Takes the next bytes, and writes the output if these are the last ones or it is long; else it waits in `out`, where
+// some may wait before.
+fn pass_step<O, P: Pass<O>>(
+    pass: &mut P,
+    bytes: &[u8],
+    are_last: bool,
+    out: &mut Vec<u8>,
+    output: &mut O,
+) -> Result<(), StreamError> {
+    pass.take(bytes, out)?;
+    if !are_last && out.len() < LONG {
+        return Ok(());
+    }
+    P::write(output, out.as_slice())?;
+    out.clear();
+    Ok(())
 }

@@ -4,7 +4,7 @@
 
 use crate::shim::{String, Vec};
 use crate::erased::binfarce_tools::list::Sink;
-use crate::erased::binfarce_tools::report::{CrateSums, ReportError, sums_of_tables, write_made};
+use crate::erased::binfarce_tools::report::{CrateSums, ReportError, crate_sums, write_made};
 use crate::erased::binfarce_tools::tables::Tables;
 use crate::erased::binfarce_chart::bars::Bar;
 use crate::erased::binfarce_chart::svg::chart;
@@ -30,8 +30,8 @@ pub fn map<S: Sink>(
     map_tables(alloc, title, &Tables::whole(file, section), out)
 }
 
-/// As `map`, from the tables of a file: for the selection that they were read for. For all sections the title shows the
-/// sum of all sizes as the section size.
+/// As `map`, from the tables of a file: for the selection that they were read for. For all sections the picture
+/// has no section size.
 ///
 /// # Errors
 ///
@@ -42,14 +42,23 @@ pub fn map_tables<S: Sink>(
     tables: &Tables<'_>,
     out: &mut S,
 ) -> Result<(), ReportError> {
-    let sums = sums_of_tables(alloc, tables)?;
-    write_made(out, picture(alloc, title, &sums))
+    let (functions, size) = tables.functions(alloc)?.into_list();
+    let sums = crate_sums(alloc, functions, size)?;
+    write_made(out, picture(alloc, title, &sums, size, None))
 }
 
-/// The picture of sums, which have to be those of shares, with this title. The only error is a failed allocation.
-pub fn picture(alloc: Global, title: &str, sums: &CrateSums) -> Result<String, AllocError> {
+/// The picture of sums, which have to be those of shares, with this title. With it are the section's size, if one is
+/// selected, and of `Some(n)` the first n crates and one bar for all others, if there are any; of `None` the crates
+/// that `map` shows. The only error is a failed allocation.
+pub fn picture(
+    alloc: Global,
+    title: &str,
+    sums: &CrateSums,
+    section_size: Option<u64>,
+    first: Option<usize>,
+) -> Result<String, AllocError> {
     let bars = bars_of(alloc, sums)?;
-    chart(alloc, title, bars.as_slice(), sums.section_size)
+    chart(alloc, title, bars.as_slice(), section_size, first)
 }
 
 // A bar for each crate, in the order of the crates' bytes.

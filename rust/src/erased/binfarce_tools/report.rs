@@ -133,7 +133,7 @@ pub fn sums_of_tables(alloc: Global, tables: &Tables<'_>) -> Result<CrateSums, R
 
 // The sums of the functions, with the section's size, or without one the sum of all sizes. `TooLarge` where the sum of
 // all exceeds 64 bits.
-fn crate_sums(
+pub(crate) fn crate_sums(
     alloc: Global,
     functions: Functions<'_>,
     section_size: Option<u64>,

@@ -99,10 +99,28 @@ pub enum Flag {
     Std,
     /// Writes JSON objects.
     Json,
-    /// The growth in bytes from which on the comparison fails.
+    /// The most that a sum may be, or may have grown by.
     FailAbove,
     /// Writes stacks.
     Folded,
+}
+
+/// The most that is allowed.
+#[derive(Debug, Clone, Copy, PartialEq)]
+pub enum Limit {
+    /// So many bytes.
+    Bytes(usize),
+    /// So many per cent of an old sum.
+    Percent(usize),
+}
+
+impl fmt::Display for Limit {
+    fn fmt(&self, f: &mut fmt::Formatter<'_>) -> fmt::Result {
+        match self {
+            Limit::Bytes(most) => write!(f, "{most}"),
+            Limit::Percent(most) => write!(f, "{most}%"),
+        }
+    }
 }
 
 /// What an option takes.
@@ -116,6 +134,8 @@ pub enum Takes {
     Address,
     /// A number in decimal digits.
     Count,
+    /// A limit on sums.
+    Limit,
     /// What lines are sorted by.
     Order,
     /// What sizes are summed by.
@@ -152,6 +172,7 @@ impl Takes {
             Takes::Text => "a text",
             Takes::Address => "an address",
             Takes::Count => "a number",
+            Takes::Limit => "a number of bytes, or of per cent as 2%",
             Takes::Order => "address, size or name",
             Takes::Key => "crate, function, function-section, generic or section",
         }
@@ -163,6 +184,7 @@ impl Takes {
             Takes::Nothing | Takes::Text => true,
             Takes::Address => parse_address(value.as_bytes()).is_some(),
             Takes::Count => count_in(value).is_some(),
+            Takes::Limit => limit_in(value).is_some(),
             Takes::Order => order_named(value).is_some(),
             Takes::Key => key_named(value).is_some(),
         }
@@ -172,6 +194,15 @@ impl Takes {
 // The number in decimal digits.
 fn count_in(value: &str) -> Option<usize> {
     value.parse::<usize>().ok()
+}
+
+// The limit: a number of bytes, or of per cent before `%`.
+fn limit_in(value: &str) -> Option<Limit> {
+    match value.split_once('%') {
+        None => Some(Limit::Bytes(count_in(value)?)),
+        Some((front, "")) => Some(Limit::Percent(count_in(front)?)),
+        Some(_) => None,
+    }
 }
 
 impl Flag {
@@ -197,7 +228,7 @@ impl Flag {
             Percent => ("--percent", "", Takes::Nothing),
             Std => ("--std", "", Takes::Nothing),
             Json => ("--json", "", Takes::Nothing),
-            FailAbove => ("--fail-above", "", Takes::Count),
+            FailAbove => ("--fail-above", "", Takes::Limit),
             Folded => ("--folded", "", Takes::Nothing),
         }
     }
@@ -221,8 +252,10 @@ impl Command {
             Command::List => &[
                 Sort, First, NoTotal, Raw, Full, Json, Section, Dynamic, All, Help,
             ],
-            Command::Size => &[By, First, Percent, Std, Json, Section, Dynamic, All, Help],
-            Command::Map => &[Std, Folded, Section, Dynamic, All, Help],
+            Command::Size => &[
+                By, First, Percent, Std, Json, FailAbove, Section, Dynamic, All, Help,
+            ],
+            Command::Map => &[First, Std, Folded, Section, Dynamic, All, Help],
             Command::Diff => &[
                 By, First, Percent, Std, Json, FailAbove, Section, Dynamic, All, Help,
             ],
@@ -260,6 +293,10 @@ pub enum Wrong<'a> {
     NotMapped(&'a str, &'a str),
     /// The option doesn't take this value.
     BadValue(Flag, &'a str),
+    /// The option is for function symbols, and sections are summed.
+    OnlyFunctions(Flag),
+    /// The limit is one on growth, and files aren't compared.
+    OnlyGrowth(&'a str),
     /// The command has no file.
     NoFile(Command),
     /// The command has one file, and compares two.
@@ -330,6 +367,17 @@ impl<'a> fmt::Display for Wrong<'a> {
                 let taken = flag.form().2.values();
                 write!(f, "{name} takes {taken}, and not {word}")
             }
+            Wrong::OnlyFunctions(flag) => {
+                let name = flag.name();
+                write!(
+                    f,
+                    "{name} is for functions, as --by=function-section; --by=section is not"
+                )
+            }
+            Wrong::OnlyGrowth(word) => write!(
+                f,
+                "--fail-above={word} is for diff; size takes a number of bytes"
+            ),
             Wrong::NoFile(command) => {
                 let name = command.name();
                 write!(f, "no file; binfarce {name} --help shows how it is called")
@@ -377,6 +425,16 @@ impl<'a> Arguments<'a> {
     /// The number that is the option's value.
     pub fn count(&self, flag: Flag) -> Option<usize> {
         count_in(self.value(flag)?)
+    }
+
+    /// The limit that is given.
+    pub fn limit(&self) -> Option<Limit> {
+        limit_in(self.value(FailAbove)?)
+    }
+
+    /// Whether the bytes of sections are summed.
+    pub fn is_by_section(&self) -> bool {
+        matches!(self.value(By), Some("section"))
     }
 
     /// The order that is asked for.
@@ -521,7 +579,46 @@ fn check<'a>(command: Command, given: &Arguments<'a>) -> Result<(), Wrong<'a>> {
     if given.has(Flag::Annotate) && !is_each(given, Flag::As) {
         return Err(Wrong::NotEach(Flag::As));
     }
+    check_sums(command, given)?;
     check_operands(command, given.operands.as_slice())
+}
+
+// What is wrong with how sums are asked for.
+fn check_sums<'a>(command: Command, given: &Arguments<'a>) -> Result<(), Wrong<'a>> {
+    if are_given(given, Flag::Folded, Flag::First) {
+        return Err(Wrong::Exclusive(Flag::Folded, Flag::First));
+    }
+    if given.is_by_section() {
+        if let Some(flag) = of_functions(command, given) {
+            return Err(Wrong::OnlyFunctions(flag));
+        }
+    }
+    match given.value(Flag::FailAbove) {
+        Some(word) if command == Command::Size && is_relative(word) => Err(Wrong::OnlyGrowth(word)),
+        _ => Ok(()),
+    }
+}
+
+// The first option that is given, and that the sums of sections don't have.
+fn of_functions(command: Command, given: &Arguments<'_>) -> Option<Flag> {
+    if given.has(Flag::Std) {
+        Some(Flag::Std)
+    } else if given.has(Flag::Section) {
+        Some(Flag::Section)
+    } else if given.has(Flag::Dynamic) {
+        Some(Flag::Dynamic)
+    } else if given.has(Flag::All) {
+        Some(Flag::All)
+    } else if command == Command::Size && given.has(Flag::Percent) {
+        Some(Flag::Percent)
+    } else {
+        None
+    }
+}
+
+// Whether a limit is a number of per cent.
+fn is_relative(word: &str) -> bool {
+    matches!(limit_in(word), Some(Limit::Percent(_)))
 }
 
 // Whether an option comes as often as there are files, or not at all; of one file it may come often.

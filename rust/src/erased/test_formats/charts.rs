@@ -30,13 +30,18 @@ impl<'a> Bars<'a> {
         Ok(())
     }
 
-    fn picture(&self, alloc: Global, section_size: u64) -> Result<String, AllocError> {
-        chart(alloc, "{path}", &self.list, section_size)
+    fn picture(
+        &self,
+        alloc: Global,
+        section_size: Option<u64>,
+        first: Option<usize>,
+    ) -> Result<String, AllocError> {
+        chart(alloc, "{path}", &self.list, section_size, first)
     }
 }
 
 /// The picture of the sizes in words, `SIZE=BYTES`, where the bytes are those of the name; and of a section of this
-/// size.
+/// size, or without a number of all sections.
 pub fn chart_of(alloc: Global, section_size: &str, words: &str) -> Result<String, AllocError> {
     let mut names = Vec::new(alloc);
     for word in words.split(' ') {
@@ -49,17 +54,17 @@ pub fn chart_of(alloc: Global, section_size: &str, words: &str) -> Result<String
     for (size, name) in &names {
         bars.push(core::str::from_utf8(name).unwrap_or("no text"), *size)?;
     }
-    bars.picture(alloc, section_size.parse().unwrap_or(0))
+    bars.picture(alloc, section_size.parse().ok(), None)
 }
 
-/// How many rows the picture of so many bars has, of sizes from 1 on, and how it goes on after the beginning of the
-/// last row.
-pub fn bars_of(alloc: Global, count: &str) -> Result<String, AllocError> {
+/// How many rows the picture of so many bars has, of sizes from 1 on, of which so many are asked for; and how it goes on
+/// after the beginning of the last row.
+pub fn bars_of(alloc: Global, first: &str, count: &str) -> Result<String, AllocError> {
     let mut bars = Bars::new(alloc);
     for size in 0..count.parse().unwrap_or(0u64) {
         bars.push("a", size.saturating_add(1))?;
     }
-    let picture = bars.picture(alloc, 0)?;
+    let picture = bars.picture(alloc, Some(0), first.parse().ok())?;
     let rows = picture.as_str().matches("<svg y=").count();
     let (_, last) = picture.as_str().rsplit_once("<svg y=").unwrap_or(("", ""));
     String::formatted(alloc, format_args!("{rows} rows, and the last {last}"))

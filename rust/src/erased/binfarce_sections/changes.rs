@@ -1,0 +1,481 @@
+// From crates/binfarce_sections/src/changes.rt, by tools/erase.
+
+//! How the bytes of the sections of two files differ.
+
+use crate::shim::{String, Vec};
+use crate::erased::binfarce_sections::error::SectionError;
+use crate::erased::binfarce_sections::list::push_name;
+use crate::erased::binfarce_sections::sections::Sections;
+use crate::erased::binfarce_sections::sums::{
+    Share, active_of, count_of, push_long_member, ranked_of,
+};
+use crate::erased::binfarce_sections::tables::read;
+use crate::erased::binfarce_bytes::source::Source;
+use crate::erased::binfarce_tools::json::{Form, push_number_member, push_start, push_text_member};
+use crate::erased::binfarce_tools::list::Sink;
+use crate::erased::binfarce_tools::writing::write_whole;
+use crate::shim::alloc::{AllocError, Global};
+use core::cmp::Reverse;
+use crate::shim::error::Error;
+use core::fmt;
+
+/// A name of sections, with its bytes in two files.
+#[derive(Debug, Clone, Copy)]
+pub struct Change<'a> {
+    /// The name, as `sum_sections` shows it.
+    pub name: &'a str,
+    /// How many bytes of the old file count for it.
+    pub old: u64,
+    /// How many bytes of the new file count for it.
+    pub new: u64,
+    /// How many bytes it has in memory by the old file.
+    pub old_memory: u128,
+    /// How many bytes it has in memory by the new file.
+    pub new_memory: u128,
+}
+
+/// Why two files were not compared.
+#[derive(Debug, PartialEq)]
+pub struct ChangeError {
+    /// The reason, as `sum_sections` gives it.
+    pub error: SectionError,
+    /// Whether the old file can't be summed for this reason.
+    pub is_of_old: bool,
+}
+
+impl fmt::Display for ChangeError {
+    fn fmt(&self, f: &mut fmt::Formatter<'_>) -> fmt::Result {
+        write!(f, "{}", self.error)
+    }
+}
+
+impl Error for ChangeError {}
+
+impl From<SectionError> for ChangeError {
+    /// An error that isn't the old file's.
+    fn from(error: SectionError) -> Self {
+        ChangeError {
+            error,
+            is_of_old: false,
+        }
+    }
+}
+
+impl From<AllocError> for ChangeError {
+    fn from(_: AllocError) -> Self {
+        ChangeError::from(SectionError::OutOfMemory)
+    }
+}
+
+// What one section adds to its name, or what the bytes add that count for no section.
+pub(crate) struct Part {
+    pub name: String,
+    pub bytes: u64,
+    pub memory: u64,
+}
+
+// The parts of a file, how many bytes the file has, and how many its sections have in memory.
+pub(crate) struct Parts {
+    pub parts: Vec<Part>,
+    pub file_length: u64,
+    pub memory: u128,
+}
+
+/// Writes a row for each name of sections, and for `[headers and gaps]`, whose bytes in the file or in memory differ
+/// between two files, and one for the whole files. The lengths of the files are returned.
+///
+/// Each file is summed as `sum_sections` does; a name is as its lines show it, and the numbers of all sections of one
+/// name are added: also those of a section that is named `[headers and gaps]`. The greatest difference of bytes in the
+/// file comes first, of one difference the greatest in memory, and those of one rank are in the order of the names'
+/// bytes.
+///
+/// A line is `{old:>10} {new:>10} {change:>11} {memory change:>11} {name}`; a change has its sign. Before the name it
+/// has, if that is wanted, the change of the bytes in the file in per cent of the old number, with two decimals and to
+/// the right of 10 columns, as `+12.50%`: rounded toward zero, and `new` where the old number is 0. `[N others]` is the
+/// name of the line that sums up those past the first; the last line, `[total]`, has the lengths of the files, and the
+/// memory of all sections. An object has the members `file`, which is the new one's name, `section`, `old`, `new`,
+/// `change`, `old_memory`, `new_memory`, `memory_change` and, if that is wanted, `percent`, which is `null` where the
+/// old number is 0. Of a source only the bytes are read that `sum_sections` reads.
+///
+/// # Errors
+///
+/// Those of `sum_sections`, first for the old file, with whether it is that file's.
+pub fn diff_sections<F: Source<Log = ()>, G: Source<Log = ()>, S: Sink>(
+    alloc: Global,
+    old: &F,
+    new: &G,
+    first: Option<usize>,
+    has_percent: bool,
+    form: Form<'_>,
+    out: &mut S,
+) -> Result<(u64, u64), ChangeError> {
+    let before = match parts_of(alloc, old) {
+        Ok(parts) => parts,
+        Err(error) => {
+            return Err(ChangeError {
+                error,
+                is_of_old: true,
+            });
+        }
+    };
+    let after = parts_of(alloc, new)?;
+    let layout = Layout {
+        alloc,
+        form,
+        has_percent,
+    };
+    let text = layout.text_of(first, &before, &after)?;
+    match write_whole(out, text.as_bytes()) {
+        Ok(()) => Ok((before.file_length, after.file_length)),
+        Err(_) => Err(ChangeError::from(SectionError::Write)),
+    }
+}
+
+// The parts of a file.
+fn parts_of<F: Source<Log = ()>>(alloc: Global, source: &F) -> Result<Parts, SectionError> {
+    let tables = read(alloc, source, &mut ())?;
+    let sections = tables.sections()?;
+    let file_length = tables.file_length();
+    let parts = parts_left(alloc, sections, file_length)?;
+    let memory = memory_of(&parts);
+    Ok(whole(parts, file_length, memory))
+}
+
+// Parts with the sums over them.
+fn whole(parts: Vec<Part>, file_length: u64, memory: u128) -> Parts {
+    Parts {
+        parts,
+        file_length,
+        memory,
+    }
+}
+
+// The parts of the sections that are left.
+fn parts_left(
+    alloc: Global,
+    sections: Sections<'_>,
+    file_length: u64,
+) -> Result<Vec<Part>, SectionError> {
+    let sections = active_of(alloc, sections)?;
+    let shares = ranked_of(alloc, sections, file_length)?;
+    Ok(named_of(alloc, &shares, file_length)?)
+}
+
+// The parts of shares, and that of the rest.
+fn named_of(alloc: Global, shares: &[Share<'_>], file_length: u64) -> Result<Vec<Part>, AllocError> {
+    let mut parts = Vec::new(alloc);
+    let mut rest = file_length;
+    for share in shares {
+        rest = rest.saturating_sub(share.bytes);
+        parts.push(part_of(alloc, share)?)?;
+    }
+    let name = String::from_str(alloc, "[headers and gaps]")?;
+    parts.push(Part {
+        name,
+        bytes: rest,
+        memory: 0,
+    })?;
+    Ok(parts)
+}
+
+// The part of a section.
+fn part_of(alloc: Global, share: &Share<'_>) -> Result<Part, AllocError> {
+    let section = &share.section;
+    let mut name = String::new(alloc);
+    push_name(&mut name, section.segment, section.name)?;
+    Ok(Part {
+        name,
+        bytes: share.bytes,
+        memory: section.memory_size,
+    })
+}
+
+// The changes from old parts to new ones.
+fn changes_of<'a>(
+    alloc: Global,
+    old: &'a Parts,
+    new: &'a Parts,
+) -> Result<Vec<Change<'a>>, AllocError> {
+    let mut given = given_of(alloc, &old.parts, &new.parts)?;
+    given.sort_by_key(|change| change.name)?;
+    let mut changes = joined_of(alloc, &given)?;
+    changes.sort_by_key(|change| Reverse(distance(change.old_memory, change.new_memory)))?;
+    changes.sort_by_key(|change| Reverse(bytes_distance(change.old, change.new)))?;
+    Ok(changes)
+}
+
+// How much two numbers differ.
+fn distance(old: u128, new: u128) -> u128 {
+    old.abs_diff(new)
+}
+
+fn bytes_distance(old: u64, new: u64) -> u64 {
+    old.abs_diff(new)
+}
+
+// A change for each part.
+fn given_of<'a>(
+    alloc: Global,
+    old: &'a [Part],
+    new: &'a [Part],
+) -> Result<Vec<Change<'a>>, AllocError> {
+    let mut given = Vec::new(alloc);
+    for part in old {
+        given.push(old_change(part))?;
+    }
+    for part in new {
+        given.push(new_change(part))?;
+    }
+    Ok(given)
+}
+
+// The change that an old part makes alone.
+fn old_change(part: &Part) -> Change<'_> {
+    Change {
+        name: part.name.as_str(),
+        old: part.bytes,
+        new: 0,
+        old_memory: u128::from(part.memory),
+        new_memory: 0,
+    }
+}
+
+// The change that a new part makes alone.
+fn new_change(part: &Part) -> Change<'_> {
+    Change {
+        name: part.name.as_str(),
+        old: 0,
+        new: part.bytes,
+        old_memory: 0,
+        new_memory: u128::from(part.memory),
+    }
+}
+
+// Changes whose neighbours of one name are made one, without those that change nothing.
+fn joined_of<'a>(alloc: Global, changes: &[Change<'a>]) -> Result<Vec<Change<'a>>, AllocError> {
+    let mut joined = Vec::new(alloc);
+    let Some((first, others)) = changes.split_first() else {
+        return Ok(joined);
+    };
+    let mut last = *first;
+    for next in others {
+        if last.name == next.name {
+            last = added(last, *next);
+        } else {
+            push_differing(&mut joined, last)?;
+            last = *next;
+        }
+    }
+    push_differing(&mut joined, last)?;
+    Ok(joined)
+}
+
+// The sum of two changes.
+fn added<'a>(a: Change<'a>, b: Change<'a>) -> Change<'a> {
+    Change {
+        name: a.name,
+        old: a.old + b.old,
+        new: a.new + b.new,
+        old_memory: a.old_memory + b.old_memory,
+        new_memory: a.new_memory + b.new_memory,
+    }
+}
+
+// Adds a change, if it changes something.
+fn push_differing<'a>(kept: &mut Vec<Change<'a>>, change: Change<'a>) -> Result<(), AllocError> {
+    if change.old == change.new && change.old_memory == change.new_memory {
+        return Ok(());
+    }
+    kept.push(change)?;
+    Ok(())
+}
+
+// How many bytes parts have in memory.
+fn memory_of(parts: &[Part]) -> u128 {
+    let sizes = parts.iter().map(|part| u128::from(part.memory));
+    sizes.sum()
+}
+
+// How changes are shown.
+pub(crate) struct Layout<'a> {
+    pub alloc: Global,
+    pub form: Form<'a>,
+    pub has_percent: bool,
+}
+
+impl Layout<'_> {
+    // The whole text.
+    fn text_of(&self, first: Option<usize>, old: &Parts, new: &Parts) -> Result<String, AllocError> {
+        let changes = changes_of(self.alloc, old, new)?;
+        let mut text = self.first_rows(first, &changes)?;
+        let total = Change {
+            name: "[total]",
+            old: old.file_length,
+            new: new.file_length,
+            old_memory: old.memory,
+            new_memory: new.memory,
+        };
+        self.push_row(&mut text, total)?;
+        Ok(text)
+    }
+
+    // The rows of the first changes, and the one that sums up all others.
+    fn first_rows(&self, first: Option<usize>, changes: &[Change<'_>]) -> Result<String, AllocError> {
+        let count = count_of(first, changes.len());
+        let mut text = self.each_row(&changes[..count])?;
+        if count >= changes.len() {
+            return Ok(text);
+        }
+        self.push_others(&mut text, &changes[count..])?;
+        Ok(text)
+    }
+
+    // The rows of changes.
+    fn each_row(&self, changes: &[Change<'_>]) -> Result<String, AllocError> {
+        let mut text = String::new(self.alloc);
+        for change in changes {
+            self.push_row(&mut text, *change)?;
+        }
+        Ok(text)
+    }
+
+    // Appends the row that sums up these changes.
+    fn push_others(&self, text: &mut String, others: &[Change<'_>]) -> Result<(), AllocError> {
+        let mut label = String::new(self.alloc);
+        write!(label, "[{} others]", others.len())?;
+        let row = Change {
+            name: label.as_str(),
+            old: others.iter().map(|change| change.old).sum(),
+            new: others.iter().map(|change| change.new).sum(),
+            old_memory: others.iter().map(|change| change.old_memory).sum(),
+            new_memory: others.iter().map(|change| change.new_memory).sum(),
+        };
+        self.push_row(text, row)
+    }
+
+    // Appends the row of a change.
+    fn push_row(&self, text: &mut String, change: Change<'_>) -> Result<(), AllocError> {
+        match self.form {
+            Form::Lines => self.push_line(text, change),
+            Form::Objects(file, _) => self.push_object(text, file, change),
+        }
+    }
+
+    fn push_line(&self, text: &mut String, change: Change<'_>) -> Result<(), AllocError> {
+        push_size(text, change.old)?;
+        push_size(text, change.new)?;
+        self.push_change(text, u128::from(change.old), u128::from(change.new))?;
+        self.push_change(text, change.old_memory, change.new_memory)?;
+        self.push_growth(text, change.old, change.new)?;
+        text.push_str(change.name)?;
+        text.push_str("\n")?;
+        Ok(())
+    }
+
+    // Appends a change with its sign.
+    fn push_change(&self, text: &mut String, old: u128, new: u128) -> Result<(), AllocError> {
+        let mut change = String::new(self.alloc);
+        write!(change, "{}{}", sign(old, new), old.abs_diff(new))?;
+        push_padded(text, change.as_str(), 11)
+    }
+
+    // Appends a change in per cent of the old number, if it is wanted.
+    fn push_growth(&self, text: &mut String, old: u64, new: u64) -> Result<(), AllocError> {
+        if !self.has_percent {
+            return Ok(());
+        }
+        let growth = growth_of(self.alloc, old, new)?;
+        push_padded(text, growth.as_str(), 10)
+    }
+
+    fn push_object(
+        &self,
+        text: &mut String,
+        file: &str,
+        change: Change<'_>,
+    ) -> Result<(), AllocError> {
+        push_start(text, file)?;
+        push_text_member(text, "section", Some(change.name))?;
+        push_number_member(text, "old", change.old)?;
+        push_number_member(text, "new", change.new)?;
+        push_bytes_change(text, change.old, change.new)?;
+        push_long_member(text, "old_memory", change.old_memory)?;
+        push_long_member(text, "new_memory", change.new_memory)?;
+        push_signed_member(text, "memory_change", change.old_memory, change.new_memory)?;
+        self.push_growth_member(text, change.old, change.new)?;
+        text.push_str("}\n")?;
+        Ok(())
+    }
+
+    // Appends the member of a change in per cent of the old number, if it is wanted.
+    fn push_growth_member(&self, text: &mut String, old: u64, new: u64) -> Result<(), AllocError> {
+        if !self.has_percent {
+            return Ok(());
+        }
+        if old == 0 {
+            return text.push_str(",\"percent\":null");
+        }
+        let minus = minus(u128::from(old), u128::from(new));
+        push_percent_member(text, minus, hundredths(old.abs_diff(new), old))
+    }
+}
+
+// Appends the member of a number of hundredths of a per cent.
+fn push_percent_member(text: &mut String, sign: &str, n: u128) -> Result<(), AllocError> {
+    let per_cent = n / 100;
+    write!(
+        text,
+        ",\"percent\":{sign}{per_cent}.{}{}",
+        n / 10 % 10,
+        n % 10
+    )
+}
+
+// Appends a size and a blank.
+fn push_size(text: &mut String, size: u64) -> Result<(), AllocError> {
+    write!(text, "{size:>10} ")
+}
+
+// The sign of a change.
+fn sign(old: u128, new: u128) -> &'static str {
+    if new < old { "-" } else { "+" }
+}
+
+// The minus of a change as a number.
+fn minus(old: u128, new: u128) -> &'static str {
+    if new < old { "-" } else { "" }
+}
+
+// The share of a number in a whole, in hundredths of a per cent, rounded down.
+fn hundredths(n: u64, whole: u64) -> u128 {
+    let n = 10_000 * u128::from(n);
+    n.checked_div(u128::from(whole)).unwrap_or(0)
+}
+
+// The change in per cent of the old number.
+fn growth_of(alloc: Global, old: u64, new: u64) -> Result<String, AllocError> {
+    if old == 0 {
+        return String::from_str(alloc, "new");
+    }
+    let n = hundredths(old.abs_diff(new), old);
+    let (sign, per_cent) = (sign(u128::from(old), u128::from(new)), n / 100);
+    String::formatted(alloc, format_args!("{sign}{per_cent}.{}{}%", n / 10 % 10, n % 10))
+}
+
+// Appends a label to the right of so many columns, and a blank.
+fn push_padded(text: &mut String, label: &str, width: usize) -> Result<(), AllocError> {
+    let blanks = width.saturating_sub(label.len());
+    write!(text, "{:>blanks$}{label} ", "")
+}
+
+// Appends the member of a change of bytes in the file.
+fn push_bytes_change(text: &mut String, old: u64, new: u64) -> Result<(), AllocError> {
+    push_signed_member(text, "change", u128::from(old), u128::from(new))
+}
+
+// Appends a member whose value is a number with its sign.
+fn push_signed_member(text: &mut String, name: &str, old: u128, new: u128) -> Result<(), AllocError> {
+    let minus = minus(old, new);
+    let distance = old.abs_diff(new);
+    write!(text, ",\"{name}\":{minus}{distance}")
+}

@@ -36,7 +36,7 @@ fn symbolizer(maps: &str, path: &str) -> Result<Symbolizer<'static>, Box<dyn Err
     Ok(Symbolizer::new(&tables)?.into_owned()?.with_linked(linked).with_base(base))
 }
 
-/// The return addresses in a backtrace's text, a line ` 3: 0x55d0c7b5d4a1 - NAME` each, which inlined functions repeat.
+/// The return addresses in a backtrace's text, a line `   3:     0x55d0c7b5d4a1 - NAME` each, which inlined functions repeat.
 fn addresses(trace: &str) -> Vec<u64> {
     let address = |line: &str| {
         let (_, rest) = line.split_once(": ")?;

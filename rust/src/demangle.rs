@@ -188,7 +188,7 @@ impl Demangler {
         with_shim(text, |text| {
             // A legacy name is printed part by part, and its text is mostly no longer than the name. Of a v0 name all is
             // appended at once.
-            if name.trim_start_matches('_').starts_with("ZN") {
+            if name.starts_with("_ZN") || name.starts_with("ZN") || name.starts_with("__ZN") {
                 text.reserve(name.len())?;
             }
             self.0.push_trimmed(text, name)

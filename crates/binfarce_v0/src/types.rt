@@ -67,6 +67,7 @@ pub(crate) fn print_type_by_letter(
 
 // A type that isn't a basic type.
 #[cycle(printing)]
+#[inline(always)]
 #[tactic(auto, unfolding(binfarce_v0_state::specs::machine::Printing::type_rule, binfarce_v0_grammar::specs::Forms::type_form_by))]
 fn print_other_type(printer: &mut Printer<'_>, here: Nesting, at: usize) -> Result<(), AllocError>
     requires entered { WithinLevels (here.levels_left + 1) here.binder_depth }

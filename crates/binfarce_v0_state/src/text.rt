@@ -26,10 +26,14 @@ pub trait Leaf {
         ensures { OnOk result (string_bytes out.new ≡ string_bytes out.old ++ text self) };
 }
 
-// A number in decimal.
+// A number in decimal. Most have one digit, which needs no formatting.
+#[tactic(auto, using(std::proofs::lemmas::Fmt::decimal_digit))]
 fn push_decimal(text: &mut String, n: u64) -> Result<(), AllocError>
     ensures { OnOk result (string_bytes text.new ≡ string_bytes text.old ++ decimal n) }
 {
+    if n < 10 {
+        return text.push((b'0' + n as u8) as char);
+    }
     write!(text, "{n}")
 }
 

@@ -6,7 +6,7 @@ use Rattle.binfarce_v0_state.specs.declared.state.Buffers as buffers
 
 -- the bytes that the fragments of a printing have room for: 176 for each fragment with its entry in the index, 8 for each word of targets
 abbrev pub fragments_bytes : fragments.Fragments → ℕ
-fragments_bytes f = vec_capacity f.fragments * 176 + vec_capacity f.targets.far * 8 + string_capacity f.copy + string_capacity f.trimmed_copy
+fragments_bytes f = vec_capacity f.fragments * 176 + vec_capacity f.targets.far * 8 + string_capacity f.copy
 
 -- the bytes that the buffers of a printing have room for
 abbrev pub buffers_bytes : buffers.Buffers → ℕ

@@ -46,6 +46,7 @@ pub(crate) fn print_type_by_letter(
 }
 
 // A type that isn't a basic type.
+#[cfg_attr(not(debug_assertions), inline(always))]
 fn print_other_type(printer: &mut Printer<'_>, here: Nesting, at: usize) -> Result<(), AllocError> {
     let bytes = printer.part.as_bytes();
     let after = at + 1;

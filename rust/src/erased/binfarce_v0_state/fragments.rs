@@ -65,8 +65,6 @@ pub struct Fragments {
     index: BTreeMap<FragmentKey, usize>,
     /// A buffer for the text that is written again.
     copy: String,
-    /// A buffer for the trimmed text that is written again.
-    trimmed_copy: String,
 }
 
 const LINEAR_SEARCH: usize = 16;
@@ -112,7 +110,6 @@ impl Fragments {
             fragments: Vec::new(alloc),
             index: BTreeMap::new(alloc),
             copy: String::new(alloc),
-            trimmed_copy: String::new(alloc),
         }
     }
 
@@ -138,7 +135,6 @@ impl Fragments {
             .saturating_mul(FRAGMENT_BYTES)
             .saturating_add(self.targets.bytes())
             .saturating_add(self.copy.capacity())
-            .saturating_add(self.trimmed_copy.capacity())
     }
 
     // Forgets all fragments.
@@ -294,7 +290,8 @@ impl<'a> Printer<'a> {
         Ok(true)
     }
 
-    // Writes a fragment's ranges of both texts again, each after its own text.
+    // Writes a fragment's ranges of both texts again, each after its own text. Each is copied through the shared end, which
+    // is empty then.
     fn write_both_again(&mut self, fragment: Fragment) -> Result<bool, AllocError> {
         let shared = share(&mut self.complete, &mut self.trimmed, &mut self.text);
         or_forget(&mut self.kept.fragments, shared)?;
@@ -308,14 +305,16 @@ impl<'a> Printer<'a> {
         else {
             return Ok(false);
         };
-        self.kept.copy.clear();
-        self.kept.copy.push_str(again)?;
-        self.kept.trimmed_copy.clear();
-        self.kept.trimmed_copy.push_str(trimmed)?;
-        let written = self.complete.push_str(self.kept.copy.as_str());
+        let copied = self.text.push_str(again);
+        or_forget(&mut self.kept.fragments, copied)?;
+        let written = self.complete.push_str(self.text.as_str());
         or_forget(&mut self.kept.fragments, written)?;
-        let written = self.trimmed.push_str(self.kept.trimmed_copy.as_str());
+        self.text.clear();
+        let copied = self.text.push_str(trimmed);
+        or_forget(&mut self.kept.fragments, copied)?;
+        let written = self.trimmed.push_str(self.text.as_str());
         or_forget(&mut self.kept.fragments, written)?;
+        self.text.clear();
         Ok(true)
     }
 

@@ -16,8 +16,11 @@ pub trait Leaf {
     fn push(self, out: &mut String) -> Result<(), AllocError>;
 }
 
-// A number in decimal.
+// A number in decimal. Most have one digit, which needs no formatting.
 fn push_decimal(text: &mut String, n: u64) -> Result<(), AllocError> {
+    if n < 10 {
+        return text.push((b'0' + n as u8) as char);
+    }
     write!(text, "{n}")
 }
 

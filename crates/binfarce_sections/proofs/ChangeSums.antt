@@ -12,11 +12,11 @@ use Rattle.binfarce_sections.specs.declared.changes.Change.{Change}
 use Rattle.binfarce_sections.specs.declared.changes.Parts.{Parts}
 use Rattle.binfarce_sections.specs.declared.sums.Share as code_share
 use Rattle.binfarce_tools.specs.Json.{Style}
-use Rattle.binfarce_sections.specs.Changes.{Part, Row, added, change_row, change_rows, differs, joined, joined_to, new_row, old_row, others_row, part_of, parts_of, rest_part, row_view, shown_row}
+use Rattle.binfarce_sections.specs.Changes.{Part, Row, change_row, change_rows, differs, memory_of, new_row, old_row, others_row, part_of, rest_of, row_view, shown_row}
 use Rattle.binfarce_sections.specs.Section.{Section}
 use Rattle.binfarce_sections.specs.Sums.{AreSharesOf, Share, count_of, share_view, total}
 use Rattle.binfarce_sections.specs.Views.{section_view}
-use Rattle.binfarce_sections.specs.machine.Changed.{Fit, IsWhole, parts_view}
+use Rattle.binfarce_sections.specs.machine.Changed.{Fit, IsWhole, added, joined, joined_to, parts_view, total_of}
 use Rattle.binfarce_sections.proofs.Whole.{all_le}
 
 -- sums over changes
@@ -51,7 +51,7 @@ fit_less xs ys fit less = (
 pub fit_joined : (changes : List Change) → Fit changes → Fit (filter differs (joined changes))
 fit_joined changes fit = fit_less changes (filter differs (joined changes)) fit (λ w adds. joined_le w adds changes)
 
-sum_map : {X Y : Type 0} (f : Y → ℕ) (g : X → Y) (xs : List X) → sum_by f (map g xs) ≡ sum_by (λ x. f (g x)) xs
+pub sum_map : {X Y : Type 0} (f : Y → ℕ) (g : X → Y) (xs : List X) → sum_by f (map g xs) ≡ sum_by (λ x. f (g x)) xs
 sum_map f g [] = refl
 sum_map f g (x ∷ xs) = omega (arith, sum_by-cons f (g x) (map g xs), sum_by-cons (λ y. f (g y)) x xs, sum_map f g xs)
 
@@ -60,7 +60,7 @@ none [] = refl
 none (p ∷ parts) = omega (arith, sum_by-cons (λ (q : Part). 0) p parts, none parts)
 
 module _ (given : List Change) (old new : Parts) (is : map row_view given ≡ map old_row (parts_view old) ++ map new_row (parts_view new)) where
-  given_sum : (w : Row → ℕ) → sum_by (λ (c : Change). w (row_view c)) given ≡ sum_by (λ (p : Part). w (old_row p)) (parts_view old) + sum_by (λ (p : Part). w (new_row p)) (parts_view new)
+  pub given_sum : (w : Row → ℕ) → sum_by (λ (c : Change). w (row_view c)) given ≡ sum_by (λ (p : Part). w (old_row p)) (parts_view old) + sum_by (λ (p : Part). w (new_row p)) (parts_view new)
   given_sum w = omega (
     arith,
     sum_map w row_view given,
@@ -91,16 +91,18 @@ shares_le len sections ranked (given, sorted, shares, same, by_offset, are, by_s
 )
 
 -- with those that count for none they are all
-pub parts_sum : (len : ℕ) (sections : List Section) (ranked : List code_share.Share) → AreSharesOf len sections ranked → sum_by (λ (p : Part). p.bytes) (parts_of len (map share_view ranked)) ≡ len
-parts_sum len sections ranked are =
-    let shares = map share_view ranked in
-    omega (
-      arith,
-      sum_by-append (λ (p : Part). p.bytes) (map part_of shares) (rest_part len shares ∷ []),
-      sum_map (λ (p : Part). p.bytes) part_of shares,
-      sum_by-cons (λ (p : Part). p.bytes) (rest_part len shares) [],
-      shares_le len sections ranked are,
-    )
+pub parts_sum : (len : ℕ) (sections : List Section) (ranked : List code_share.Share) → AreSharesOf len sections ranked → total_of (map part_of (map share_view ranked)) + (len - total (map share_view ranked)) ≡ len
+parts_sum len sections ranked are = omega (arith, sum_map (λ (p : Part). p.bytes) part_of (map share_view ranked), shares_le len sections ranked are)
+
+pub parts_memory : (shares : List Share) → memory_of (map part_of shares) ≡ sum_by (λ (s : Share). s.section.memory_size) shares
+parts_memory shares = sum_map (λ (p : Part). p.memory) part_of shares
+
+-- the sums over parts, with the bytes that count for none
+pub whole_length : (parts : List Part) (rest : ℕ) → total_of (parts ++ rest_of rest ∷ []) ≡ total_of parts + rest
+whole_length parts rest = omega (arith, sum_by-append (λ (p : Part). p.bytes) parts (rest_of rest ∷ []), sum_by-cons (λ (p : Part). p.bytes) (rest_of rest) [])
+
+pub whole_memory : (parts : List Part) (rest : ℕ) → memory_of (parts ++ rest_of rest ∷ []) ≡ memory_of parts
+whole_memory parts rest = omega (arith, sum_by-append (λ (p : Part). p.memory) parts (rest_of rest ∷ []), sum_by-cons (λ (p : Part). p.memory) (rest_of rest) [])
 
 -- the sum over a part of a list
 pub part_le : {X : Type 0} (f : X → ℕ) (xs : List X) (m n : ℕ) → sum_by f (take m (drop n xs)) ≤ sum_by f xs

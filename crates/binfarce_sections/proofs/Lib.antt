@@ -11,4 +11,5 @@ pub mod SumRows
 pub mod Whole
 pub mod Widths
 pub mod ChangeSums
+pub mod Joined
 pub mod ChangeAnswers

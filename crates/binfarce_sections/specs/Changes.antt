@@ -3,7 +3,8 @@ use Rattle.std.specs.Prelude.{◌≡◌, ℕ, zero, suc, ◌+◌, ◌-◌, ◌*�
 use Rattle.std.specs.Cmp.Lexicographic.{slice_cmp}
 use Rattle.std.specs.Fmt.{decimal}
 use Rattle.std.specs.Io.KnownBytes.{Appends}
-use Rattle.std.specs.List.{concat, flat_map, sum_by}
+use Rattle.std.specs.List.{concat, flat_map, list_any, sum_by}
+use Rattle.std.specs.List.Sorted.{IsStrictlySortedBy}
 use Rattle.std.specs.Ordering.{nat_cmp}
 use Rattle.std.specs.Str.{bytes_eq}
 use Rattle.binfarce.specs.Format.{format_of}
@@ -31,12 +32,12 @@ pub record Part : Type 0 where
 abbrev pub part_of : Share → Part
 part_of s = record { name = name_text s.section.segment s.section.name; bytes = s.bytes; memory = s.section.memory_size }
 
--- the part of the bytes that count for no section
-abbrev pub rest_part : (file_length : ℕ) → List Share → Part
-rest_part file_length shares = record { name = codes "[headers and gaps]"; bytes = file_length - total shares; memory = 0 }
+-- the part of so many bytes that count for no section
+abbrev pub rest_of : (bytes : ℕ) → Part
+rest_of bytes = record { name = codes "[headers and gaps]"; bytes = bytes; memory = 0 }
 
 abbrev pub parts_of : (file_length : ℕ) → List Share → List Part
-parts_of file_length shares = map part_of shares ++ rest_part file_length shares ∷ []
+parts_of file_length shares = map part_of shares ++ rest_of (file_length - total shares) ∷ []
 
 -- how many bytes parts have in memory
 abbrev pub memory_of : List Part → ℕ
@@ -66,18 +67,24 @@ old_row p = record { name = p.name; old = p.bytes; new = 0; old_memory = p.memor
 abbrev pub new_row : Part → Row
 new_row p = record { name = p.name; old = 0; new = p.bytes; old_memory = 0; new_memory = p.memory }
 
--- two changes of one name become one: their numbers are added
-abbrev pub added : Change → Change → Change
-added a b = record { name = a.name; old = a.old + b.old; new = a.new + b.new; old_memory = a.old_memory + b.old_memory; new_memory = a.new_memory + b.new_memory }
+-- the sum over the parts of a name
+abbrev pub sum_named : (size : Part → ℕ) → (name : List ℕ) → List Part → ℕ
+sum_named size name parts = sum_by size (filter (λ p. bytes_eq p.name name) parts)
 
--- a change, and then others: neighbours of one name become one
-abbrev pub joined_to : Change → List Change → List Change
-joined_to c [] = c ∷ []
-joined_to c (next ∷ others) = if bytes_eq c.name.now next.name.now then joined_to (added c next) others else c ∷ joined_to next others
+-- the row of a name, between the parts of the old file and those of the new one
+abbrev pub row_of : (old new : List Part) → (name : List ℕ) → Row
+row_of old new name = record {
+  name = name;
+  old = sum_named (λ p. p.bytes) name old;
+  new = sum_named (λ p. p.bytes) name new;
+  old_memory = sum_named (λ p. p.memory) name old;
+  new_memory = sum_named (λ p. p.memory) name new;
+}
 
-abbrev pub joined : List Change → List Change
-joined [] = []
-joined (c ∷ others) = joined_to c others
+-- names are those of parts, in the order of their bytes, each once
+pub record AreNamesOf (parts : List Part) (names : List (List ℕ)) : Type 0 where
+  pub rises : IsStrictlySortedBy (slice_cmp nat_cmp) names
+  pub same : (name : List ℕ) → list_any (bytes_eq name) names ≡ list_any (λ p. bytes_eq name p.name) parts
 
 -- the distance of two numbers
 abbrev pub difference : (old new : ℕ) → ℕ
@@ -92,11 +99,10 @@ abbrev pub IsRanked : (changes ranked : List Change) → Type 0
 IsRanked changes ranked =
     (by_memory : List Change) × IsByKey (λ c. difference c.old_memory c.new_memory) falling changes by_memory × IsByKey (λ c. difference c.old c.new) falling by_memory ranked
 
--- changes are those from the old parts to the new ones: one for each name whose numbers differ, which are the sums of the name's parts; those of one rank are in the order of the names' bytes
+-- changes are those from the old parts to the new ones: one for each name whose sums differ; those of one rank are in the order of the names' bytes
 abbrev pub AreChangesFrom : (old new : List Part) → List Change → Type 0
 AreChangesFrom old new changes =
-    (given by_name : List Change) × (map row_view given ≡ map old_row old ++ map new_row new) × IsByKey (λ c. c.name.now) (slice_cmp nat_cmp) given by_name
-    × IsRanked (filter differs (joined by_name)) changes
+    (names : List (List ℕ)) × (rows : List Change) × AreNamesOf (old ++ new) names × (map row_view rows ≡ map (row_of old new) names) × IsRanked (filter differs rows) changes
 
 abbrev pub sign : (old new : ℕ) → List ℕ
 sign old new = if nat_lt new old then codes "-" else codes "+"
@@ -243,6 +249,10 @@ TakesChanges has_percent style first before after old_may_fail new_may_fail =
 abbrev pub ended : Result (ℕ × ℕ) ChangeError → Result (ℕ × ℕ) SectionError
 ended (Ok lengths) = Ok lengths
 ended (Err e) = Err e.error
+
+-- an error that is the old file's
+abbrev pub old_error : SectionError → ChangeError
+old_error e = record { error = e; is_of_old = true }
 
 -- an error that isn't the old file's
 abbrev pub other_error : SectionError → ChangeError

@@ -1,22 +1,24 @@
 //! How the bytes of the sections of two files differ.
 
-ghost use Rattle.std.specs.Prelude.{◌≡◌, ◌≢◌, ◌<◌, ◌^◌, ◌++◌, ◌∷◌, [], ℕ, List, codes, filter, map, Some, IfOk, IfErr, OnOk};
-ghost use Rattle.std.specs.List.{flat_map, sum_by};
+ghost use Rattle.std.specs.Prelude.{◌≡◌, ◌≢◌, ◌+◌, ◌<◌, ◌^◌, ◌++◌, ◌∷◌, [], ℕ, Bool, List, Ok, Err, codes, filter, map, Some, IfOk, IfErr, OnOk, MatchResult};
+ghost use Rattle.std.specs.List.{flat_map};
+ghost use Rattle.std.specs.Option.{option_map};
 ghost use Rattle.std.specs.String.{string_bytes};
 ghost use Rattle.binfarce_tools.specs.Json.{style_of};
 ghost use Rattle.binfarce_tools.specs.Listing.{pad_left};
-ghost use Rattle.binfarce_sections.specs.Changes.{AreChangesFrom, TakesChanges, added, change_line, change_object, change_row, change_rows, change_text, difference, differs, ended, growth_member, growth_part, growth_text, hundredths, joined, memory_of, minus, new_row, old_row, others_row, part_of, percent_member, rest_part, row_view, shown_row, sign, signed_member, size_column};
+ghost use Rattle.binfarce_sections.specs.Changes.{AreChangesFrom, TakesChanges, change_line, change_object, change_row, change_rows, change_text, difference, differs, ended, growth_member, growth_part, growth_text, hundredths, memory_of, minus, new_row, old_error, old_row, others_row, part_of, percent_member, rest_of, row_view, shown_row, sign, signed_member, size_column};
 ghost use Rattle.binfarce_sections.specs.Results.{Fails};
 ghost use Rattle.binfarce_sections.specs.Sums.{share_view};
-ghost use Rattle.binfarce_sections.specs.Views.{sections_left};
+ghost use Rattle.binfarce_sections.specs.Views.{section_view, sections_left};
 ghost use Rattle.binfarce_sections.specs.declared.error.SectionError.TheVariants.{Write};
-ghost use Rattle.binfarce_sections.specs.machine.Changed.{AreLeft, Fit, IsTextFor, IsWhole, ReadsParts, part_view, parts_view};
+ghost use Rattle.binfarce_sections.specs.machine.Changed.{AreLeft, Fit, IsFullName, IsTextFor, IsWhole, OpensTables, ReadsParts, added, joined, named_view, parts_view, shown_name, total_of};
+ghost use Rattle.binfarce_sections.specs.machine.Tables.{AreTablesOf};
 
 use crate::error::SectionError;
 use crate::list::push_name;
-use crate::sections::Sections;
-use crate::sums::{Share, active_of, count_of, push_long_member, ranked_of};
-use crate::tables::read;
+use crate::sections::{Section, Sections};
+use crate::sums::{Share, active_of, count_of, memory_of, push_long_member, ranked_of, rest_of};
+use crate::tables::{Tables, read};
 use binfarce_bytes::source::Source;
 use binfarce_tools::json::{Form, push_number_member, push_start, push_text_member};
 use binfarce_tools::list::Sink;
@@ -88,18 +90,33 @@ impl From<AllocError> for ChangeError {
     }
 }
 
-// What one section adds to its name, or what the bytes add that count for no section.
+// A section with the bytes that count for it.
 #[derive(Drop)]
-pub(crate) struct Part {
-    pub name: String,
-    pub bytes: u64,
-    pub memory: u64,
+pub(crate) struct Named<'a> {
+    pub share: Share<'a>,
+    /// Its name after its segment's, if it has a segment.
+    pub full_name: Option<String>,
 }
 
-// The parts of a file, how many bytes the file has, and how many its sections have in memory.
+impl Named<'_> {
+    // The name, as `sum_sections` shows it.
+    fn name(&self) -> &str
+        ensures { result.now ≡ shown_name self.now }
+    {
+        match (&self.full_name, self.share.section.name) {
+            (Some(name), _) => name.as_str(),
+            (None, Some(name)) => name,
+            (None, None) => "",
+        }
+    }
+}
+
+// The sections of a file, how many of its bytes count for none, how many bytes it has, and how many its sections have
+// in memory.
 #[derive(Drop)]
-pub(crate) struct Parts {
-    pub parts: Vec<Part>,
+pub(crate) struct Parts<'a> {
+    pub named: Vec<Named<'a>>,
+    pub rest: u64,
     pub file_length: u64,
     pub memory: u128,
 }
@@ -137,16 +154,10 @@ pub fn diff_sections<F: Source<Log = ()>, G: Source<Log = ()>, S: Sink>(
         (F.may_fail old.now) (G.may_fail new.now) (S.taken out.old) (S.taken out.new) result }
     ensures fails { Fails (S.has_failed out.old) (S.has_failed out.new) (ended result) }
 {
-    let before = match parts_of(alloc, old) {
-        Ok(parts) => parts,
-        Err(error) => {
-            return Err(ChangeError {
-                error,
-                is_of_old: true,
-            });
-        }
-    };
-    let after = parts_of(alloc, new)?;
+    let old_tables = of_old(tables_of(alloc, old))?;
+    let before = of_old(parts_of(alloc, &old_tables))?;
+    let new_tables = tables_of(alloc, new)?;
+    let after = parts_of(alloc, &new_tables)?;
     let layout = Layout {
         alloc,
         form,
@@ -159,93 +170,112 @@ pub fn diff_sections<F: Source<Log = ()>, G: Source<Log = ()>, S: Sink>(
     }
 }
 
-// The parts of a file.
-fn parts_of<F: Source<Log = ()>>(alloc: Global, source: &F) -> Result<Parts, SectionError>
+// A result for the old file.
+fn of_old<T>(given: Result<T, SectionError>) -> Result<T, ChangeError>
+    ensures { MatchResult given (λ v. result ≡ Ok v) (λ e. result ≡ Err (old_error e)) }
+{
+    match given {
+        Ok(value) => Ok(value),
+        Err(error) => Err(ChangeError {
+            error,
+            is_of_old: true,
+        }),
+    }
+}
+
+// The tables of a file's sections.
+fn tables_of<F: Source<Log = ()>>(alloc: Global, source: &F) -> Result<Tables, SectionError>
     ensures reads { (file : List ℕ) → F.bytes source.now ≡ Some file
-        → ReadsParts (F.may_fail source.now) file result }
+        → OpensTables (F.may_fail source.now) file result }
+    ensures unwritten { IfErr result (λ e. e ≢ Write) }
+{
+    Ok(read(alloc, source, &mut ())?)
+}
+
+// The parts of a file with these tables.
+fn parts_of<'a>(alloc: Global, tables: &'a Tables) -> Result<Parts<'a>, SectionError>
+    ensures reads { (may_fail : Bool) (file : List ℕ) → AreTablesOf file tables.entry.now
+        → ReadsParts may_fail file result }
     ensures whole { IfOk result IsWhole }
     ensures unwritten { IfErr result (λ e. e ≢ Write) }
 {
-    let tables = read(alloc, source, &mut ())?;
     let sections = tables.sections()?;
-    let file_length = tables.file_length();
-    let parts = parts_left(alloc, sections, file_length)?;
-    let memory = memory_of(&parts);
-    Ok(whole(parts, file_length, memory))
+    parts_left(alloc, sections, tables.file_length())
 }
 
-// Parts with the sums over them.
-fn whole(parts: Vec<Part>, file_length: u64, memory: u128) -> Parts
-    requires { (sum_by (λ p. p.bytes) (map part_view parts.items) ≡ file_length)
-        × (memory_of (map part_view parts.items) ≡ memory) }
-    ensures is { (parts_view result ≡ map part_view parts.items) × (result.file_length ≡ file_length) }
+// The parts of the sections that are left.
+fn parts_left<'a>(
+    alloc: Global,
+    sections: Sections<'a>,
+    file_length: u64,
+) -> Result<Parts<'a>, SectionError>
+    ensures left { AreLeft file_length (sections_left sections.entry) result }
+    ensures whole { IfOk result IsWhole }
+{
+    let sections = active_of(alloc, sections)?;
+    let shares = ranked_of(alloc, sections, file_length)?;
+    let named = named_of(alloc, &shares)?;
+    Ok(whole(named, rest_of(&shares, file_length), file_length, memory_of(&shares)))
+}
+
+// Sections with the sums over them.
+fn whole<'a>(named: Vec<Named<'a>>, rest: u128, file_length: u64, memory: u128) -> Parts<'a>
+    requires { (total_of (map named_view named.items) + rest ≡ file_length)
+        × (memory_of (map named_view named.items) ≡ memory) }
+    ensures is { (parts_view result ≡ map named_view named.entry.items ++ rest_of rest ∷ [])
+        × (result.file_length ≡ file_length) }
     ensures whole { IsWhole result }
 {
     Parts {
-        parts,
+        named,
+        rest: rest as u64,
         file_length,
         memory,
     }
 }
 
-// The parts of the sections that are left.
-fn parts_left(
-    alloc: Global,
-    sections: Sections<'_>,
-    file_length: u64,
-) -> Result<Vec<Part>, SectionError>
-    ensures { AreLeft file_length (sections_left sections.entry) result }
+// Sections with the names that aren't stored whole.
+fn named_of<'a>(alloc: Global, shares: &[Share<'a>]) -> Result<Vec<Named<'a>>, AllocError>
+    ensures { IfOk result (λ v. map named_view v.items ≡ map part_of (map share_view shares.now)) }
 {
-    let sections = active_of(alloc, sections)?;
-    let shares = ranked_of(alloc, sections, file_length)?;
-    Ok(named_of(alloc, &shares, file_length)?)
-}
-
-// The parts of shares, and that of the rest.
-fn named_of(alloc: Global, shares: &[Share<'_>], file_length: u64) -> Result<Vec<Part>, AllocError>
-    ensures { IfOk result (λ v. map part_view v.items
-        ≡ map part_of (map share_view shares.now) ++ rest_part file_length (map share_view shares.now) ∷ []) }
-{
-    let mut parts = Vec::new(alloc);
-    let mut rest = file_length;
+    let mut all = Vec::new(alloc);
     for share in shares {
-        rest = rest.saturating_sub(share.bytes);
-        parts.push(part_of(alloc, share)?)?;
+        all.push(with_name(alloc, *share)?)?;
     }
-    let name = String::from_str(alloc, "[headers and gaps]")?;
-    parts.push(Part {
-        name,
-        bytes: rest,
-        memory: 0,
-    })?;
-    Ok(parts)
+    Ok(all)
 }
 
-// The part of a section.
-fn part_of(alloc: Global, share: &Share<'_>) -> Result<Part, AllocError>
-    ensures { IfOk result (λ p. part_view p ≡ part_of (share_view share.now)) }
+// A section with its name.
+fn with_name<'a>(alloc: Global, share: Share<'a>) -> Result<Named<'a>, AllocError>
+    ensures { IfOk result (λ n. named_view n ≡ part_of (share_view share.entry)) }
 {
-    let section = &share.section;
+    let full_name = full_name(alloc, &share.section)?;
+    Ok(Named { share, full_name })
+}
+
+// A section's name after its segment's, if it has a segment.
+fn full_name(alloc: Global, section: &Section<'_>) -> Result<Option<String>, AllocError>
+    ensures { IfOk result (λ t. IsFullName (section_view section.now) (option_map string_bytes t)) }
+{
+    if section.segment.is_none() {
+        return Ok(None);
+    }
     let mut name = String::new(alloc);
     push_name(&mut name, section.segment, section.name)?;
-    Ok(Part {
-        name,
-        bytes: share.bytes,
-        memory: section.memory_size,
-    })
+    Ok(Some(name))
 }
 
 // The changes from old parts to new ones.
 fn changes_of<'a>(
     alloc: Global,
-    old: &'a Parts,
-    new: &'a Parts,
+    old: &'a Parts<'a>,
+    new: &'a Parts<'a>,
 ) -> Result<Vec<Change<'a>>, AllocError>
     requires { IsWhole old.now × IsWhole new.now }
     ensures from { IfOk result (λ v. AreChangesFrom (parts_view old.entry.now) (parts_view new.entry.now) v.items) }
     ensures fit { IfOk result (λ v. Fit v.items) }
 {
-    let mut given = given_of(alloc, &old.parts, &new.parts)?;
+    let mut given = given_of(alloc, old, new)?;
     given.sort_by_key(|change| change.name)?;
     let mut changes = joined_of(alloc, &given)?;
     changes.sort_by_key(|change| Reverse(distance(change.old_memory, change.new_memory)))?;
@@ -269,45 +299,52 @@ fn bytes_distance(old: u64, new: u64) -> u64
 // A change for each part.
 fn given_of<'a>(
     alloc: Global,
-    old: &'a [Part],
-    new: &'a [Part],
+    old: &'a Parts<'a>,
+    new: &'a Parts<'a>,
 ) -> Result<Vec<Change<'a>>, AllocError>
     ensures { IfOk result (λ v. map row_view v.items
-        ≡ map old_row (map part_view old.entry.now) ++ map new_row (map part_view new.entry.now)) }
+        ≡ map old_row (parts_view old.entry.now) ++ map new_row (parts_view new.entry.now)) }
 {
     let mut given = Vec::new(alloc);
-    for part in old {
-        given.push(old_change(part))?;
+    for named in &old.named {
+        let share = &named.share;
+        given.push(old_change(named.name(), share.bytes, share.section.memory_size))?;
     }
-    for part in new {
-        given.push(new_change(part))?;
+    given.push(old_change(REST, old.rest, 0))?;
+    for named in &new.named {
+        let share = &named.share;
+        given.push(new_change(named.name(), share.bytes, share.section.memory_size))?;
     }
+    given.push(new_change(REST, new.rest, 0))?;
     Ok(given)
 }
 
-// The change that an old part makes alone.
-fn old_change(part: &Part) -> Change<'_>
-    ensures { row_view result ≡ old_row (part_view part.entry.now) }
+// The name of the bytes that count for no section.
+const REST: &str = "[headers and gaps]";
+
+// The change that a part of the old file makes alone.
+fn old_change(name: &str, bytes: u64, memory: u64) -> Change<'_>
+    ensures { row_view result ≡ old_row (record { name = name.entry.now; bytes = bytes; memory = memory }) }
 {
     Change {
-        name: part.name.as_str(),
-        old: part.bytes,
+        name,
+        old: bytes,
         new: 0,
-        old_memory: u128::from(part.memory),
+        old_memory: u128::from(memory),
         new_memory: 0,
     }
 }
 
-// The change that a new part makes alone.
-fn new_change(part: &Part) -> Change<'_>
-    ensures { row_view result ≡ new_row (part_view part.entry.now) }
+// The change that a part of the new file makes alone.
+fn new_change(name: &str, bytes: u64, memory: u64) -> Change<'_>
+    ensures { row_view result ≡ new_row (record { name = name.entry.now; bytes = bytes; memory = memory }) }
 {
     Change {
-        name: part.name.as_str(),
+        name,
         old: 0,
-        new: part.bytes,
+        new: bytes,
         old_memory: 0,
-        new_memory: u128::from(part.memory),
+        new_memory: u128::from(memory),
     }
 }
 
@@ -358,14 +395,6 @@ fn push_differing<'a>(kept: &mut Vec<Change<'a>>, change: Change<'a>) -> Result<
     Ok(())
 }
 
-// How many bytes parts have in memory.
-fn memory_of(parts: &[Part]) -> u128
-    ensures { result ≡ memory_of (map part_view parts.now) }
-{
-    let sizes = parts.iter().map(|part| u128::from(part.memory));
-    sizes.sum()
-}
-
 // How changes are shown.
 #[derive(Drop)]
 pub(crate) struct Layout<'a> {
@@ -376,7 +405,12 @@ pub(crate) struct Layout<'a> {
 
 impl Layout<'_> {
     // The whole text.
-    fn text_of(&self, first: Option<usize>, old: &Parts, new: &Parts) -> Result<String, AllocError>
+    fn text_of(
+        &self,
+        first: Option<usize>,
+        old: &Parts<'_>,
+        new: &Parts<'_>,
+    ) -> Result<String, AllocError>
         requires { IsWhole old.now × IsWhole new.now }
         ensures { IfOk result (λ t. IsTextFor self.now first old.now new.now (string_bytes t)) }
     {

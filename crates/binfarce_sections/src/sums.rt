@@ -1,6 +1,6 @@
 //! The bytes of a file by its sections.
 
-ghost use Rattle.std.specs.Prelude.{◌≡◌, ◌≢◌, ◌+◌, ◌++◌, ◌∷◌, [], ℕ, List, codes, length, map, min, Some, IfOk, IfErr, OnOk};
+ghost use Rattle.std.specs.Prelude.{◌≡◌, ◌≢◌, ◌+◌, ◌-◌, ◌++◌, ◌∷◌, [], ℕ, List, codes, length, map, min, Some, IfOk, IfErr, OnOk};
 ghost use Rattle.std.specs.List.{flat_map, sum_by};
 ghost use Rattle.std.specs.List.Sorted.{IsSortedByKey};
 ghost use Rattle.std.specs.Ordering.{nat_cmp};
@@ -206,10 +206,17 @@ fn rows_of(
 {
     let mut text = String::new(alloc);
     push_shares(alloc, &mut text, form, first, shares)?;
-    let rest = u128::from(file_length).saturating_sub(total_of(shares));
+    let rest = rest_of(shares, file_length);
     push_plain(&mut text, form, "[headers and gaps]", rest, 0)?;
     push_end(&mut text, form, file_length)?;
     Ok(text)
+}
+
+// How many of a file's bytes count for no section.
+pub(crate) fn rest_of(shares: &[Share<'_>], file_length: u64) -> u128
+    ensures { result ≡ file_length - total (map share_view shares.now) }
+{
+    u128::from(file_length).saturating_sub(total_of(shares))
 }
 
 // Appends the line of the file's length; no object.
@@ -341,7 +348,7 @@ fn total_of(shares: &[Share<'_>]) -> u128
 }
 
 // How many bytes they have in memory.
-fn memory_of(shares: &[Share<'_>]) -> u128
+pub(crate) fn memory_of(shares: &[Share<'_>]) -> u128
     ensures { result ≡ sum_by (λ s. s.section.memory_size) (map share_view shares.now) }
 {
     let sizes = shares

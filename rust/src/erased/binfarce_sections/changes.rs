@@ -5,11 +5,11 @@
 use crate::shim::{String, Vec};
 use crate::erased::binfarce_sections::error::SectionError;
 use crate::erased::binfarce_sections::list::push_name;
-use crate::erased::binfarce_sections::sections::Sections;
+use crate::erased::binfarce_sections::sections::{Section, Sections};
 use crate::erased::binfarce_sections::sums::{
-    Share, active_of, count_of, push_long_member, ranked_of,
+    Share, active_of, count_of, memory_of, push_long_member, ranked_of, rest_of,
 };
-use crate::erased::binfarce_sections::tables::read;
+use crate::erased::binfarce_sections::tables::{Tables, read};
 use crate::erased::binfarce_bytes::source::Source;
 use crate::erased::binfarce_tools::json::{Form, push_number_member, push_start, push_text_member};
 use crate::erased::binfarce_tools::list::Sink;
@@ -67,16 +67,29 @@ impl From<AllocError> for ChangeError {
     }
 }
 
-// What one section adds to its name, or what the bytes add that count for no section.
-pub(crate) struct Part {
-    pub name: String,
-    pub bytes: u64,
-    pub memory: u64,
+// A section with the bytes that count for it.
+pub(crate) struct Named<'a> {
+    pub share: Share<'a>,
+    /// Its name after its segment's, if it has a segment.
+    pub full_name: Option<String>,
 }
 
-// The parts of a file, how many bytes the file has, and how many its sections have in memory.
-pub(crate) struct Parts {
-    pub parts: Vec<Part>,
+impl Named<'_> {
+    // The name, as `sum_sections` shows it.
+    fn name(&self) -> &str {
+        match (&self.full_name, self.share.section.name) {
+            (Some(name), _) => name.as_str(),
+            (None, Some(name)) => name,
+            (None, None) => "",
+        }
+    }
+}
+
+// The sections of a file, how many of its bytes count for none, how many bytes it has, and how many its sections have
+// in memory.
+pub(crate) struct Parts<'a> {
+    pub named: Vec<Named<'a>>,
+    pub rest: u64,
     pub file_length: u64,
     pub memory: u128,
 }
@@ -109,16 +122,10 @@ pub fn diff_sections<F: Source<Log = ()>, G: Source<Log = ()>, S: Sink>(
     form: Form<'_>,
     out: &mut S,
 ) -> Result<(u64, u64), ChangeError> {
-    let before = match parts_of(alloc, old) {
-        Ok(parts) => parts,
-        Err(error) => {
-            return Err(ChangeError {
-                error,
-                is_of_old: true,
-            });
-        }
-    };
-    let after = parts_of(alloc, new)?;
+    let old_tables = of_old(tables_of(alloc, old))?;
+    let before = of_old(parts_of(alloc, &old_tables))?;
+    let new_tables = tables_of(alloc, new)?;
+    let after = parts_of(alloc, &new_tables)?;
     let layout = Layout {
         alloc,
         form,
@@ -131,72 +138,82 @@ pub fn diff_sections<F: Source<Log = ()>, G: Source<Log = ()>, S: Sink>(
     }
 }
 
-// The parts of a file.
-fn parts_of<F: Source<Log = ()>>(alloc: Global, source: &F) -> Result<Parts, SectionError> {
-    let tables = read(alloc, source, &mut ())?;
-    let sections = tables.sections()?;
-    let file_length = tables.file_length();
-    let parts = parts_left(alloc, sections, file_length)?;
-    let memory = memory_of(&parts);
-    Ok(whole(parts, file_length, memory))
+// A result for the old file.
+fn of_old<T>(given: Result<T, SectionError>) -> Result<T, ChangeError> {
+    match given {
+        Ok(value) => Ok(value),
+        Err(error) => Err(ChangeError {
+            error,
+            is_of_old: true,
+        }),
+    }
 }
 
-// Parts with the sums over them.
-fn whole(parts: Vec<Part>, file_length: u64, memory: u128) -> Parts {
+// The tables of a file's sections.
+fn tables_of<F: Source<Log = ()>>(alloc: Global, source: &F) -> Result<Tables, SectionError> {
+    Ok(read(alloc, source, &mut ())?)
+}
+
+// The parts of a file with these tables.
+fn parts_of<'a>(alloc: Global, tables: &'a Tables) -> Result<Parts<'a>, SectionError> {
+    let sections = tables.sections()?;
+    parts_left(alloc, sections, tables.file_length())
+}
+
+// The parts of the sections that are left.
+fn parts_left<'a>(
+    alloc: Global,
+    sections: Sections<'a>,
+    file_length: u64,
+) -> Result<Parts<'a>, SectionError> {
+    let sections = active_of(alloc, sections)?;
+    let shares = ranked_of(alloc, sections, file_length)?;
+    let named = named_of(alloc, &shares)?;
+    Ok(whole(named, rest_of(&shares, file_length), file_length, memory_of(&shares)))
+}
+
+// Sections with the sums over them.
+fn whole<'a>(named: Vec<Named<'a>>, rest: u128, file_length: u64, memory: u128) -> Parts<'a> {
     Parts {
-        parts,
+        named,
+        rest: rest as u64,
         file_length,
         memory,
     }
 }
 
-// The parts of the sections that are left.
-fn parts_left(
-    alloc: Global,
-    sections: Sections<'_>,
-    file_length: u64,
-) -> Result<Vec<Part>, SectionError> {
-    let sections = active_of(alloc, sections)?;
-    let shares = ranked_of(alloc, sections, file_length)?;
-    Ok(named_of(alloc, &shares, file_length)?)
-}
-
-// The parts of shares, and that of the rest.
-fn named_of(alloc: Global, shares: &[Share<'_>], file_length: u64) -> Result<Vec<Part>, AllocError> {
-    let mut parts = Vec::new(alloc);
-    let mut rest = file_length;
+// Sections with the names that aren't stored whole.
+fn named_of<'a>(alloc: Global, shares: &[Share<'a>]) -> Result<Vec<Named<'a>>, AllocError> {
+    let mut all = Vec::new(alloc);
     for share in shares {
-        rest = rest.saturating_sub(share.bytes);
-        parts.push(part_of(alloc, share)?)?;
+        all.push(with_name(alloc, *share)?)?;
     }
-    let name = String::from_str(alloc, "[headers and gaps]")?;
-    parts.push(Part {
-        name,
-        bytes: rest,
-        memory: 0,
-    })?;
-    Ok(parts)
+    Ok(all)
 }
 
-// The part of a section.
-fn part_of(alloc: Global, share: &Share<'_>) -> Result<Part, AllocError> {
-    let section = &share.section;
+// A section with its name.
+fn with_name<'a>(alloc: Global, share: Share<'a>) -> Result<Named<'a>, AllocError> {
+    let full_name = full_name(alloc, &share.section)?;
+    Ok(Named { share, full_name })
+}
+
+// A section's name after its segment's, if it has a segment.
+fn full_name(alloc: Global, section: &Section<'_>) -> Result<Option<String>, AllocError> {
+    if section.segment.is_none() {
+        return Ok(None);
+    }
     let mut name = String::new(alloc);
     push_name(&mut name, section.segment, section.name)?;
-    Ok(Part {
-        name,
-        bytes: share.bytes,
-        memory: section.memory_size,
-    })
+    Ok(Some(name))
 }
 
 // The changes from old parts to new ones.
 fn changes_of<'a>(
     alloc: Global,
-    old: &'a Parts,
-    new: &'a Parts,
+    old: &'a Parts<'a>,
+    new: &'a Parts<'a>,
 ) -> Result<Vec<Change<'a>>, AllocError> {
-    let mut given = given_of(alloc, &old.parts, &new.parts)?;
+    let mut given = given_of(alloc, old, new)?;
     given.sort_by_key(|change| change.name)?;
     let mut changes = joined_of(alloc, &given)?;
     changes.sort_by_key(|change| Reverse(distance(change.old_memory, change.new_memory)))?;
@@ -216,38 +233,45 @@ fn bytes_distance(old: u64, new: u64) -> u64 {
 // A change for each part.
 fn given_of<'a>(
     alloc: Global,
-    old: &'a [Part],
-    new: &'a [Part],
+    old: &'a Parts<'a>,
+    new: &'a Parts<'a>,
 ) -> Result<Vec<Change<'a>>, AllocError> {
     let mut given = Vec::new(alloc);
-    for part in old {
-        given.push(old_change(part))?;
+    for named in &old.named {
+        let share = &named.share;
+        given.push(old_change(named.name(), share.bytes, share.section.memory_size))?;
     }
-    for part in new {
-        given.push(new_change(part))?;
+    given.push(old_change(REST, old.rest, 0))?;
+    for named in &new.named {
+        let share = &named.share;
+        given.push(new_change(named.name(), share.bytes, share.section.memory_size))?;
     }
+    given.push(new_change(REST, new.rest, 0))?;
     Ok(given)
 }
 
-// The change that an old part makes alone.
-fn old_change(part: &Part) -> Change<'_> {
+// The name of the bytes that count for no section.
+const REST: &str = "[headers and gaps]";
+
+// The change that a part of the old file makes alone.
+fn old_change(name: &str, bytes: u64, memory: u64) -> Change<'_> {
     Change {
-        name: part.name.as_str(),
-        old: part.bytes,
+        name,
+        old: bytes,
         new: 0,
-        old_memory: u128::from(part.memory),
+        old_memory: u128::from(memory),
         new_memory: 0,
     }
 }
 
-// The change that a new part makes alone.
-fn new_change(part: &Part) -> Change<'_> {
+// The change that a part of the new file makes alone.
+fn new_change(name: &str, bytes: u64, memory: u64) -> Change<'_> {
     Change {
-        name: part.name.as_str(),
+        name,
         old: 0,
-        new: part.bytes,
+        new: bytes,
         old_memory: 0,
-        new_memory: u128::from(part.memory),
+        new_memory: u128::from(memory),
     }
 }
 
@@ -290,12 +314,6 @@ fn push_differing<'a>(kept: &mut Vec<Change<'a>>, change: Change<'a>) -> Result<
     Ok(())
 }
 
-// How many bytes parts have in memory.
-fn memory_of(parts: &[Part]) -> u128 {
-    let sizes = parts.iter().map(|part| u128::from(part.memory));
-    sizes.sum()
-}
-
 // How changes are shown.
 pub(crate) struct Layout<'a> {
     pub alloc: Global,
@@ -305,7 +323,12 @@ pub(crate) struct Layout<'a> {
 
 impl Layout<'_> {
     // The whole text.
-    fn text_of(&self, first: Option<usize>, old: &Parts, new: &Parts) -> Result<String, AllocError> {
+    fn text_of(
+        &self,
+        first: Option<usize>,
+        old: &Parts<'_>,
+        new: &Parts<'_>,
+    ) -> Result<String, AllocError> {
         let changes = changes_of(self.alloc, old, new)?;
         let mut text = self.first_rows(first, &changes)?;
         let total = Change {

@@ -158,10 +158,15 @@ fn rows_of(
 ) -> Result<String, AllocError> {
     let mut text = String::new(alloc);
     push_shares(alloc, &mut text, form, first, shares)?;
-    let rest = u128::from(file_length).saturating_sub(total_of(shares));
+    let rest = rest_of(shares, file_length);
     push_plain(&mut text, form, "[headers and gaps]", rest, 0)?;
     push_end(&mut text, form, file_length)?;
     Ok(text)
+}
+
+// How many of a file's bytes count for no section.
+pub(crate) fn rest_of(shares: &[Share<'_>], file_length: u64) -> u128 {
+    u128::from(file_length).saturating_sub(total_of(shares))
 }
 
 // Appends the line of the file's length; no object.
@@ -263,7 +268,7 @@ fn total_of(shares: &[Share<'_>]) -> u128 {
 }
 
 // How many bytes they have in memory.
-fn memory_of(shares: &[Share<'_>]) -> u128 {
+pub(crate) fn memory_of(shares: &[Share<'_>]) -> u128 {
     let sizes = shares
         .iter()
         .map(|share| u128::from(share.section.memory_size));

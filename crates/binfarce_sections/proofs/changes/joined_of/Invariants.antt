@@ -1,6 +1,6 @@
 use Rattle.std.proofs.Common.{◌≡◌, ◌++◌, ◌∷◌, drop, filter}
-use Rattle.binfarce_sections.specs.Changes.{differs, joined, joined_to}
-use Rattle.binfarce_sections.specs.machine.Changed.{Fit}
+use Rattle.binfarce_sections.specs.Changes.{differs}
+use Rattle.binfarce_sections.specs.machine.Changed.{Fit, joined, joined_to}
 use Rattle.binfarce_sections.proofs.changes.joined_of.Given as goal
 
 -- with the last one and what is left after it, the changes are those of all

@@ -303,7 +303,7 @@ for order, key in (("address", lambda row: row[0]), ("size", lambda row: (-int(r
     listed = [(it[0], f"{int(it[1]):016x}", it[3]) for it in map(str.split, lines) if it[1] != "0"]
     assert sorted(listed) == sorted(rows) and [*map(key, listed)] == sorted(map(key, rows)), f"another order by {order} than that of nm"
     ends(0, "".join(lines[:9]), "", "binfarce", "list", "--dynamic", "--all", "--raw", f"--sort={order}", "-n", "9", library)
-for name, words in (("foo", "--no-total"), ("foo", "-n 1"), ("foo", "-n1"), ("foo", "-n=1"), ("_ZN3foo3barE", "--first=9 --raw"), ("foo::bar", "--sort name --full"), ("", "-n 0")):
+for name, words in (("foo", "--no-total"), ("foo", "-n 1"), ("foo", "-n1"), ("foo", "-n=1"), ("foo", "-n 0 -n 9"), ("_ZN3foo3barE", "--first=9 --raw"), ("foo::bar", "--sort name --full"), ("", "-n 0")):
     ends(0, f"{0x1000:016x} {16:10} {name}\n" if name else "", "", "binfarce", "list", *words.split(), sample)
 
 # The symbols of all sections, in an object file with a section for each function, as nm has them.
@@ -481,7 +481,9 @@ alloc _ZN87_$LT$T$u20$as$u20$alloc..slice..$LT$impl$u20$$u5b$T$u5d$$GT$..to_vec_
 file = assembled("inner", len(inner) // 2, *((name, at, 1) for at, name in enumerate(inner[1::2])))
 assert [it["crate"] for it in objects("list", file)[:len(inner) // 2]] == inner[::2], "other crates of names that begin with a type"
 assert objects("size", "--by=generic", old)[1] == {"file": old, "name": "b::f::<..>", "size": 9, "copies": 2}
-assert objects("size", "--by=section", sample)[0] == {"file": sample, "segment": None, "section": ".symtab", "type": "SYMTAB", "flags": 0, "size": 120, "memory": 0}
+first, *_, last = objects("size", "--by=section", sample)
+assert first == {"file": sample, "segment": None, "section": ".symtab", "type": "SYMTAB", "flags": 0, "size": 120, "memory": 0}
+assert last == {"file": sample, "sum": 587}
 assert objects("diff", old, new)[0] == {"file": new, "name": "b", "old": 9, "new": 0, "change": -9}
 at = ("at", "--section=.text", "--base=0x40", old)
 assert objects(*at, "0x41") == [{"file": old, "address": f"0x{0x41:016x}", "name": "a::f", "offset": 1}]

@@ -35,3 +35,7 @@ mapped_split {Y = Y} f xs i d lt = drop-map f i xs ∙ ap (map f) (drop_more xs 
 -- the values of a list that grew by one
 pub map_push : {X Y : Type 0} (f : X → Y) (xs new : List X) (x : X) (y : Y) → new ≡ xs ++ x ∷ [] → f x ≡ y → map f new ≡ map f xs ++ y ∷ []
 map_push {Y = Y} f xs new x y grown is = ap (map f) grown ∙ map-append f xs (x ∷ []) ∙ ap (λ (z : Y). map f xs ++ z ∷ []) is
+
+-- values of two lists, of which one grew by what the other has next
+pub maps_more : {X Y A : Type 0} (f : X → Y) (g : A → Y) (xs new : List X) (x : X) (es : List A) (i : ℕ) (d : A) → i < length es → new ≡ xs ++ x ∷ [] → f x ≡ g (get_or es i d) → map f xs ≡ map g (take i es) → map f new ≡ map g (take (i + 1) es)
+maps_more {Y = Y} f g xs new x es i d lt grown is same = map_push f xs new x (g (get_or es i d)) grown is ∙ ap (λ (ys : List Y). ys ++ g (get_or es i d) ∷ []) same ∙ sym (map_more g es i d lt)

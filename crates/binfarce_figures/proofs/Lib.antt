@@ -1,6 +1,7 @@
 pub mod Growing
 pub mod Ordered
 pub mod RowListings
+pub mod NamedRows
 pub mod Falling
 pub mod LastNames
 pub mod InnerCrates

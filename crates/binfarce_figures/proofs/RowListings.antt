@@ -1,25 +1,30 @@
 -- The listing of a selection.
-use Rattle.std.proofs.Common.{◌≡◌, ◌∙◌, ℕ, List, Option, Some, Ok, ap, map, subst, sym}
-use Rattle.std.specs.List.{AllZip}
+use Rattle.std.proofs.Common.{◌≡◌, ◌∙◌, ℕ, ◌+◌, ◌<◌, ◌≤◌, List, [], ◌∷◌, ◌++◌, Option, Some, None, Ok, true, false, ap, append-nil, get_or, length, map, nat_cmp, refl, subst, sym, take}
+use Rattle.std.proofs.lemmas.List.{length-map, take-map, take_all}
+use Rattle.std.proofs.lemmas.List.Folds.{concat-append}
+use Rattle.std.specs.Cmp.Lexicographic.{slice_cmp}
+use Rattle.std.specs.List.{concat}
 use Rattle.binfarce.specs.SectionEntries.{SectionEntry, SelectedSymbols}
 use Rattle.binfarce.specs.declared.SymbolTable.{SymbolTable}
 use Rattle.binfarce_tools.specs.Answer.{selected_answer}
 use Rattle.binfarce_tools.specs.Entries.{HoldsLeft}
-use Rattle.binfarce_tools.specs.Json.{Style, lines, objects}
+use Rattle.binfarce_tools.specs.Json.{Style, lines, objects, style_of}
 use Rattle.binfarce_tools.specs.Tables.{AreTablesOf, section_names}
 use Rattle.binfarce_tools.specs.declared.functions.Selected.{Selected}
 use Rattle.binfarce_tools.specs.declared.tables.Tables.{Tables}
+use Rattle.binfarce_tools.proofs.Lines.{AreLines}
 use Rattle.binfarce_tools.proofs.TablesGive.{as_answered}
-use Rattle.binfarce_figures.specs.declared.order.Row.{Row}
-use Rattle.binfarce_figures.specs.declared.rows.Named.{Named}
+use Rattle.binfarce_figures.specs.declared.order.Order.{Order}
+use Rattle.binfarce_figures.specs.declared.order.Order.TheVariants.{Address, Size, Name}
+use Rattle.binfarce_figures.specs.declared.rows.Listing.{Listing}
 use Rattle.binfarce_figures.specs.declared.rows.Naming.{Naming}
 use Rattle.binfarce_figures.specs.declared.rows.Shown.{Shown}
-use Rattle.binfarce_figures.specs.RowListing.{IsListingBy, IsListingOf, IsRowOf}
-use Rattle.binfarce_figures.specs.Rows.{IsNameText, IsTailText}
-use Rattle.binfarce_figures.specs.machine.Listings.{IsNamed, named_values}
-use Rattle.binfarce_figures.specs.machine.Listings.{Values, row_values}
+use Rattle.binfarce_figures.specs.Order.{AreNamed, IsByKey, IsInOrder, Named}
+use Rattle.binfarce_figures.specs.RowListing.{AreFirstRows, IsListingBy, IsListingOf, IsRowOf}
+use Rattle.binfarce_figures.specs.Rows.{count_of}
+use Rattle.binfarce_figures.specs.machine.Listings.{IsPlaced, is_by_name}
 use Rattle.binfarce_figures.proofs.Got.{IsListOf}
-use Rattle.binfarce_figures.proofs.Growing.{same_values, through}
+use Rattle.binfarce_figures.proofs.Growing.{zip_more}
 
 -- the listing of what is left of a selection is that of the file's answer
 pub listing_of : (shown : Shown) (style : Style) (which : SymbolTable) (file : List ℕ) (section : Option (List ℕ)) (tables : Tables) (selected : Selected) (seen : SelectedSymbols) (entries : List SectionEntry) (size : Option ℕ) (text : List ℕ)
@@ -33,16 +38,39 @@ listing_of shown style which file section tables selected seen entries size text
     unnamed shown lines entries size names other text is = is
     unnamed shown (objects file name) entries size names other text is = is
 
--- the rows of values with names are those of the entries
-pub rows_are : (naming : Naming) (style : Style) (entries : List SectionEntry) (named : List Named) (rows : List Row) → AllZip (IsNamed naming style) entries named → map row_values rows ≡ map named_values named → AllZip (IsRowOf naming style) entries rows
-rows_are naming style entries named rows are same =
-    through (IsNamed naming style) (λ n r. row_values r ≡ named_values n) (IsRowOf naming style) row_of entries named rows are (same_values named_values row_values named rows same)
-  where
-    row_of : (e : SectionEntry) (n : Named) (r : Row) → IsNamed naming style e n → row_values r ≡ named_values n → IsRowOf naming style e r
-    row_of e n r named is = record {
-      section_is = ap (λ (v : Values). v.0) is ∙ ap (λ (s : SectionEntry). s.section) named.function_is;
-      address_is = ap (λ (v : Values). v.1.0) is ∙ ap (λ (s : SectionEntry). s.entry.address) named.function_is;
-      size_is = ap (λ (v : Values). v.1.1.0) is ∙ ap (λ (s : SectionEntry). s.entry.size) named.function_is;
-      name_is = subst (IsNameText naming e.entry.name) (sym (ap (λ (v : Values). v.1.1.1.0) is)) named.name_is;
-      tail_is = subst (IsTailText style e.entry.name) (sym (ap (λ (v : Values). v.1.1.1.1) is)) named.tail_is;
-    }
+-- a row of a listing
+abbrev pub IsRow : Listing → SectionEntry → List ℕ → Type 0
+IsRow l e row = IsRowOf l.shown.now.naming (style_of l.form) (section_names l.tables.now) l.size e row
+
+-- one line more
+pub lines_more : {X A : Type 0} (IsLine : X → List ℕ → Type 0) (f : A → X) (es : List A) (i : ℕ) (d : A) (line text new : List ℕ) → i < length es → new ≡ text ++ line → IsLine (f (get_or es i d)) line
+    → AreLines IsLine (map f (take i es)) text → AreLines IsLine (map f (take (i + 1) es)) new
+lines_more IsLine f es i d line text new lt grown is (before, are, all) = (
+  before ++ line ∷ [],
+  zip_more IsLine f es i d before (before ++ line ∷ []) line lt refl are is,
+  grown ∙ ap (λ (t : List ℕ). t ++ line) all ∙ sym (concat-append before (line ∷ []) ∙ ap (λ (t : List ℕ). concat before ++ t) (append-nil line)),
+)
+
+-- the rows of the first are complete
+pub rows_are : {A : Type 0} (shown : Shown) (style : Style) (names : ℕ → Option (List ℕ)) (size : Option ℕ) (f : A → SectionEntry) (all : List A) (i count : ℕ) (text : List ℕ) → count ≡ count_of shown.first (length all) → length (take count all) ≤ i
+    → AreLines (IsRowOf shown.naming style names size) (map f (take i (take count all))) text → AreFirstRows shown style names size (map f all) text
+rows_are shown style names size f all i count text is le are =
+    let of_all : count ≡ count_of shown.first (length (map f all)) = is ∙ ap (count_of shown.first) (sym (length-map all f)) in
+    let first : map f (take i (take count all)) ≡ take (count_of shown.first (length (map f all))) (map f all) =
+    ap (map f) (take_all i (take count all) le) ∙ sym (take-map f count all) ∙ ap (λ (n : ℕ). take n (map f all)) of_all in
+    subst (λ (es : List SectionEntry). AreLines (IsRowOf shown.naming style names size) es text) first are
+
+-- entries that are sorted without names are in any other order than that of names
+pub placed : (naming : Naming) (order : Option Order) (entries sorted : List SectionEntry) → is_by_name order ≡ false → IsPlaced order entries sorted → IsInOrder naming order entries sorted
+placed naming None entries sorted isnt is = is
+placed naming (Some Address) entries sorted isnt is = is
+placed naming (Some Size) entries sorted isnt is = is
+placed naming (Some Name) entries sorted isnt is = absurd cc
+
+-- and those by address are sorted by names
+pub placed_by_name : (naming : Naming) (order : Option Order) (entries rising : List SectionEntry) (named ordered : List Named) (sorted : List SectionEntry) → is_by_name order ≡ true → IsPlaced order entries rising → AreNamed naming rising named
+    → IsByKey (λ (n : Named). n.1) (slice_cmp nat_cmp) named ordered → AreNamed naming sorted ordered → IsInOrder naming order entries sorted
+placed_by_name naming None entries rising named ordered sorted by is are by_key all = absurd cc
+placed_by_name naming (Some Address) entries rising named ordered sorted by is are by_key all = absurd cc
+placed_by_name naming (Some Size) entries rising named ordered sorted by is are by_key all = absurd cc
+placed_by_name naming (Some Name) entries rising named ordered sorted by is are by_key all = (rising, is, named, ordered, are, by_key, all)

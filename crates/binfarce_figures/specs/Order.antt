@@ -1,12 +1,15 @@
--- The order of rows.
-use Rattle.std.specs.Prelude.{◌≡◌, ℕ, List, Option, Some, None, IsPermutation}
+-- The order of entries.
+use Rattle.std.specs.Prelude.{◌≡◌, ℕ, List, Option, Some, None, IsPermutation, map}
 use Rattle.std.specs.Cmp.Lexicographic.{slice_cmp}
+use Rattle.std.specs.List.{All}
 use Rattle.std.specs.List.Sorted.{IsSortedByKey, IsStableByKey}
 use Rattle.std.specs.Ordering.{nat_cmp}
 use Rattle.std.specs.declared.cmp.Ordering.{Ordering}
+use Rattle.binfarce.specs.SectionEntries.{SectionEntry}
 use Rattle.binfarce_figures.specs.declared.order.Order.{Order}
 use Rattle.binfarce_figures.specs.declared.order.Order.TheVariants.{Address, Size, Name}
-use Rattle.binfarce_figures.specs.declared.order.Row.{Row}
+use Rattle.binfarce_figures.specs.declared.rows.Naming.{Naming}
+use Rattle.binfarce_figures.specs.Rows.{IsNameText}
 
 -- the order in which the greatest comes first
 abbrev pub falling : ℕ → ℕ → Ordering
@@ -18,16 +21,29 @@ pub record IsByKey {X K : Type 0} (key : X → K) (cmp : K → K → Ordering) (
   pub rises : IsSortedByKey key cmp sorted
   pub keeps : IsStableByKey key cmp rows sorted
 
-abbrev pub IsByAddress : List Row → List Row → Type 0
-IsByAddress rows sorted = IsByKey (λ r. r.address) nat_cmp rows sorted
+abbrev pub IsByAddress : (entries sorted : List SectionEntry) → Type 0
+IsByAddress entries sorted = IsByKey (λ e. e.entry.address) nat_cmp entries sorted
 
--- sorted is rows by address, and then by a key
-abbrev pub IsByAddressAndKey : {K : Type 0} → (Row → K) → (K → K → Ordering) → List Row → List Row → Type 0
-IsByAddressAndKey key cmp rows sorted = (rising : List Row) × IsByAddress rows rising × IsByKey key cmp rising sorted
+-- sorted is entries by falling size, and those of one size by address
+abbrev pub IsBySize : (entries sorted : List SectionEntry) → Type 0
+IsBySize entries sorted = (rising : List SectionEntry) × IsByAddress entries rising × IsByKey (λ e. e.entry.size) falling rising sorted
 
--- sorted is rows in an order: by rising address, by falling size, or by the bytes of the name; rows of one key in the order of their addresses, and those of one address in their given order. Without an order they stay as they are
-abbrev pub IsInOrder : Option Order → List Row → List Row → Type 0
-IsInOrder None rows sorted = sorted ≡ rows
-IsInOrder (Some Address) rows sorted = IsByAddress rows sorted
-IsInOrder (Some Size) rows sorted = IsByAddressAndKey (λ r. r.size) falling rows sorted
-IsInOrder (Some Name) rows sorted = IsByAddressAndKey (λ r. r.name.now) (slice_cmp nat_cmp) rows sorted
+-- an entry with what is shown of its name
+abbrev pub Named : Type 0
+Named = SectionEntry × List ℕ
+
+-- named is entries with what is shown of their names
+abbrev pub AreNamed : Naming → List SectionEntry → List Named → Type 0
+AreNamed naming entries named = (map (λ n. n.0) named ≡ entries) × All (λ n. IsNameText naming n.0.entry.name n.1) named
+
+-- sorted is entries by the bytes of what is shown of their names, and those of one text by address
+abbrev pub IsByName : Naming → (entries sorted : List SectionEntry) → Type 0
+IsByName naming entries sorted =
+    (rising : List SectionEntry) × IsByAddress entries rising × (named ordered : List Named) × AreNamed naming rising named × IsByKey (λ n. n.1) (slice_cmp nat_cmp) named ordered × AreNamed naming sorted ordered
+
+-- sorted is entries in an order: by rising address, by falling size, or by what is shown of the name; entries of one key in the order of their addresses, and those of one address in their given order. Without an order they stay as they are
+abbrev pub IsInOrder : Naming → Option Order → (entries sorted : List SectionEntry) → Type 0
+IsInOrder naming None entries sorted = sorted ≡ entries
+IsInOrder naming (Some Address) entries sorted = IsByAddress entries sorted
+IsInOrder naming (Some Size) entries sorted = IsBySize entries sorted
+IsInOrder naming (Some Name) entries sorted = IsByName naming entries sorted

@@ -1,8 +1,13 @@
 //! Listings in an order, of the first lines alone, and with other names.
 
-ghost use Rattle.std.specs.Prelude.{◌≡◌, ◌++◌, ℕ, List, Option, map, IfOk, OnOk};
-ghost use Rattle.std.specs.List.{AllZip};
+ghost use Rattle.std.specs.Prelude.{◌≡◌, ◌++◌, ℕ, List, Option, Some, map, IfOk, IfSome, OnOk, String};
+ghost use Rattle.std.specs.BTreeMap.{get_by_text};
+ghost use Rattle.std.specs.Cmp.Lexicographic.{slice_cmp};
+ghost use Rattle.std.specs.Global.{Global};
+ghost use Rattle.std.specs.List.{All, AllZip};
+ghost use Rattle.std.specs.Ordering.{nat_cmp};
 ghost use Rattle.std.specs.String.{string_bytes};
+ghost use Rattle.binfarce.specs.SectionEntries.{SectionEntry};
 ghost use Rattle.binfarce.specs.SymbolViews.{section_function_view};
 ghost use Rattle.binfarce.specs.declared.SymbolTable.{SymbolTable};
 ghost use Rattle.binfarce_tools.specs.Listing.{ListingFits};
@@ -11,14 +16,15 @@ ghost use Rattle.binfarce_tools.specs.Answer.{selected_answer, MemoryIn};
 ghost use Rattle.binfarce_tools.specs.Entries.{all_left};
 ghost use Rattle.binfarce_tools.specs.Tables.{AreTablesOf};
 ghost use Rattle.binfarce_tools.specs.Writing.{EndsAs, Takes, Fails, Leaves};
-ghost use Rattle.binfarce_figures.specs.Rows.{IsNameText, IsTailText, count_of};
-ghost use Rattle.binfarce_figures.specs.RowListing.{IsListingBy};
+ghost use Rattle.binfarce_figures.specs.Order.{AreNamed, IsByKey, IsInOrder, Named};
+ghost use Rattle.binfarce_figures.specs.Rows.{IsNameText, count_of};
+ghost use Rattle.binfarce_figures.specs.RowListing.{IsListingBy, last_line};
 ghost use Rattle.binfarce_tools.specs.Json.{style_of};
-ghost use Rattle.binfarce_figures.specs.machine.Listings.{IsNamed, IsTextFor, named_values, row_values, shown_row, shown_rows};
+ghost use Rattle.binfarce_figures.specs.machine.Listings.{AreRows, AreTexts, HasName, IsPlaced, IsRowNamed, IsTextAt, IsTextFor, Notes, entry_of, name_of};
 
 use crate::key::put_crate;
-use crate::order::{Order, Row, sort};
-use binfarce::SectionFunction;
+use crate::order::{Order, Row, is_by_name, sort, sort_by_name};
+use binfarce::{FunctionSymbol, SectionFunction};
 use binfarce_names::demangle::Demangler;
 use binfarce_tools::functions::Selected;
 use binfarce_tools::head::push_head;
@@ -29,6 +35,7 @@ use binfarce_tools::list::{ListError, Sink, push_section_part};
 use binfarce_tools::tables::Tables;
 use binfarce_tools::writing::write_whole;
 use std::alloc::{AllocError, Global};
+use std::collections::BTreeMap;
 
 /// What is shown of a name.
 #[derive(Debug, Clone, Copy, PartialEq)]
@@ -88,7 +95,7 @@ pub fn list_by<S: Sink>(
         form,
         size,
     };
-    let text = listing.text_of(&functions)?;
+    let text = listing.text_of(functions)?;
     write_whole(out, text.as_bytes())
 }
 
@@ -105,130 +112,265 @@ struct Listing<'b, 'a> {
 
 impl Listing<'_, '_> {
     // The whole text.
-    fn text_of(&self, functions: &[SectionFunction<'_>]) -> Result<String, AllocError>
-        ensures { IfOk result (λ t. IsTextFor self.now (map section_function_view functions.now) (string_bytes t)) }
+    fn text_of(&self, functions: Vec<SectionFunction<'_>>) -> Result<String, AllocError>
+        ensures { IfOk result
+            (λ t. IsTextFor self.now (map section_function_view functions.entry.items) (string_bytes t)) }
     {
-        let named = self.named(functions)?;
-        let mut rows: Vec<Row<'_>> = named.iter().map(row_of).collect(self.alloc)?;
-        sort(&mut rows, self.shown.order)?;
-        self.first_rows(&rows)
+        let mut sorted = functions;
+        sort(&mut sorted, self.shown.order)?;
+        let mut text = self.rows(&sorted)?;
+        self.push_last_line(&mut text)?;
+        Ok(text)
     }
 
-    // The function symbols with what is shown of their names.
-    fn named<'c>(&self, functions: &[SectionFunction<'c>]) -> Result<Vec<Named<'c>>, AllocError>
-        ensures { IfOk result (λ v. AllZip (IsNamed self.now.shown.now.naming (style_of self.now.form))
-            (map section_function_view functions.now) v.items) }
+    // The rows, of function symbols that `sort` has sorted.
+    fn rows(&self, functions: &[SectionFunction<'_>]) -> Result<String, AllocError>
+        ensures { (entries : List SectionEntry)
+            → IsPlaced self.now.shown.now.order entries (map section_function_view functions.now)
+            → IfOk result (λ t. (sorted : List SectionEntry)
+            × IsInOrder self.now.shown.now.naming self.now.shown.now.order entries sorted
+            × AreRows self.now sorted (string_bytes t)) }
     {
+        if is_by_name(self.shown.order) {
+            self.rows_by_name(functions)
+        } else {
+            self.first_rows(functions)
+        }
+    }
+
+    // The rows of the first function symbols.
+    fn first_rows(&self, functions: &[SectionFunction<'_>]) -> Result<String, AllocError>
+        ensures { IfOk result (λ t. AreRows self.now (map section_function_view functions.now) (string_bytes t)) }
+    {
+        let count = count_of(self.shown.first, functions.len());
         let mut demangler = Demangler::new(self.alloc);
-        let mut named = Vec::with_capacity(self.alloc, functions.len())?;
-        for function in functions {
-            let name = self.name_of(&mut demangler, function.function.name)?;
-            let tail = self.tail_of(function.function.name)?;
-            named.push(Named {
-                function: *function,
-                name,
-                tail,
-            })?;
-        }
-        Ok(named)
-    }
-
-    // The text of a name.
-    fn name_of(&self, demangler: &mut Demangler, name: &str) -> Result<String, AllocError>
-        ensures { IfOk result (λ t. IsNameText self.now.shown.now.naming name.now (string_bytes t)) }
-    {
-        match self.shown.naming {
-            Naming::Trimmed => {
-                let mut text = String::new(self.alloc);
-                demangler.push_trimmed(&mut text, name)?;
-                Ok(text)
-            }
-            Naming::Complete => Ok(demangler.demangle(name)?.complete),
-            Naming::Stored => String::from_str(self.alloc, name),
-        }
-    }
-
-    // What follows a name in an object: the members `raw` and `crate`.
-    fn tail_of(&self, name: &str) -> Result<String, AllocError>
-        ensures { IfOk result (λ t. IsTailText (style_of self.now.form) name.now (string_bytes t)) }
-    {
-        let mut tail = String::new(self.alloc);
-        if self.form != Form::Lines {
-            let mut crate_name = String::new(self.alloc);
-            put_crate(self.alloc, &mut crate_name, name)?;
-            push_text_member(&mut tail, "raw", Some(name))?;
-            push_text_member(&mut tail, "crate", Some(crate_name.as_str()))?;
-        }
-        Ok(tail)
-    }
-
-    // The first rows, and the line of the section's size.
-    fn first_rows(&self, rows: &[Row<'_>]) -> Result<String, AllocError>
-        ensures { IfOk result (λ t. string_bytes t ≡ shown_rows self.now rows.now) }
-    {
-        let count = count_of(self.shown.first, rows.len());
+        let mut name = String::new(self.alloc);
         let mut text = String::new(self.alloc);
-        for row in &rows[..count] {
-            self.push_row(&mut text, *row)?;
-        }
-        match self.size {
-            Some(size) if self.shown.has_total && self.form == Form::Lines => writeln!(
-                text,
-                "text {size}"
-            )?,
-            _ => {}
+        for function in &functions[..count] {
+            self.put_name(&mut demangler, &mut name, function.function.name)?;
+            self.push_row(&mut text, *function, name.as_str())?;
         }
         Ok(text)
     }
 
-    // Appends a row, with its section where all sections are listed.
-    fn push_row(&self, text: &mut String, row: Row<'_>) -> Result<(), AllocError>
-        ensures { OnOk result (string_bytes text.new ≡ string_bytes text.old ++ shown_row self.now row.entry) }
+    // The rows of those that are first by name, of function symbols that are sorted by address.
+    fn rows_by_name(&self, functions: &[SectionFunction<'_>]) -> Result<String, AllocError>
+        ensures { IfOk result (λ t. (named ordered : List Named) × (sorted : List SectionEntry)
+            × AreNamed self.now.shown.now.naming (map section_function_view functions.now) named
+            × IsByKey (λ n. n.1) (slice_cmp nat_cmp) named ordered
+            × AreNamed self.now.shown.now.naming sorted ordered × AreRows self.now sorted (string_bytes t)) }
     {
+        let mut texts = Texts {
+            texts: Vec::with_capacity(self.alloc, functions.len())?,
+            long: BTreeMap::new(self.alloc),
+        };
+        let indices = self.indices_of(&mut texts, functions)?;
+        let mut rows = self.rows_of(functions, &texts.texts, &indices)?;
+        sort_by_name(&mut rows)?;
+        self.first_named(&rows)
+    }
+
+    // The rows of the first of these.
+    fn first_named(&self, rows: &[Row<'_, '_>]) -> Result<String, AllocError>
+        requires { All (HasName self.now.shown.now.naming) rows.now }
+        ensures { IfOk result (λ t. AreRows self.now (map entry_of rows.now) (string_bytes t)) }
+    {
+        let count = count_of(self.shown.first, rows.len());
+        let mut text = String::new(self.alloc);
+        for row in &rows[..count] {
+            self.push_row(&mut text, row.function, row.name)?;
+        }
+        Ok(text)
+    }
+
+    // For each function symbol the index of its name's text.
+    fn indices_of(
+        &self,
+        texts: &mut Texts,
+        functions: &[SectionFunction<'_>],
+    ) -> Result<Vec<usize>, AllocError>
+        requires { AreTexts self.now.shown.now.naming texts.old }
+        ensures { IfOk result (λ v. AllZip (IsTextAt self.now.shown.now.naming texts.new.texts.items)
+            (map name_of functions.now) v.items) }
+    {
+        let mut demangler = Demangler::new(self.alloc);
+        let mut indices = Vec::with_capacity(self.alloc, functions.len())?;
+        for function in functions {
+            let index = self.index_of(&mut demangler, texts, function.function.name)?;
+            indices.push(index)?;
+        }
+        Ok(indices)
+    }
+
+    // The index of a name's text, which is kept where it isn't there yet.
+    fn index_of(
+        &self,
+        demangler: &mut Demangler,
+        texts: &mut Texts,
+        name: &str,
+    ) -> Result<usize, AllocError>
+        requires { AreTexts self.now.shown.now.naming texts.old }
+        ensures index { IfOk result
+            (λ i. IsTextAt self.now.shown.now.naming texts.new.texts.items name.now i) }
+        ensures texts { OnOk result (AreTexts self.now.shown.now.naming texts.new) }
+        ensures grown { OnOk result ((more : List (String Global))
+            × (texts.new.texts.items ≡ texts.old.texts.items ++ more)) }
+    {
+        let mut text = String::new(self.alloc);
+        self.put_name(demangler, &mut text, name)?;
+        if let Some(index) = noted(&texts.long, name, text.len()) {
+            return Ok(index);
+        }
+        let index = texts.texts.len();
+        note(self.alloc, &mut texts.long, name, index, text.len())?;
+        texts.texts.push(text)?;
+        Ok(index)
+    }
+
+    // Function symbols with the texts at these indices.
+    fn rows_of<'b, 'a>(
+        &self,
+        functions: &[SectionFunction<'a>],
+        texts: &'b [String],
+        indices: &[usize],
+    ) -> Result<Vec<Row<'b, 'a>>, AllocError>
+        requires { AllZip (IsTextAt self.now.shown.now.naming texts.now) (map name_of functions.now) indices.now }
+        ensures { IfOk result (λ v. (map entry_of v.items ≡ map section_function_view functions.now)
+            × All (HasName self.now.shown.now.naming) v.items) }
+    {
+        let mut rows = Vec::with_capacity(self.alloc, functions.len())?;
+        for i in 0..functions.len() {
+            let name = texts[indices[i]].as_str();
+            rows.push(row_of(functions[i], name))?;
+        }
+        Ok(rows)
+    }
+
+    // Overwrites the text by what is shown of a name.
+    fn put_name(
+        &self,
+        demangler: &mut Demangler,
+        text: &mut String,
+        name: &str,
+    ) -> Result<(), AllocError>
+        ensures { OnOk result (IsNameText self.now.shown.now.naming name.now (string_bytes text.new)) }
+    {
+        match self.shown.naming {
+            Naming::Trimmed => {
+                text.clear();
+                demangler.push_trimmed(text, name)
+            }
+            Naming::Complete => {
+                *text = demangler.demangle(name)?.complete;
+                Ok(())
+            }
+            Naming::Stored => {
+                text.clear();
+                text.push_str(name)
+            }
+        }
+    }
+
+    // Appends the row of a function symbol with this name, with its section where all sections are listed.
+    fn push_row(
+        &self,
+        text: &mut String,
+        function: SectionFunction<'_>,
+        name: &str,
+    ) -> Result<(), AllocError>
+        ensures { OnOk result ((row : List ℕ)
+            × IsRowNamed self.now (section_function_view function.entry) name.now row
+            × (string_bytes text.new ≡ string_bytes text.old ++ row)) }
+    {
+        let FunctionSymbol {
+            name: stored,
+            address,
+            size,
+        } = function.function;
         match self.form {
             Form::Lines => {
-                push_head(text, row.address, row.size)?;
-                push_section_part(text, self.tables, self.size, row.section)?;
-                text.push_str(row.name)?;
+                push_head(text, address, size)?;
+                push_section_part(text, self.tables, self.size, function.section)?;
+                text.push_str(name)?;
                 text.push_str("\n")
             }
             Form::Objects(file, selected) => {
                 let section = match self.size {
                     Some(_) => Some(selected),
-                    None => self.tables.section_name(row.section),
+                    None => self.tables.section_name(function.section),
                 };
+                let mut crate_name = String::new(self.alloc);
+                put_crate(self.alloc, &mut crate_name, stored)?;
                 push_start(text, file)?;
                 push_text_member(text, "section", section)?;
-                push_address_member(text, row.address)?;
-                push_number_member(text, "size", row.size)?;
-                push_text_member(text, "name", Some(row.name))?;
-                text.push_str(row.tail)?;
+                push_address_member(text, address)?;
+                push_number_member(text, "size", size)?;
+                push_text_member(text, "name", Some(name))?;
+                push_text_member(text, "raw", Some(stored))?;
+                push_text_member(text, "crate", Some(crate_name.as_str()))?;
                 text.push_str("}\n")
             }
         }
     }
-}
 
-// A function symbol with the text of its name, and what follows it in an object.
-#[derive(Drop)]
-struct Named<'a> {
-    function: SectionFunction<'a>,
-    name: String,
-    tail: String,
-}
-
-// Its row.
-fn row_of<'a>(named: &'a Named<'_>) -> Row<'a>
-    ensures { row_values result ≡ named_values named.entry.now }
-{
-    let SectionFunction { section, function } = named.function;
-    Row {
-        section,
-        address: function.address,
-        size: function.size,
-        name: named.name.as_str(),
-        tail: named.tail.as_str(),
+    // Appends the line of the section's size, if it is wanted.
+    fn push_last_line(&self, text: &mut String) -> Result<(), AllocError>
+        ensures { OnOk result (string_bytes text.new ≡ string_bytes text.old
+            ++ last_line (style_of self.now.form) self.now.shown.now.has_total self.now.size) }
+    {
+        match self.size {
+            Some(size) if self.shown.has_total && self.form == Form::Lines => writeln!(
+                text,
+                "text {size}"
+            ),
+            _ => Ok(()),
+        }
     }
+}
+
+// A text of so many bytes or more is kept once for all function symbols that have the name.
+const LONG: usize = 1024;
+
+// The texts of names.
+#[derive(Drop)]
+struct Texts {
+    texts: Vec<String>,
+    // The index of each long text, by the stored name.
+    long: BTreeMap<String, usize>,
+}
+
+// The row of a function symbol with this name.
+fn row_of<'b, 'a>(function: SectionFunction<'a>, name: &'b str) -> Row<'b, 'a>
+    ensures { (entry_of result ≡ section_function_view function.entry) × (result.name.now ≡ name.entry.now) }
+{
+    Row { function, name }
+}
+
+// The noted index of a name's text, if the text is long.
+fn noted(long: &BTreeMap<String, usize>, name: &str, len: usize) -> Option<usize>
+    ensures { IfSome result (λ i. get_by_text long.now name.now ≡ Some i) }
+{
+    if len < LONG {
+        return None;
+    }
+    long.get(name).copied()
+}
+
+// Notes the index of a name's text, if the text is long.
+fn note(
+    alloc: Global,
+    long: &mut BTreeMap<String, usize>,
+    name: &str,
+    index: usize,
+    len: usize,
+) -> Result<(), AllocError>
+    ensures { OnOk result (Notes long.old name.now index long.new) }
+{
+    if len < LONG {
+        return Ok(());
+    }
+    let _ = long.insert(String::from_str(alloc, name)?, index)?;
+    Ok(())
 }
 
 /// How many of all are shown.

@@ -123,14 +123,14 @@ share_rows style first shares = let n = count_of first (length shares) in
 abbrev pub rest_row : Style → (file_length : ℕ) → List Share → List ℕ
 rest_row style file_length shares = plain_row style (codes "[headers and gaps]") (file_length - total shares) 0
 
--- the line of the file's length; no object
-abbrev pub end_line : Style → (file_length : ℕ) → List ℕ
-end_line lines file_length = total_line file_length
-end_line (objects file section) file_length = []
+-- the last row: the file's length, which is the sum of all
+abbrev pub end_row : Style → (file_length : ℕ) → List ℕ
+end_row lines file_length = total_line file_length
+end_row (objects file section) file_length = object_start file ++ (number_member (codes "sum") file_length ++ codes "}\n")
 
 -- the text of shares
 abbrev pub sums_text : Style → (first : Option ℕ) → (file_length : ℕ) → List Share → List ℕ
-sums_text style first file_length shares = share_rows style first shares ++ (rest_row style file_length shares ++ end_line style file_length)
+sums_text style first file_length shares = share_rows style first shares ++ (rest_row style file_length shares ++ end_row style file_length)
 
 -- text is that of a file's sections
 abbrev pub AreSumsOf : Style → (first : Option ℕ) → (file_length : ℕ) → List Section → (text : List ℕ) → Type 0

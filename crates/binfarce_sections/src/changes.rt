@@ -215,7 +215,12 @@ fn parts_left<'a>(
     let sections = active_of(alloc, sections)?;
     let shares = ranked_of(alloc, sections, file_length)?;
     let named = named_of(alloc, &shares)?;
-    Ok(whole(named, rest_of(&shares, file_length), file_length, memory_of(&shares)))
+    Ok(whole(
+        named,
+        rest_of(&shares, file_length),
+        file_length,
+        memory_of(&shares),
+    ))
 }
 
 // Sections with the sums over them.

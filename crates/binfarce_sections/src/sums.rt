@@ -13,7 +13,7 @@ ghost use Rattle.binfarce_sections.specs.Lines.{name_text};
 ghost use Rattle.binfarce_sections.specs.Parts.{section_parts_of};
 ghost use Rattle.binfarce_sections.specs.Results.{TakesSums, TakesReadSums, Fails};
 ghost use Rattle.binfarce_sections.specs.Section.{sections_of};
-ghost use Rattle.binfarce_sections.specs.Sums.{AreSharesOf, active, count_of, end_line, is_inactive, others_row, plain_line, plain_object, plain_row, share_object, share_row, share_rows, share_view, shares_of, sums_text, total};
+ghost use Rattle.binfarce_sections.specs.Sums.{AreSharesOf, active, count_of, end_row, is_inactive, others_row, plain_line, plain_object, plain_row, share_object, share_row, share_rows, share_view, shares_of, sums_text, total};
 ghost use Rattle.binfarce_sections.specs.Views.{section_view, sections_left};
 ghost use Rattle.binfarce_sections.specs.declared.error.SectionError.TheVariants.{Unreadable};
 ghost use Rattle.binfarce_sections.specs.machine.Summed.{AreActive, IsSummed};
@@ -51,7 +51,7 @@ pub struct Share<'a> {
 /// A line is `{bytes:>10} {memory:>10} {name}`, with the name as in `list_sections`; `[N others]` is the name of the line
 /// that sums up those past the first, `[headers and gaps]` of the rest; the last line is `sum {length}`. An object has
 /// the members `file`, `segment`, `section`, `type`, `flags`, `size` and `memory`; type and flags are as in `list_source`,
-/// and `null` of the two rows that are no sections. There is none for the length.
+/// and `null` of the two rows that are no sections. The last one has `file`, and the length as `sum`.
 ///
 /// Of the source only these bytes are read: those that `list_source` reads.
 ///
@@ -219,14 +219,18 @@ pub(crate) fn rest_of(shares: &[Share<'_>], file_length: u64) -> u128
     u128::from(file_length).saturating_sub(total_of(shares))
 }
 
-// Appends the line of the file's length; no object.
+// Appends the row of the file's length.
 fn push_end(text: &mut String, form: Form<'_>, file_length: u64) -> Result<(), AllocError>
     ensures { OnOk result (string_bytes text.new ≡ string_bytes text.old
-        ++ end_line (style_of form.entry) file_length) }
+        ++ end_row (style_of form.entry) file_length) }
 {
     match form {
         Form::Lines => write!(text, "sum {file_length}\n"),
-        Form::Objects(..) => Ok(()),
+        Form::Objects(file, _) => {
+            push_start(text, file)?;
+            push_number_member(text, "sum", file_length)?;
+            text.push_str("}\n")
+        }
     }
 }
 

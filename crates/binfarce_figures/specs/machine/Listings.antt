@@ -1,39 +1,64 @@
 -- How a listing is shown, row after row.
-use Rattle.std.specs.Prelude.{◌≡◌, ℕ, List}
+use Rattle.std.specs.Prelude.{◌≡◌, ◌⊎◌, ℕ, ◌<◌, Bool, true, false, List, length, slice_index_or, String, Option, Some, None}
+use Rattle.std.specs.Global.{Global}
+use Rattle.std.specs.BTreeMap.{BTreeMap, get_by_text}
 use Rattle.std.specs.String.{string_bytes}
 use Rattle.binfarce.specs.SectionEntries.{SectionEntry}
 use Rattle.binfarce.specs.SymbolViews.{section_function_view}
-use Rattle.binfarce_tools.specs.Json.{Style, style_of}
+use Rattle.binfarce_tools.specs.Json.{style_of}
 use Rattle.binfarce_tools.specs.Tables.{section_names}
+use Rattle.binfarce_bytes.specs.declared.functions.SectionFunction.{SectionFunction}
+use Rattle.binfarce_figures.specs.declared.order.Order.{Order}
+use Rattle.binfarce_figures.specs.declared.order.Order.TheVariants.{Address, Size, Name}
 use Rattle.binfarce_figures.specs.declared.order.Row.{Row}
 use Rattle.binfarce_figures.specs.declared.rows.Listing.{Listing}
-use Rattle.binfarce_figures.specs.declared.rows.Named.{Named}
 use Rattle.binfarce_figures.specs.declared.rows.Naming.{Naming}
-use Rattle.binfarce_figures.specs.RowListing.{IsListingOf, listing, row_text}
-use Rattle.binfarce_figures.specs.Rows.{IsNameText, IsTailText}
+use Rattle.binfarce_figures.specs.declared.rows.Texts.{Texts}
+use Rattle.binfarce_figures.specs.Order.{IsByAddress, IsBySize}
+use Rattle.binfarce_figures.specs.RowListing.{AreFirstRows, IsListingOf, IsRowWith}
+use Rattle.binfarce_figures.specs.Rows.{IsNameText}
 
--- the value is an entry with what is shown of its name
-pub record IsNamed (naming : Naming) (style : Style) (e : SectionEntry) (n : Named) : Type 0 where
-  pub function_is : section_function_view n.function ≡ e
-  pub name_is : IsNameText naming e.entry.name (string_bytes n.name)
-  pub tail_is : IsTailText style e.entry.name (string_bytes n.tail)
+abbrev pub is_by_name : Option Order → Bool
+is_by_name (Some Name) = true
+is_by_name order = false
 
--- what a row has, whatever it points to: a section's number, an address, a size, a name and its tail
-abbrev pub Values : Type 0
-Values = ℕ × (ℕ × (ℕ × (List ℕ × List ℕ)))
+-- sorted is entries in an order that compares no names: by name they are in the order of their addresses
+abbrev pub IsPlaced : Option Order → (entries sorted : List SectionEntry) → Type 0
+IsPlaced None entries sorted = sorted ≡ entries
+IsPlaced (Some Address) entries sorted = IsByAddress entries sorted
+IsPlaced (Some Size) entries sorted = IsBySize entries sorted
+IsPlaced (Some Name) entries sorted = IsByAddress entries sorted
 
-abbrev pub row_values : Row → Values
-row_values row = (row.section, (row.address, (row.size, (row.name.now, row.tail.now))))
+-- the entry of a row
+abbrev pub entry_of : Row → SectionEntry
+entry_of row = section_function_view row.function
 
--- what the row of a value has
-abbrev pub named_values : Named → Values
-named_values n = (n.function.section, (n.function.function.address, (n.function.function.size, (string_bytes n.name, string_bytes n.tail))))
+-- a row has what is shown of its name
+abbrev pub HasName : Naming → Row → Type 0
+HasName naming row = IsNameText naming row.function.function.name.now row.name.now
 
-abbrev pub shown_row : Listing → Row → List ℕ
-shown_row l row = row_text (style_of l.form) (section_names l.tables.now) l.size row
+-- the stored name of a function symbol
+abbrev pub name_of : SectionFunction → List ℕ
+name_of f = f.function.name.now
 
-abbrev pub shown_rows : Listing → List Row → List ℕ
-shown_rows l rows = listing l.shown.now (style_of l.form) (section_names l.tables.now) l.size rows
+-- the text at an index is what is shown of a stored name
+pub record IsTextAt (naming : Naming) (texts : List (String Global)) (stored : List ℕ) (index : ℕ) : Type 0 where
+  pub below : index < length texts
+  pub is : (d : String Global) → IsNameText naming stored (string_bytes (slice_index_or texts index d))
+
+-- each long name that was found has the index of its text
+abbrev pub AreTexts : Naming → Texts → Type 0
+AreTexts naming t = (stored : List ℕ) (index : ℕ) → get_by_text t.long stored ≡ Some index → IsTextAt naming t.texts.items stored index
+
+-- what is found by a name after it was noted: its index, or what was found before
+abbrev pub Notes : (old : BTreeMap (String Global) ℕ) → (name : List ℕ) → (index : ℕ) → (new : BTreeMap (String Global) ℕ) → Type 0
+Notes old name index new = (stored : List ℕ) (i : ℕ) → get_by_text new stored ≡ Some i → ((stored ≡ name) × (i ≡ index)) ⊎ (get_by_text old stored ≡ Some i)
+
+abbrev pub IsRowNamed : Listing → SectionEntry → (name row : List ℕ) → Type 0
+IsRowNamed l e name row = IsRowWith (style_of l.form) (section_names l.tables.now) l.size e name row
+
+abbrev pub AreRows : Listing → List SectionEntry → List ℕ → Type 0
+AreRows l sorted text = AreFirstRows l.shown.now (style_of l.form) (section_names l.tables.now) l.size sorted text
 
 -- text is the listing of entries
 abbrev pub IsTextFor : Listing → List SectionEntry → List ℕ → Type 0

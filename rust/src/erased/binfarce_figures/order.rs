@@ -3,6 +3,7 @@
 //! The order of rows.
 
 use crate::shim::Vec;
+use crate::erased::binfarce::SectionFunction;
 use crate::shim::alloc::AllocError;
 use core::cmp::Reverse;
 
@@ -18,35 +19,46 @@ pub enum Order {
     Name,
 }
 
-/// A function symbol with the text that is shown for its name.
-#[derive(Debug, Clone, Copy, PartialEq)]
-pub struct Row<'a> {
-    /// The number of its section.
-    pub section: u32,
-    /// Its address.
-    pub address: u64,
-    /// Its size in bytes.
-    pub size: u64,
-    /// The text for its name.
-    pub name: &'a str,
-    /// What follows the name in a JSON object; empty in a line.
-    pub tail: &'a str,
+/// A function symbol with the text of its name.
+#[derive(Clone, Copy)]
+pub(crate) struct Row<'b, 'a> {
+    /// The function symbol.
+    pub function: SectionFunction<'a>,
+    /// What is shown of its name.
+    pub name: &'b str,
 }
 
-/// Sorts rows; without an order they stay as they are. Rows of one key are in the order of their addresses, and those
-/// of one address in their given order.
+/// Whether it is the order of names.
+pub(crate) fn is_by_name(order: Option<Order>) -> bool {
+    matches!(order, Some(Order::Name))
+}
+
+/// Sorts function symbols; without an order they stay as they are. Those of one key are in the order of their
+/// addresses, and those of one address in their given order. By name they are sorted by address alone.
 ///
 /// # Errors
 ///
-/// `AllocError` where an allocation failed: the order of the rows is then unspecified.
-pub(crate) fn sort(rows: &mut Vec<Row<'_>>, order: Option<Order>) -> Result<(), AllocError> {
+/// `AllocError` where an allocation failed: their order is then unspecified.
+pub(crate) fn sort(
+    functions: &mut Vec<SectionFunction<'_>>,
+    order: Option<Order>,
+) -> Result<(), AllocError> {
     let Some(order) = order else {
         return Ok(());
     };
-    rows.sort_by_key(|row| row.address)?;
+    functions.sort_by_key(|it| it.function.address)?;
     match order {
+        Order::Size => functions.sort_by_key(|it| Reverse(it.function.size)),
         Order::Address => Ok(()),
-        Order::Size => rows.sort_by_key(|row| Reverse(row.size)),
-        Order::Name => rows.sort_by_key(|row| row.name),
+        Order::Name => Ok(()),
     }
+}
+
+/// Sorts rows by the bytes of their names' texts. Rows of one text keep their order.
+///
+/// # Errors
+///
+/// `AllocError` where an allocation failed: their order is then unspecified.
+pub(crate) fn sort_by_name(rows: &mut Vec<Row<'_, '_>>) -> Result<(), AllocError> {
+    rows.sort_by_key(|row| row.name)
 }

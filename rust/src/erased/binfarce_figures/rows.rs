@@ -4,8 +4,8 @@
 
 use crate::shim::{CollectIn, String, Vec};
 use crate::erased::binfarce_figures::key::put_crate;
-use crate::erased::binfarce_figures::order::{Order, Row, sort};
-use crate::erased::binfarce::SectionFunction;
+use crate::erased::binfarce_figures::order::{Order, Row, is_by_name, sort, sort_by_name};
+use crate::erased::binfarce::{FunctionSymbol, SectionFunction};
 use crate::erased::binfarce_names::demangle::Demangler;
 use crate::erased::binfarce_tools::functions::Selected;
 use crate::erased::binfarce_tools::head::push_head;
@@ -16,6 +16,7 @@ use crate::erased::binfarce_tools::list::{ListError, Sink, push_section_part};
 use crate::erased::binfarce_tools::tables::Tables;
 use crate::erased::binfarce_tools::writing::write_whole;
 use crate::shim::alloc::{AllocError, Global};
+use crate::shim::collections::BTreeMap;
 
 /// What is shown of a name.
 #[derive(Debug, Clone, Copy, PartialEq)]
@@ -65,7 +66,7 @@ pub fn list_by<S: Sink>(
         form,
         size,
     };
-    let text = listing.text_of(&functions)?;
+    let text = listing.text_of(functions)?;
     write_whole(out, text.as_bytes())
 }
 
@@ -81,114 +82,215 @@ struct Listing<'b, 'a> {
 
 impl Listing<'_, '_> {
     // The whole text.
-    fn text_of(&self, functions: &[SectionFunction<'_>]) -> Result<String, AllocError> {
-        let named = self.named(functions)?;
-        let mut rows: Vec<Row<'_>> = named.iter().map(row_of).collect_in(self.alloc)?;
-        sort(&mut rows, self.shown.order)?;
-        self.first_rows(&rows)
+    fn text_of(&self, functions: Vec<SectionFunction<'_>>) -> Result<String, AllocError> {
+        let mut sorted = functions;
+        sort(&mut sorted, self.shown.order)?;
+        let mut text = self.rows(&sorted)?;
+        self.push_last_line(&mut text)?;
+        Ok(text)
     }
 
-    // The function symbols with what is shown of their names.
-    fn named<'c>(&self, functions: &[SectionFunction<'c>]) -> Result<Vec<Named<'c>>, AllocError> {
+    // The rows, of function symbols that `sort` has sorted.
+    fn rows(&self, functions: &[SectionFunction<'_>]) -> Result<String, AllocError> {
+        if is_by_name(self.shown.order) {
+            self.rows_by_name(functions)
+        } else {
+            self.first_rows(functions)
+        }
+    }
+
+    // The rows of the first function symbols.
+    fn first_rows(&self, functions: &[SectionFunction<'_>]) -> Result<String, AllocError> {
+        let count = count_of(self.shown.first, functions.len());
         let mut demangler = Demangler::new(self.alloc);
-        let mut named = Vec::with_capacity(self.alloc, functions.len())?;
-        for function in functions {
-            let name = self.name_of(&mut demangler, function.function.name)?;
-            let tail = self.tail_of(function.function.name)?;
-            named.push(Named {
-                function: *function,
-                name,
-                tail,
-            })?;
-        }
-        Ok(named)
-    }
-
-    // The text of a name.
-    fn name_of(&self, demangler: &mut Demangler, name: &str) -> Result<String, AllocError> {
-        match self.shown.naming {
-            Naming::Trimmed => {
-                let mut text = String::new(self.alloc);
-                demangler.push_trimmed(&mut text, name)?;
-                Ok(text)
-            }
-            Naming::Complete => Ok(demangler.demangle(name)?.complete),
-            Naming::Stored => String::from_str(self.alloc, name),
-        }
-    }
-
-    // What follows a name in an object: the members `raw` and `crate`.
-    fn tail_of(&self, name: &str) -> Result<String, AllocError> {
-        let mut tail = String::new(self.alloc);
-        if self.form != Form::Lines {
-            let mut crate_name = String::new(self.alloc);
-            put_crate(self.alloc, &mut crate_name, name)?;
-            push_text_member(&mut tail, "raw", Some(name))?;
-            push_text_member(&mut tail, "crate", Some(crate_name.as_str()))?;
-        }
-        Ok(tail)
-    }
-
-    // The first rows, and the line of the section's size.
-    fn first_rows(&self, rows: &[Row<'_>]) -> Result<String, AllocError> {
-        let count = count_of(self.shown.first, rows.len());
+        let mut name = String::new(self.alloc);
         let mut text = String::new(self.alloc);
-        for row in &rows[..count] {
-            self.push_row(&mut text, *row)?;
-        }
-        match self.size {
-            Some(size) if self.shown.has_total && self.form == Form::Lines => writeln!(
-                text,
-                "text {size}"
-            )?,
-            _ => {}
+        for function in &functions[..count] {
+            self.put_name(&mut demangler, &mut name, function.function.name)?;
+            self.push_row(&mut text, *function, name.as_str())?;
         }
         Ok(text)
     }
 
-    // Appends a row, with its section where all sections are listed.
-    fn push_row(&self, text: &mut String, row: Row<'_>) -> Result<(), AllocError> {
+    // The rows of those that are first by name, of function symbols that are sorted by address.
+    fn rows_by_name(&self, functions: &[SectionFunction<'_>]) -> Result<String, AllocError> {
+        let mut texts = Texts {
+            texts: Vec::with_capacity(self.alloc, functions.len())?,
+            long: BTreeMap::new(self.alloc),
+        };
+        let indices = self.indices_of(&mut texts, functions)?;
+        let mut rows = self.rows_of(functions, &texts.texts, &indices)?;
+        sort_by_name(&mut rows)?;
+        self.first_named(&rows)
+    }
+
+    // The rows of the first of these.
+    fn first_named(&self, rows: &[Row<'_, '_>]) -> Result<String, AllocError> {
+        let count = count_of(self.shown.first, rows.len());
+        let mut text = String::new(self.alloc);
+        for row in &rows[..count] {
+            self.push_row(&mut text, row.function, row.name)?;
+        }
+        Ok(text)
+    }
+
+    // For each function symbol the index of its name's text.
+    fn indices_of(
+        &self,
+        texts: &mut Texts,
+        functions: &[SectionFunction<'_>],
+    ) -> Result<Vec<usize>, AllocError> {
+        let mut demangler = Demangler::new(self.alloc);
+        let mut indices = Vec::with_capacity(self.alloc, functions.len())?;
+        for function in functions {
+            let index = self.index_of(&mut demangler, texts, function.function.name)?;
+            indices.push(index)?;
+        }
+        Ok(indices)
+    }
+
+    // The index of a name's text, which is kept where it isn't there yet.
+    fn index_of(
+        &self,
+        demangler: &mut Demangler,
+        texts: &mut Texts,
+        name: &str,
+    ) -> Result<usize, AllocError> {
+        let mut text = String::new(self.alloc);
+        self.put_name(demangler, &mut text, name)?;
+        if let Some(index) = noted(&texts.long, name, text.len()) {
+            return Ok(index);
+        }
+        let index = texts.texts.len();
+        note(self.alloc, &mut texts.long, name, index, text.len())?;
+        texts.texts.push(text)?;
+        Ok(index)
+    }
+
+    // Function symbols with the texts at these indices.
+    fn rows_of<'b, 'a>(
+        &self,
+        functions: &[SectionFunction<'a>],
+        texts: &'b [String],
+        indices: &[usize],
+    ) -> Result<Vec<Row<'b, 'a>>, AllocError> {
+        let mut rows = Vec::with_capacity(self.alloc, functions.len())?;
+        for i in 0..functions.len() {
+            let name = texts[indices[i]].as_str();
+            rows.push(row_of(functions[i], name))?;
+        }
+        Ok(rows)
+    }
+
+    // Overwrites the text by what is shown of a name.
+    fn put_name(
+        &self,
+        demangler: &mut Demangler,
+        text: &mut String,
+        name: &str,
+    ) -> Result<(), AllocError> {
+        match self.shown.naming {
+            Naming::Trimmed => {
+                text.clear();
+                demangler.push_trimmed(text, name)
+            }
+            Naming::Complete => {
+                *text = demangler.demangle(name)?.complete;
+                Ok(())
+            }
+            Naming::Stored => {
+                text.clear();
+                text.push_str(name)
+            }
+        }
+    }
+
+    // Appends the row of a function symbol with this name, with its section where all sections are listed.
+    fn push_row(
+        &self,
+        text: &mut String,
+        function: SectionFunction<'_>,
+        name: &str,
+    ) -> Result<(), AllocError> {
+        let FunctionSymbol {
+            name: stored,
+            address,
+            size,
+        } = function.function;
         match self.form {
             Form::Lines => {
-                push_head(text, row.address, row.size)?;
-                push_section_part(text, self.tables, self.size, row.section)?;
-                text.push_str(row.name)?;
+                push_head(text, address, size)?;
+                push_section_part(text, self.tables, self.size, function.section)?;
+                text.push_str(name)?;
                 text.push_str("\n")
             }
             Form::Objects(file, selected) => {
                 let section = match self.size {
                     Some(_) => Some(selected),
-                    None => self.tables.section_name(row.section),
+                    None => self.tables.section_name(function.section),
                 };
+                let mut crate_name = String::new(self.alloc);
+                put_crate(self.alloc, &mut crate_name, stored)?;
                 push_start(text, file)?;
                 push_text_member(text, "section", section)?;
-                push_address_member(text, row.address)?;
-                push_number_member(text, "size", row.size)?;
-                push_text_member(text, "name", Some(row.name))?;
-                text.push_str(row.tail)?;
+                push_address_member(text, address)?;
+                push_number_member(text, "size", size)?;
+                push_text_member(text, "name", Some(name))?;
+                push_text_member(text, "raw", Some(stored))?;
+                push_text_member(text, "crate", Some(crate_name.as_str()))?;
                 text.push_str("}\n")
             }
         }
     }
-}
 
-// A function symbol with the text of its name, and what follows it in an object.
-struct Named<'a> {
-    function: SectionFunction<'a>,
-    name: String,
-    tail: String,
-}
-
-// Its row.
-fn row_of<'a>(named: &'a Named<'_>) -> Row<'a> {
-    let SectionFunction { section, function } = named.function;
-    Row {
-        section,
-        address: function.address,
-        size: function.size,
-        name: named.name.as_str(),
-        tail: named.tail.as_str(),
+    // Appends the line of the section's size, if it is wanted.
+    fn push_last_line(&self, text: &mut String) -> Result<(), AllocError> {
+        match self.size {
+            Some(size) if self.shown.has_total && self.form == Form::Lines => writeln!(
+                text,
+                "text {size}"
+            ),
+            _ => Ok(()),
+        }
     }
+}
+
+// A text of so many bytes or more is kept once for all function symbols that have the name.
+const LONG: usize = 1024;
+
+// The texts of names.
+struct Texts {
+    texts: Vec<String>,
+    // The index of each long text, by the stored name.
+    long: BTreeMap<String, usize>,
+}
+
+// The row of a function symbol with this name.
+fn row_of<'b, 'a>(function: SectionFunction<'a>, name: &'b str) -> Row<'b, 'a> {
+    Row { function, name }
+}
+
+// The noted index of a name's text, if the text is long.
+fn noted(long: &BTreeMap<String, usize>, name: &str, len: usize) -> Option<usize> {
+    if len < LONG {
+        return None;
+    }
+    long.get(name).copied()
+}
+
+// Notes the index of a name's text, if the text is long.
+fn note(
+    alloc: Global,
+    long: &mut BTreeMap<String, usize>,
+    name: &str,
+    index: usize,
+    len: usize,
+) -> Result<(), AllocError> {
+    if len < LONG {
+        return Ok(());
+    }
+    let _ = long.insert(String::from_str(alloc, name)?, index)?;
+    Ok(())
 }
 
 /// How many of all are shown.

@@ -35,7 +35,7 @@ pub struct Share<'a> {
 /// A line is `{bytes:>10} {memory:>10} {name}`, with the name as in `list_sections`; `[N others]` is the name of the line
 /// that sums up those past the first, `[headers and gaps]` of the rest; the last line is `sum {length}`. An object has
 /// the members `file`, `segment`, `section`, `type`, `flags`, `size` and `memory`; type and flags are as in `list_source`,
-/// and `null` of the two rows that are no sections. There is none for the length.
+/// and `null` of the two rows that are no sections. The last one has `file`, and the length as `sum`.
 ///
 /// Of the source only these bytes are read: those that `list_source` reads.
 ///
@@ -169,11 +169,15 @@ pub(crate) fn rest_of(shares: &[Share<'_>], file_length: u64) -> u128 {
     u128::from(file_length).saturating_sub(total_of(shares))
 }
 
-// Appends the line of the file's length; no object.
+// Appends the row of the file's length.
 fn push_end(text: &mut String, form: Form<'_>, file_length: u64) -> Result<(), AllocError> {
     match form {
         Form::Lines => write!(text, "sum {file_length}\n"),
-        Form::Objects(..) => Ok(()),
+        Form::Objects(file, _) => {
+            push_start(text, file)?;
+            push_number_member(text, "sum", file_length)?;
+            text.push_str("}\n")
+        }
     }
 }
 

@@ -5,7 +5,6 @@ use Rattle.binfarce_chart.specs.Views.{bar_view}
 use Rattle.binfarce_chart.specs.declared.bars.Bar.{Bar}
 use Rattle.binfarce_chart.specs.Svg.{IsChartOf}
 use Rattle.binfarce_chart.specs.Chart.{Row}
-use Rattle.binfarce_tools.specs.Map.{crate_rows}
 use Rattle.binfarce_tools.specs.Report.{total}
 use Rattle.binfarce_tools.proofs.Totals.{totals_add_up}
 use Rattle.binfarce_figures.proofs.Counted.{ones}

@@ -16,8 +16,8 @@ returns-clause-takes g c = λ which file section are.
     let names = section_names c.args.tables.now in
     let size = c.in_ok-functions.size in
     let text = c.as_bytes.result.now in
-    let of_slice = subst (λ fs. IsListingOf shown style names size (map section_function_view fs) text) c.deref.ensures.value (subst (IsListingOf shown style names size (map section_function_view c.deref.result.now)) (sym c.as_bytes.ensures.value) c.in_ok-text.ensures) in
+    let of_bytes = subst (IsListingOf shown style names size (map section_function_view c.in_ok-functions.functions.items)) (sym c.as_bytes.ensures.value) c.in_ok-text.ensures in
     takes (IsListingBy shown style) HoldsLeft (MemoryIn file section) (selected_answer which section file) c.in_ok-selected.selected text _ _ c.write_whole.result
     (c.in_ok-selected.ensures.gets which file section are)
-    (λ seen answer held. listing_of shown style which file section c.args.tables.now c.in_ok-selected.selected seen (map section_function_view c.in_ok-functions.functions.items) size text are answer held c.in_ok-functions.ensures of_slice)
+    (λ seen answer held. listing_of shown style which file section c.args.tables.now c.in_ok-selected.selected seen (map section_function_view c.in_ok-functions.functions.items) size text are answer held c.in_ok-functions.ensures of_bytes)
     c.write_whole.ensures.takes

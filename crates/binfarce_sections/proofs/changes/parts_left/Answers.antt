@@ -16,9 +16,10 @@ whole-requires c =
     let ranked = c.in_ok-shares.shares.items in
     let are : AreSharesOf len sections ranked = subst (λ (xs : List Section). AreSharesOf len xs ranked) c.in_ok-sections.ensures.1 c.in_ok-shares.ensures in
     let named : map named_view c.in_ok-named.named.items ≡ map part_of (map share_view ranked) = c.in_ok-named.ensures ∙ ap (λ (xs : List code_share.Share). map part_of (map share_view xs)) c.deref.ensures.value in
-    let rest : c.rest_of.result ≡ len - total (map share_view ranked) = c.rest_of.ensures ∙ ap (λ (xs : List code_share.Share). len - total (map share_view xs)) c.deref-2.ensures.value in
-    ((λ i. total_of (named i) + rest i) ∙ parts_sum len sections ranked are,
-    ap memory_of named ∙ parts_memory (map share_view ranked) ∙ sym (c.memory_of.ensures ∙ ap (λ (xs : List code_share.Share). sum_by (λ (s : Share). s.section.memory_size) (map share_view xs)) c.deref-3.ensures.value))
+    let rest : c.rest_of.result ≡ len - total (map share_view ranked) = c.rest_of.ensures ∙ ap (λ (xs : List code_share.Share). len - total (map share_view xs)) c.deref-2.ensures.value in (
+      (λ i. total_of (named i) + rest i) ∙ parts_sum len sections ranked are,
+      ap memory_of named ∙ parts_memory (map share_view ranked) ∙ sym (c.memory_of.ensures ∙ ap (λ (xs : List code_share.Share). sum_by (λ (s : Share). s.section.memory_size) (map share_view xs)) c.deref-3.ensures.value),
+    )
 
 pub returns-clause-left : goal.returns-clause-left
 returns-clause-left c =

@@ -1,9 +1,10 @@
-use Rattle.std.proofs.Common.{◌≡◌, take}
-use Rattle.std.specs.List.{flat_map}
+use Rattle.std.proofs.Common.{map, take}
 use Rattle.std.specs.String.{string_bytes}
-use Rattle.binfarce_figures.specs.machine.Listings.{shown_row}
+use Rattle.binfarce.specs.SymbolViews.{section_function_view}
+use Rattle.binfarce_tools.proofs.Lines.{AreLines}
+use Rattle.binfarce_figures.proofs.RowListings.{IsRow}
 use Rattle.binfarce_figures.proofs.rows.Listing.first_rows.Given as goal
 
--- the lines of the rows so far
-abbrev pub invariant-loop-row : goal.invariant-loop-row
-invariant-loop-row l = string_bytes l.text ≡ flat_map (shown_row l.self) (take l.row-index (take l.count l.rows))
+-- the rows of the function symbols so far
+abbrev pub invariant-loop-function : goal.invariant-loop-function
+invariant-loop-function l = AreLines (IsRow l.self) (map section_function_view (take l.function-index (take l.count l.functions))) (string_bytes l.text)

@@ -250,7 +250,11 @@ several = (*at, "--annotate", sample, other)
 ends(0, both.decode().replace("1005 ", "1005 <foo+0x5> ", 3).replace("1005) ", "1005 <foo+0x5>) "), "", *several, "--base=400000", "--base=7f0000000000", given=both)
 ends(2, "", "binfarce: --base comes once for each file, in their order, or not at all", *several, "--base=400000", given=both)
 ends(2, "", "binfarce: --as comes once for each file, in their order, or not at all", *several, "--as=a", given=both)
-ends(1, "", lost, *several, missing, given=both)
+# A file that is refused doesn't keep the others from answering; where each is, nothing is written.
+ends(1, "0x401005 0x7f0000001005 other.so+0x1005 <foo+0x5> x/other.so(+0x1005 <foo+0x5>) 0x1005 <foo+0x5> libother.so+0x1005\n", lost, *several, missing, given=both)
+ends(1, "", lost, *at, "--annotate", missing, given=both)
+others = "binfarce: standard input: no address in the text, and offsets ({}) only behind other names; --as=NAME takes one of these"
+ends(0, b"libother.so+0x1005 main+0x1f2e\n", others.format(2), *several, given=b"libother.so+0x1005 main+0x1f2e\n")
 ends(0, b"0x3\n0x3000\n", f"binfarce: {sample}, {other}: 0 of 1 addresses are in a function symbol; where the file was loaded, --base or --maps is needed", *several, given=b"0x3\n0x3000\n")
 ends(0, f"pc 0x401005 <foo+0x5>\n{text}0x401005 <foo+0x5>\n", "", *at, "--annotate", "--maps=-", sample, given=f"pc 0x401005\n{text}0x401005\n".encode())
 ends(2, "", "binfarce: no line of - is one of /proc/PID/maps", *at, "--annotate", "--maps=-", sample, given=b"pc 0x401005\n")
@@ -265,6 +269,15 @@ data += b"\1" + bytes(15) + 0x1010.to_bytes(8, "little") + bytes(32)
 pathlib.Path(linked).write_bytes(data)
 ends(0, f"{0x400005:016x} foo+0x5\n", "", *at, "--base=400000", linked, "400005")
 ends(0, "linked+0x1005 <foo+0x5> 0x1005 <foo+0x5>\n", "", *at, "--annotate", linked, given=b"linked+0x1005 0x1005\n")
+# Where it has code, that is loaded 0x1000 behind its page, whatever else is mapped of it; unless it is at two places.
+data[-52:-40], data[-24:-16] = b"\1" + bytes(3) + 0x10.to_bytes(8, "little"), 0x100.to_bytes(8, "little")
+pathlib.Path(linked).write_bytes(data)
+read, code, again = (f"{start}000-{start}fff {kind}p 00000000 fe:00 11  {path}\n" for start, kind, path in
+    (("300", "r-", "/x/linked"), ("400", "r-x", "/x/linked (deleted)"), ("500", "r-x", "/y/linked")))
+code_at = (*at, "--maps=/dev/stdin", linked)
+ends(0, f"{0x400005:016x} foo+0x5\n", "", *code_at, "400005", given=(read + code).encode())
+ends(2, "", f"binfarce: /dev/stdin has {linked} at several addresses; --base takes one of them, --as=PATH one of several paths", *code_at, "400005", given=(read + code + again).encode())
+ends(0, f"{0x500005:016x} foo+0x5\n", "", *code_at, "--as=y/linked", "500005", given=(read + code + again).encode())
 data[56] = 2
 pathlib.Path(linked).write_bytes(data)
 ends(0, f"{0x1005:016x} foo+0x5\n", "", *at, linked, "1005")

@@ -31,8 +31,9 @@ fn paths(maps: &str) -> Vec<&str> {
 fn symbolizer(maps: &str, path: &str) -> Result<Symbolizer<'static>, Box<dyn Error>> {
     let tables = Tables::read(File::open(path)?, Selection::All, SymbolTable::Symtab)
         .or_else(|_| Tables::read(File::open(path)?, Selection::All, SymbolTable::Dynsym))?;
-    let base = mapped_at(maps.as_bytes(), path).ok_or("the maps don't have it")?;
-    let linked = read_load_address(File::open(path)?)?.unwrap_or(0);
+    let loaded = read_load_address(File::open(path)?)?;
+    let base = mapped_at(maps.as_bytes(), path, loaded).ok_or("the maps don't have it, or several times")?;
+    let linked = loaded.map_or(0, |loaded| loaded.address);
     Ok(Symbolizer::new(&tables)?.into_owned()?.with_linked(linked).with_base(base))
 }
 
@@ -48,7 +49,6 @@ fn addresses(trace: &str) -> Vec<u64> {
 }
 
 fn print_backtrace() -> Result<(), Box<dyn Error>> {
-    // Before the backtrace is written, for which std maps these files as data, too.
     let maps = fs::read_to_string("/proc/self/maps")?;
     let mut names = Vec::new();
     let mut files = Vec::new();

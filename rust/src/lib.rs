@@ -143,6 +143,7 @@ pub use any::{
 pub use erased::binfarce_bytes::ByteOrder;
 pub use erased::binfarce_bytes::format::Format;
 pub use erased::binfarce_bytes::functions::{FunctionSymbol, SectionFunction};
+pub use erased::binfarce_elf::segments::{CodeSegment, LoadAddress};
 pub use error::{Error, ErrorKind, OutOfMemory, ParseError, UnexpectedEof};
 #[cfg(feature = "std")]
 pub use filter::filter_stream;

@@ -2,7 +2,8 @@
 
 use crate::erased::binfarce_bytes::source::Source;
 use crate::erased::binfarce_figures::{diff::diff, map::map_by, rows::list_by, stacks::fold_tables, sums::sum_by};
-use crate::erased::binfarce_tables::{ReadError, format::read_format, loading};
+use crate::erased::binfarce_tables::loading::{self, LoadAddress};
+use crate::erased::binfarce_tables::{ReadError, format::read_format};
 use crate::erased::binfarce_tools::list::{Sink, list_tables};
 use crate::erased::binfarce_tools::report::{ReportError, report_tables};
 use crate::erased::binfarce_tools::tables;
@@ -344,12 +345,12 @@ where
 /// # Errors
 ///
 /// That of `file`; otherwise that of [`load_address`](crate::load_address), as an [`io::Error`].
-pub fn read_load_address<R: Read + Seek>(file: R) -> io::Result<Option<u64>> {
+pub fn read_load_address<R: Read + Seek>(file: R) -> io::Result<Option<LoadAddress>> {
     let file = RefCell::new(Kept::new(file));
     let format = read_format(Global, &file, &mut ());
-    let address = format.and_then(|format| loading::read_load_address(Global, &file, &mut (), format));
-    match address {
-        Ok(address) => Ok(address),
+    let loaded = format.and_then(|format| loading::read_load_address(Global, &file, &mut (), format));
+    match loaded {
+        Ok(loaded) => Ok(loaded),
         Err(ReadError::Unreadable) => Err(file.into_inner().into_error(ErrorKind::UnexpectedEof)),
         Err(e) => Err(Error::from(e).into()),
     }

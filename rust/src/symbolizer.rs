@@ -6,7 +6,7 @@ use crate::erased::binfarce_addresses::at::Places;
 use crate::erased::binfarce_addresses::lookup::Lookup;
 use crate::erased::binfarce_addresses::maps::base_of;
 use crate::erased::binfarce_addresses::ranges::{AddressRange, Ranges};
-use crate::erased::binfarce_tables::loading;
+use crate::erased::binfarce_tables::loading::{self, LoadAddress};
 use crate::erased::binfarce_tools::json::Form;
 use crate::error::{Error, OutOfMemory};
 use crate::shim;
@@ -97,7 +97,7 @@ impl<'a> Symbolizer<'a> {
         Symbolizer { base: Some(base), ..self }
     }
 
-    /// Sets the address that the file itself says it is loaded at, which [`load_address`] and [`read_load_address`](crate::read_load_address) return.
+    /// Sets the address that the file itself says it is loaded at: that of [`load_address`] and [`read_load_address`](crate::read_load_address).
     ///
     /// # Examples
     ///
@@ -264,9 +264,9 @@ fn look_up_among<'s>(
 
 debug_by_name!(Symbolizer);
 
-/// Returns the address that a file says it is loaded at, unless the loader chooses another: of ELF the page of 4096 bytes of its
-/// lowest loaded segment, of Mach-O the address of `__TEXT`, of PE its image base. `None` where there is none, as in an object
-/// file, and for an unknown format.
+/// Returns where a file says that it is loaded, unless the loader chooses another address: of ELF the page of 4096 bytes of its
+/// lowest loaded segment, and its first code segment; of Mach-O the address of `__TEXT`, of PE its image base. `None` where there
+/// is none, as in an object file, and for an unknown format.
 ///
 /// # Errors
 ///
@@ -281,25 +281,34 @@ debug_by_name!(Symbolizer);
 /// assert_eq!(binfarce::load_address(&std::fs::read(path)?)?, None);
 /// # Ok::<(), Box<dyn std::error::Error>>(())
 /// ```
-pub fn load_address(file: &[u8]) -> Result<Option<u64>, Error> {
+pub fn load_address(file: &[u8]) -> Result<Option<LoadAddress>, Error> {
     Ok(loading::read_load_address(Global, &file, &mut (), detect_format(file))?)
 }
 
-/// Returns where a file is loaded by a text in the form of `/proc/PID/maps`: the lowest address of its mappings, whose paths end
-/// with this name or path, after a `/` if there is one. `None` where no line maps it. Other lines may stand between.
+/// Returns where a file is loaded by a text in the form of `/proc/PID/maps`, if [`load_address`] returns this of it: where the
+/// mappings of its code have it, or of a file without code the lowest address of its mappings. A mapping is one of the file if its
+/// path ends with this path, after a `/` if there is one; if none is, those are whose paths end so with the name behind the last `/`.
+/// A ` (deleted)` after a path isn't part of it. `None` where no line maps the file, and where its code is at several places. Other
+/// lines may stand between.
 ///
 /// # Examples
 ///
 /// ```
+/// use binfarce::{CodeSegment, LoadAddress, mapped_at};
+///
+/// let code = CodeSegment { address: 0x2970, offset: 0x970, size: 0x370 };
+/// let loaded = LoadAddress { address: 0, code: Some(code) };
+/// // The first mapping is one to read the file: its backtraces do that.
 /// let maps = "\
+/// 563261d00000-563261d01000 r--p 00000000 fe:00 10961329   /tmp/app
 /// 563261dae000-563261daf000 r--p 00000000 fe:00 10961329   /tmp/app
-/// 563261daf000-563261db0000 r-xp 00001000 fe:00 10961329   /tmp/app
+/// 563261db0000-563261db1000 r-xp 00000000 fe:00 10961329   /tmp/app
 /// ";
-/// assert_eq!(binfarce::mapped_at(maps.as_bytes(), "app"), Some(0x5632_61da_e000));
-/// assert_eq!(binfarce::mapped_at(maps.as_bytes(), "pp"), None);
+/// assert_eq!(mapped_at(maps.as_bytes(), "app", Some(loaded)), Some(0x5632_61da_e000));
+/// assert_eq!(mapped_at(maps.as_bytes(), "pp", Some(loaded)), None);
 /// ```
-pub fn mapped_at(maps: &[u8], path: &str) -> Option<u64> {
-    base_of(maps, path.as_bytes()).ok()
+pub fn mapped_at(maps: &[u8], path: &str, loaded: Option<LoadAddress>) -> Option<u64> {
+    base_of(maps, path.as_bytes(), loaded.unwrap_or(LoadAddress { address: 0, code: None })).ok()
 }
 
 #[test]

@@ -94,8 +94,9 @@ fn several_files() -> Result<(), Box<dyn std::error::Error>> {
     let (maps, path, address) = (b"5000-6000 r-xp 00000000 fe:00 1  /lib/libapp.so\n", "libapp.so", 0x6004);
     let file = &std::fs::read(SAMPLE)?;
     let tables = Tables::new(file, Selection::All, SymbolTable::Symtab)?;
-    let symbolizer = Symbolizer::new(&tables)?.with_linked(load_address(file)?.unwrap_or(0));
-    let symbolizers = [symbolizer.with_base(mapped_at(maps, path).unwrap())];
+    let loaded = load_address(file)?;
+    let symbolizer = Symbolizer::new(&tables)?.with_linked(loaded.map_or(0, |loaded| loaded.address));
+    let symbolizers = [symbolizer.with_base(mapped_at(maps, path, loaded).unwrap())];
     assert_eq!(Symbolizer::find_among(&symbolizers, address).unwrap().0, 0);
     Ok(())
 }

@@ -115,11 +115,12 @@ shows_address files bare before text piece len old new counts after is some le o
 )
 
 -- nothing is asked for
-pub piece_unasked : (files : List File) (before word : List ℕ) (old new : List ℕ) (counts : Counts) → IsFoundBy files (found_by files before (address_of word)) None → new ≡ old ++ word
-    → (piece : Piece) × IsPieceOf files before word piece × (new ≡ old ++ piece.0) × AddsUp counts counts piece.1
-piece_unasked files before word old new counts none is =
-    let P : Option (Option (Entry × ℕ)) → Type 0 = λ f. IsPieceFor f word (word, []) in
-    ((word, []), subst P (sym none) ([], refl, sym (append-nil word), refl), is, adds_none counts)
+pub piece_unasked : (files : List File) (before word : List ℕ) (old new : List ℕ) (counts after : Counts) → IsFoundBy files (found_by files before (address_of word)) None → new ≡ old ++ word → AddsUp counts after (None ∷ [])
+    → (piece : Piece) × IsPieceOf files before word piece × (new ≡ old ++ piece.0) × AddsUp counts after piece.1
+piece_unasked files before word old new counts after none is adds =
+    let answers : List (Option Bool) = None ∷ [] in
+    let P : Option (Option (Entry × ℕ)) → Type 0 = λ f. IsPieceFor f word (word, answers) in
+    ((word, answers), subst P (sym none) ([], refl, sym (append-nil word), refl), is, adds)
 
 -- what is asked for isn't found
 pub piece_unfound : (files : List File) (before word : List ℕ) (old new : List ℕ) (counts after : Counts) → IsFoundBy files (found_by files before (address_of word)) (Some None) → new ≡ old ++ word → AddsUp counts after (Some false ∷ [])

@@ -51,7 +51,7 @@ abbrev pub IsAddedFor : (found : Option (Entry × ℕ)) (added : List ℕ) → T
 IsAddedFor None added = added ≡ []
 IsAddedFor (Some (entry, offset)) added = (place : List ℕ) × IsPlaceOf entry offset place × (added ≡ codes " <" ++ (place ++ codes ">"))
 
--- a piece of the annotated text: its bytes, and the answers to the addresses in it that are asked for, whether a function symbol holds each
+-- a piece of the annotated text: its bytes, and the answers to the addresses in it, whether a function symbol holds each that is asked for
 abbrev pub Piece : Type 0
 Piece = List ℕ × List (Option Bool)
 
@@ -59,9 +59,9 @@ Piece = List ℕ × List (Option Bool)
 abbrev pub other : ℕ → Piece
 other b = (b ∷ [], [])
 
--- the answer for what is found, if it is asked for
+-- the answer for what is found, if it is asked for; `None` to an offset that isn't
 abbrev pub answers_for : Option (Option (Entry × ℕ)) → List (Option Bool)
-answers_for None = []
+answers_for None = None ∷ []
 answers_for (Some found) = Some (is_some found) ∷ []
 
 -- the piece of a word for which this is found: the word, and what is added

@@ -13,7 +13,7 @@ is_yes None = false
 is_yes (Some held) = held
 
 -- the counts of answers, each at most 2^64 - 1. An answer is whether a function symbol holds the address that is asked for, and `None` to a line without
--- an address
+-- an address, and to an offset in a text that isn't asked for
 pub record AreCountsOf (answers : List (Option Bool)) (counts : Counts) : Type 0 where
   pub asked : counts.asked ≡ min (count_by is_some answers) (2 ^ 64 - 1)
   pub found : counts.found ≡ min (count_by is_yes answers) (2 ^ 64 - 1)

@@ -1,39 +1,55 @@
 -- Where a file is loaded, by a text in the form of /proc/PID/maps (proc(5)): each line is `start-end perms offset dev inode path`, with blanks before the path.
-use Rattle.std.specs.Prelude.{◌≡◌, ◌-◌, ◌&&◌, ◌||◌, ℕ, List, [], ◌∷◌, codes, length, take, min, nat_eq, Bool, true, false, Option, Some, None, Result, is_some, if◌then◌else◌}
+use Rattle.std.specs.Prelude.{◌≡◌, ◌+◌, ◌-◌, ◌^◌, ◌%◌, ◌&&◌, ◌||◌, ℕ, List, [], ◌∷◌, codes, length, take, drop, reverse, min, nat_eq, nat_lt, Bool, true, false, Option, Some, None, unwrap_or, Result, Ok, Err, is_some, if◌then◌else◌}
 use Rattle.std.proofs.Common.{refl}
-use Rattle.std.specs.List.{after_first, before_first, ends_with, slice_split}
-use Rattle.std.specs.Option.{ok_or, option_and}
+use Rattle.std.specs.List.{after_first, before_first, ends_with, list_any, position_or_len, slice_split}
+use Rattle.std.specs.Option.{ok_or, option_and_then, option_map}
 use Rattle.binfarce_addresses.specs.Address.{hexadecimal}
 use Rattle.binfarce_addresses.specs.Stream.{trim_start}
+use Rattle.binfarce_addresses.specs.declared.maps.Mapping.{Mapping}
 use Rattle.binfarce_addresses.specs.declared.maps.NoBase.{NoBase}
-use Rattle.binfarce_addresses.specs.declared.maps.NoBase.TheVariants.{NotMaps, NotMapped}
+use Rattle.binfarce_addresses.specs.declared.maps.NoBase.TheVariants.{NotMaps, NotMapped, Several}
+use Rattle.binfarce_elf.specs.declared.segments.CodeSegment.{CodeSegment}
+use Rattle.binfarce_elf.specs.declared.segments.LoadAddress.{LoadAddress}
 
--- the first address of a mapping; none where the line doesn't begin with two hexadecimal numbers, `-` between, up to a blank
-abbrev pub start_of : (line : List ℕ) → Option ℕ
-start_of line =
-    let range : List ℕ = before_first (nat_eq 32) line in
-    option_and (hexadecimal (after_first (nat_eq 45) range)) (hexadecimal (before_first (nat_eq 45) range))
+-- the text before its first blank, and behind it
+abbrev pub before_blank : (text : List ℕ) → List ℕ
+before_blank text = before_first (nat_eq 32) text
 
--- the text behind its first blank
 abbrev pub behind_blank : (text : List ℕ) → List ℕ
 behind_blank text = after_first (nat_eq 32) text
 
--- the path of a mapping, after five fields; it is empty where no file is mapped
+-- the mapping with this range, permissions and offset: none where start, end and offset aren't hexadecimal numbers
+abbrev pub mapping_with : (range permissions offset : List ℕ) → Option Mapping
+mapping_with range permissions offset =
+    option_and_then (λ start. option_and_then (λ end. option_map (λ place. record {
+      start = start;
+      size = end - start;
+      offset = place;
+      is_code = list_any (λ b. nat_eq b 120) permissions;
+    }) (hexadecimal offset)) (hexadecimal (after_first (nat_eq 45) range))) (hexadecimal (before_first (nat_eq 45) range))
+
+-- the mapping of a line: its first field has start and end, with `-` between, its second an `x` if it may be executed, and its third the offset in the file
+abbrev pub mapping_of : (line : List ℕ) → Option Mapping
+mapping_of line = mapping_with (before_blank line) (before_blank (behind_blank line)) (before_blank (behind_blank (behind_blank line)))
+
+-- the path of a mapping, after five fields, without the mark of a file that was deleted; it is empty where no file is mapped
+abbrev pub without_mark : (path : List ℕ) → List ℕ
+without_mark path = if ends_with nat_eq path (codes " (deleted)") then take (length path - 10) path else path
+
 abbrev pub path_of : (line : List ℕ) → List ℕ
-path_of line = trim_start (behind_blank (behind_blank (behind_blank (behind_blank (behind_blank line)))))
+path_of line = without_mark (trim_start (behind_blank (behind_blank (behind_blank (behind_blank (behind_blank line))))))
 
--- a path ends with this name: it is the name, or a `/` comes before the name
-abbrev pub ends_with_name : (name path : List ℕ) → Bool
-ends_with_name name path = ends_with nat_eq path name && (nat_eq (length path) (length name) || ends_with nat_eq (take (length path - length name) path) (codes "/"))
+-- a path ends with this one: it is this one, or a `/` comes before it
+abbrev pub ends_with_path : (end path : List ℕ) → Bool
+ends_with_path end path = ends_with nat_eq path end && (nat_eq (length path) (length end) || ends_with nat_eq (take (length path - length end) path) (codes "/"))
 
--- the line's path ends with this name, or none is given
-abbrev pub is_mapping_of : (name : Option (List ℕ)) (line : List ℕ) → Bool
-is_mapping_of None line = true
-is_mapping_of (Some name) line = ends_with_name name (path_of line)
+-- the file's name: what comes behind the last `/` of a path
+abbrev pub name_of : (path : List ℕ) → List ℕ
+name_of path = drop (length path - position_or_len (nat_eq 47) (reverse path)) path
 
--- the first address of a mapping of this file
-abbrev pub start_for : (name : Option (List ℕ)) (line : List ℕ) → Option ℕ
-start_for name line = if is_mapping_of name line then start_of line else None
+-- the mapping of a line, where its path ends with this one
+abbrev pub mapping_for : (end line : List ℕ) → Option Mapping
+mapping_for end line = if ends_with_path end (path_of line) then mapping_of line else None
 
 -- the less of two addresses, of which there may be none
 abbrev pub less_of : Option ℕ → Option ℕ → Option ℕ
@@ -41,29 +57,112 @@ less_of None other = other
 less_of (Some a) None = Some a
 less_of (Some a) (Some b) = Some (min a b)
 
--- the lowest first address among these lines' mappings of this file
-abbrev pub lowest_among : (name : Option (List ℕ)) (lines : List (List ℕ)) → Option ℕ
-lowest_among name [] = None
-lowest_among name (line ∷ lines) = less_of (start_for name line) (lowest_among name lines)
+-- the lowest value among those that lines have
+abbrev pub lowest_among : (value : List ℕ → Option ℕ) (lines : List (List ℕ)) → Option ℕ
+lowest_among value [] = None
+lowest_among value (line ∷ lines) = less_of (value line) (lowest_among value lines)
 
--- the same of a text's lines
-abbrev pub lowest_start : (name : Option (List ℕ)) (maps : List ℕ) → Option ℕ
-lowest_start name maps = lowest_among name (slice_split (nat_eq 10) maps)
+abbrev pub lowest : (value : List ℕ → Option ℕ) (maps : List ℕ) → Option ℕ
+lowest value maps = lowest_among value (slice_split (nat_eq 10) maps)
 
--- where the file of this name is loaded, or why that isn't known: no line is a mapping, or none of this file
-abbrev pub base_of : (maps name : List ℕ) → Result ℕ NoBase
-base_of maps name = ok_or (lowest_start (Some name) maps) (if is_some (lowest_start None maps) then NotMapped else NotMaps)
+-- the first address of a mapping
+abbrev pub start_of : Option Mapping → Option ℕ
+start_of mapping = option_map (λ (m : Mapping). m.start) mapping
 
--- lines of a program's own maps
-worked_path : is_mapping_of (Some (codes "app")) (codes "5616487fc000-5616487fd000 r-xp 00001000 fe:00 11002235                   /tmp/app") ≡ true
+-- a less b, modulo 2^64
+abbrev pub minus : (a b : ℕ) → ℕ
+minus a b = (a + (2 ^ 64 - b)) % 2 ^ 64
+
+-- bytes of this segment are in the mapping: neither begins at the end of the other in the file, or past it
+abbrev pub shares_bytes : CodeSegment → Mapping → Bool
+shares_bytes segment mapping = nat_lt (mapping.offset - segment.offset) segment.size && nat_lt (segment.offset - mapping.offset) mapping.size
+
+-- where a file of this address is loaded by a mapping of its code segment. An address in memory less an offset in the file is the same for all of the
+-- mapping, whatever a page's size, and so is an address in the file less an offset for all of the segment: the difference of both is what the loader added
+abbrev pub base_by_code : (address : ℕ) → CodeSegment → Mapping → ℕ
+base_by_code address segment mapping = (minus (minus mapping.start mapping.offset) (minus segment.address segment.offset) + address) % 2 ^ 64
+
+abbrev pub base_in : LoadAddress → Option CodeSegment → Mapping → Option ℕ
+base_in loaded None mapping = None
+base_in loaded (Some segment) mapping = if mapping.is_code && shares_bytes segment mapping then Some (base_by_code loaded.address segment mapping) else None
+
+-- where the file is loaded by the mapping of a line: none where that has no byte of its code segment, or may not be executed
+abbrev pub base_by : LoadAddress → Option Mapping → Option ℕ
+base_by loaded mapping = option_and_then (base_in loaded loaded.code) mapping
+
+-- the offset in the file of a mapping that may be executed
+abbrev pub code_offset_of : Option Mapping → Option ℕ
+code_offset_of mapping = option_and_then (λ (m : Mapping). if m.is_code then Some m.offset else None) mapping
+
+-- a debug file has no bytes of its code segment, and doesn't say at which offset the program's file has them: they are in all mappings that may be executed,
+-- and the page of 4096 bytes where the segment begins is at the lowest offset of these
+abbrev pub placed : (lowest : Option ℕ) → CodeSegment → CodeSegment
+placed lowest segment = if nat_eq segment.size 0 then record { address = segment.address - segment.address % 4096; offset = unwrap_or lowest 0; size = 2 ^ 64 - 1 } else segment
+
+abbrev pub placed_in : (maps end : List ℕ) → LoadAddress → LoadAddress
+placed_in maps end loaded = record { address = loaded.address; code = option_map (placed (lowest (λ line. code_offset_of (mapping_for end line)) maps)) loaded.code }
+
+-- one that isn't this one
+abbrev pub other_than : (one : ℕ) → Option ℕ → Option ℕ
+other_than one None = None
+other_than one (Some a) = if nat_eq one a then None else Some a
+
+-- a mapping is one of the file if its path ends with the given one, where any does; or else if it ends with the name in it
+abbrev pub end_in : (maps path : List ℕ) → List ℕ
+end_in maps path = if is_some (lowest (λ line. start_of (mapping_for path line)) maps) then path else name_of path
+
+-- where the file is loaded, whose mappings' paths have this end: where all mappings of its code say that it is; several differ where it is loaded more than
+-- once. Without such a mapping at the lowest address of any of its mappings
+abbrev pub base_with : (maps end : List ℕ) → LoadAddress → Option ℕ → Result ℕ NoBase
+base_with maps end loaded (Some base) = if is_some (lowest (λ line. other_than base (base_by loaded (mapping_for end line))) maps) then Err Several else Ok base
+base_with maps end loaded None = ok_or (lowest (λ line. start_of (mapping_for end line)) maps) (if is_some (lowest (λ line. start_of (mapping_of line)) maps) then NotMapped else NotMaps)
+
+abbrev pub base_at : (maps end : List ℕ) → LoadAddress → Result ℕ NoBase
+base_at maps end loaded = base_with maps end loaded (lowest (λ line. base_by loaded (mapping_for end line)) maps)
+
+abbrev pub base_for : (maps end : List ℕ) → LoadAddress → Result ℕ NoBase
+base_for maps end loaded = base_at maps end (placed_in maps end loaded)
+
+-- where the file at this path is loaded, which says that it is loaded there, or why that isn't known: no line is a mapping, none is one of this file, or it
+-- is loaded several times
+abbrev pub base_of : (maps path : List ℕ) → LoadAddress → Result ℕ NoBase
+base_of maps path loaded = base_for maps (end_in maps path) loaded
+
+-- a line of a program's own maps
+worked_path : ends_with_path (codes "app") (path_of (codes "5616487fc000-5616487fd000 r-xp 00001000 fe:00 11002235                   /tmp/app")) ≡ true
 worked_path = refl
 
-worked_longer : is_mapping_of (Some (codes "app")) (codes "5616487fc000-5616487fd000 r-xp 00001000 fe:00 11002235                   /tmp/myapp") ≡ false
+worked_longer : ends_with_path (codes "app") (path_of (codes "5616487fc000-5616487fd000 r-xp 00001000 fe:00 11002235                   /tmp/myapp")) ≡ false
 worked_longer = refl
 
-worked_start : start_of (codes "00400000-00401000 r--p 00000000 fe:00 11002236                           /tmp/app") ≡ Some 0x400000
+worked_deleted : path_of (codes "5616487fc000-5616487fd000 r-xp 00001000 fe:00 11002235                   /tmp/app (deleted)") ≡ codes "/tmp/app"
+worked_deleted = refl
+
+worked_name : name_of (codes "/tmp/app") ≡ codes "app"
+worked_name = refl
+
+worked_start : start_of (mapping_of (codes "00400000-00401000 r--p 00000000 fe:00 11002236                           /tmp/app")) ≡ Some 0x400000
 worked_start = refl
 
 -- one that maps no file
 worked_none : path_of (codes "7fa8dc3e4000-7fa8dc3e7000 rw-p 00000000 00:00 0 ") ≡ []
 worked_none = refl
+
+-- a shared object by lld, whose code at 0x970 is linked at 0x1970, is loaded where its code is, and not where the program mapped it to read it
+worked_read : base_of (codes "7fb14231b000-7fb14231f000 r--p 00000000 fe:00 5431306 /x/lib.so\n7fb14231f000-7fb142320000 r--p 00000000 fe:00 5431306 /x/lib.so\n7fb142320000-7fb142321000 r-xp 00000000 fe:00 5431306 /x/lib.so") (codes "y/lib.so") (record { address = 0; code = Some (record { address = 0x1970; offset = 0x970; size = 0x370 }) }) ≡ Ok 0x7fb14231f000
+worked_read = refl
+
+-- it is loaded twice; one of them has the given path
+worked_twice : base_of (codes "7fb142320000-7fb142321000 r-xp 00000000 fe:00 5431306 /x/lib.so\n7fb142330000-7fb142331000 r-xp 00000000 fe:00 5431307 /y/lib.so") (codes "lib.so") (record { address = 0; code = Some (record { address = 0x1970; offset = 0x970; size = 0x370 }) }) ≡ Err Several
+worked_twice = refl
+
+worked_one : base_of (codes "7fb142320000-7fb142321000 r-xp 00000000 fe:00 5431306 /x/lib.so\n7fb142330000-7fb142331000 r-xp 00000000 fe:00 5431307 /y/lib.so") (codes "y/lib.so") (record { address = 0; code = Some (record { address = 0x1970; offset = 0x970; size = 0x370 }) }) ≡ Ok 0x7fb14232f000
+worked_one = refl
+
+-- a debug file, which has no bytes of the code at 0x1351; `mprotect` has divided the mapping
+worked_debug : base_of (codes "7fb14231f000-7fb142320000 r--p 00000000 fe:00 5431306 /x/app\n7fb142320000-7fb142321000 r-xp 00001000 fe:00 5431306 /x/app\n7fb142321000-7fb142322000 rwxp 00002000 fe:00 5431306 /x/app") (codes "app") (record { address = 0; code = Some (record { address = 0x1351; offset = 0; size = 0 }) }) ≡ Ok 0x7fb14231f000
+worked_debug = refl
+
+-- a file without code is at the lowest address of its mappings
+worked_lowest : base_of (codes "7fb142320000-7fb142321000 r--p 00001000 fe:00 5431306 /x/app.exe\n7fb14231f000-7fb142320000 r--p 00000000 fe:00 5431306 /x/app.exe") (codes "app.exe") (record { address = 0x140000000; code = None }) ≡ Ok 0x7fb14231f000
+worked_lowest = refl

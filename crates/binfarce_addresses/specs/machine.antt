@@ -7,3 +7,4 @@ pub mod Annotating
 pub mod Sweep
 pub mod Sweeping
 pub mod Words
+pub mod Wanted

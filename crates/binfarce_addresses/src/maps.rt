@@ -1,11 +1,12 @@
 //! Where files are loaded, by a text in the form of /proc/PID/maps.
 
-ghost use Rattle.std.specs.Prelude.{◌≡◌, ◌≤◌, ◌+◌, drop, length, nat_eq};
+ghost use Rattle.std.specs.Prelude.{◌≡◌, ◌≤◌, ◌+◌, drop, length, nat_eq, reverse};
 ghost use Rattle.std.specs.List.{position_or_len};
-ghost use Rattle.std.specs.Option.{option_copied};
-ghost use Rattle.binfarce_addresses.specs.Maps.{base_of, behind_blank, ends_with_name, less_of, lowest_start, path_of, start_for, start_of};
+ghost use Rattle.binfarce_addresses.specs.Maps.{base_at, base_by, base_of, before_blank, behind_blank, end_in, ends_with_path, less_of, lowest, mapping_for, mapping_of, mapping_with, name_of, path_of, placed_in, without_mark};
+ghost use Rattle.binfarce_addresses.specs.machine.Wanted.{value_for};
 
 use crate::address::hex_number;
+use binfarce_elf::segments::{CodeSegment, LoadAddress};
 
 /// Why a text doesn't say where a file is loaded.
 #[derive(Debug, Clone, Copy, PartialEq)]
@@ -14,58 +15,200 @@ pub enum NoBase {
     NotMaps,
     /// No line of it is a mapping of the file.
     NotMapped,
+    /// Its mappings have the code of the file at several places: it is loaded several times, or several files are named
+    /// alike.
+    Several,
 }
 
-/// Where the file of this name is loaded: the lowest address of its mappings. Each line of the text is as in
-/// `/proc/PID/maps`; a mapping is one of the file if its path ends with the name, after a `/` if there is one. Nothing is
-/// allocated.
+// What a line says of a mapping.
+#[derive(Debug, Clone, Copy, PartialEq)]
+struct Mapping {
+    // Its first address.
+    start: u64,
+    // How many bytes it has.
+    size: u64,
+    // The offset of its first byte in the file.
+    offset: u64,
+    // Whether it may be executed.
+    is_code: bool,
+}
+
+// What is asked of each line: an address. A mapping is one of the file if its path ends with this one.
+#[derive(Clone, Copy)]
+enum Wanted<'a> {
+    // Where a mapping begins, of any file.
+    AnyStart,
+    // Where a mapping of the file begins.
+    Start(&'a [u8]),
+    // The offset in the file of a mapping of it that may be executed.
+    CodeOffset(&'a [u8]),
+    // Where the file is loaded by a mapping of its code.
+    Base(&'a [u8], LoadAddress),
+    // The same, if it isn't this one.
+    OtherBase(&'a [u8], LoadAddress, u64),
+}
+
+/// Where a file is loaded that says that it is loaded there: where the mappings of its code have it, or without code at
+/// the lowest address of its mappings. Each line of the text is as in `/proc/PID/maps`. A mapping is one of the file if its
+/// path ends with the given one, after a `/` if there is one, or is the same; where none is, if it ends so with the name
+/// behind the last `/` of the given one. A ` (deleted)` after a path isn't part of it. Nothing is allocated.
 ///
 /// # Errors
 ///
-/// `NotMaps` if no line is a mapping; `NotMapped` if none is one of the file.
-pub fn base_of(maps: &[u8], name: &[u8]) -> Result<u64, NoBase>
-    ensures { result ≡ base_of maps.now name.now }
+/// `NotMaps` if no line is a mapping; `NotMapped` if none is one of the file; `Several` if mappings of its code have it at
+/// different places.
+pub fn base_of(maps: &[u8], path: &[u8], loaded: LoadAddress) -> Result<u64, NoBase>
+    ensures { result ≡ base_of maps.now path.now loaded }
 {
-    let no_base = if lowest_start(None, maps).is_some() {
+    let end = end_in(maps, path);
+    base_at(maps, end, placed_in(maps, end, loaded))
+}
+
+// Where a file is loaded whose mappings' paths have this end.
+fn base_at(maps: &[u8], end: &[u8], loaded: LoadAddress) -> Result<u64, NoBase>
+    ensures { result ≡ base_at maps.now end.now loaded }
+{
+    if let Some(base) = lowest(Wanted::Base(end, loaded), maps) {
+        return match lowest(Wanted::OtherBase(end, loaded, base), maps) {
+            Some(_) => Err(NoBase::Several),
+            None => Ok(base),
+        };
+    }
+    let no_base = if lowest(Wanted::AnyStart, maps).is_some() {
         NoBase::NotMapped
     } else {
         NoBase::NotMaps
     };
-    lowest_start(Some(name), maps).ok_or(no_base)
+    lowest(Wanted::Start(end), maps).ok_or(no_base)
 }
 
-// The lowest first address among the mappings of the file of this name, or of any.
-fn lowest_start(name: Option<&[u8]>, maps: &[u8]) -> Option<u64>
-    ensures { result ≡ lowest_start (option_copied name.entry) maps.now }
+// Where the file says that it is loaded, the code of a debug file placed in the program's file.
+fn placed_in(maps: &[u8], end: &[u8], loaded: LoadAddress) -> LoadAddress
+    ensures { result ≡ placed_in maps.now end.now loaded }
+{
+    match loaded.code {
+        Some(code) if code.size == 0 => LoadAddress {
+            address: loaded.address,
+            code: Some(CodeSegment {
+                address: code.address - code.address % 4096,
+                offset: lowest(Wanted::CodeOffset(end), maps).unwrap_or(0),
+                size: u64::MAX,
+            }),
+        },
+        _ => loaded,
+    }
+}
+
+/// The name of the file at this path: what comes behind its last `/`.
+pub fn name_of(path: &[u8]) -> &[u8]
+    ensures { result.now ≡ name_of path.now }
+{
+    &path[path.len() - name_len(path)..]
+}
+
+// How many bytes come behind the last `/` of a path.
+fn name_len(path: &[u8]) -> usize
+    ensures within { result ≤ length path.now }
+    ensures len { result ≡ position_or_len (nat_eq 47) (reverse path.now) }
+{
+    path.iter().rev().take_while(|b| **b != b'/').count()
+}
+
+// The end of the paths of the file's mappings.
+fn end_in<'a>(maps: &[u8], path: &'a [u8]) -> &'a [u8]
+    ensures { result.now ≡ end_in maps.now path.now }
+{
+    match lowest(Wanted::Start(path), maps) {
+        Some(_) => path,
+        None => name_of(path),
+    }
+}
+
+// The lowest address of this kind.
+fn lowest(wanted: Wanted<'_>, maps: &[u8]) -> Option<u64>
+    ensures { result ≡ lowest (value_for wanted.entry) maps.now }
 {
     let mut lowest = None;
     let mut rest = maps;
     while !rest.is_empty() {
         let len = len_before(b'\n', rest);
-        lowest = less_of(lowest, start_for(name, &rest[..len]));
+        lowest = less_of(lowest, value_for(wanted, &rest[..len]));
         rest = behind(len, rest);
     }
     lowest
 }
 
-// The first address of a mapping of this file.
-fn start_for(name: Option<&[u8]>, line: &[u8]) -> Option<u64>
-    ensures { result ≡ start_for (option_copied name.entry) line.now }
+// The address of this kind that a line has.
+fn value_for(wanted: Wanted<'_>, line: &[u8]) -> Option<u64>
+    ensures { result ≡ value_for wanted.entry line.now }
 {
-    match name {
-        Some(name) if !ends_with_name(name, path_of(line)) => None,
-        _ => start_of(line),
+    match wanted {
+        Wanted::AnyStart => Some(mapping_of(line)?.start),
+        Wanted::Start(end) => Some(mapping_for(end, line)?.start),
+        Wanted::CodeOffset(end) => match mapping_for(end, line) {
+            Some(mapping) if mapping.is_code => Some(mapping.offset),
+            _ => None,
+        },
+        Wanted::Base(end, loaded) => base_by(loaded, mapping_for(end, line)),
+        Wanted::OtherBase(end, loaded, base) => match base_by(loaded, mapping_for(end, line)) {
+            Some(other) if other != base => Some(other),
+            _ => None,
+        },
     }
 }
 
-// The first address of a mapping.
-fn start_of(line: &[u8]) -> Option<u64>
-    ensures { result ≡ start_of line.now }
+// Where the file is loaded by a mapping, if that is one of its code.
+fn base_by(loaded: LoadAddress, mapping: Option<Mapping>) -> Option<u64>
+    ensures { result ≡ base_by loaded mapping }
 {
-    let range = &line[..len_before(b' ', line)];
+    let mapping = mapping?;
+    let code = loaded.code?;
+    let ends_before = code.offset.saturating_sub(mapping.offset) >= mapping.size;
+    let begins_behind = mapping.offset.saturating_sub(code.offset) >= code.size;
+    if !mapping.is_code || begins_behind || ends_before {
+        return None;
+    }
+    let in_memory = mapping.start.wrapping_sub(mapping.offset);
+    let in_file = code.address.wrapping_sub(code.offset);
+    Some(in_memory.wrapping_sub(in_file).wrapping_add(loaded.address))
+}
+
+// The mapping of a line, where its path ends with this one.
+fn mapping_for(end: &[u8], line: &[u8]) -> Option<Mapping>
+    ensures { result ≡ mapping_for end.now line.now }
+{
+    if ends_with_path(end, path_of(line)) {
+        mapping_of(line)
+    } else {
+        None
+    }
+}
+
+fn mapping_of(line: &[u8]) -> Option<Mapping>
+    ensures { result ≡ mapping_of line.now }
+{
+    let permissions = behind_blank(line);
+    let offset = behind_blank(permissions);
+    mapping_with(
+        before_blank(line),
+        before_blank(permissions),
+        before_blank(offset),
+    )
+}
+
+fn mapping_with(range: &[u8], permissions: &[u8], offset: &[u8]) -> Option<Mapping>
+    ensures { result ≡ mapping_with range.now permissions.now offset.now }
+{
     let len = len_before(b'-', range);
-    hex_number(behind(len, range))?;
-    hex_number(&range[..len])
+    let start = hex_number(&range[..len])?;
+    let end = hex_number(behind(len, range))?;
+    let offset = hex_number(offset)?;
+    Some(Mapping {
+        start,
+        size: end.saturating_sub(start),
+        offset,
+        is_code: permissions.contains(&b'x'),
+    })
 }
 
 // The path of a mapping.
@@ -73,15 +216,33 @@ fn path_of(line: &[u8]) -> &[u8]
     ensures { result.now ≡ path_of line.now }
 {
     let inode = behind_blank(behind_blank(behind_blank(behind_blank(line))));
-    behind_blank(inode).trim_ascii_start()
+    without_mark(behind_blank(inode).trim_ascii_start())
 }
 
-// Whether a path ends with this name.
-fn ends_with_name(name: &[u8], path: &[u8]) -> bool
-    ensures { result ≡ ends_with_name name.now path.now }
+// A path without the mark of a file that was deleted.
+fn without_mark(path: &[u8]) -> &[u8]
+    ensures { result.now ≡ without_mark path.now }
 {
-    path.ends_with(name)
-        && (path.len() == name.len() || path[..path.len() - name.len()].ends_with(b"/"))
+    if path.ends_with(b" (deleted)") {
+        &path[..path.len() - 10]
+    } else {
+        path
+    }
+}
+
+// Whether a path ends with this one.
+fn ends_with_path(end: &[u8], path: &[u8]) -> bool
+    ensures { result ≡ ends_with_path end.now path.now }
+{
+    path.ends_with(end)
+        && (path.len() == end.len() || path[..path.len() - end.len()].ends_with(b"/"))
+}
+
+// The text before its first blank.
+fn before_blank(text: &[u8]) -> &[u8]
+    ensures { result.now ≡ before_blank text.now }
+{
+    &text[..len_before(b' ', text)]
 }
 
 // The text behind its first blank.

@@ -10,3 +10,4 @@ pub mod Keys
 pub mod Pushed
 pub mod Sized
 pub mod Selecting
+pub mod Firsts

@@ -13,6 +13,7 @@ use Rattle.binfarce_addresses.specs.Stream.{Streams}
 use Rattle.binfarce_addresses.specs.declared.counts.Counts.{Counts}
 use Rattle.binfarce_addresses.specs.declared.lookup.Lookup.{Lookup}
 use Rattle.binfarce_addresses.specs.declared.stream.StreamError.{StreamError}
+use Rattle.binfarce_elf.specs.declared.segments.LoadAddress.{LoadAddress}
 use Rattle.binfarce_tables.specs.Loading.{load_address}
 use Rattle.binfarce_tools.specs.ListWords as list
 use Rattle.binfarce_tools.specs.declared.list.ListError.{ListError}
@@ -45,11 +46,15 @@ is_elf (Elf32 order) = true
 is_elf (Elf64 order) = true
 is_elf format = false
 
--- the address that a file says it is loaded at, by the format that its first bytes name, 0 if it says none; and the address in it that an offset of 0
--- after its name means: of ELF 0, since glibc and sanitizers take off what the loader added, and of others where it is loaded
-abbrev pub linked_and_origin : (file : List ℕ) → Result (ℕ × ℕ) Refusal
-linked_and_origin file =
-    load_address (format_of file) file >>= λ address. let linked = unwrap_or address 0 in Ok (linked, if is_elf (format_of file) then 0 else linked)
+-- where a file is loaded that doesn't say it
+abbrev pub unstated : LoadAddress
+unstated = record { address = 0; code = None }
+
+-- where a file says that it is loaded, by the format that its first bytes name; and the address in it that an offset of 0 after its name means: of ELF 0,
+-- since glibc and sanitizers take off what the loader added, and of others where it is loaded
+abbrev pub loaded_and_origin : (file : List ℕ) → Result (LoadAddress × ℕ) Refusal
+loaded_and_origin file =
+    load_address (format_of file) file >>= λ stated. let loaded = unwrap_or stated unstated in Ok (loaded, if is_elf (format_of file) then 0 else loaded.address)
 
 -- nothing of the lines was read, and nothing was written
 abbrev pub IsUntouched : Option (List ℕ) → Option (List ℕ) → Option (List ℕ) → Option (List ℕ) → Type 0

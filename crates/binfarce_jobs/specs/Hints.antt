@@ -37,6 +37,7 @@ hint_words (hints.Above sum most) = codes "the sum is " ++ (decimal sum ++ (code
 hint_words (hints.Grown by limit) = codes "the sum grew by " ++ (decimal by ++ (codes " bytes, and --fail-above allows " ++ limit_words limit))
 hint_words (hints.NoAddress true) = codes "no address in the text"
 hint_words (hints.NoAddress false) = codes "no address in the text; --bare takes those without 0x, too"
+hint_words (hints.Offsets count) = codes "no address in the text, and offsets (" ++ (decimal count ++ codes ") only behind other names; --as=NAME takes one of these")
 
 -- the hint on a section with so many function symbols: it has none
 abbrev pub hint_on : (count : ℕ) → Option Hint

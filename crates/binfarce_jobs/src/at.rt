@@ -10,7 +10,7 @@ ghost use Rattle.binfarce_tools.specs.Answer.{addresses_are_shared, entries_of, 
 ghost use Rattle.binfarce_tools.specs.Tables.{AreTablesOf};
 ghost use Rattle.binfarce_tools.specs.declared.SymbolTable.{SymbolTable};
 ghost use Rattle.binfarce_tools.specs.Writing.{ProgramEndsAs, Takes, Fails, Leaves, write_failed};
-ghost use Rattle.binfarce_jobs.specs.At.{AnswersInput, HasPlaces, IsShared, addresses_of, is_elf, linked_and_origin, share_addresses};
+ghost use Rattle.binfarce_jobs.specs.At.{AnswersInput, HasPlaces, IsShared, addresses_of, is_elf, loaded_and_origin, share_addresses};
 ghost use Rattle.binfarce_jobs.specs.Faults.{failure, outcome_of};
 ghost use Rattle.binfarce_jobs.specs.Show.{MemoryFor, answer_for};
 ghost use Rattle.binfarce_words.specs.WordViews.{Gives};
@@ -24,7 +24,7 @@ use binfarce_bytes::format::Format;
 use binfarce_bytes::source::Source;
 use binfarce_tables::ReadError;
 use binfarce_tables::format::read_format;
-use binfarce_tables::loading::read_load_address;
+use binfarce_tables::loading::{LoadAddress, read_load_address};
 use binfarce_tools::list::Sink;
 use binfarce_tools::tables::Tables;
 use binfarce_words::words::Wrong;
@@ -88,8 +88,8 @@ pub fn answer_all<S: Source<Log = ()>, K: Sink>(
     Ok(write_lines(alloc, &places, lookup, addresses, out)?)
 }
 
-/// The address that the file itself says it is loaded at, which is that of the base, 0 if it says none; and the address
-/// in the file that an offset of 0 after its name means. Of the source it reads headers alone.
+/// Where the file itself says that it is loaded, which is the address of the base, at 0 if it doesn't say it; and the
+/// address in the file that an offset of 0 after its name means. Of the source it reads headers alone.
 ///
 /// # Errors
 ///
@@ -97,15 +97,18 @@ pub fn answer_all<S: Source<Log = ()>, K: Sink>(
 pub fn load_addresses_of<S: Source<Log = ()>>(
     alloc: Global,
     source: &S,
-) -> Result<(u64, u64), ReadError>
+) -> Result<(LoadAddress, u64), ReadError>
     ensures { (file : List ℕ) → S.bytes source.now ≡ Some file
-        → Reads (S.may_fail source.now) (λ both. both) (linked_and_origin file) result }
+        → Reads (S.may_fail source.now) (λ both. both) (loaded_and_origin file) result }
 {
     let format = read_format(alloc, source, &mut ())?;
     let elf = is_elf(&format);
-    let address = read_load_address(alloc, source, &mut (), format)?;
-    let linked = address.unwrap_or(0);
-    Ok((linked, if elf { 0 } else { linked }))
+    let stated = read_load_address(alloc, source, &mut (), format)?;
+    let loaded = stated.unwrap_or(LoadAddress {
+        address: 0,
+        code: None,
+    });
+    Ok((loaded, if elf { 0 } else { loaded.address }))
 }
 
 fn is_elf(format: &Format) -> bool

@@ -2,7 +2,7 @@
 
 ghost use Rattle.std.specs.Prelude.{◌≡◌, ◌≢◌, List, ℕ, Some, IfErr};
 ghost use Rattle.binfarce_bytes.specs.Source.{ReadsOnly};
-ghost use Rattle.binfarce_tables.specs.Loading.{load_address, load_parts};
+ghost use Rattle.binfarce_tables.specs.Loading.{load_address, load_parts, without_code};
 ghost use Rattle.binfarce_tables.specs.Reading.{Reads};
 ghost use Rattle.binfarce_tables.specs.declared.error.ReadError.TheVariants.{Unreadable};
 
@@ -11,11 +11,13 @@ use crate::{macho, pe, segments};
 use binfarce_bytes::format::Format;
 use binfarce_bytes::source::Source;
 use binfarce_elf::class::Width;
+pub use binfarce_elf::segments::{CodeSegment, LoadAddress};
 use std::alloc::Global;
 
-/// The address that a file of this format says it is loaded at, unless the loader chooses another: of ELF the page of
-/// 4096 bytes of its lowest loaded segment, of Mach-O the address of its first segment `__TEXT`, of PE its image base.
-/// `None` where there is none, as in an object file, and for an unknown format. Only what states it is read.
+/// Where a file of this format says that it is loaded, unless the loader chooses another address: of ELF the page of
+/// 4096 bytes of its lowest loaded segment, and its first code segment; of Mach-O the address of its first segment
+/// `__TEXT`, of PE its image base. `None` where there is none, as in an object file, and for an unknown format. Only
+/// what states it is read.
 ///
 /// # Errors
 ///
@@ -28,9 +30,9 @@ pub fn read_load_address<S: Source>(
     source: &S,
     log: &mut S::Log,
     format: Format,
-) -> Result<Option<u64>, ReadError>
+) -> Result<Option<LoadAddress>, ReadError>
     ensures answer { (file : List ℕ) → S.bytes source.now ≡ Some file
-        → Reads (S.may_fail source.now) (λ address. address) (load_address format file) result }
+        → Reads (S.may_fail source.now) (λ loaded. loaded) (load_address format file) result }
     ensures only { (file : List ℕ) → S.bytes source.now ≡ Some file
         → ReadsOnly (S.is_sure source.now) (S.logs_only log.old) (S.logs_only log.new)
         (load_parts format file) (IfErr result (λ e. e ≢ Unreadable)) }
@@ -42,8 +44,25 @@ pub fn read_load_address<S: Source>(
         Format::Elf64 { byte_order } => {
             segments::read_load_address(alloc, source, log, Width::Bits64, byte_order)
         }
-        Format::Macho => macho::read_load_address(alloc, source, log),
-        Format::PE => pe::read_load_address(alloc, source, log),
+        Format::Macho => {
+            let address = macho::read_load_address(alloc, source, log)?;
+            Ok(without_code(address))
+        }
+        Format::PE => {
+            let address = pe::read_load_address(alloc, source, log)?;
+            Ok(without_code(address))
+        }
         Format::Unknown => Ok(None),
     }
+}
+
+// What is known of a file that states its address alone.
+fn without_code(address: Option<u64>) -> Option<LoadAddress>
+    ensures { result ≡ without_code address }
+{
+    let address = address?;
+    Some(LoadAddress {
+        address,
+        code: None,
+    })
 }

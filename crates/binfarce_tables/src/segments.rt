@@ -14,12 +14,13 @@ use binfarce_bytes::source::Source;
 use binfarce_bytes::{ByteOrder, ParseError};
 use binfarce_elf::class::Width;
 use binfarce_elf::parts::HeaderTable;
-use binfarce_elf::segments::load_page;
+use binfarce_elf::segments::{LoadAddress, load_address};
 use std::alloc::Global;
 
 /// Where a file of this class is loaded unless the loader chooses another address, numbers in the given order: the page
-/// of 4096 bytes of its lowest loaded segment. `None` without one, as in an object file. The file header of 52 or 64
-/// bytes and the program headers are read, and no other byte. The magic number isn't checked.
+/// of 4096 bytes of its lowest loaded segment, and its first code segment. `None` without a loaded one, as in an object
+/// file. The file header of 52 or 64 bytes and the program headers are read, and no other byte. The magic number isn't
+/// checked.
 ///
 /// # Errors
 ///
@@ -33,30 +34,30 @@ pub fn read_load_address<S: Source>(
     log: &mut S::Log,
     width: Width,
     byte_order: ByteOrder,
-) -> Result<Option<u64>, ReadError>
+) -> Result<Option<LoadAddress>, ReadError>
     ensures answer { (file : List ℕ) → S.bytes source.now ≡ Some file
-        → Reads (S.may_fail source.now) (λ address. address) (file_load_address width byte_order file) result }
+        → Reads (S.may_fail source.now) (λ loaded. loaded) (file_load_address width byte_order file) result }
     ensures only { (file : List ℕ) → S.bytes source.now ≡ Some file
         → ReadsOnly (S.is_sure source.now) (S.logs_only log.old) (S.logs_only log.new)
         (elf_load_parts width byte_order file) (IfErr result (λ e. e ≢ Unreadable)) }
 {
     let len = source.length()?;
     let place = read_place(alloc, source, log, len, width, byte_order)?;
-    read_page(alloc, source, log, len, width, place)
+    read_segments(alloc, source, log, len, width, place)
 }
 
-// The page of the lowest loaded segment, by the program headers at this place.
+// Where it is loaded, by the program headers at this place.
 #[tactic(auto, unfolding(binfarce_elf::specs::ElfSegments::load_address_at))]
-fn read_page<S: Source>(
+fn read_segments<S: Source>(
     alloc: Global,
     source: &S,
     log: &mut S::Log,
     len: u64,
     width: Width,
     place: HeaderTable,
-) -> Result<Option<u64>, ReadError>
+) -> Result<Option<LoadAddress>, ReadError>
     ensures answer { (file : List ℕ) → Known (S.bytes source.now) len file
-        → Reads (S.may_fail source.now) (λ address. address)
+        → Reads (S.may_fail source.now) (λ loaded. loaded)
         (load_address_at width place.byte_order file place.phoff (place.phnum * program_length width)) result }
     ensures only { (file : List ℕ) → Known (S.bytes source.now) len file
         → ReadsOnly (S.is_sure source.now) (S.logs_only log.old) (S.logs_only log.new)
@@ -67,5 +68,5 @@ fn read_page<S: Source>(
         return Err(ReadError::Refused(ParseError::UnexpectedEof));
     }
     let headers = part(alloc, source, log, place.phoff, size)?;
-    Ok(load_page(&headers, width, place.byte_order))
+    Ok(load_address(&headers, width, place.byte_order))
 }

@@ -325,6 +325,8 @@ pub enum Wrong<'a> {
     NotMaps(&'a str),
     /// The first file isn't mapped by the second.
     NotMapped(&'a str, &'a str),
+    /// The code of the first file is mapped at several places by the second.
+    Several(&'a str, &'a str),
     /// The option doesn't take this value.
     BadValue(Flag, &'a str),
     /// The option is for function symbols, and sections are summed.
@@ -399,6 +401,10 @@ impl<'a> fmt::Display for Wrong<'a> {
             Wrong::NotMapped(file, path) => write!(
                 f,
                 "{path} maps no file named as {file}; --as=NAME takes another name"
+            ),
+            Wrong::Several(file, path) => write!(
+                f,
+                "{path} has {file} at several addresses; --base takes one of them, --as=PATH one of several paths"
             ),
             Wrong::BadValue(flag, word) => {
                 let name = flag.name();

@@ -126,7 +126,7 @@ fn format_of(kind: File) -> Format {
 /// Adds the address at which the file is loaded.
 pub(crate) fn push_loaded(of: &Asking<'_>, text: &mut Vec<u8>) -> io::Result<()> {
     match read_load_address(of.alloc, &of.file, &mut (), format_of(of.kind)) {
-        Ok(Some(address)) => push_hex(text, address),
+        Ok(Some(loaded)) => push_hex(text, loaded.address),
         Ok(None) => push_words(text, "none"),
         Err(e) => write!(text, "{}", SectionError::from(e)),
     }

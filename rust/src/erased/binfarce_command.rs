@@ -7,7 +7,7 @@ pub(crate) mod help;
 pub(crate) mod report;
 
 use crate::shim::{HostRuntime, String, Vec};
-use crate::erased::binfarce_command::asked::{Addresses, asked_of, file_at, name_of};
+use crate::erased::binfarce_command::asked::{Addresses, asked_of, name_of};
 use crate::erased::binfarce_command::help::{VERSION, help};
 use crate::erased::binfarce_command::report::{ended, refuse, report};
 use crate::erased::binfarce_addresses::annotate::annotate_stream;
@@ -34,6 +34,7 @@ use crate::erased::binfarce_sections::changes::diff_sections;
 use crate::erased::binfarce_sections::error::SectionError;
 use crate::erased::binfarce_sections::sums::sum_sections;
 use crate::erased::binfarce_tables::ReadError;
+use crate::erased::binfarce_tables::loading::LoadAddress;
 use crate::erased::binfarce_tools::SymbolTable::{Dynsym, Symtab};
 use crate::erased::binfarce_tools::json::Form;
 use crate::erased::binfarce_tools::list::Out;
@@ -142,8 +143,12 @@ fn run<'a>(rt: &HostRuntime, words: &'a [String]) -> Result<u8, Wrong<'a>> {
     };
     let mut out = Output::new(rt.alloc(), io::writer(rt));
     let mut is_above = false;
-    let done = answer(rt, &call, &asked, &mut out, &mut is_above);
-    Ok(ended(rt, done, is_above, out.into_parts().1))
+    let mut wrong = None;
+    let done = answer(rt, &call, &asked, &mut out, &mut is_above, &mut wrong);
+    match wrong {
+        Some(wrong) => Err(wrong),
+        None => Ok(ended(rt, done, is_above, out.into_parts().1)),
+    }
 }
 
 // The first operand.
@@ -161,13 +166,15 @@ fn has_any(given: &Arguments<'_>, flags: &[Flag]) -> bool {
     flags.iter().any(|flag| given.has(*flag))
 }
 
-// Runs a call, and flushes the output. `false` where a file was refused. Sets whether a sum is above its limit.
-fn answer<W: Write>(
+// Runs a call, and flushes the output. `false` where a file was refused. Sets whether a sum is above its limit, and why
+// the maps are wrong, if they are: nothing is then written.
+fn answer<'a, W: Write>(
     rt: &HostRuntime,
-    call: &Call<'_>,
+    call: &Call<'a>,
     asked: &Addresses,
     out: &mut Output<W>,
     is_above: &mut bool,
+    wrong: &mut Option<Wrong<'a>>,
 ) -> Result<bool, Fault> {
     let is_done = match call {
         Call::Help(topic) => {
@@ -182,10 +189,16 @@ fn answer<W: Write>(
                 refusals,
                 is_above: false,
             };
-            let mut work = Work { host, given, out };
+            let mut work = Work {
+                host,
+                given,
+                out,
+                wrong: None,
+            };
             let is_done = work.run(*command, asked)?;
             work.print_refusals()?;
             *is_above = work.host.is_above;
+            *wrong = work.wrong;
             is_done
         }
     };
@@ -200,15 +213,16 @@ fn print<W: Write>(text: &str, out: &mut Output<W>) -> Result<bool, Fault> {
         .map_err(|_| Fault::Report(ReportError::Write))
 }
 
-// A command's work: the system around it, what it is given, and where it writes.
+// A command's work: the system around it, what it is given, where it writes, and why its maps are wrong, if they are.
 struct Work<'a, 'b, W> {
     host: Host<'a>,
     given: &'a Arguments<'b>,
     out: &'a mut Output<W>,
+    wrong: Option<Wrong<'b>>,
 }
 
-impl<'a, W: Write> Work<'a, '_, W> {
-    // The addresses of `at`, and where its files are loaded, were read before.
+impl<'a, 'b, W: Write> Work<'a, 'b, W> {
+    // The addresses of `at`, and the maps, were read before.
     fn run(&mut self, command: Command, asked: &Addresses) -> Result<bool, Fault> {
         let given = self.given;
         match command {
@@ -395,9 +409,12 @@ impl<'a, W: Write> Work<'a, '_, W> {
             return Ok(false);
         };
         let symbols = symbols_of(given, true);
-        let lookup = match self.loaded_at(asked, 0, &file) {
-            Ok(loaded) => self.lookup(asked, 0, loaded),
+        let loaded = match self.loaded_at(asked, 0, &file) {
+            Ok(loaded) => loaded,
             Err(e) => return reported(alloc, &mut self.host, path, &file, Err(Fault::from(e))),
+        };
+        let Some(lookup) = self.lookup(asked, 0, path, loaded) else {
+            return Ok(false);
         };
         let addresses = asked.addresses.as_slice();
         let input = &mut OpenFile::new(self.host.rt.reader());
@@ -423,59 +440,82 @@ impl<'a, W: Write> Work<'a, '_, W> {
         }
     }
 
-    // The addresses of the file at this place for its base, and for an offset in a text, where these are asked for.
+    // Where the file at this place says that it is loaded, and the address for an offset in a text, where these are asked for.
     fn loaded_at<S: Source<Log = ()>>(
         &self,
         asked: &Addresses,
         at: usize,
         file: &S,
-    ) -> Result<(u64, u64), ReadError> {
-        if asked.base(at).is_some() || self.given.has(Annotate) {
+    ) -> Result<(LoadAddress, u64), ReadError> {
+        if asked.has_base(at) || self.given.has(Annotate) {
             load_addresses_of(self.host.rt.alloc(), file)
         } else {
-            Ok((0, 0))
+            Ok((
+                LoadAddress {
+                    address: 0,
+                    code: None,
+                },
+                0,
+            ))
         }
     }
 
-    // How addresses are looked up in the file at this place, which has these addresses.
-    fn lookup(&self, asked: &Addresses, at: usize, loaded: (u64, u64)) -> Lookup<'a> {
+    // How addresses are looked up in the file at this place and path, which says that it is loaded there. `None` where the
+    // maps don't say where it is: why is kept.
+    fn lookup(
+        &mut self,
+        asked: &Addresses,
+        at: usize,
+        path: &'b str,
+        loaded: (LoadAddress, u64),
+    ) -> Option<Lookup<'b>> {
         let given = self.given;
-        Lookup {
-            base: asked.base(at),
-            linked: loaded.0,
-            origin: loaded.1,
-            is_return: given.has(Return),
-            form: form_of(given, file_at(given, at)),
-            name: name_of(given, at),
+        match asked.base(given, at, loaded.0) {
+            Ok(base) => Some(Lookup {
+                base,
+                linked: loaded.0.address,
+                origin: loaded.1,
+                is_return: given.has(Return),
+                form: form_of(given, path),
+                name: name_of(given, at),
+            }),
+            Err(wrong) => {
+                self.wrong = Some(wrong);
+                None
+            }
         }
     }
 
-    // The tables of the file at this place, and its addresses.
+    // The tables of the file at this place, and where it says that it is loaded.
     fn module<S: Source<Log = ()>>(
         &self,
         asked: &Addresses,
         at: usize,
         file: &S,
         symbols: &Symbols<'_>,
-    ) -> Result<(Tables<'static>, (u64, u64)), ReadError> {
+    ) -> Result<(Tables<'static>, (LoadAddress, u64)), ReadError> {
         let loaded = self.loaded_at(asked, at, file)?;
         Ok((tables_of(self.host.rt.alloc(), file, symbols)?, loaded))
     }
 
-    // Annotates the text of standard input, by all files that are given.
+    // Annotates the text of standard input, by all files that are given and not refused. `false` where one is refused;
+    // nothing is written where each is.
     fn annotate(&mut self, asked: &Addresses) -> Result<bool, Fault> {
         let given = self.given;
         let alloc = self.host.rt.alloc();
         let symbols = symbols_of(given, true);
         let mut read = Vec::new(alloc);
-        let mut loaded = Vec::new(alloc);
+        let mut lookups = Vec::new(alloc);
         for (at, path) in given.operands.iter().enumerate() {
             let Some(file) = open_input(alloc, &mut self.host, path) else {
                 continue;
             };
             match self.module(asked, at, &file, &symbols) {
-                Ok((tables, addresses)) => {
-                    if read.push(tables).is_err() || loaded.push(addresses).is_err() {
+                Ok((tables, loaded)) => {
+                    let Some(lookup) = self.lookup(asked, at, path, loaded) else {
+                        return Ok(false);
+                    };
+                    if read.push(tables).is_err() || lookups.push((*path, lookup)).is_err() {
                         return Err(Fault::Report(ReportError::OutOfMemory));
                     }
                 }
@@ -484,52 +524,49 @@ impl<'a, W: Write> Work<'a, '_, W> {
                 }
             }
         }
-        if loaded.len() < given.operands.len() {
-            return Ok(false);
-        }
         // What the modules refer to isn't freed before the program ends.
-        let found = self
-            .host
-            .places_of_all(read.leak(), given.operands.as_slice())?;
+        let (found, lookups) = self.host.places_of_all(read.leak(), lookups.as_slice())?;
         let found: &'static [Places<'static>] = found.leak();
-        if found.len() < loaded.len() {
+        if found.is_empty() {
             return Ok(false);
         }
         let mut modules = Vec::new(alloc);
-        for (at, places) in found.iter().enumerate() {
-            let Some(addresses) = loaded.get(at) else {
-                return Ok(false);
+        for (places, lookup) in found.iter().zip(lookups.iter()) {
+            let module = Module {
+                places,
+                lookup: *lookup,
             };
-            let lookup = self.lookup(asked, at, *addresses);
-            let module = Module { places, lookup };
             if modules.push(module).is_err() {
                 return Err(Fault::Report(ReportError::OutOfMemory));
             }
         }
         let is_bare = given.has(Bare);
         let input = &mut OpenFile::new(self.host.rt.reader());
-        let done = match &asked.text {
-            Some(text) => annotate_stream(alloc, &modules, is_bare, &mut text.as_slice(), self.out),
+        let done = match asked.text() {
+            Some(mut text) => annotate_stream(alloc, &modules, is_bare, &mut text, self.out),
             None => annotate_stream(alloc, &modules, is_bare, input, self.out),
         };
         match done {
             Ok(counts) => {
-                let is_empty = asked.text.is_none() && input.len() == 0;
+                let is_empty = asked.text().is_none() && input.len() == 0;
                 if !is_empty {
                     self.hint_on_text(counts);
                 }
-                Ok(true)
+                Ok(found.len() == given.operands.len())
             }
             Err(StreamError::Read) => self.host.report_input(input),
             Err(e) => Err(Fault::from(e)),
         }
     }
 
-    // Gives a hint where a text has no address, or none of it is in a function symbol.
+    // Gives a hint where a text has no address, or only offsets behind other names, or none of it is in a function symbol.
     fn hint_on_text(&mut self, counts: Counts) {
         let given = self.given;
         if counts.asked == 0 {
-            let hint = Hint::NoAddress(given.has(Bare));
+            let hint = match counts.missing {
+                0 => Hint::NoAddress(given.has(Bare)),
+                offsets => Hint::Offsets(offsets),
+            };
             return self.host.hint("standard input", hint);
         }
         if counts.found > 0 {
@@ -703,23 +740,26 @@ impl Host<'_> {
         }
     }
 
-    // The places of these tables, of files at these paths. Why a file has none is reported.
-    fn places_of_all(
+    // The places of these tables, of files at these paths, and their lookups. Why a file has none is reported.
+    fn places_of_all<'b>(
         &mut self,
         read: &'static [Tables<'static>],
-        paths: &[&str],
-    ) -> Result<Vec<Places<'static>>, Fault> {
+        lookups: &[(&str, Lookup<'b>)],
+    ) -> Result<(Vec<Places<'static>>, Vec<Lookup<'b>>), Fault> {
         let alloc = self.rt.alloc();
         let mut found = Vec::new(alloc);
-        for (tables, path) in read.iter().zip(paths) {
+        let mut kept = Vec::new(alloc);
+        for (tables, (path, lookup)) in read.iter().zip(lookups) {
             match places_of(alloc, tables) {
-                Ok(places) => found
-                    .push(places)
-                    .map_err(|_| Fault::Report(ReportError::OutOfMemory))?,
+                Ok(places) => {
+                    if found.push(places).is_err() || kept.push(*lookup).is_err() {
+                        return Err(Fault::Report(ReportError::OutOfMemory));
+                    }
+                }
                 Err(fault) => self.report(path, fault, None),
             }
         }
-        Ok(found)
+        Ok((found, kept))
     }
 
     // Gives the hint, if there is one.

@@ -211,6 +211,7 @@ impl Files<'_> {
     ) -> Result<(), AllocError> {
         out.extend_from_slice(word)?;
         let Some(found) = find_by(&self.names, before, parse_address(word)) else {
+            self.counts.add(None);
             return Ok(());
         };
         self.counts.add(Some(found.is_some()));

@@ -9,7 +9,8 @@ pub struct Counts {
     pub asked: u64,
     /// How many of them a function symbol holds.
     pub found: u64,
-    /// How many lines have no address. In a text, and of given addresses, none.
+    /// How many lines have no address. In a text how many offsets are into another file or a function; of given addresses
+    /// none.
     pub missing: u64,
 }
 

@@ -5,11 +5,12 @@
 use crate::shim::{HostRuntime, Vec};
 use crate::erased::binfarce_command::report::report;
 use crate::erased::binfarce_addresses::maps::{NoBase, base_of};
-use crate::erased::binfarce_addresses::parse_address;
+use crate::erased::binfarce_addresses::{maps, parse_address};
 use crate::erased::binfarce_jobs::at::read_addresses;
 use crate::erased::binfarce_jobs::fault::Fault;
 use crate::erased::binfarce_jobs::message::message_of;
 use crate::erased::binfarce_sections::error::SectionError;
+use crate::erased::binfarce_tables::loading::LoadAddress;
 use crate::erased::binfarce_words::words::Flag::{self, Annotate, As, Base, Maps};
 use crate::erased::binfarce_words::words::{Arguments, Wrong};
 use crate::shim::alloc::{AllocError, Global};
@@ -23,10 +24,12 @@ const LONGEST_LOG: usize = 1 << 28;
 pub struct Addresses {
     /// The addresses that are given.
     pub addresses: Vec<u64>,
-    // Where each of the files is loaded, if that is known.
+    // Where each of the files is loaded, if it is given.
     bases: Vec<Option<u64>>,
-    /// The text that was read for the maps in it.
-    pub text: Option<Vec<u8>>,
+    // The maps that were read.
+    maps: Option<Vec<u8>>,
+    // Whether they are in the text, which was read for them.
+    are_in_text: bool,
 }
 
 impl Addresses {
@@ -35,13 +38,41 @@ impl Addresses {
         Addresses {
             addresses: Vec::new(alloc),
             bases: Vec::new(alloc),
-            text: None,
+            maps: None,
+            are_in_text: false,
         }
     }
 
-    /// Where the file at this place is loaded.
-    pub fn base(&self, at: usize) -> Option<u64> {
-        *self.bases.get(at)?
+    /// The text that was read for the maps in it.
+    pub fn text(&self) -> Option<&[u8]> {
+        match &self.maps {
+            Some(maps) if self.are_in_text => Some(maps.as_slice()),
+            _ => None,
+        }
+    }
+
+    /// Whether it is asked where the file at this place is loaded.
+    pub fn has_base(&self, at: usize) -> bool {
+        self.maps.is_some() || matches!(self.bases.get(at), Some(Some(_)))
+    }
+
+    /// Where the file at this place is loaded, which says that it is loaded there, if that is known.
+    pub fn base<'a>(
+        &self,
+        given: &Arguments<'a>,
+        at: usize,
+        loaded: LoadAddress,
+    ) -> Result<Option<u64>, Wrong<'a>> {
+        let Some(maps) = &self.maps else {
+            return Ok(self.bases.get(at).copied().unwrap_or(None));
+        };
+        let path = given.value(Maps).unwrap_or("");
+        match base_of(maps, path_of(given, at), loaded) {
+            Ok(base) => Ok(Some(base)),
+            Err(NoBase::NotMaps) => Err(Wrong::NotMaps(path)),
+            Err(NoBase::NotMapped) => Err(Wrong::NotMapped(file_at(given, at), path)),
+            Err(NoBase::Several) => Err(Wrong::Several(file_at(given, at), path)),
+        }
     }
 }
 
@@ -83,13 +114,8 @@ pub fn asked_of<'a>(
             return Ok(None);
         }
     };
-    for at in 0..files_of(given).len() {
-        let base = mapped_base(given, at, path, &maps)?;
-        push(&mut asked.bases, Some(base)).map_err(|_| Wrong::OutOfMemory)?;
-    }
-    if is_input && given.has(Annotate) {
-        asked.text = Some(maps);
-    }
+    asked.maps = Some(maps);
+    asked.are_in_text = is_input && given.has(Annotate);
     Ok(Some(asked))
 }
 
@@ -123,20 +149,6 @@ fn read_log<R: Read>(alloc: Global, input: &mut R) -> io::Result<Vec<u8>> {
     Ok(bytes)
 }
 
-// Where the maps that were read at this path load the file at this place.
-fn mapped_base<'a>(
-    given: &Arguments<'a>,
-    at: usize,
-    path: &'a str,
-    maps: &[u8],
-) -> Result<u64, Wrong<'a>> {
-    match base_of(maps, name_of(given, at)) {
-        Ok(base) => Ok(base),
-        Err(NoBase::NotMaps) => Err(Wrong::NotMaps(path)),
-        Err(NoBase::NotMapped) => Err(Wrong::NotMapped(file_at(given, at), path)),
-    }
-}
-
 // The files of `at`: all operands where a text is annotated, and else the first one.
 fn files_of<'b, 'a>(given: &'b Arguments<'a>) -> &'b [&'a str] {
     let operands = given.operands.as_slice();
@@ -147,8 +159,8 @@ fn files_of<'b, 'a>(given: &'b Arguments<'a>) -> &'b [&'a str] {
     }
 }
 
-/// The file at this place.
-pub fn file_at<'a>(given: &Arguments<'a>, at: usize) -> &'a str {
+// The file at this place.
+fn file_at<'a>(given: &Arguments<'a>, at: usize) -> &'a str {
     given.operands.get(at).copied().unwrap_or("")
 }
 
@@ -162,11 +174,14 @@ fn nth<'a>(given: &Arguments<'a>, flag: Flag, at: usize) -> Option<&'a str> {
     Some(values.nth(at)?.1)
 }
 
-/// The name of the file at this place in maps and in a text: the last part of its path, or of the name that is given.
+/// The name of the file at this place in a text: the last part of its path.
 pub fn name_of<'a>(given: &Arguments<'a>, at: usize) -> &'a [u8] {
-    let path = nth(given, As, at).unwrap_or(file_at(given, at)).as_bytes();
-    let len = path.iter().rev().take_while(|byte| **byte != b'/').count();
-    &path[path.len() - len..]
+    maps::name_of(path_of(given, at))
+}
+
+// The path of the file at this place in maps: its own, or the name that is given.
+fn path_of<'a>(given: &Arguments<'a>, at: usize) -> &'a [u8] {
+    nth(given, As, at).unwrap_or(file_at(given, at)).as_bytes()
 }
 
 // The operands after the first one.

@@ -12,7 +12,7 @@ use crate::erased::binfarce_bytes::format::Format;
 use crate::erased::binfarce_bytes::source::Source;
 use crate::erased::binfarce_tables::ReadError;
 use crate::erased::binfarce_tables::format::read_format;
-use crate::erased::binfarce_tables::loading::read_load_address;
+use crate::erased::binfarce_tables::loading::{LoadAddress, read_load_address};
 use crate::erased::binfarce_tools::list::Sink;
 use crate::erased::binfarce_tools::tables::Tables;
 use crate::erased::binfarce_words::words::Wrong;
@@ -58,8 +58,8 @@ pub fn answer_all<S: Source<Log = ()>, K: Sink>(
     Ok(write_lines(alloc, &places, lookup, addresses, out)?)
 }
 
-/// The address that the file itself says it is loaded at, which is that of the base, 0 if it says none; and the address
-/// in the file that an offset of 0 after its name means. Of the source it reads headers alone.
+/// Where the file itself says that it is loaded, which is the address of the base, at 0 if it doesn't say it; and the
+/// address in the file that an offset of 0 after its name means. Of the source it reads headers alone.
 ///
 /// # Errors
 ///
@@ -67,12 +67,15 @@ pub fn answer_all<S: Source<Log = ()>, K: Sink>(
 pub fn load_addresses_of<S: Source<Log = ()>>(
     alloc: Global,
     source: &S,
-) -> Result<(u64, u64), ReadError> {
+) -> Result<(LoadAddress, u64), ReadError> {
     let format = read_format(alloc, source, &mut ())?;
     let elf = is_elf(&format);
-    let address = read_load_address(alloc, source, &mut (), format)?;
-    let linked = address.unwrap_or(0);
-    Ok((linked, if elf { 0 } else { linked }))
+    let stated = read_load_address(alloc, source, &mut (), format)?;
+    let loaded = stated.unwrap_or(LoadAddress {
+        address: 0,
+        code: None,
+    });
+    Ok((loaded, if elf { 0 } else { loaded.address }))
 }
 
 fn is_elf(format: &Format) -> bool {

@@ -41,6 +41,8 @@ pub enum Hint {
     Missed(u64, Loaded),
     /// There is no address in a text, in which bare words may be some or are not.
     NoAddress(bool),
+    /// There is no address in a text, and so many offsets behind other names than those of the files.
+    Offsets(u64),
     /// The sum is so many bytes, more than so many that are allowed.
     Above(u64, usize),
     /// The sum grew by so many bytes, more than is allowed.
@@ -93,6 +95,10 @@ impl fmt::Display for Hint {
             Hint::NoAddress(false) => write!(
                 f,
                 "no address in the text; --bare takes those without 0x, too"
+            ),
+            Hint::Offsets(count) => write!(
+                f,
+                "no address in the text, and offsets ({count}) only behind other names; --as=NAME takes one of these"
             ),
         }
     }

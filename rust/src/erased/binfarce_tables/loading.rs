@@ -7,11 +7,13 @@ use crate::erased::binfarce_tables::{macho, pe, segments};
 use crate::erased::binfarce_bytes::format::Format;
 use crate::erased::binfarce_bytes::source::Source;
 use crate::erased::binfarce_elf::class::Width;
+pub use crate::erased::binfarce_elf::segments::{CodeSegment, LoadAddress};
 use crate::shim::alloc::Global;
 
-/// The address that a file of this format says it is loaded at, unless the loader chooses another: of ELF the page of
-/// 4096 bytes of its lowest loaded segment, of Mach-O the address of its first segment `__TEXT`, of PE its image base.
-/// `None` where there is none, as in an object file, and for an unknown format. Only what states it is read.
+/// Where a file of this format says that it is loaded, unless the loader chooses another address: of ELF the page of
+/// 4096 bytes of its lowest loaded segment, and its first code segment; of Mach-O the address of its first segment
+/// `__TEXT`, of PE its image base. `None` where there is none, as in an object file, and for an unknown format. Only
+/// what states it is read.
 ///
 /// # Errors
 ///
@@ -24,7 +26,7 @@ pub fn read_load_address<S: Source>(
     source: &S,
     log: &mut S::Log,
     format: Format,
-) -> Result<Option<u64>, ReadError> {
+) -> Result<Option<LoadAddress>, ReadError> {
     match format {
         Format::Elf32 { byte_order } => {
             segments::read_load_address(alloc, source, log, Width::Bits32, byte_order)
@@ -32,8 +34,23 @@ pub fn read_load_address<S: Source>(
         Format::Elf64 { byte_order } => {
             segments::read_load_address(alloc, source, log, Width::Bits64, byte_order)
         }
-        Format::Macho => macho::read_load_address(alloc, source, log),
-        Format::PE => pe::read_load_address(alloc, source, log),
+        Format::Macho => {
+            let address = macho::read_load_address(alloc, source, log)?;
+            Ok(without_code(address))
+        }
+        Format::PE => {
+            let address = pe::read_load_address(alloc, source, log)?;
+            Ok(without_code(address))
+        }
         Format::Unknown => Ok(None),
     }
+}
+
+// What is known of a file that states its address alone.
+fn without_code(address: Option<u64>) -> Option<LoadAddress> {
+    let address = address?;
+    Some(LoadAddress {
+        address,
+        code: None,
+    })
 }

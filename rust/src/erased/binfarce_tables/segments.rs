@@ -8,12 +8,13 @@ use crate::erased::binfarce_bytes::source::Source;
 use crate::erased::binfarce_bytes::{ByteOrder, ParseError};
 use crate::erased::binfarce_elf::class::Width;
 use crate::erased::binfarce_elf::parts::HeaderTable;
-use crate::erased::binfarce_elf::segments::load_page;
+use crate::erased::binfarce_elf::segments::{LoadAddress, load_address};
 use crate::shim::alloc::Global;
 
 /// Where a file of this class is loaded unless the loader chooses another address, numbers in the given order: the page
-/// of 4096 bytes of its lowest loaded segment. `None` without one, as in an object file. The file header of 52 or 64
-/// bytes and the program headers are read, and no other byte. The magic number isn't checked.
+/// of 4096 bytes of its lowest loaded segment, and its first code segment. `None` without a loaded one, as in an object
+/// file. The file header of 52 or 64 bytes and the program headers are read, and no other byte. The magic number isn't
+/// checked.
 ///
 /// # Errors
 ///
@@ -26,25 +27,25 @@ pub fn read_load_address<S: Source>(
     log: &mut S::Log,
     width: Width,
     byte_order: ByteOrder,
-) -> Result<Option<u64>, ReadError> {
+) -> Result<Option<LoadAddress>, ReadError> {
     let len = source.length()?;
     let place = read_place(alloc, source, log, len, width, byte_order)?;
-    read_page(alloc, source, log, len, width, place)
+    read_segments(alloc, source, log, len, width, place)
 }
 
-// The page of the lowest loaded segment, by the program headers at this place.
-fn read_page<S: Source>(
+// Where it is loaded, by the program headers at this place.
+fn read_segments<S: Source>(
     alloc: Global,
     source: &S,
     log: &mut S::Log,
     len: u64,
     width: Width,
     place: HeaderTable,
-) -> Result<Option<u64>, ReadError> {
+) -> Result<Option<LoadAddress>, ReadError> {
     let size = u64::from(place.phnum) * width.program_length() as u64;
     if place.phoff > len || size > len - place.phoff {
         return Err(ReadError::Refused(ParseError::UnexpectedEof));
     }
     let headers = part(alloc, source, log, place.phoff, size)?;
-    Ok(load_page(&headers, width, place.byte_order))
+    Ok(load_address(&headers, width, place.byte_order))
 }

@@ -16,4 +16,4 @@ returns-clause-only g c = λ file known.
     let place = c.in_ok-place.place in
     let are = c.in_ok-place.ensures.programs file is_known in
     next (one (λ P. of_load_header P c.args.width c.args.byte_order file) c.in_ok-place.ensures.only)
-    (within (λ P. of_programs P c.args.width c.args.byte_order file place.phoff place.phnum are.1 are.2) (c.read_page.ensures.only file is_known))
+    (within (λ P. of_programs P c.args.width c.args.byte_order file place.phoff place.phnum are.1 are.2) (c.read_segments.ensures.only file is_known))

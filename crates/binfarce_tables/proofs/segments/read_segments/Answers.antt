@@ -2,7 +2,7 @@ use Rattle.std.proofs.Common.{◌≡◌, ℕ, ◌+◌, ◌*◌, ◌≤◌, ap₂
 use Rattle.binfarce_bytes.specs.Part.{part}
 use Rattle.binfarce_elf.specs.ElfSegments.{program_length}
 use Rattle.binfarce_tables.proofs.Sure.{in_file, one}
-use Rattle.binfarce_tables.proofs.segments.read_page.Goals as goal
+use Rattle.binfarce_tables.proofs.segments.read_segments.Goals as goal
 
 pub returns-clause-only : goal.returns-clause-only
 returns-clause-only g c = λ file known.

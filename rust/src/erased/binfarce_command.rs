@@ -198,7 +198,7 @@ fn answer<'a, W: Write>(
             let is_done = work.run(*command, asked)?;
             work.print_refusals()?;
             *is_above = work.host.is_above;
-            *wrong = work.wrong;
+            *wrong = work.wrong.take();
             is_done
         }
     };

@@ -256,6 +256,9 @@ ends(1, "", lost, *at, "--annotate", missing, given=both)
 others = "binfarce: standard input: no address in the text, and offsets ({}) only behind other names; --as=NAME takes one of these"
 ends(0, b"libother.so+0x1005 main+0x1f2e\n", others.format(2), *several, given=b"libother.so+0x1005 main+0x1f2e\n")
 ends(0, b"0x3\n0x3000\n", f"binfarce: {sample}, {other}: 0 of 1 addresses are in a function symbol; where the file was loaded, --base or --maps is needed", *several, given=b"0x3\n0x3000\n")
+# An offset may have fewer digits than an address.
+short = f"0x5 {os.path.basename(sample)}(+0x5)\n".encode()
+ends(0, short, f"binfarce: {sample}: 0 of 1 addresses are in a function symbol; is --base right?", *at, "--annotate", "--base=0", sample, given=short)
 ends(0, f"pc 0x401005 <foo+0x5>\n{text}0x401005 <foo+0x5>\n", "", *at, "--annotate", "--maps=-", sample, given=f"pc 0x401005\n{text}0x401005\n".encode())
 ends(2, "", "binfarce: no line of - is one of /proc/PID/maps", *at, "--annotate", "--maps=-", sample, given=b"pc 0x401005\n")
 ends(0, f"{0x401005:016x} foo+0x5\n", "", *at, sample, "--maps=-", "401005", given=text.encode())
@@ -268,7 +271,8 @@ data[32:40], data[54:58] = len(data).to_bytes(8, "little"), bytes((56, 0, 1, 0))
 data += b"\1" + bytes(15) + 0x1010.to_bytes(8, "little") + bytes(32)
 pathlib.Path(linked).write_bytes(data)
 ends(0, f"{0x400005:016x} foo+0x5\n", "", *at, "--base=400000", linked, "400005")
-ends(0, "linked+0x1005 <foo+0x5> 0x1005 <foo+0x5>\n", "", *at, "--annotate", linked, given=b"linked+0x1005 0x1005\n")
+ends(0, "linked+0x1005 <foo+0x5> 0x1005 <foo+0x5>\n(linked+0x1005 <foo+0x5>)\n\t(linked+0x1005 <foo+0x5>)\tlinked+0x1005 <foo+0x5>\n", "",
+    *at, "--annotate", linked, given=b"linked+0x1005 0x1005\n(linked+0x1005)\n\t(linked+0x1005)\tlinked+0x1005\n")
 # Where it has code, that is loaded 0x1000 behind its page, whatever else is mapped of it; unless it is at two places.
 data[-52:-40], data[-24:-16] = b"\1" + bytes(3) + 0x10.to_bytes(8, "little"), 0x100.to_bytes(8, "little")
 pathlib.Path(linked).write_bytes(data)

@@ -6,7 +6,7 @@ use Rattle.std.specs.List.{ends_with}
 use Rattle.std.proofs.Math.Seq.{drop-append-add, take-append-add}
 use Rattle.std.proofs.lemmas.List.{get_or-append-add}
 use Rattle.std.proofs.lemmas.Bool.Decides.{nat_tests}
-use Rattle.binfarce_addresses.specs.Module.{ends_with_mark, ends_with_name, ends_with_plus, may_begin_name, names_module}
+use Rattle.binfarce_addresses.specs.Module.{ends_with_mark, ends_with_name, ends_with_plus, may_begin_name, may_begin_path, names_module}
 use Rattle.binfarce_addresses.specs.Word.{address_len, bare_len}
 
 ends_more : (front text end : List ℕ) → length end ≤ length text → ends_with nat_eq (front ++ text) end ≡ ends_with nat_eq text end
@@ -22,15 +22,24 @@ take_more front text n le =
 some : (front text : List ℕ) → 0 < length text → nat_eq (length (front ++ text)) 0 ≡ nat_eq (length text) 0
 some front text lt = let long = length-append front text in grind (arith, nat_tests, long)
 
-may_begin_more : (front text : List ℕ) → 2 ≤ length text → may_begin_name (front ++ text) ≡ may_begin_name text
-may_begin_more front text le = rw (
+path_more : (front text : List ℕ) → 1 ≤ length text → may_begin_path (front ++ text) ≡ may_begin_path text
+path_more front text le = rw (
   some front text (omega (arith, le)),
   ends_more front text (codes "/") (omega (arith, le)),
   ends_more front text (codes "[") (omega (arith, le)),
   ends_more front text (codes " ") (omega (arith, le)),
+  ends_more front text (codes "\t") (omega (arith, le)),
   ends_more front text (codes "\n") (omega (arith, le)),
-  ends_more front text (codes " (") le,
 ) refl
+
+may_begin_more : (front text : List ℕ) → 2 ≤ length text → may_begin_name (front ++ text) ≡ may_begin_name text
+may_begin_more front text le =
+    let left = take (length text - 1) text in
+    let long : 1 ≤ length left = omega (arith, le, length-take (length text - 1) text) in
+    let P : Bool → Bool → Bool → Bool = λ a b c. a || (b && c) in
+    ap (λ a. P a (ends_with nat_eq (front ++ text) (codes "(")) (may_begin_path (take (length (front ++ text) - 1) (front ++ text)))) (path_more front text (omega (arith, le)))
+    ∙ ap (λ b. P (may_begin_path text) b (may_begin_path (take (length (front ++ text) - 1) (front ++ text)))) (ends_more front text (codes "(") (omega (arith, le)))
+    ∙ ap (λ c. P (may_begin_path text) (ends_with nat_eq text (codes "(")) c) (ap may_begin_path (take_more front text 1 (omega (arith, le))) ∙ path_more front left long)
 
 name_more : (name front text : List ℕ) → length name + 2 ≤ length text → ends_with_name name (front ++ text) ≡ ends_with_name name text
 name_more name front text le =
@@ -59,9 +68,9 @@ module_more name front text le =
 pub plus_more : (front text : List ℕ) → 2 ≤ length text → ends_with_plus (front ++ text) ≡ ends_with_plus text
 plus_more front text le = rw (ends_more front text (codes "+") (omega (arith, le)), ends_more front text (codes "+ ") le) refl
 
-pub address_more : (bare : Bool) (front before text : List ℕ) → 0 < length before → address_len bare (front ++ before) text ≡ address_len bare before text
-address_more bare front before text lt =
-    let at : length (front ++ before) - 1 ≡ length front + (length before - 1) = omega (arith, lt, length-append front before) in
+pub address_more : (bare : Bool) (front before text : List ℕ) → 2 ≤ length before → address_len bare (front ++ before) text ≡ address_len bare before text
+address_more bare front before text le =
+    let at : length (front ++ before) - 1 ≡ length front + (length before - 1) = omega (arith, le, length-append front before) in
     let last : get_or (front ++ before) (length (front ++ before) - 1) 0 ≡ get_or before (length before - 1) 0 =
     ap (λ n. get_or (front ++ before) n 0) at ∙ get_or-append-add front before (length before - 1) 0 in
-    rw last refl
+    rw (last, plus_more front before le) refl

@@ -10,12 +10,12 @@ use Rattle.std.proofs.lemmas.Bool.{eqb-true, eqb-false, ltb-true}
 use Rattle.std.proofs.lemmas.Bool.Decides.{nat_tests}
 use Rattle.std.proofs.lemmas.List.Folds.{prefix_len-append}
 use Rattle.binfarce_addresses.specs.Address.{has_prefix}
-use Rattle.binfarce_addresses.specs.Word.{address_len, bare_len, digits_len, is_word_byte, prefixed_len}
+use Rattle.binfarce_addresses.specs.Word.{address_len, bare_len, digits_len, is_word_byte, least_digits, prefixed_len}
 use Rattle.binfarce_addresses.specs.machine.Words.{IsDecided, may_begin}
 
 -- the lengths by their parts
-abbrev len_of : Bool → ℕ → ℕ
-len_of first digits = if first && is_in_range 4 16 digits then 2 + digits else 0
+abbrev len_of : (least : ℕ) → Bool → ℕ → ℕ
+len_of least first digits = if first && is_in_range least 16 digits then 2 + digits else 0
 
 abbrev bare_of : (before end digits : ℕ) → ℕ
 bare_of before end digits = if is_in_range 8 16 digits && not (is_word_byte before || is_word_byte end) then digits else 0
@@ -39,17 +39,17 @@ stays : (text more : List ℕ) → eqb (digits_len text) (length text) ≡ false
 stays text more all = prefix_len-append is_ascii_hexdigit text more ∙ rw all refl
 
 -- a byte that isn't `0x` and digits up to the end of a text, or is too many of them, decides
-decided_front : (first : Bool) (digits more : List ℕ) → (first ≡ true → digits_len digits ≡ length digits → 16 < length digits) → len_of first (digits_len (digits ++ more)) ≡ len_of first (digits_len digits)
-decided_front false digits more is = refl
-decided_front true digits more is = by_end (eqb (digits_len digits) (length digits)) refl
+decided_front : (least : ℕ) (first : Bool) (digits more : List ℕ) → (first ≡ true → digits_len digits ≡ length digits → 16 < length digits) → len_of least first (digits_len (digits ++ more)) ≡ len_of least first (digits_len digits)
+decided_front least false digits more is = refl
+decided_front least true digits more is = by_end (eqb (digits_len digits) (length digits)) refl
   where
-    by_end : (all : Bool) → eqb (digits_len digits) (length digits) ≡ all → len_of true (digits_len (digits ++ more)) ≡ len_of true (digits_len digits)
+    by_end : (all : Bool) → eqb (digits_len digits) (length digits) ≡ all → len_of least true (digits_len (digits ++ more)) ≡ len_of least true (digits_len digits)
     by_end true all =
         let whole : digits_len digits ≡ length digits = eqb-true _ _ all in
         let long = goes_on digits more all in
         let lt = is refl whole in
-        rw (many 4 (digits_len (digits ++ more)) (omega (arith, long, lt)), many 4 (digits_len digits) (omega (arith, whole, lt))) refl
-    by_end false all = ap (λ n. len_of true n) (stays digits more all)
+        rw (many least (digits_len (digits ++ more)) (omega (arith, long, lt)), many least (digits_len digits) (omega (arith, whole, lt))) refl
+    by_end false all = ap (λ n. len_of least true n) (stays digits more all)
 
 decided_bare : (before : ℕ) (text more : List ℕ) → (digits_len text ≡ length text → 16 < length text)
     → bare_of before (get_or (text ++ more) (digits_len (text ++ more)) 0) (digits_len (text ++ more)) ≡ bare_of before (get_or text (digits_len text) 0) (digits_len text)
@@ -69,9 +69,9 @@ decided_bare before text more is = by_end (eqb (digits_len text) (length text)) 
         let end : get_or (text ++ more) (digits_len (text ++ more)) 0 ≡ get_or text (digits_len text) 0 = ap (λ n. get_or (text ++ more) n 0) same ∙ get_or-append text more 0 (digits_len text) within in
         ap (λ n. bare_of before n (digits_len (text ++ more))) end ∙ ap (λ n. bare_of before (get_or text (digits_len text) 0) n) same
 
-both : (bare : Bool) (before text more : List ℕ) → prefixed_len (text ++ more) ≡ prefixed_len text → (bare ≡ true → bare_len before (text ++ more) ≡ bare_len before text) → address_len bare before (text ++ more) ≡ address_len bare before text
+both : (bare : Bool) (before text more : List ℕ) → prefixed_len before (text ++ more) ≡ prefixed_len before text → (bare ≡ true → bare_len before (text ++ more) ≡ bare_len before text) → address_len bare before (text ++ more) ≡ address_len bare before text
 both false before text more first second = ap (λ n. max n 0) first
-both true before text more first second = ap (λ n. max n (bare_len before (text ++ more))) first ∙ ap (λ n. max (prefixed_len text) n) (second refl)
+both true before text more first second = ap (λ n. max n (bare_len before (text ++ more))) first ∙ ap (λ n. max (prefixed_len before text) n) (second refl)
 
 -- what decides a text of two bytes or more
 pub decided_more : (bare is_last : Bool) (text : List ℕ) → 1 < length text → (has_prefix text ≡ true → digits_len (drop 2 text) ≡ length text - 2 → 18 < length text)
@@ -80,7 +80,7 @@ decided_more bare is_last [] some is bares before more follows = absurd (omega (
 decided_more bare is_last (b ∷ []) some is bares before more follows = absurd (omega (arith, some))
 decided_more bare is_last (b ∷ c ∷ text) some is bares before more follows =
     both bare before (b ∷ c ∷ text) more
-    (decided_front (has_prefix (b ∷ c ∷ text)) text more (λ first all. let long = is first (omega (arith, all)) in omega (arith, long)))
+    (decided_front (least_digits before) (has_prefix (b ∷ c ∷ text)) text more (λ first all. let long = is first (omega (arith, all)) in omega (arith, long)))
     (λ are. decided_bare (get_or before (length before - 1) 0) (b ∷ c ∷ text) more (bares are))
 
 -- no address begins with another byte

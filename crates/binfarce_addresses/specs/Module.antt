@@ -3,10 +3,14 @@ use Rattle.std.specs.Prelude.{◌≡◌, ℕ, ◌-◌, Bool, true, false, List, 
 use Rattle.std.proofs.Common.{refl}
 use Rattle.std.specs.List.{ends_with}
 
--- the name of a module may begin after this text: it is empty, or ends with `/`, `[`, a blank, a line feed, or a parenthesis after a blank
+-- a path may begin after this text, or go on: it is empty, or ends with `/`, `[`, a blank, a tab or a line feed
+abbrev pub may_begin_path : (text : List ℕ) → Bool
+may_begin_path text =
+    nat_eq (length text) 0 || (ends_with nat_eq text (codes "/") || (ends_with nat_eq text (codes "[") || (ends_with nat_eq text (codes " ") || (ends_with nat_eq text (codes "\t") || ends_with nat_eq text (codes "\n")))))
+
+-- the name of a module may begin after this text: a path may, or a parenthesis comes between
 abbrev pub may_begin_name : (text : List ℕ) → Bool
-may_begin_name text =
-    nat_eq (length text) 0 || (ends_with nat_eq text (codes "/") || (ends_with nat_eq text (codes "[") || (ends_with nat_eq text (codes " ") || (ends_with nat_eq text (codes "\n") || ends_with nat_eq text (codes " (")))))
+may_begin_name text = may_begin_path text || (ends_with nat_eq text (codes "(") && may_begin_path (take (length text - 1) text))
 
 -- the text ends with the name of this module
 abbrev pub ends_with_name : (name text : List ℕ) → Bool
@@ -35,6 +39,10 @@ worked_function = refl
 -- by AddressSanitizer
 worked_asan : names_module (codes "libc.so.6") (codes "    #1 0x7f5a0c82724a  (/lib/x86_64-linux-gnu/libc.so.6+") ≡ true
 worked_asan = refl
+
+-- the same at the beginning of a line
+worked_first : names_module (codes "libc.so.6") (codes "\n(libc.so.6+") ≡ true
+worked_first = refl
 
 -- by systemd-coredump
 worked_systemd : names_module (codes "libc.so.6") (codes "#1  0x00007f5a0c82724a n/a (libc.so.6 + ") ≡ true

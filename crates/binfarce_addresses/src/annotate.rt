@@ -26,9 +26,9 @@ use std::io::Read;
 /// Appends the text with ` <name+0x1f>` after each address that a function symbol of these files holds: its readable
 /// name, and the offset of the address into it. An address is `0x` or `0X` and 4 to 16 hexadecimal digits, in upper or
 /// lower case, up to the next other byte; of bare words also 8 to 16 digits that no letter, digit or `_` comes before or
-/// after. The first file with a function symbol that holds it answers. After `+` the number is an offset, which is
-/// looked up only behind a file's name, in the first file of this name: `NAME+0x1f`, `NAME(+0x1f)` or `NAME + 0x1f`,
-/// after `/`, `[`, a blank, a line feed or nothing, and in the first form also after a blank and a parenthesis. All other
+/// after. The first file with a function symbol that holds it answers. After `+` the number, of 1 to 16 digits, is an
+/// offset, which is looked up only behind a file's name, in the first file of this name: `NAME+0x1f`, `NAME(+0x1f)` or
+/// `NAME + 0x1f`, after `/`, `[`, a blank, a tab, a line feed or nothing, perhaps with a parenthesis between. All other
 /// bytes stay as they are, and need not be UTF-8. Returns how many addresses there are, and how many were found.
 ///
 /// # Errors

@@ -1,7 +1,7 @@
 //! Offsets into modules in a text.
 
 ghost use Rattle.std.specs.Prelude.{◌≡◌, length};
-ghost use Rattle.binfarce_addresses.specs.Module.{ends_with_mark, ends_with_name, ends_with_plus, may_begin_name, names_module};
+ghost use Rattle.binfarce_addresses.specs.Module.{ends_with_mark, ends_with_name, ends_with_plus, may_begin_name, may_begin_path, names_module};
 
 // Whether an offset into this module comes after the text.
 pub(crate) fn names_module(name: &[u8], text: &[u8]) -> bool
@@ -37,10 +37,17 @@ fn ends_with_name(name: &[u8], text: &[u8]) -> bool
 fn may_begin_name(text: &[u8]) -> bool
     ensures { result ≡ may_begin_name text.now }
 {
+    may_begin_path(text) || (text.ends_with(b"(") && may_begin_path(&text[..text.len() - 1]))
+}
+
+// Whether a path may begin after the text, or go on.
+fn may_begin_path(text: &[u8]) -> bool
+    ensures { result ≡ may_begin_path text.now }
+{
     text.is_empty()
         || text.ends_with(b"/")
         || text.ends_with(b"[")
         || text.ends_with(b" ")
+        || text.ends_with(b"\t")
         || text.ends_with(b"\n")
-        || text.ends_with(b" (")
 }

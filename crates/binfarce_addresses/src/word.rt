@@ -1,10 +1,11 @@
 //! Addresses as words of a text.
 
 ghost use Rattle.std.specs.Prelude.{◌≡◌, ◌<◌, ◌≤◌, ◌≢◌, ◌++◌, ℕ, List, true, false, length, slice_index};
-ghost use Rattle.binfarce_addresses.specs.Word.{address_len, bare_len, digits_len, is_word_byte, prefixed_len};
+ghost use Rattle.binfarce_addresses.specs.Word.{address_len, bare_len, digits_len, is_word_byte, least_digits, prefixed_len};
 ghost use Rattle.binfarce_addresses.specs.machine.Words.{IsDecided, may_begin};
 
 use crate::address::has_prefix;
+use crate::module::ends_with_plus;
 use crate::stream::LONGEST;
 
 // The length of the address that the text after `before` begins with, or 0.
@@ -12,24 +13,32 @@ pub(crate) fn address_len(is_bare: bool, before: &[u8], text: &[u8]) -> usize
     ensures within { result ≤ length text.now }
     ensures len { result ≡ address_len is_bare before.now text.now }
 {
-    match prefixed_len(text) {
+    match prefixed_len(before, text) {
         0 if is_bare => bare_len(before, text),
         len => len,
     }
 }
 
-// The length of the address with a prefix that the text begins with, or 0.
-fn prefixed_len(text: &[u8]) -> usize
+// The length of the address with a prefix that the text after `before` begins with, or 0.
+fn prefixed_len(before: &[u8], text: &[u8]) -> usize
     ensures within { result ≤ length text.now }
-    ensures len { result ≡ prefixed_len text.now }
+    ensures len { result ≡ prefixed_len before.now text.now }
 {
     if !has_prefix(text) {
         return 0;
     }
-    match digits_len(&text[2..]) {
-        digits @ 4..=16 => 2 + digits,
-        _ => 0,
+    let digits = digits_len(&text[2..]);
+    if digits < least_digits(before) || digits > 16 {
+        return 0;
     }
+    2 + digits
+}
+
+// How many digits an address with a prefix that comes after `before` has at least.
+fn least_digits(before: &[u8]) -> usize
+    ensures { result ≡ least_digits before.now }
+{
+    if ends_with_plus(before) { 1 } else { 4 }
 }
 
 // The length of the address without a prefix that the text after `before` begins with, or 0.

@@ -26,10 +26,15 @@ fn ends_with_name(name: &[u8], text: &[u8]) -> bool {
 
 // Whether the name of a module may begin after the text.
 fn may_begin_name(text: &[u8]) -> bool {
+    may_begin_path(text) || (text.ends_with(b"(") && may_begin_path(&text[..text.len() - 1]))
+}
+
+// Whether a path may begin after the text, or go on.
+fn may_begin_path(text: &[u8]) -> bool {
     text.is_empty()
         || text.ends_with(b"/")
         || text.ends_with(b"[")
         || text.ends_with(b" ")
+        || text.ends_with(b"\t")
         || text.ends_with(b"\n")
-        || text.ends_with(b" (")
 }

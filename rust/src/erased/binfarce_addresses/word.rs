@@ -3,25 +3,32 @@
 //! Addresses as words of a text.
 
 use crate::erased::binfarce_addresses::address::has_prefix;
+use crate::erased::binfarce_addresses::module::ends_with_plus;
 use crate::erased::binfarce_addresses::stream::LONGEST;
 
 // The length of the address that the text after `before` begins with, or 0.
 pub(crate) fn address_len(is_bare: bool, before: &[u8], text: &[u8]) -> usize {
-    match prefixed_len(text) {
+    match prefixed_len(before, text) {
         0 if is_bare => bare_len(before, text),
         len => len,
     }
 }
 
-// The length of the address with a prefix that the text begins with, or 0.
-fn prefixed_len(text: &[u8]) -> usize {
+// The length of the address with a prefix that the text after `before` begins with, or 0.
+fn prefixed_len(before: &[u8], text: &[u8]) -> usize {
     if !has_prefix(text) {
         return 0;
     }
-    match digits_len(&text[2..]) {
-        digits @ 4..=16 => 2 + digits,
-        _ => 0,
+    let digits = digits_len(&text[2..]);
+    if digits < least_digits(before) || digits > 16 {
+        return 0;
     }
+    2 + digits
+}
+
+// How many digits an address with a prefix that comes after `before` has at least.
+fn least_digits(before: &[u8]) -> usize {
+    if ends_with_plus(before) { 1 } else { 4 }
 }
 
 // The length of the address without a prefix that the text after `before` begins with, or 0.

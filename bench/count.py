@@ -11,7 +11,7 @@ import pathlib
 import re
 import sys
 
-FUNCTIONS, LINES = 115, 1500
+FUNCTIONS, LINES = 130, 1800
 CRATES = pathlib.Path(__file__).resolve().parent.parent / "crates"
 # What may hold a brace, a quote or a slash that is none: comments, texts and characters (a lifetime has no second ').
 TOKENS = re.compile(r"""//[^\n]*|b?"(?:\\.|[^"\\])*"|b?'(?:\\[^']+|[^'\\])'""", re.S)

@@ -3,7 +3,6 @@
 #
 #   LIST      (optional) the listing program, if not the one that cargo has built
 #   SIZE      (optional) the reporting program, if not the one that cargo has built
-#   COMMAND   (optional) the command `binfarce`, if not the one that cargo has built
 #   PEER      (optional) the program of bench/peer, which makes the same listing by the Rust crate
 #   ROWS      (optional) a file to which each figure is added as a row (results.tsv is one): date, commit, machine, file,
 #             command, ms, MiB and instructions, with tabs between them
@@ -14,12 +13,11 @@
 #
 # Names of files hold neither tabs nor line feeds.
 #
-# The runs of a round follow one another, so that a busy machine is as busy for all of them; the least processor time
-# of each command counts, as in beside.py. The peak is the greatest resident set of one run.
+# The runs of a round follow one another, so that a busy machine is as busy for all of them; the least wall time of
+# each command counts. The peak is the greatest resident set of one run.
 set -euf
 LIST=${LIST:-$(dirname "$0")/../target/release/binfarce-list}
 SIZE=${SIZE:-$(dirname "$0")/../target/release/binfarce-size}
-COMMAND=${COMMAND:-$(dirname "$0")/../target/release/binfarce}
 runs=${RUNS:-15}
 scratch=$(mktemp -d)
 trap 'rm -rf "$scratch"' EXIT
@@ -40,7 +38,6 @@ line() {
 # The commands that are there for a file, one a line.
 commands() {
     line program "$LIST" "$1"
-    [ ! -x "$COMMAND" ] || line 'binfarce list' "$COMMAND" list "$1"
     [ ! -x "$SIZE" ] || line report "$SIZE" "$1"
     [ -z "${PEER:-}" ] || line original "$PEER" list "$1"
     line 'nm -S' nm -S --defined-only "$1"
@@ -65,15 +62,15 @@ for file in "$@"; do
     cat "$file" >/dev/null
     commands "$file" >"$scratch/commands"
     python3 - "$runs" "$scratch/commands" >"$scratch/times" <<'PY'
-import os, subprocess, sys
+import subprocess, sys, time
 commands = [line.rstrip("\n").split("\t") for line in open(sys.argv[2])]
 least = {}
 for _ in range(int(sys.argv[1])):
     for title, *command in commands:
-        run = subprocess.Popen(command, stdout=subprocess.DEVNULL, stderr=subprocess.DEVNULL)
-        _, status, used = os.wait4(run.pid, 0)
-        spent = used.ru_utime + used.ru_stime
-        if status == 0:
+        start = time.perf_counter()
+        done = subprocess.run(command, stdout=subprocess.DEVNULL, stderr=subprocess.DEVNULL)
+        spent = time.perf_counter() - start
+        if done.returncode == 0:
             least[title] = min(spent, least.get(title, spent))
 for title, *command in commands:
     print(title, least.get(title, "-"), *command, sep="\t")

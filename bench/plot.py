@@ -1,5 +1,5 @@
 #!/usr/bin/env python3
-"""Draws processor time and peak memory beside each peer and file, as an SVG on standard output: plot.py results.tsv >listing.svg
+"""Draws wall time and peak memory beside each peer and file, as an SVG on standard output: plot.py results.tsv >listing.svg
 
 Each bar is a command's least time, or its peak, as a multiple of the program's on the same file; the program is the line at 1.
 Of each file and command the last row counts.
@@ -8,7 +8,7 @@ Of each file and command the last row counts.
 import math
 import sys
 
-PEERS = {"binfarce list": "#be185d", "original": "#b45309", "nm -S": "#64748b", "nm -SC": "#0f766e", "llvm-nm": "#2563eb", "llvm-nm -C": "#7c3aed"}
+PEERS = {"original": "#b45309", "nm -S": "#64748b", "nm -SC": "#0f766e", "llvm-nm": "#2563eb", "llvm-nm -C": "#7c3aed"}
 LEFT, TOP, BAR, GAP, WIDE = 180, 68, 14, 18, 300
 TICKS = (0.25, 0.5, 1, 2, 4, 8, 16, 32)
 
@@ -49,7 +49,7 @@ def draw(figures):
     yield f'<svg xmlns="http://www.w3.org/2000/svg" width="{width}" height="{height}" viewBox="0 0 {width} {height}" font-family="sans-serif">'
     yield f'<rect width="{width}" height="{height}" fill="white"/>'
     yield text(12, 20, "Listing a file: other programs as multiples of binfarce-list (the line at 1)", 13)
-    columns = (LEFT, "processor time", 0, "ms"), (LEFT + WIDE + 60, "peak memory", 1, "MiB")
+    columns = (LEFT, "wall time", 0, "ms"), (LEFT + WIDE + 60, "peak memory", 1, "MiB")
     for x, title, _, _ in columns:
         yield from axis(x, bottom, title)
     y = TOP

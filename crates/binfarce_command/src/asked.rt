@@ -55,22 +55,26 @@ impl Addresses {
     }
 
     /// Where the file at this place is loaded, which says that it is loaded there, if that is known.
-    pub fn base<'a>(
+    pub fn base(
         &self,
-        given: &Arguments<'a>,
+        given: &Arguments<'_>,
         at: usize,
         loaded: LoadAddress,
-    ) -> Result<Option<u64>, Wrong<'a>> {
-        let Some(maps) = &self.maps else {
-            return Ok(self.bases.get(at).copied().unwrap_or(None));
-        };
-        let path = given.value(Maps).unwrap_or("");
-        match base_of(maps, path_of(given, at), loaded) {
-            Ok(base) => Ok(Some(base)),
-            Err(NoBase::NotMaps) => Err(Wrong::NotMaps(path)),
-            Err(NoBase::NotMapped) => Err(Wrong::NotMapped(file_at(given, at), path)),
-            Err(NoBase::Several) => Err(Wrong::Several(file_at(given, at), path)),
+    ) -> Result<Option<u64>, NoBase> {
+        match &self.maps {
+            Some(maps) => Ok(Some(base_of(maps, path_of(given, at), loaded)?)),
+            None => Ok(self.bases.get(at).copied().unwrap_or(None)),
         }
+    }
+}
+
+/// What is wrong where the maps don't place the file at this place.
+pub fn wrong_of<'a>(given: &Arguments<'a>, at: usize, why: NoBase) -> Wrong<'a> {
+    let path = given.value(Maps).unwrap_or("");
+    match why {
+        NoBase::NotMaps => Wrong::NotMaps(path),
+        NoBase::NotMapped => Wrong::NotMapped(file_at(given, at), path),
+        NoBase::Several => Wrong::Several(file_at(given, at), path),
     }
 }
 
@@ -157,8 +161,8 @@ fn files_of<'b, 'a>(given: &'b Arguments<'a>) -> &'b [&'a str] {
     }
 }
 
-// The file at this place.
-fn file_at<'a>(given: &Arguments<'a>, at: usize) -> &'a str {
+/// The file at this place.
+pub fn file_at<'a>(given: &Arguments<'a>, at: usize) -> &'a str {
     given.operands.get(at).copied().unwrap_or("")
 }
 

@@ -5,11 +5,12 @@ mod asked;
 mod help;
 mod report;
 
-use crate::asked::{Addresses, asked_of, name_of};
+use crate::asked::{Addresses, name_of};
 use crate::help::{VERSION, help};
 use crate::report::{ended, refuse, report};
 use binfarce_addresses::annotate::annotate_stream;
 use binfarce_addresses::at::Places;
+use binfarce_addresses::maps::NoBase;
 use binfarce_addresses::{Counts, Lookup, Module};
 use binfarce_bytes::source::Source;
 use binfarce_figures::diff::{DiffError, Growth, diff};
@@ -133,7 +134,7 @@ fn run<'a>(rt: &HostRuntime, words: &'a [String]) -> Result<u8, Wrong<'a>> {
     }
     let call = call?;
     let asked = match &call {
-        Call::Run(Command::At, given) => match asked_of(rt, given)? {
+        Call::Run(Command::At, given) => match asked::asked_of(rt, given)? {
             Some(asked) => asked,
             None => return Ok(1),
         },
@@ -141,12 +142,14 @@ fn run<'a>(rt: &HostRuntime, words: &'a [String]) -> Result<u8, Wrong<'a>> {
     };
     let mut out = Output::new(rt.alloc(), io::writer(rt));
     let mut is_above = false;
-    let mut wrong = None;
-    let done = answer(rt, &call, &asked, &mut out, &mut is_above, &mut wrong);
-    match wrong {
-        Some(wrong) => Err(wrong),
-        None => Ok(ended(rt, done, is_above, out.into_parts().1)),
+    let mut unplaced = None;
+    let done = answer(rt, &call, &asked, &mut out, &mut is_above, &mut unplaced);
+    if let Some((at, why)) = unplaced {
+        if let Call::Run(_, given) = &call {
+            return Err(asked::wrong_of(given, at, why));
+        }
     }
+    Ok(ended(rt, done, is_above, out.into_parts().1))
 }
 
 // The first operand.
@@ -164,15 +167,15 @@ fn has_any(given: &Arguments<'_>, flags: &[Flag]) -> bool {
     flags.iter().any(|flag| given.has(*flag))
 }
 
-// Runs a call, and flushes the output. `false` where a file was refused. Sets whether a sum is above its limit, and why
-// the maps are wrong, if they are: nothing is then written.
-fn answer<'a, W: Write>(
+// Runs a call, and flushes the output. `false` where a file was refused. Sets whether a sum is above its limit, and which
+// file the maps don't place and why, if there is one: nothing is then written.
+fn answer<W: Write>(
     rt: &HostRuntime,
-    call: &Call<'a>,
+    call: &Call<'_>,
     asked: &Addresses,
     out: &mut Output<W>,
     is_above: &mut bool,
-    wrong: &mut Option<Wrong<'a>>,
+    unplaced: &mut Option<(usize, NoBase)>,
 ) -> Result<bool, Fault> {
     let is_done = match call {
         Call::Help(topic) => {
@@ -191,12 +194,12 @@ fn answer<'a, W: Write>(
                 host,
                 given,
                 out,
-                wrong: None,
+                unplaced: None,
             };
             let is_done = work.run(*command, asked)?;
             work.print_refusals()?;
             *is_above = work.host.is_above;
-            *wrong = work.wrong.take();
+            *unplaced = work.unplaced;
             is_done
         }
     };
@@ -211,16 +214,25 @@ fn print<W: Write>(text: &str, out: &mut Output<W>) -> Result<bool, Fault> {
         .map_err(|_| Fault::Report(ReportError::Write))
 }
 
-// A command's work: the system around it, what it is given, where it writes, and why its maps are wrong, if they are.
+// A command's work: the system around it, what it is given, where it writes, and which file the maps don't place and why.
 #[derive(Drop)]
 struct Work<'a, 'b, W> {
     host: Host<'a>,
     given: &'a Arguments<'b>,
     out: &'a mut Output<W>,
-    wrong: Option<Wrong<'b>>,
+    unplaced: Option<(usize, NoBase)>,
 }
 
-impl<'a, 'b, W: Write> Work<'a, 'b, W> {
+// Where the file at a place among the operands is loaded, where it says that it is, and the address for an offset in a text.
+#[derive(Clone, Copy)]
+struct Placed {
+    at: usize,
+    base: Option<u64>,
+    linked: u64,
+    origin: u64,
+}
+
+impl<'a, W: Write> Work<'a, '_, W> {
     // The addresses of `at`, and the maps, were read before.
     fn run(&mut self, command: Command, asked: &Addresses) -> Result<bool, Fault> {
         let given = self.given;
@@ -412,9 +424,10 @@ impl<'a, 'b, W: Write> Work<'a, 'b, W> {
             Ok(loaded) => loaded,
             Err(e) => return reported(alloc, &mut self.host, path, &file, Err(Fault::from(e))),
         };
-        let Some(lookup) = self.lookup(asked, 0, path, loaded) else {
+        let Some(placed) = self.placed(asked, 0, loaded) else {
             return Ok(false);
         };
+        let lookup = self.lookup(placed);
         let addresses = asked.addresses.as_slice();
         let input = &mut OpenFile::new(self.host.rt.reader());
         let done = if addresses.is_empty() {
@@ -459,29 +472,38 @@ impl<'a, 'b, W: Write> Work<'a, 'b, W> {
         }
     }
 
-    // How addresses are looked up in the file at this place and path, which says that it is loaded there. `None` where the
-    // maps don't say where it is: why is kept.
-    fn lookup(
+    // Where the file at this place is loaded, which says that it is loaded there. `None` where the maps don't place it:
+    // why is kept.
+    fn placed(
         &mut self,
         asked: &Addresses,
         at: usize,
-        path: &'b str,
         loaded: (LoadAddress, u64),
-    ) -> Option<Lookup<'b>> {
-        let given = self.given;
-        match asked.base(given, at, loaded.0) {
-            Ok(base) => Some(Lookup {
+    ) -> Option<Placed> {
+        match asked.base(self.given, at, loaded.0) {
+            Ok(base) => Some(Placed {
+                at,
                 base,
                 linked: loaded.0.address,
                 origin: loaded.1,
-                is_return: given.has(Return),
-                form: form_of(given, path),
-                name: name_of(given, at),
             }),
-            Err(wrong) => {
-                self.wrong = Some(wrong);
+            Err(why) => {
+                self.unplaced = Some((at, why));
                 None
             }
+        }
+    }
+
+    // How addresses are looked up in this file.
+    fn lookup(&self, placed: Placed) -> Lookup<'a> {
+        let given = self.given;
+        Lookup {
+            base: placed.base,
+            linked: placed.linked,
+            origin: placed.origin,
+            is_return: given.has(Return),
+            form: form_of(given, asked::file_at(given, placed.at)),
+            name: name_of(given, placed.at),
         }
     }
 
@@ -504,17 +526,17 @@ impl<'a, 'b, W: Write> Work<'a, 'b, W> {
         let alloc = self.host.rt.alloc();
         let symbols = symbols_of(given, true);
         let mut read = Vec::new(alloc);
-        let mut lookups = Vec::new(alloc);
+        let mut all = Vec::new(alloc);
         for (at, path) in given.operands.iter().enumerate() {
             let Some(file) = open_input(alloc, &mut self.host, path) else {
                 continue;
             };
             match self.module(asked, at, &file, &symbols) {
                 Ok((tables, loaded)) => {
-                    let Some(lookup) = self.lookup(asked, at, path, loaded) else {
+                    let Some(placed) = self.placed(asked, at, loaded) else {
                         return Ok(false);
                     };
-                    if read.push(tables).is_err() || lookups.push((*path, lookup)).is_err() {
+                    if read.push(tables).is_err() || all.push(placed).is_err() {
                         return Err(Fault::Report(ReportError::OutOfMemory));
                     }
                 }
@@ -524,17 +546,21 @@ impl<'a, 'b, W: Write> Work<'a, 'b, W> {
             }
         }
         // What the modules refer to isn't freed before the program ends.
-        let (found, lookups) = self.host.places_of_all(read.leak(), lookups.as_slice())?;
+        let mut kept = Vec::new(alloc);
+        let found = self
+            .host
+            .places_of_all(read.leak(), &all, given.operands.as_slice(), &mut kept)?;
         let found: &'static [Places<'static>] = found.leak();
         if found.is_empty() {
             return Ok(false);
         }
         let mut modules = Vec::new(alloc);
-        for (places, lookup) in found.iter().zip(lookups.iter()) {
-            let module = Module {
-                places,
-                lookup: *lookup,
+        for (at, places) in found.iter().enumerate() {
+            let Some(placed) = kept.get(at) else {
+                return Ok(false);
             };
+            let lookup = self.lookup(*placed);
+            let module = Module { places, lookup };
             if modules.push(module).is_err() {
                 return Err(Fault::Report(ReportError::OutOfMemory));
             }
@@ -740,26 +766,28 @@ impl Host<'_> {
         }
     }
 
-    // The places of these tables, of files at these paths, and their lookups. Why a file has none is reported.
-    fn places_of_all<'b>(
+    // The places of these tables, of files that are placed so among these paths; where those are placed that have places
+    // is kept. Why a file has none is reported.
+    fn places_of_all(
         &mut self,
         read: &'static [Tables<'static>],
-        lookups: &[(&str, Lookup<'b>)],
-    ) -> Result<(Vec<Places<'static>>, Vec<Lookup<'b>>), Fault> {
+        all: &[Placed],
+        paths: &[&str],
+        kept: &mut Vec<Placed>,
+    ) -> Result<Vec<Places<'static>>, Fault> {
         let alloc = self.rt.alloc();
         let mut found = Vec::new(alloc);
-        let mut kept = Vec::new(alloc);
-        for (tables, (path, lookup)) in read.iter().zip(lookups) {
+        for (tables, placed) in read.iter().zip(all) {
             match places_of(alloc, tables) {
                 Ok(places) => {
-                    if found.push(places).is_err() || kept.push(*lookup).is_err() {
+                    if found.push(places).is_err() || kept.push(*placed).is_err() {
                         return Err(Fault::Report(ReportError::OutOfMemory));
                     }
                 }
-                Err(fault) => self.report(path, fault, None),
+                Err(fault) => self.report(paths.get(placed.at).copied().unwrap_or(""), fault, None),
             }
         }
-        Ok((found, kept))
+        Ok(found)
     }
 
     // Gives the hint, if there is one.

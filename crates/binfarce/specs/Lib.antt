@@ -15,6 +15,7 @@ pub use Rattle.binfarce_bytes.specs.Sizes
 pub use Rattle.binfarce_elf.specs.Elf
 pub use Rattle.binfarce_elf.specs.Classes
 pub use Rattle.binfarce_elf.specs.SymbolTables
+pub use Rattle.binfarce_elf.specs.Versions
 pub use Rattle.binfarce_elf.specs.ElfSymbols
 pub use Rattle.binfarce_elf.specs.ElfViews
 pub use Rattle.binfarce_macho.specs.Macho

@@ -5,17 +5,21 @@ use Rattle.binfarce_bytes.specs.declared.error.ParseError.{ParseError}
 use Rattle.binfarce_bytes.specs.Refusal.{Refusal, refusal_of, out_of_memory}
 use Rattle.binfarce_bytes.specs.Entries.{Entry, Listed}
 
--- an entry, and the number of its section
+-- an entry, the number of its section, and in an ELF file the binding and type of its symbol (`st_info`) and its version (its row in `.gnu.version`; 0 where
+-- there is none), in other files 0
 pub record SectionEntry : Type 0 where
   pub section : ℕ
+  pub info : ℕ
+  pub version : ℕ
   pub entry : Entry
 
--- the function symbols of the selected sections of a file; the size of the selected section, and none where all are selected; the name of the section of each number, where the selection has it; and whether the sections share addresses
+-- the function symbols of the selected sections of a file; the size of the selected section, and none where all are selected; the name of the section of each number, where the selection has it; whether the sections share addresses; and the name of each version, where the file defines it
 pub record SelectedSymbols : Type 0 where
   pub entries : List SectionEntry
   pub section_size : Option ℕ
   pub section_name : ℕ → Option (List ℕ)
   pub shares_addresses : Bool
+  pub version_name : ℕ → Option (List ℕ)
 
 -- the answer has an entry
 abbrev pub SelectsSome : Result SelectedSymbols Refusal → Type 0
@@ -28,9 +32,9 @@ as_listed selected =
     let entries = map (λ e. e.entry) selected.entries in
     record { entries = entries; section_size = unwrap_or selected.section_size (sum_by (λ e. e.size) entries) }
 
--- entries with the number of their section
+-- entries of a file that isn't ELF, with the number of their section
 abbrev pub in_section : ℕ → List Entry → List SectionEntry
-in_section number entries = map (λ e. record { section = number; entry = e }) entries
+in_section number entries = map (λ e. record { section = number; info = 0; version = 0; entry = e }) entries
 
 -- the value, unless there is a refusal
 abbrev pub unless : {A : Type 0} → Option Refusal → A → Result A Refusal

@@ -16,7 +16,7 @@ HoldsFunctions listed answer = (map function_view answer.0.items ≡ listed.entr
 
 -- a `SectionFunction`
 abbrev pub section_function_view : SectionFunction → SectionEntry
-section_function_view f = record { section = f.section; entry = function_view f.function }
+section_function_view f = record { section = f.section; info = f.info; version = f.version; entry = function_view f.function }
 
 -- the value has these entries as function symbols with their sections
 abbrev pub HoldsSectionFunctions : List SectionEntry → Vec SectionFunction → Type 0

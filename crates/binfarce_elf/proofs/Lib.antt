@@ -1,3 +1,4 @@
+pub mod Defined
 pub mod Headers
 pub mod Walks
 pub mod Names

@@ -1,13 +1,13 @@
 -- The entries by the sizes of all rows are those that a selection takes.
-use Rattle.std.proofs.Common.{◌≡◌, ℕ, zero, suc, ◌+◌, ◌-◌, ◌<◌, Bool, true, false, cond, List, [], ◌∷◌, length, get_or, map, Option, Result, Ok, Err, refl, ap, subst, ◌∙◌, arith}
+use Rattle.std.proofs.Common.{◌≡◌, ℕ, zero, suc, ◌+◌, ◌<◌, Bool, true, List, get_or, map, Option, Result, Ok, Err, refl, ap, subst, ◌∙◌, arith}
 use Rattle.std.specs.Prelude.{is_some, IfOk}
 use Rattle.std.specs.List.{range_with_len, filter_map}
 use Rattle.binfarce_bytes.specs.declared.ByteOrder.{ByteOrder}
 use Rattle.binfarce_bytes.specs.Walk.{Walk}
-use Rattle.binfarce_bytes.specs.SectionEntries.{SectionEntry}
 use Rattle.binfarce_elf.specs.Elf.{ElfClass, Section, SectionTable, SymbolRow, walk}
 use Rattle.binfarce_elf.specs.ElfSymbols.{FileKind, Taken, TableRows, ends_of, entry_taken, has_modes, row_count, row_of, size_of, taken_from}
 use Rattle.binfarce_elf.specs.ElfViews.{sized_from}
+use Rattle.binfarce_elf.specs.Versions.{version_of}
 use Rattle.binfarce_elf.specs.machine.RawElf.{AreKeysOf}
 
 -- two functions that agree on the numbers give the same
@@ -20,7 +20,7 @@ at_number f a zero k lt = absurd (omega arith)
 at_number f a (suc n) zero lt = ap f (omega arith)
 at_number f a (suc n) (suc k) lt = at_number f (a + 1) n k (omega arith) ∙ ap f (omega arith)
 
-module _ (class : ElfClass) (order : ByteOrder) (sections : Walk Section) (kind : FileKind) (taken : Taken) (found : TableRows) (sizes : List ℕ) where
+module _ (class : ElfClass) (order : ByteOrder) (sections : Walk Section) (kind : FileKind) (taken : Taken) (found : TableRows) (versions sizes : List ℕ) where
   abbrev count : ℕ
   count = row_count class found.rows
 
@@ -34,27 +34,27 @@ module _ (class : ElfClass) (order : ByteOrder) (sections : Walk Section) (kind 
   sized k = size_of (ends_of class order sections kind found) modes (row k)
 
   -- where these are the sizes by the ends
-  pub sizes_taken : sizes ≡ map sized (range_with_len 0 count) → sized_from class order taken modes found sizes 0 ≡ taken_from class order sections kind taken found
+  pub sizes_taken : sizes ≡ map sized (range_with_len 0 count) → sized_from class order taken modes found versions sizes 0 ≡ taken_from class order sections kind taken found versions
   sizes_taken are =
-      ap (λ (n : ℕ). filter_map (λ k. entry_taken found.strings taken modes (row k) (get_or sizes k 0)) (range_with_len 0 n)) (omega arith)
-      ∙ agree_on (λ k. entry_taken found.strings taken modes (row k) (get_or sizes k 0)) (λ k. entry_taken found.strings taken modes (row k) (sized k)) 0 count
-      (λ k from lt. ap (entry_taken found.strings taken modes (row k)) (ap (λ (xs : List ℕ). get_or xs k 0) are ∙ at_number sized 0 count k (omega arith) ∙ ap sized (omega arith)))
+      ap (λ (n : ℕ). filter_map (λ k. entry_taken found.strings taken modes (row k) (version_of order versions k) (get_or sizes k 0)) (range_with_len 0 n)) (omega arith)
+      ∙ agree_on (λ k. entry_taken found.strings taken modes (row k) (version_of order versions k) (get_or sizes k 0)) (λ k. entry_taken found.strings taken modes (row k) (version_of order versions k) (sized k)) 0 count
+      (λ k from lt. ap (entry_taken found.strings taken modes (row k) (version_of order versions k)) (ap (λ (xs : List ℕ). get_or xs k 0) are ∙ at_number sized 0 count k (omega arith) ∙ ap sized (omega arith)))
 
   -- of one section, whatever the sizes are, and whether or not functions have modes
-  pub one_taken : (modes : Bool) → is_some taken.size ≡ true → sized_from class order taken modes found sizes 0 ≡ taken_from class order sections kind taken found
+  pub one_taken : (modes : Bool) → is_some taken.size ≡ true → sized_from class order taken modes found versions sizes 0 ≡ taken_from class order sections kind taken found versions
   one_taken any one =
-      ap (λ (n : ℕ). filter_map (λ k. entry_taken found.strings taken any (row k) (get_or sizes k 0)) (range_with_len 0 n)) (omega arith)
-      ∙ agree_on (λ k. entry_taken found.strings taken any (row k) (get_or sizes k 0)) (λ k. entry_taken found.strings taken modes (row k) (sized k)) 0 count
+      ap (λ (n : ℕ). filter_map (λ k. entry_taken found.strings taken any (row k) (version_of order versions k) (get_or sizes k 0)) (range_with_len 0 n)) (omega arith)
+      ∙ agree_on (λ k. entry_taken found.strings taken any (row k) (version_of order versions k) (get_or sizes k 0)) (λ k. entry_taken found.strings taken modes (row k) (version_of order versions k) (sized k)) 0 count
       (λ k from lt. rw one refl)
 
 -- so in the result of a call
-pub sizes_all : {V E : Type 0} (class : ElfClass) (order : ByteOrder) (sections : Walk Section) (kind : FileKind) (taken : Taken) (found : TableRows) (items : V → List ℕ) (r : Result V E) (read : Bool) → read ≡ has_modes kind
+pub sizes_all : {V E : Type 0} (class : ElfClass) (order : ByteOrder) (sections : Walk Section) (kind : FileKind) (taken : Taken) (found : TableRows) (versions : List ℕ) (items : V → List ℕ) (r : Result V E) (read : Bool) → read ≡ has_modes kind
     → IfOk r (λ v. items v ≡ map (λ k. size_of (ends_of class order sections kind found) read (row_of class order found.rows k)) (range_with_len 0 (row_count class found.rows)))
-    → IfOk r (λ v. sized_from class order taken (has_modes kind) found (items v) 0 ≡ taken_from class order sections kind taken found)
-sizes_all class order sections kind taken found items (Ok v) read is given =
-    sizes_taken class order sections kind taken found (items v)
+    → IfOk r (λ v. sized_from class order taken (has_modes kind) found versions (items v) 0 ≡ taken_from class order sections kind taken found versions)
+sizes_all class order sections kind taken found versions items (Ok v) read is given =
+    sizes_taken class order sections kind taken found versions (items v)
     (given ∙ ap (λ (m : Bool). map (λ k. size_of (ends_of class order sections kind found) m (row_of class order found.rows k)) (range_with_len 0 (row_count class found.rows))) is)
-sizes_all class order sections kind taken found items (Err e) read is given = tt
+sizes_all class order sections kind taken found versions items (Err e) read is given = tt
 
 -- the keys of the ends of a table by another description of it
 pub keys_by : (class : ElfClass) (kind : FileKind) (found : TableRows) (keys : List ℕ) (t alone : SectionTable) → t ≡ alone

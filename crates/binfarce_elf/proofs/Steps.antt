@@ -6,6 +6,7 @@ use Rattle.binfarce_bytes.specs.Entries.{Listed}
 use Rattle.binfarce_elf.specs.Elf.{ElfClass, SectionTable, Section, walk, name_of}
 use Rattle.binfarce_elf.specs.ElfSymbols.{TableSections, Taken, NeededSections, TableRows, Selected, sought, is_named, section_data, string_table_kind, whole_rows, table_sections, taken, needed, rows_at, kind_of, selected_from, elf_selected, listed_of, elf_answer}
 use Rattle.binfarce_elf.specs.SymbolTables.{section_type, table_name, strings_name, has_indirect}
+use Rattle.binfarce_elf.specs.Versions.{bytes_if, versions_section}
 use Rattle.binfarce_elf.specs.declared.symbol_table.SymbolTable.{SymbolTable}
 
 pub assoc : {A B C : Type 0} (r : Result A Refusal) (f : A → Result B Refusal) (g : B → Result C Refusal) → ((r >>= f) >>= g) ≡ (r >>= λ x. f x >>= g)
@@ -67,7 +68,7 @@ module _ (which : SymbolTable) (class : ElfClass) (table : SectionTable) where
     with_table selected = table_sections which (walk class table) >>= λ sections. Ok (record { taken = selected; table = sections })
 
     abbrev selected_of : Taken → TableRows → Selected
-    selected_of selected found = selected_from class table.order (walk class table) (kind_of class table) selected found
+    selected_of selected found = selected_from class table.order (walk class table) (kind_of class table) selected found (bytes_if table.file (versions_section which (walk class table)))
 
     abbrev of_needed : NeededSections → Result Selected Refusal
     of_needed sections = rows_at class table.file sections.table >>= λ found. Ok (selected_of sections.taken found)

@@ -12,6 +12,7 @@ use Rattle.binfarce_bytes.specs.Field.{value_at}
 use Rattle.binfarce_bytes.specs.Sizes.{least_above}
 use Rattle.binfarce_elf.specs.Elf.{ElfClass, Header, SectionTable, Section, SymbolRow, header_of, section_table, walk, names_bytes, name_among}
 use Rattle.binfarce_elf.specs.SymbolTables.{section_type, table_name, strings_name, has_indirect}
+use Rattle.binfarce_elf.specs.Versions.{bytes_if, definitions_section, version_name, version_of, versions_section}
 use Rattle.binfarce_elf.specs.declared.symbol_table.SymbolTable.{SymbolTable}
 use Rattle.binfarce_bytes.specs.Entries.{Listed}
 
@@ -38,23 +39,23 @@ is_function_of indirect accepts row = accepts row.section && not (nat_eq row.nam
 unfoldable pub function_name : List ℕ → Bool → (ℕ → Bool) → SymbolRow ℕ → Option (List ℕ)
 function_name strings indirect accepts row = if is_function_of indirect accepts row then text_at strings row.name else None
 
--- the row's entry of this address and size, with the section that the row names, where it has a name
-abbrev pub entry_with : List ℕ → Bool → (ℕ → Bool) → SymbolRow ℕ → ℕ → ℕ → Option SectionEntry
-entry_with strings indirect accepts row address size =
-    option_map (λ name. record { section = row.section; entry = record { name = name; address = address; size = size } }) (function_name strings indirect accepts row)
+-- the row's entry of this version, address and size, with the section and the info that the row has, where it has a name
+abbrev pub entry_with : List ℕ → Bool → (ℕ → Bool) → SymbolRow ℕ → (version address size : ℕ) → Option SectionEntry
+entry_with strings indirect accepts row version address size =
+    option_map (λ name. record { section = row.section; info = row.info; version = version; entry = record { name = name; address = address; size = size } }) (function_name strings indirect accepts row)
 
 -- of one section: with the row's own value and size, where that isn't 0
-abbrev pub entry_of : List ℕ → Bool → (ℕ → Bool) → SymbolRow ℕ → Option SectionEntry
-entry_of strings indirect accepts row = if nat_eq row.size 0 then None else entry_with strings indirect accepts row row.value row.size
+abbrev pub entry_of : List ℕ → Bool → (ℕ → Bool) → SymbolRow ℕ → (version : ℕ) → Option SectionEntry
+entry_of strings indirect accepts row version = if nat_eq row.size 0 then None else entry_with strings indirect accepts row version row.value row.size
 
 -- row k of a table
 abbrev pub row_of : ElfClass → ByteOrder → List ℕ → ℕ → SymbolRow ℕ
 row_of class order rows k = symbol_at class order rows (k * class.symbol_length)
 
--- the entries of the rows numbered from k on, in table order
-abbrev pub entries_from : ElfClass → ByteOrder → List ℕ → Bool → (ℕ → Bool) → List ℕ → ℕ → List SectionEntry
-entries_from class order strings indirect accepts rows k =
-    filter_map (λ row. entry_of strings indirect accepts (symbol_at class order rows (row * class.symbol_length))) (range_with_len k (length rows / class.symbol_length - k))
+-- the entries of the rows numbered from k on, in table order, with these versions
+abbrev pub entries_from : ElfClass → ByteOrder → List ℕ → Bool → (ℕ → Bool) → (rows versions : List ℕ) → ℕ → List SectionEntry
+entries_from class order strings indirect accepts rows versions k =
+    filter_map (λ row. entry_of strings indirect accepts (row_of class order rows row) (version_of order versions row)) (range_with_len k (length rows / class.symbol_length - k))
 
 -- a name is this one
 abbrev pub is_named : List ℕ → Option (List ℕ) → Bool
@@ -193,34 +194,36 @@ rows_at class file sections = do
   Ok (record { strings = strings; rows = rows })
 
 -- the entry that a selection takes of a row: of one section by the row's own value and size; of all sections by its address and this size in memory
-abbrev pub entry_taken : List ℕ → Taken → Bool → SymbolRow ℕ → ℕ → Option SectionEntry
-entry_taken strings taken has_modes row size =
-    if is_some taken.size then entry_of strings taken.indirect taken.accepts row
-    else entry_with strings taken.indirect taken.accepts row (address_of has_modes row) size
+abbrev pub entry_taken : List ℕ → Taken → Bool → SymbolRow ℕ → (version size : ℕ) → Option SectionEntry
+entry_taken strings taken has_modes row version size =
+    if is_some taken.size then entry_of strings taken.indirect taken.accepts row version
+    else entry_with strings taken.indirect taken.accepts row version (address_of has_modes row) size
 
 -- by the ends of its section
-abbrev pub entry_sized : List ℕ → Taken → Bool → List End → SymbolRow ℕ → Option SectionEntry
-entry_sized strings taken has_modes ends row = entry_taken strings taken has_modes row (size_of ends has_modes row)
+abbrev pub entry_sized : List ℕ → Taken → Bool → List End → SymbolRow ℕ → (version : ℕ) → Option SectionEntry
+entry_sized strings taken has_modes ends row version = entry_taken strings taken has_modes row version (size_of ends has_modes row)
 
--- the entries that a selection takes of all rows, of a file with these sections, type and machine
-abbrev pub taken_from : ElfClass → ByteOrder → Walk Section → FileKind → Taken → TableRows → List SectionEntry
-taken_from class order sections kind taken found =
-    filter_map (λ k. entry_sized found.strings taken (has_modes kind) (ends_of class order sections kind found) (row_of class order found.rows k)) (range_with_len 0 (row_count class found.rows))
+-- the entries that a selection takes of all rows with these versions, of a file with these sections, type and machine
+abbrev pub taken_from : ElfClass → ByteOrder → Walk Section → FileKind → Taken → TableRows → (versions : List ℕ) → List SectionEntry
+taken_from class order sections kind taken found versions =
+    filter_map (λ k. entry_sized found.strings taken (has_modes kind) (ends_of class order sections kind found) (row_of class order found.rows k) (version_of order versions k)) (range_with_len 0 (row_count class found.rows))
 
--- the entries that a selection takes, and the size of the one section
+-- the entries that a selection takes, the size of the one section, and the strings of the symbol table
 pub record Selected : Type 0 where
   pub entries : List SectionEntry
   pub size : Option ℕ
+  pub strings : List ℕ
 
-abbrev pub selected_from : ElfClass → ByteOrder → Walk Section → FileKind → Taken → TableRows → Selected
-selected_from class order sections kind taken found = record { entries = taken_from class order sections kind taken found; size = taken.size }
+abbrev pub selected_from : ElfClass → ByteOrder → Walk Section → FileKind → Taken → TableRows → (versions : List ℕ) → Selected
+selected_from class order sections kind taken found versions =
+    record { entries = taken_from class order sections kind taken found versions; size = taken.size; strings = found.strings }
 
 -- the answer for a selection by this symbol table: the refusals in order, else the entries
 unfoldable pub elf_selected : SymbolTable → ElfClass → SectionTable → Option (List ℕ) → Result Selected Refusal
 elf_selected which class table section = do
   sections ← needed which (walk class table) (names_bytes class table) table.shnum section
   found ← rows_at class table.file sections.table
-  Ok (selected_from class table.order (walk class table) (kind_of class table) sections.taken found)
+  Ok (selected_from class table.order (walk class table) (kind_of class table) sections.taken found (bytes_if table.file (versions_section which (walk class table))))
 
 -- the entries of a section, and its size
 abbrev pub listed_of : Selected → Listed
@@ -245,10 +248,10 @@ name_of_index names sections index = option_and_then (λ s. name_among names s.n
 abbrev pub share_addresses : Option ℕ → ℕ → Bool
 share_addresses size elf_type = is_none size && nat_eq elf_type 1
 
--- the function symbols of a selection, with the section names and the type of a file
-abbrev pub symbols_of : Selected → Option (List ℕ) → Walk Section → ℕ → SelectedSymbols
-symbols_of selected names sections elf_type =
-    record { entries = selected.entries; section_size = selected.size; section_name = λ number. name_of_index names sections number; shares_addresses = share_addresses selected.size elf_type }
+-- the function symbols of a selection, with the section names, the type and the names of versions of a file
+abbrev pub symbols_of : Selected → Option (List ℕ) → Walk Section → ℕ → (ℕ → Option (List ℕ)) → SelectedSymbols
+symbols_of selected names sections elf_type version_name =
+    record { entries = selected.entries; section_size = selected.size; section_name = λ number. name_of_index names sections number; shares_addresses = share_addresses selected.size elf_type; version_name = version_name }
 
 -- the answer for a selection of a file that has a header
 unfoldable pub selected_file_answer : SymbolTable → ElfClass → ByteOrder → List ℕ → Option (List ℕ) → Result SelectedSymbols Refusal
@@ -256,4 +259,5 @@ selected_file_answer which class order file section =
     let table = section_table class (record { order = order; bytes = file }) in
     if_as_long_as class.header_length file (do
       selected ← elf_selected which class table section
-      Ok (symbols_of selected (names_bytes class table) (walk class table) (header_of class order file).elf_type))
+      Ok (symbols_of selected (names_bytes class table) (walk class table) (header_of class order file).elf_type
+          (version_name order selected.strings (bytes_if file (definitions_section which (walk class table))))))

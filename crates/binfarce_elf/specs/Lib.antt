@@ -1,6 +1,7 @@
 pub mod Elf
 pub mod Classes
 pub mod SymbolTables
+pub mod Versions
 pub mod ElfSymbols
 pub mod ElfViews
 pub mod ElfParts

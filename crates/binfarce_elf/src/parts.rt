@@ -1,6 +1,6 @@
 //! The section header table of a file of either class, and the sections found in it alone.
 
-ghost use Rattle.std.specs.Prelude.{◌≡◌, ◌+◌, ◌<◌, ◌≤◌, length, IfOk, MatchResult};
+ghost use Rattle.std.specs.Prelude.{◌≡◌, ◌+◌, ◌<◌, ◌≤◌, ℕ, List, length, IfOk, MatchResult};
 ghost use Rattle.std.specs.Option.{option_map};
 ghost use Rattle.binfarce_bytes.specs.Refusal.{Gives, refusal_of, unexpected_eof};
 ghost use Rattle.binfarce_bytes.specs.Selection.{section_of};
@@ -9,6 +9,7 @@ ghost use Rattle.binfarce_elf.specs.Elf.{walk, name_among, names_bytes, section_
 ghost use Rattle.binfarce_elf.specs.ElfParts.{IsPlaceOf, headers_alone, needed_view, sections_left};
 ghost use Rattle.binfarce_elf.specs.ElfSymbols.{TableRows, has_modes, is_named, name_of_index, needed, taken_from};
 ghost use Rattle.binfarce_elf.specs.ElfViews.{kind_view, section_view, sized_from, taken_view};
+ghost use Rattle.binfarce_elf.specs.Versions as versions;
 ghost use Rattle.binfarce_elf.specs.machine.RawElf.{table_view};
 
 use crate::class::{Class, Half, Width, Word};
@@ -19,6 +20,7 @@ use crate::sections::{
 };
 use crate::symbol_table::SymbolTable;
 use crate::symbols::{Needed, Rows, Taken, needed_of};
+use crate::versions::{definitions_section, versions_section};
 use binfarce_bytes::functions::Selection;
 use binfarce_bytes::parser::UnexpectedEof;
 use binfarce_bytes::{ByteOrder, ParseError};
@@ -110,6 +112,44 @@ pub fn needed_in(
     }
 }
 
+/// The sections of the versions of a symbol table's rows, and of their definitions.
+#[derive(Clone, Copy)]
+pub struct VersionSections {
+    pub versions: Option<Section<u64>>,
+    pub definitions: Option<Section<u64>>,
+}
+
+/// Those of this symbol table, found in these section headers. There are none where they aren't whole.
+pub fn version_sections(
+    headers: &[u8],
+    width: Width,
+    place: HeaderTable,
+    which: SymbolTable,
+) -> VersionSections
+    ensures versions { option_map (section_view (λ n. n)) result.versions ≡ versions.versions_section which
+        (walk (class_of width) (headers_alone place.byte_order headers.now place.shnum)) }
+    ensures definitions { option_map (section_view (λ n. n)) result.definitions ≡ versions.definitions_section which
+        (walk (class_of width) (headers_alone place.byte_order headers.now place.shnum)) }
+{
+    let table = headers_alone(headers, place.byte_order, place.shnum);
+    match width {
+        Width::Bits32 => VersionSections {
+            versions: widened(versions_section::<u32>(table, which)),
+            definitions: widened(definitions_section::<u32>(table, which)),
+        },
+        Width::Bits64 => VersionSections {
+            versions: versions_section::<u64>(table, which),
+            definitions: definitions_section::<u64>(table, which),
+        },
+    }
+}
+
+fn widened(section: Option<Section<u32>>) -> Option<Section<u64>>
+    ensures { option_map (section_view (λ n. n)) result ≡ option_map (section_view (λ n. n)) section }
+{
+    Some(section?.widened())
+}
+
 /// The sizes in memory of all rows of a symbol table, for a selection of all sections: for one section none. The rows'
 /// names are in these strings. The only error is a failed allocation.
 pub fn sizes_in(
@@ -121,11 +161,11 @@ pub fn sizes_in(
     rows: &[u8],
     strings: &[u8],
 ) -> Result<Vec<u64>, AllocError>
-    ensures { let found : TableRows = record { strings = strings.now; rows = rows.now } in IfOk result
+    ensures { (versions : List ℕ) → let found : TableRows = record { strings = strings.now; rows = rows.now } in IfOk result
         (λ v. sized_from (class_of width) place.byte_order (taken_view taken) (has_modes (kind_view place.kind)) found
-        v.items 0 ≡ taken_from (class_of width) place.byte_order
+        versions v.items 0 ≡ taken_from (class_of width) place.byte_order
         (walk (class_of width) (headers_alone place.byte_order headers.now place.shnum)) (kind_view place.kind)
-        (taken_view taken) found) }
+        (taken_view taken) found versions) }
 {
     if taken.size.is_some() {
         return Ok(Vec::new(alloc));

@@ -16,6 +16,7 @@ ghost use Rattle.binfarce_elf.specs.Elf.{walk, name_among};
 ghost use Rattle.binfarce_elf.specs.ElfParts.{needed_view, table_sections_view};
 ghost use Rattle.binfarce_elf.specs.ElfSymbols.{is_named, sought, string_table_kind, whole_rows, table_sections, taken, needed, rows_at, elf_selected, End, entry_sized, entry_taken, entry_with, is_function, function_name, kind_of, row_count, row_of};
 ghost use Rattle.binfarce_elf.specs.SymbolTables.{section_type, table_name, strings_name};
+ghost use Rattle.binfarce_elf.specs.Versions.{version_of};
 ghost use Rattle.binfarce_elf.specs.ElfViews.{section_view, accepts, taken_view, kind_view, sized_from, functions_left, selected_view, HoldsAllFunctions};
 ghost use Rattle.binfarce_elf.specs.machine.RawElf.{symbol_view, table_view, rows_view, AreKeysOf};
 
@@ -23,6 +24,7 @@ use crate::class::{Class, Half, SymbolRow, Width, Word, row_at};
 use crate::ends::{FileKind, address_of, keys_of, row_size};
 use crate::sections::{Section, Table, first_section, names_bytes, section_data, section_named};
 use crate::symbol_table::{STRING_TABLE, SymbolTable};
+use crate::versions::{row_versions, version_at};
 use binfarce_bytes::functions::{FunctionSymbol, SectionFunction, Selection, found_with};
 use binfarce_bytes::parser::{UnexpectedEof, parse_null_string};
 use binfarce_bytes::{ByteOrder, ParseError};
@@ -83,6 +85,7 @@ pub fn section_functions<'a, C: Class>(
     Ok(functions_in(
         rows,
         strings,
+        row_versions::<C>(table, which),
         C::width(),
         table.byte_order,
         needed.taken,
@@ -116,11 +119,13 @@ pub fn all_functions<'a, C: Class>(
         has_modes,
         needed.taken,
         found,
+        row_versions::<C>(table, which),
     )?;
     Ok(functions)
 }
 
-// The function symbols that a selection takes of these rows, by the keys of the ends of their sections.
+// The function symbols that a selection takes of these rows with their versions, by the keys of the ends of their
+// sections.
 fn list_in<'a>(
     alloc: Global,
     keys: &[u128],
@@ -129,19 +134,22 @@ fn list_in<'a>(
     has_modes: bool,
     taken: Taken,
     found: Rows<'a>,
+    versions: &[u8],
 ) -> Result<Vec<SectionFunction<'a>>, AllocError>
     requires { IsNonDecreasingBy (λ k. k) keys.now }
     ensures { (ends : List End) → AreKeysOf ends keys.now → let rows = found.entry.rows.now in IfOk result
         (λ v. map section_function_view v.items ≡ filter_map
         (λ k. entry_sized found.entry.strings.now (taken_view taken) has_modes ends
-        (row_of (class_of width) byte_order rows k)) (range_with_len 0 (row_count (class_of width) rows))) }
+        (row_of (class_of width) byte_order rows k) (version_of byte_order versions.now k))
+        (range_with_len 0 (row_count (class_of width) rows))) }
 {
     let length = width.symbol_length();
     let mut functions = Vec::new(alloc);
     for k in 0..found.rows.len() / length {
         let row = row_at(width, found.rows, k * length, byte_order).unwrap();
+        let version = version_at(versions, k, byte_order);
         let size = row_size(keys, has_modes, row);
-        match function_of(found.strings, taken, has_modes, row, size) {
+        match function_of(found.strings, taken, has_modes, row, version, size) {
             None => {}
             Some(function) => functions.push(function)?,
         }
@@ -150,11 +158,12 @@ fn list_in<'a>(
 }
 
 /// The function symbols that a selection takes of the rows of a symbol table of this class, whose names are in these
-/// strings. For all sections, `sizes` has the sizes of all rows in memory, and `has_modes` says whether bit 0 of a
-/// function's value is its instruction set.
+/// strings, and whose versions these are. For all sections, `sizes` has the sizes of all rows in memory, and `has_modes`
+/// says whether bit 0 of a function's value is its instruction set.
 pub fn functions_in<'a>(
     rows: &'a [u8],
     strings: &'a [u8],
+    versions: &'a [u8],
     width: Width,
     byte_order: ByteOrder,
     taken: Taken,
@@ -162,12 +171,14 @@ pub fn functions_in<'a>(
     sizes: &'a [u64],
 ) -> Functions<'a>
     ensures entries { functions_left result ≡ sized_from (class_of width) byte_order (taken_view taken) has_modes
-        (record { strings = strings.entry.now; rows = rows.entry.now }) sizes.entry.now 0 }
+        (record { strings = strings.entry.now; rows = rows.entry.now }) versions.entry.now sizes.entry.now 0 }
     ensures size { (selected_view result).size ≡ taken.size }
+    ensures strings { (selected_view result).strings ≡ strings.entry.now }
 {
     Functions {
         rows,
         strings,
+        versions,
         width,
         byte_order,
         taken,
@@ -297,7 +308,7 @@ fn symbol_table<C: Class>(table: Table<'_>, which: SymbolTable) -> Result<Sectio
     ))
 }
 
-fn section_of_kind<C: Class>(
+pub(crate) fn section_of_kind<C: Class>(
     table: Table<'_>,
     kind: Word,
 ) -> Result<Option<Section<C>>, UnexpectedEof>
@@ -364,6 +375,7 @@ pub fn whole_rows(width: Width, rows: &[u8]) -> Result<&[u8], ParseError>
 pub struct Functions<'a> {
     rows: &'a [u8],
     strings: &'a [u8],
+    versions: &'a [u8],
     width: Width,
     byte_order: ByteOrder,
     taken: Taken,
@@ -421,8 +433,9 @@ impl<'a> Functions<'a> {
         let length = width.symbol_length();
         for k in self.next..self.rows.len() / length {
             let row = row_at(width, self.rows, k * length, self.byte_order).unwrap();
+            let version = version_at(self.versions, k, self.byte_order);
             let size = size_at(self.sizes, k);
-            match function_of(self.strings, self.taken, self.has_modes, row, size) {
+            match function_of(self.strings, self.taken, self.has_modes, row, version, size) {
                 None => continue,
                 Some(function) => return Some((function, k + 1)),
             }
@@ -434,6 +447,7 @@ impl<'a> Functions<'a> {
 impl<'a> Iterator for Functions<'a> {
     ghost use Rattle.std.specs.Iterator.{YieldsFirstBy, item_count};
     ghost use Rattle.binfarce_bytes.specs.SymbolViews.{section_function_view};
+    ghost use Rattle.binfarce_elf.specs.Versions.{version_of};
     ghost use Rattle.binfarce_elf.specs.ElfViews.{functions_left};
 
     type Item = SectionFunction<'a>;
@@ -458,40 +472,47 @@ fn size_at(sizes: &[u64], k: usize) -> u64
     if k < sizes.len() { sizes[k] } else { 0 }
 }
 
-// The function of a row of this size in memory with its section, where it is taken.
+// The function of a row of this version, and of this size in memory, with its section, where it is taken.
 #[inline(always)]
 fn function_of(
     strings: &[u8],
     taken: Taken,
     has_modes: bool,
     row: SymbolRow,
+    version: Half,
     size: u64,
 ) -> Option<SectionFunction<'_>>
     ensures { option_map section_function_view result
-        ≡ entry_taken strings.entry.now (taken_view taken) has_modes (symbol_view row) size }
+        ≡ entry_taken strings.entry.now (taken_view taken) has_modes (symbol_view row) version size }
 {
     match taken.size {
-        None => function_with(strings, taken, row, address_of(has_modes, row), size),
+        None => {
+            let address = address_of(has_modes, row);
+            function_with(strings, taken, row, version, address, size)
+        }
         Some(_) if row.size == 0 => None,
-        Some(_) => function_with(strings, taken, row, row.value, row.size),
+        Some(_) => function_with(strings, taken, row, version, row.value, row.size),
     }
 }
 
-// The function of a row with its section, of this address and size.
+// The function of a row with its section, of this version, address and size.
 #[inline(always)]
 fn function_with(
     strings: &[u8],
     taken: Taken,
     row: SymbolRow,
+    version: Half,
     address: u64,
     size: u64,
 ) -> Option<SectionFunction<'_>>
     ensures { option_map section_function_view result
-        ≡ entry_with strings.entry.now taken.indirect (accepts taken) (symbol_view row) address size }
+        ≡ entry_with strings.entry.now taken.indirect (accepts taken) (symbol_view row) version address size }
 {
     let name = function_name(strings, taken, row)?;
     Some(SectionFunction {
         section: u32::from(row.section),
+        info: row.info,
+        version,
         function: FunctionSymbol {
             name,
             address,

@@ -9,6 +9,7 @@ use Rattle.binfarce.specs.Elf.{ElfClass, Section, SectionTable}
 use Rattle.binfarce.specs.declared.ByteOrder.{ByteOrder}
 use Rattle.binfarce.specs.ElfSymbols.{section_data, string_table_kind, whole_rows, TableRows, symbol_at, entry_of, listed_of}
 use Rattle.binfarce.specs.SectionEntries.{SectionEntry}
+use Rattle.binfarce.specs.Versions.{version_of}
 use Rattle.binfarce.specs.Symbol.{Entry, Listed}
 use Rattle.binfarce_image.specs.declared.image.ElfLayout.{ElfLayout}
 use Rattle.binfarce_image.specs.declared.image.Image.{Image}
@@ -26,11 +27,11 @@ use Rattle.binfarce_image.proofs.PartsBack.{Holds, part_back}
 
 -- the entries of these rows of a section
 abbrev pub entries_in : ElfClass → ByteOrder → List ℕ → (ℕ → Bool) → List ℕ → List SectionEntry
-entries_in class order strings accepts rows = filter_map (λ k. entry_of strings false accepts (symbol_at class order rows (k * class.symbol_length))) (range_with_len 0 (length rows / class.symbol_length))
+entries_in class order strings accepts rows = filter_map (λ k. entry_of strings false accepts (symbol_at class order rows (k * class.symbol_length)) (version_of order [] k)) (range_with_len 0 (length rows / class.symbol_length))
 
 -- the entries of a section by the symbol table, and its size
 abbrev pub list_of : ElfClass → ByteOrder → Section → TableRows → Listed
-list_of class order text found = listed_of (record { entries = entries_in class order found.strings (λ section. eqb section text.index) found.rows; size = Some text.size })
+list_of class order text found = listed_of (record { entries = entries_in class order found.strings (λ section. eqb section text.index) found.rows; size = Some text.size; strings = found.strings })
 
 -- the answer with these sections
 abbrev pub listed_with : ElfClass → SectionTable → Section → Section → Section → Result Listed Refusal
@@ -68,7 +69,7 @@ entries_back layout strings index rows written are long fits =
     let class = class_of layout in
     let order = order_of layout in
     let accepts : ℕ → Bool = λ section. eqb section index in
-    ap (λ (n : ℕ). map (λ (e : SectionEntry). e.entry) (filter_map (λ row. entry_of strings false accepts (symbol_at class order written (row * class.symbol_length))) (range_with_len 0 n))) (count_is (length written) (length rows) class.symbol_length (is_class layout).symbol_some long)
+    ap (λ (n : ℕ). map (λ (e : SectionEntry). e.entry) (filter_map (λ row. entry_of strings false accepts (symbol_at class order written (row * class.symbol_length)) (version_of order [] row)) (range_with_len 0 n))) (count_is (length written) (length rows) class.symbol_length (is_class layout).symbol_some long)
     ∙ ap (map (λ (e : SectionEntry). e.entry)) (rows_back layout strings accepts written [] 0 rows are (omega arith) fits)
 
 -- the size of the section that was asked for

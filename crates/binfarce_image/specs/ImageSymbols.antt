@@ -44,9 +44,9 @@ part_size (Table name link rows) = length rows.items
 abbrev pub symbol_of : Row → SymbolRow ℕ
 symbol_of row = record { name = row.name; value = row.address; size = row.size; info = row.info; other = row.other; section = row.section }
 
--- the entries of the rows, in table order
+-- the entries of the rows, in table order; they have no versions
 abbrev pub entries_of : List ℕ → ℕ → List Row → List Entry
-entries_of strings index rows = map (λ e. e.entry) (filter_map (λ row. entry_of strings (has_indirect Symtab) (λ section. nat_eq section index) (symbol_of row)) rows)
+entries_of strings index rows = map (λ e. e.entry) (filter_map (λ row. entry_of strings (has_indirect Symtab) (λ section. nat_eq section index) (symbol_of row) 0) rows)
 
 -- the refusals in order; else the entries of the table's rows, and the size of the requested part
 unfoldable pub symbols_of : Image → List ℕ → Result Listed Refusal

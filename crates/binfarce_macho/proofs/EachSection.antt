@@ -256,10 +256,10 @@ none_of g a (suc n) = none_of g (a + 1) n
 
 -- entries that are there are listed as they are
 all_listed : (f : RowAddress → Option Entry) (number : ℕ) (g : RowAddress → Entry) (rows : List RowAddress) → All (λ r. f r ≡ Some (g r)) rows
-    → map (λ r. let e : SectionEntry = record { section = number; entry = g r } in e) rows ≡ in_section number (filter_map f rows)
+    → map (λ r. let e : SectionEntry = record { section = number; info = 0; version = 0; entry = g r } in e) rows ≡ in_section number (filter_map f rows)
 all_listed f number g [] all = refl
 all_listed f number g (r ∷ rows) all =
-    ap (λ (es : List SectionEntry). record { section = number; entry = g r } ∷ es) (all_listed f number g rows (λ k d lt. all (suc k) d (omega arith)))
+    ap (λ (es : List SectionEntry). record { section = number; info = 0; version = 0; entry = g r } ∷ es) (all_listed f number g rows (λ k d lt. all (suc k) d (omega arith)))
     ∙ ap (λ (o : Option Entry). in_section number (cons_option o (filter_map f rows))) (sym (All-head (λ r. f r ≡ Some (g r)) r rows all))
 
 listed_none : (f : RowAddress → SectionEntry) (rows : List RowAddress) → rows ≡ [] → map f (arranged rows) ≡ []
@@ -313,7 +313,7 @@ above_at rows members above i d within is =
 -- a function of this name and size is the row's
 pub function_is : (section : Extent) (number : ℕ) (names : List (List ℕ)) (rows : List RowAddress) (row : code.RowAddress) (n size : ℕ) (name : List ℕ) → n ≡ number → name ≡ get_or names row.index []
     → (above : Option ℕ) → above ≡ least_above (addresses_of rows) row.address → size ≡ unwrap_or above (section.address + section.size) - row.address
-    → record { section = n; entry = record { name = name; address = row.address; size = size } } ≡ function_in section number names rows (row_view row)
+    → record { section = n; info = 0; version = 0; entry = record { name = name; address = row.address; size = size } } ≡ function_in section number names rows (row_view row)
 function_is section number names rows row n size name numbered named above above_is sized = rw (numbered, named, sized, above_is) refl
 
 -- one more is listed, after others

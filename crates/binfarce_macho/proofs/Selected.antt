@@ -58,7 +58,7 @@ module _ (section : Option (List ℕ)) (file : List ℕ) where
       module _ (symbols : Option Symbols) (is : symbols_by file table ≡ Ok symbols) where
         abbrev of_entries : List SectionEntry → Result SelectedSymbols Refusal
         of_entries entries =
-            Ok (record { entries = entries; section_size = section_size sections symbols; section_name = section_name sections; shares_addresses = shares_addresses sections (is_object file) })
+            Ok (record { entries = entries; section_size = section_size sections symbols; section_name = section_name sections; shares_addresses = shares_addresses sections (is_object file); version_name = λ version. None })
 
         made : selected_answer section file ≡ (entries_in sections symbols >>= of_entries)
         unfolding selected_tables symbols_of
@@ -119,7 +119,7 @@ module _ (section : Option (List ℕ)) (file : List ℕ) where
 
 -- the answer of a text, as that of a selection
 abbrev pub as_selected : Listed → Result SelectedSymbols Refusal
-as_selected listed = Ok (record { entries = in_section 1 listed.entries; section_size = Some listed.section_size; section_name = λ number. None; shares_addresses = false })
+as_selected listed = Ok (record { entries = in_section 1 listed.entries; section_size = Some listed.section_size; section_name = λ number. None; shares_addresses = false; version_name = λ version. None })
 
 text_made : (text : Extent) (symbols : Option Symbols) (object : Bool)
     → symbols_of (record { sections = the_text text; symbols = symbols; is_object = object }) ≡ ((located_by text symbols >>= answer_of) >>= as_selected)
@@ -134,7 +134,7 @@ text_made text (Some symbols) object = by_end (nat_lt (text.address + text.size)
     end b = (cond b (Ok (text.address + text.size)) (Err malformed_input) >>= λ text_end. Ok (record { text_end = text_end; text_size = text.size; strings = symbols.strings; rows = symbols.rows })) >>= λ found. Ok (Some found)
 
     of_entries : List SectionEntry → Result SelectedSymbols Refusal
-    of_entries entries = Ok (record { entries = entries; section_size = Some text.size; section_name = section_name (the_text text); shares_addresses = false })
+    of_entries entries = Ok (record { entries = entries; section_size = Some text.size; section_name = section_name (the_text text); shares_addresses = false; version_name = λ version. None })
 
     by_kept : (r : Result (List Entry) Refusal)
         → (((r >>= λ entries. Ok (record { entries = entries; section_size = text.size })) >>= λ (listed : Listed). Ok (in_section 1 listed.entries)) >>= of_entries)

@@ -41,7 +41,7 @@ module _ (before : List SectionEntry) (f : RowAddress → Result (Option Entry) 
             let more : kept f (rows_view (take (k + 1) rows)) ≡ Ok (us ++ cons_option o []) =
             kept_view f row_view (take (k + 1) rows) ∙ kept_more (λ r. f (row_view r)) rows k d us o lt (sym (kept_view f row_view (take k rows)) ∙ e) here in
             ap (λ (r : Result (List Entry) Refusal). r >>= λ entries. Ok (before ++ in_section 1 entries)) more
-            ∙ ap Ok (ap (λ (es : List SectionEntry). before ++ es) (map-append (λ (e : Entry). record { section = 1; entry = e }) us (cons_option o []))
+            ∙ ap Ok (ap (λ (es : List SectionEntry). before ++ es) (map-append (λ (e : Entry). record { section = 1; info = 0; version = 0; entry = e }) us (cons_option o []))
             ∙ sym (append_assoc before (in_section 1 us) (in_section 1 (cons_option o [])))
             ∙ ap (λ (es : List SectionEntry). es ++ in_section 1 (cons_option o [])) now_is)
 
@@ -49,9 +49,9 @@ module _ (before : List SectionEntry) (f : RowAddress → Result (Option Entry) 
     listed_over here = listed_more None here ∙ ap Ok (append-nil now)
 
     pub listed_one : (functions : List SectionFunction) (g : FunctionSymbol) → now ≡ map section_function_view functions → f (row_view (get_or rows k d)) ≡ Ok (Some (function_view g))
-        → listed (rows_view (take (k + 1) rows)) ≡ Ok (map section_function_view (functions ++ record { section = 1; function = g } ∷ []))
+        → listed (rows_view (take (k + 1) rows)) ≡ Ok (map section_function_view (functions ++ record { section = 1; info = 0; version = 0; function = g } ∷ []))
     listed_one functions g are here =
-        let one : SectionFunction = record { section = 1; function = g } in
+        let one : SectionFunction = record { section = 1; info = 0; version = 0; function = g } in
         listed_more (Some (function_view g)) here
         ∙ ap Ok (ap (λ (es : List SectionEntry). es ++ section_function_view one ∷ []) are ∙ sym (map-append section_function_view functions (one ∷ [])))
 

@@ -81,6 +81,7 @@ symbols_of tables = do
     section_size = section_size tables.sections tables.symbols;
     section_name = section_name tables.sections;
     shares_addresses = shares_addresses tables.sections tables.is_object;
+    version_name = λ version. None;
   })
 
 -- what a file answers for a selection

@@ -187,10 +187,12 @@ fn push_function<'a>(
     function: FunctionSymbol<'a>,
 ) -> Result<(), AllocError>
     ensures { IfOk result (λ _. functions.new.items
-        ≡ functions.old.items ++ record { section = 1; function = function.entry } ∷ []) }
+        ≡ functions.old.items ++ record { section = 1; info = 0; version = 0; function = function.entry } ∷ []) }
 {
     functions.push(SectionFunction {
         section: 1,
+        info: 0,
+        version: 0,
         function,
     })?;
     Ok(())
@@ -394,6 +396,8 @@ fn push_kept<'a>(
         let row = rows[at];
         functions.push(SectionFunction {
             section: u32::from(number),
+            info: 0,
+            version: 0,
             function: FunctionSymbol {
                 name: names[row.index],
                 address: row.address,

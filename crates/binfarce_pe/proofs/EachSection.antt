@@ -192,5 +192,5 @@ some_selected table rules before k at within are lt kept = by_name (function_nam
     by_name None is kept = absurd cc
     by_name (Some name) is kept =
         some_listed (section_entries rules table) rules.first rules.count at lt
-        (mapped_some (λ (e : Entry). record { section = rules.first + at + 1; entry = e }) (map (moved (rules.address (rules.first + at))) (entries_of table section))
+        (mapped_some (λ (e : Entry). record { section = rules.first + at + 1; info = 0; version = 0; entry = e }) (map (moved (rules.address (rules.first + at))) (entries_of table section))
         (mapped_some (moved (rules.address (rules.first + at))) (entries_of table section) (some_entry table section before k name within are is)))

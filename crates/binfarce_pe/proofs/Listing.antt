@@ -184,10 +184,10 @@ in_a_section rules index names addresses (r ∷ rows) = by_name (get_or names r.
     size = (rules.section index).size addresses r.address
 
     by_name : (o : Option (List ℕ)) → filter_map (function_in rules index names addresses) rows ≡ in_section (index + 1) (map (moved (rules.address index)) (filter_map (function_at (rules.section index).size names addresses) rows))
-        → cons_option (option_map (λ (name : List ℕ). record { section = index + 1; entry = record { name = name; address = rules.address index r.address; size = size } }) o) (filter_map (function_in rules index names addresses) rows)
+        → cons_option (option_map (λ (name : List ℕ). record { section = index + 1; info = 0; version = 0; entry = record { name = name; address = rules.address index r.address; size = size } }) o) (filter_map (function_in rules index names addresses) rows)
         ≡ in_section (index + 1) (map (moved (rules.address index)) (cons_option (option_map (λ (name : List ℕ). record { name = name; address = r.address; size = size }) o) (filter_map (function_at (rules.section index).size names addresses) rows)))
     by_name None rest = rest
-    by_name (Some name) rest = ap (λ (es : List SectionEntry). record { section = index + 1; entry = record { name = name; address = rules.address index r.address; size = size } } ∷ es) rest
+    by_name (Some name) rest = ap (λ (es : List SectionEntry). record { section = index + 1; info = 0; version = 0; entry = record { name = name; address = rules.address index r.address; size = size } } ∷ es) rest
 
 -- in a section, at its addresses
 pub section_entries_are : (table : CoffTable) (chosen : SelectedSections) (index : ℕ) (held in_order : List RowAddress) (names : List (Option (List ℕ))) → let rules = rules_of chosen in
@@ -247,7 +247,7 @@ nameless rules index names addresses row d within none =
 -- one whose name is held has that entry
 pub function_is : (rules : Rules) (index : ℕ) (names : List (Option (Bor (List ℕ)))) (addresses : List ℕ) (row : code.RowAddress) (d : Option (Bor (List ℕ))) (name : Bor (List ℕ)) (address size : ℕ) → row.index < length names → get_or names row.index d ≡ Some name
     → address ≡ rules.address index row.address → size ≡ (rules.section index).size addresses row.address
-    → function_in rules index (names_view names) addresses (row_view row) ≡ Some (record { section = index + 1; entry = record { name = name.now; address = address; size = size } })
+    → function_in rules index (names_view names) addresses (row_view row) ≡ Some (record { section = index + 1; info = 0; version = 0; entry = record { name = name.now; address = address; size = size } })
 function_is rules index names addresses row d name address size within some moved sized =
     let is : get_or (names_view names) row.index None ≡ Some name.now = get_or-map (option_map (λ t. t.now)) names row.index d None within ∙ ap (option_map (λ t. t.now)) some in
     rw (is, moved, sized) refl

@@ -127,7 +127,7 @@ shares_addresses (all_sections base sections) = is_none base
 -- the function symbols of chosen sections
 abbrev pub symbols_of : SelectedSections → CoffTable → SelectedSymbols
 symbols_of chosen symbols =
-    record { entries = entries_by (rules_of chosen) symbols; section_size = section_size chosen; section_name = section_name chosen; shares_addresses = shares_addresses chosen }
+    record { entries = entries_by (rules_of chosen) symbols; section_size = section_size chosen; section_name = section_name chosen; shares_addresses = shares_addresses chosen; version_name = λ version. None }
 
 -- the section headers, of which none is truncated: else refused as the walk over the sections is
 abbrev pub whole_sections : SectionTable → Result SectionTable Refusal

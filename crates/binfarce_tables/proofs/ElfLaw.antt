@@ -1,29 +1,30 @@
 -- ELF files of one length that agree in the parts that are read have one answer.
-use Rattle.std.proofs.Common.{◌≡◌, ℕ, ◌+◌, ◌*◌, ◌-◌, ◌/◌, ◌<◌, ◌≤◌, ◌⊎◌, Bool, true, false, cond, ltb, List, length, map, min, Option, Some, Result, Ok, Err, refl, sym, ap, ap₂, subst, ◌∙◌, arith, inl, inr}
+use Rattle.std.proofs.Common.{◌≡◌, ℕ, ◌+◌, ◌*◌, ◌-◌, ◌/◌, ◌<◌, ◌≤◌, ◌⊎◌, Bool, true, false, cond, ltb, List, [], length, map, min, Option, None, Some, Result, Ok, Err, refl, sym, ap, ap₂, subst, ◌∙◌, arith, inl, inr}
 use Rattle.std.specs.Option.{unwrap_or}
 use Rattle.std.specs.Prelude.{All}
 use Rattle.std.proofs.lemmas.Bool.{cases_lt, lt-ltb, lt-leb, le-leb}
 use Rattle.binfarce_bytes.specs.declared.ByteOrder.{ByteOrder}
 use Rattle.binfarce_bytes.specs.Entries.{Listed}
 use Rattle.binfarce_bytes.specs.Number.{bytes_at}
-use Rattle.binfarce_bytes.specs.Part.{SameIn, SameParts}
+use Rattle.binfarce_bytes.specs.Part.{SameIn, SameParts, parts_if}
 use Rattle.binfarce_bytes.specs.Refusal.{◌>>=◌, Refusal, unexpected_eof, bytes_in_file}
 use Rattle.binfarce_bytes.specs.SectionEntries.{SelectedSymbols}
 use Rattle.binfarce_elf.specs.Classes.{class_of}
 use Rattle.binfarce_elf.specs.Elf.{ElfClass, Header, SectionTable, Section, header_of, section_at, walk, whole_headers, names_bytes, names_section, contents}
 use Rattle.binfarce_elf.specs.ElfParts.{headers_alone}
-use Rattle.binfarce_elf.specs.ElfSymbols.{FileKind, TableSections, TableRows, Selected, file_kind, section_data, rows_at, elf_selected, symbols_of, listed_of, elf_answer, elf_file_answer, selected_file_answer}
+use Rattle.binfarce_elf.specs.ElfSymbols.{FileKind, TableSections, NeededSections, TableRows, Selected, file_kind, section_data, rows_at, elf_selected, symbols_of, listed_of, elf_answer, elf_file_answer, selected_file_answer}
 use Rattle.binfarce_elf.specs.declared.class.Width.{Width}
 use Rattle.binfarce_elf.specs.declared.symbol_table.SymbolTable.{SymbolTable}
+use Rattle.binfarce_elf.specs.Versions.{bytes_if, definitions_section, version_name, versions_section}
 use Rattle.binfarce_elf.proofs.Steps.{assoc}
 use Rattle.binfarce_tables.specs.ElfReading.{symbols_in}
-use Rattle.binfarce_tables.specs.ElfReads.{table_of, section_parts, names_parts, headers_parts, table_parts, rows_parts, elf_section_parts, elf_parts}
+use Rattle.binfarce_tables.specs.ElfReads.{table_of, section_parts, names_parts, headers_parts, table_parts, rows_parts, version_parts, elf_section_parts, elf_parts}
 use Rattle.binfarce_tables.specs.SectionReading.{FileSections, file_sections}
 use Rattle.binfarce_tables.specs.machine.Places.{headers_of}
 use Rattle.binfarce_tables.proofs.Contents.{no_names, names_section_is, names_are}
-use Rattle.binfarce_tables.proofs.ElfSure.{of_names_header, of_names, of_headers, of_file_header, of_tables, of_sections, of_rows}
+use Rattle.binfarce_tables.proofs.ElfSure.{of_names_header, of_names, of_headers, of_file_header, of_tables, of_sections, of_rows, of_versions}
 use Rattle.binfarce_tables.proofs.HeadersAlone.{HasWithin, within_of, some_of, place_is, kind_is, headers_walk}
-use Rattle.binfarce_tables.proofs.Located.{walk_outside, walk_of_none, after_rows, from_sections, after_needed, needed_of, after_sections, from_file, table_found}
+use Rattle.binfarce_tables.proofs.Located.{walk_outside, walk_of_none, after_rows, from_sections, after_found, after_needed, needed_of, after_sections, from_file, table_found, walk_is}
 use Rattle.binfarce_tables.proofs.Readings.{after_same}
 use Rattle.binfarce_tables.proofs.Sure.{front, back, in_file}
 
@@ -51,6 +52,19 @@ module _ (file other : List ℕ) (long : length file ≡ length other) where
     | inl past ↦ rw (← long, lt-ltb (length file) (s.offset + s.size) past) refl
     | inr inside ↦ rw (← long, in_file (SameIn file other) file s.offset s.size inside same) refl
   ]
+
+  -- the bytes of an optional one
+  if_same : (s : Option Section) → All (SameIn file other) (parts_if s (section_parts file)) → bytes_if other s ≡ bytes_if file s
+  if_same None same = refl
+  if_same (Some s) same = ap (λ (o : Option (List ℕ)). unwrap_or o []) (contents_same s same)
+
+  -- the answer by the rows of a symbol table, with their versions and these names
+  found_same : (which : SymbolTable) (seen : FileSections) (needs : NeededSections) (found : TableRows) → All (SameIn file other) (version_parts which file seen.sections)
+      → after_found which other seen needs found ≡ after_found which file seen needs found
+  found_same which seen needs found same =
+      ap₂ (λ (versions definitions : List ℕ). symbols_in seen needs.taken found versions (version_name seen.order found.strings definitions))
+      (if_same (versions_section which seen.sections) (front (SameIn file other) (parts_if (versions_section which seen.sections) (section_parts file)) (parts_if (definitions_section which seen.sections) (section_parts file)) same))
+      (if_same (definitions_section which seen.sections) (back (SameIn file other) (parts_if (versions_section which seen.sections) (section_parts file)) (parts_if (definitions_section which seen.sections) (section_parts file)) same))
 
   -- the strings and the rows of a symbol table
   rows_same : (class : ElfClass) (sections : TableSections) → All (SameIn file other) (rows_parts file sections) → rows_at class other sections ≡ rows_at class file sections
@@ -123,7 +137,7 @@ listed_by which class order file name = by_test (ltb (length file) class.header_
     table = table_of class order file
 
     shown : Selected → Result SelectedSymbols Refusal
-    shown s = Ok (symbols_of s (names_bytes class table) (walk class table) (header_of class order file).elf_type)
+    shown s = Ok (symbols_of s (names_bytes class table) (walk class table) (header_of class order file).elf_type (version_name order s.strings (bytes_if file (definitions_section which (walk class table)))))
 
     by_test : (short : Bool) → cond short (Err unexpected_eof) (elf_selected which class table (Some name) >>= λ s. Ok (listed_of s))
         ≡ (cond short (Err unexpected_eof) (elf_selected which class table (Some name) >>= shown) >>= λ s. Ok (list_of s))
@@ -154,10 +168,13 @@ module _ (width : Width) (order : ByteOrder) (file other : List ℕ) where
         from_file which class order other section
         ∙ ap (λ (a : Result FileSections Refusal). a >>= after_sections which section other) (sections_same same.lengths (of_sections (SameIn file other) class order file which same.each))
         ∙ after_same (file_sections class order file) (after_sections which section other) (after_sections which section file)
-        (λ seen given. after_same (needed_of which section seen) (after_needed other seen) (after_needed file seen)
-        (λ needs is. ap (λ (a : Result TableRows Refusal). a >>= λ found. Ok (symbols_in seen needs.taken found))
+        (λ seen given. after_same (needed_of which section seen) (after_needed which other seen) (after_needed which file seen)
+        (λ needs is. ap (λ (a : Result TableRows Refusal). a >>= λ found. Ok (after_found which other seen needs found))
         (rows_same file other same.lengths seen.class needs.table
-        (of_rows (SameIn file other) class order file which needs.table (table_found which class order file section seen given needs is) same.each))))
+        (of_rows (SameIn file other) class order file which needs.table (table_found which class order file section seen given needs is) same.each))
+        ∙ after_same (rows_at seen.class file needs.table) (λ found. Ok (after_found which other seen needs found)) (λ found. Ok (after_found which file seen needs found))
+        (λ found read. ap Ok (found_same file other same.lengths which seen needs found
+        (of_versions (SameIn file other) class order file which seen.sections (walk_is which class order file section seen given) same.each)))))
         ∙ sym (from_file which class order file section)
 
     -- the answer for the section of a name

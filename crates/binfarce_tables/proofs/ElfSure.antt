@@ -1,5 +1,5 @@
 -- What is true of each part of an ELF file that is read, by the step that reads it.
-use Rattle.std.proofs.Common.{◌≡◌, ℕ, ◌+◌, ◌*◌, ◌<◌, Bool, true, false, cond, ltb, eqb, List, length, Option, Some, Result, Ok, Err, ap, subst, arith}
+use Rattle.std.proofs.Common.{◌≡◌, ℕ, ◌+◌, ◌*◌, ◌<◌, Bool, true, false, cond, ltb, eqb, List, ◌++◌, length, Option, Some, Result, Ok, Err, ap, subst, sym, arith}
 use Rattle.std.specs.Prelude.{All}
 use Rattle.std.proofs.lemmas.Bool.{lt-ltb, ne_eqb, eq-eqb}
 use Rattle.std.proofs.lemmas.List.Elements.{All-head, All-tail}
@@ -11,9 +11,10 @@ use Rattle.binfarce_elf.specs.Classes.{class_of}
 use Rattle.binfarce_elf.specs.Elf.{ElfClass, SectionTable, Section, header_of, walk, whole_headers, names_section}
 use Rattle.binfarce_elf.specs.ElfSegments.{program_length, programs_size}
 use Rattle.binfarce_elf.specs.ElfSymbols.{TableSections, Taken, NeededSections, taken, needed, table_sections}
+use Rattle.binfarce_elf.specs.Versions.{definitions_section, versions_section}
 use Rattle.binfarce_elf.specs.declared.class.Width.{Width}
 use Rattle.binfarce_elf.specs.declared.symbol_table.SymbolTable.{SymbolTable}
-use Rattle.binfarce_tables.specs.ElfReads.{table_of, section_parts, names_header, names_parts, headers_size, headers_parts, table_parts, rows_parts, found_parts, elf_section_parts, elf_parts, elf_load_parts}
+use Rattle.binfarce_tables.specs.ElfReads.{table_of, section_parts, names_header, names_parts, headers_size, headers_parts, table_parts, rows_parts, found_parts, version_parts, elf_section_parts, elf_parts, elf_load_parts}
 use Rattle.binfarce_tables.specs.machine.Places.{table_step}
 use Rattle.binfarce_tables.proofs.Sure.{front, back, only, of_some}
 
@@ -66,14 +67,28 @@ module _ (P : Part → Type 0) (class : ElfClass) (order : ByteOrder) (file : Li
   unfolding elf_section_parts
   of_tables all = All-tail P (part 0 class.header_length) (table_parts class (table_of class order file)) all
 
+  abbrev sections : Walk Section
+  sections = walk class (table_of class order file)
+
+  abbrev after_parts : SymbolTable → List Part
+  after_parts which = found_parts file (table_sections which sections) ++ version_parts which file sections
+
   -- of the parts of its sections, and of those of the symbol table
   pub of_sections : (which : SymbolTable) → All P (elf_parts which class order file) → All P (elf_section_parts class order file)
   unfolding elf_parts
-  of_sections which all = front P (elf_section_parts class order file) (found_parts file (table_sections which (walk class (table_of class order file)))) all
+  of_sections which all = front P (elf_section_parts class order file) (after_parts which) all
 
-  pub of_symbols : (which : SymbolTable) → All P (elf_parts which class order file) → All P (found_parts file (table_sections which (walk class (table_of class order file))))
+  of_after : (which : SymbolTable) → All P (elf_parts which class order file) → All P (after_parts which)
   unfolding elf_parts
-  of_symbols which all = back P (elf_section_parts class order file) (found_parts file (table_sections which (walk class (table_of class order file)))) all
+  of_after which all = back P (elf_section_parts class order file) (after_parts which) all
+
+  pub of_symbols : (which : SymbolTable) → All P (elf_parts which class order file) → All P (found_parts file (table_sections which sections))
+  of_symbols which all = front P (found_parts file (table_sections which sections)) (version_parts which file sections) (of_after which all)
+
+  -- of the versions and their definitions
+  pub of_versions : (which : SymbolTable) (walked : Walk Section) → sections ≡ walked → All P (elf_parts which class order file) → All P (version_parts which file walked)
+  of_versions which walked is all =
+      subst (λ (w : Walk Section). All P (version_parts which file w)) is (back P (found_parts file (table_sections which sections)) (version_parts which file sections) (of_after which all))
 
   -- of the strings and the rows of its symbol table
   pub of_rows : (which : SymbolTable) (sections : TableSections) → table_sections which (walk class (table_of class order file)) ≡ Ok sections → All P (elf_parts which class order file) → All P (rows_parts file sections)
@@ -82,6 +97,20 @@ module _ (P : Part → Type 0) (class : ElfClass) (order : ByteOrder) (file : Li
   -- those of a table that was found
   pub of_table : (table : SectionTable) → table_step class order file ≡ Ok table → All P (elf_section_parts class order file) → All P (table_parts class table)
   of_table table placed all = subst (λ (t : SectionTable). All P (table_parts class t)) (table_found class order file table placed) (of_tables all)
+
+-- of the versions, and of their definitions, which were found
+module _ (P : Part → Type 0) (file : List ℕ) (which : SymbolTable) (sections : Walk Section) (s : Option Section) where
+  abbrev rows : List Part
+  rows = parts_if (versions_section which sections) (section_parts file)
+
+  abbrev definitions : List Part
+  definitions = parts_if (definitions_section which sections) (section_parts file)
+
+  pub of_row_versions : s ≡ versions_section which sections → All P (version_parts which file sections) → All P (parts_if s (section_parts file))
+  of_row_versions is all = subst (λ (o : Option Section). All P (parts_if o (section_parts file))) (sym is) (front P rows definitions all)
+
+  pub of_definitions : s ≡ definitions_section which sections → All P (version_parts which file sections) → All P (parts_if s (section_parts file))
+  of_definitions is all = subst (λ (o : Option Section). All P (parts_if o (section_parts file))) (sym is) (back P rows definitions all)
 
 -- the symbol table that is needed is the one that is found
 pub needed_table : (which : SymbolTable) (sections : Walk Section) (names : Option (List ℕ)) (count : ℕ) (section : Option (List ℕ)) (found : NeededSections)

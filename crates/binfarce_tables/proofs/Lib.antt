@@ -11,6 +11,7 @@ mod MachoPrefix
 mod MachoSure
 mod MachoLocated
 mod SectionsRead
+mod VersionsRead
 mod PeBeginning
 mod PeSure
 pub mod ElfLaw

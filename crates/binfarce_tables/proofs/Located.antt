@@ -9,6 +9,7 @@ use Rattle.binfarce_bytes.specs.SectionEntries.{SelectedSymbols}
 use Rattle.binfarce_bytes.specs.Walk.{ended}
 use Rattle.binfarce_elf.specs.Elf.{ElfClass, SectionTable, header_of, section_table, walk, whole_headers, names_bytes}
 use Rattle.binfarce_elf.specs.ElfSymbols.{TableSections, NeededSections, TableRows, Selected, table_sections, needed, section_data, whole_rows, rows_at, file_kind, selected_from, elf_selected, symbols_of, selected_file_answer}
+use Rattle.binfarce_elf.specs.Versions.{bytes_if, definitions_section, version_name, versions_section}
 use Rattle.binfarce_elf.specs.declared.symbol_table.SymbolTable.{SymbolTable}
 use Rattle.binfarce_elf.proofs.Steps.{assoc}
 use Rattle.binfarce_tables.specs.ElfReading.{symbols_in}
@@ -65,8 +66,12 @@ module _ (class : ElfClass) (file : List ℕ) (sections : TableSections) where
       rows_read rows whole = from_rows ∙ ap (λ (a : Result (List ℕ) Refusal). a >>= λ r. Ok (record { strings = strings; rows = r })) (rows_are class bytes rows whole)
 
 -- what follows what is needed of a file with these sections, up to the answer
-abbrev pub after_needed : List ℕ → FileSections → NeededSections → Result SelectedSymbols Refusal
-after_needed file seen needs = rows_at seen.class file needs.table >>= λ found. Ok (symbols_in seen needs.taken found)
+abbrev pub after_found : SymbolTable → List ℕ → FileSections → NeededSections → TableRows → SelectedSymbols
+after_found which file seen needs found =
+    symbols_in seen needs.taken found (bytes_if file (versions_section which seen.sections)) (version_name seen.order found.strings (bytes_if file (definitions_section which seen.sections)))
+
+abbrev pub after_needed : SymbolTable → List ℕ → FileSections → NeededSections → Result SelectedSymbols Refusal
+after_needed which file seen needs = rows_at seen.class file needs.table >>= λ found. Ok (after_found which file seen needs found)
 
 -- what is needed of them
 abbrev pub needed_of : SymbolTable → Option (List ℕ) → FileSections → Result NeededSections Refusal
@@ -74,7 +79,7 @@ needed_of which section seen = needed which seen.sections seen.names seen.count 
 
 -- what follows these sections
 abbrev pub after_sections : SymbolTable → Option (List ℕ) → List ℕ → FileSections → Result SelectedSymbols Refusal
-after_sections which section file seen = needed_of which section seen >>= after_needed file seen
+after_sections which section file seen = needed_of which section seen >>= after_needed which file seen
 
 -- the sections of a file that has a header
 abbrev sections_in : ElfClass → ByteOrder → List ℕ → FileSections
@@ -102,10 +107,10 @@ module _ (which : SymbolTable) (class : ElfClass) (order : ByteOrder) (file : Li
       seen = sections_in class order file
 
       selected : NeededSections → TableRows → Result Selected Refusal
-      selected needs found = Ok (selected_from class order seen.sections seen.kind needs.taken found)
+      selected needs found = Ok (selected_from class order seen.sections seen.kind needs.taken found (bytes_if file (versions_section which seen.sections)))
 
       shown : Selected → Result SelectedSymbols Refusal
-      shown s = Ok (symbols_of s seen.names seen.sections seen.kind.elf_type)
+      shown s = Ok (symbols_of s seen.names seen.sections seen.kind.elf_type (version_name order s.strings (bytes_if file (definitions_section which seen.sections))))
 
       steps : (elf_selected which class table section >>= shown) ≡ after_sections which section file seen
       steps =
@@ -120,10 +125,13 @@ module _ (which : SymbolTable) (class : ElfClass) (order : ByteOrder) (file : Li
     pub from_seen : selected_file_answer which class order file section ≡ after_sections which section file seen
     from_seen = from_file ∙ ap (λ (a : Result FileSections Refusal). a >>= after_sections which section file) given
 
-    pub from_needed : (needs : NeededSections) → needed_of which section seen ≡ Ok needs → selected_file_answer which class order file section ≡ after_needed file seen needs
-    from_needed needs is = from_seen ∙ ap (λ (a : Result NeededSections Refusal). a >>= after_needed file seen) is
+    pub from_needed : (needs : NeededSections) → needed_of which section seen ≡ Ok needs → selected_file_answer which class order file section ≡ after_needed which file seen needs
+    from_needed needs is = from_seen ∙ ap (λ (a : Result NeededSections Refusal). a >>= after_needed which file seen) is
 
-    -- its length, and the sections of its symbol table
+    -- its sections, its length, and the sections of its symbol table
+    pub walk_is : walk class (table_of class order file) ≡ seen.sections
+    walk_is = ap (λ (s : FileSections). s.sections) (sections_are class order file seen given)
+
     pub length_is : seen.file_length ≡ length file
     length_is = ap (λ (s : FileSections). s.file_length) (sym (sections_are class order file seen given))
 

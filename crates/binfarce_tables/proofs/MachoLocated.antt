@@ -1,5 +1,5 @@
 -- What the function symbols of a selection of a Mach-O file are made of, by what was read of it.
-use Rattle.std.proofs.Common.{◌≡◌, ◌⊎◌, ◌≢◌, ℕ, ◌≤◌, Bool, false, List, length, Option, Result, Ok, Err, inl, inr, refl, sym, ap, subst, ◌∙◌}
+use Rattle.std.proofs.Common.{◌≡◌, ◌⊎◌, ◌≢◌, ℕ, ◌≤◌, Bool, false, List, length, Option, None, Result, Ok, Err, inl, inr, refl, sym, ap, subst, ◌∙◌}
 use Rattle.std.specs.Global.{Vec}
 use Rattle.std.proofs.lemmas.Bool.{le-ltb}
 use Rattle.binfarce_bytes.specs.declared.error.ParseError.{ParseError}
@@ -65,6 +65,7 @@ entries_selected tables N result given = by_entries (entries_in tables.sections 
       section_size = section_size tables.sections tables.symbols;
       section_name = section_name tables.sections;
       shares_addresses = shares_addresses tables.sections tables.is_object;
+      version_name = λ version. None;
     }
 
     by_entries : (r : Result (List SectionEntry) Refusal) (result : Result (Vec SectionFunction) ParseError) → Answers HoldsSectionFunctions (λ _. N) r result → Answers HoldsSelected (λ _. N) (r >>= λ entries. Ok (selected entries)) result

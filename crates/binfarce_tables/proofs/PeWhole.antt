@@ -93,7 +93,7 @@ module _ (file : List ℕ) (places : TablePlaces) where
     ]
 
     pub view_same : (base : Option ℕ) (symbols : CoffTable) → symbols_of (all_sections base alone) symbols ≡ symbols_of (all_sections base table) symbols
-    view_same base symbols = ap₂ (λ (es : List SectionEntry) (names : ℕ → Option (List ℕ)). record { entries = es; section_size = None; section_name = names; shares_addresses = is_none base }) (entries_same base symbols) (fun_ext name_same)
+    view_same base symbols = ap₂ (λ (es : List SectionEntry) (names : ℕ → Option (List ℕ)). record { entries = es; section_size = None; section_name = names; shares_addresses = is_none base; version_name = λ version. None }) (entries_same base symbols) (fun_ext name_same)
 
   -- where nothing is refused, none is truncated
   pub held : (table_walk table).refusal ≡ None → (places.sections < length file) × (places.section_count ≤ whole_in table)

@@ -1,20 +1,25 @@
 -- The parts of an ELF file that were read.
-use Rattle.std.specs.Prelude.{ℕ, List}
+use Rattle.std.specs.Prelude.{ℕ, List, Option, None, slice_index_or}
 use Rattle.binfarce_bytes.specs.SectionEntries.{SelectedSymbols}
 use Rattle.binfarce_elf.specs.ElfSymbols.{Taken, TableRows, has_modes, selected_from, symbols_of}
 use Rattle.binfarce_elf.specs.ElfViews.{taken_view, sized_from}
+use Rattle.binfarce_elf.specs.Versions.{name_by}
 use Rattle.binfarce_tables.specs.SectionReading.{FileSections, sections_view}
 use Rattle.binfarce_tables.specs.declared.elf.Parts.{Parts}
 
--- what a selection takes of a file with these sections, by the rows of its symbol table
-abbrev pub symbols_in : FileSections → Taken → TableRows → SelectedSymbols
-symbols_in seen taken found = symbols_of (selected_from seen.class seen.order seen.sections seen.kind taken found) seen.names seen.sections seen.kind.elf_type
+-- what a selection takes of a file with these sections, by the rows of its symbol table with their versions, which have these names
+abbrev pub symbols_in : FileSections → Taken → TableRows → List ℕ → (ℕ → Option (List ℕ)) → SelectedSymbols
+symbols_in seen taken found versions version_name =
+    symbols_of (selected_from seen.class seen.order seen.sections seen.kind taken found versions) seen.names seen.sections seen.kind.elf_type version_name
 
 -- the same by the sizes of all rows
-abbrev pub symbols_by : FileSections → Taken → TableRows → List ℕ → SelectedSymbols
-symbols_by seen taken found sizes =
-    symbols_of (record { entries = sized_from seen.class seen.order taken (has_modes seen.kind) found sizes 0; size = taken.size }) seen.names seen.sections seen.kind.elf_type
+abbrev pub symbols_by : FileSections → Taken → TableRows → (versions sizes : List ℕ) → (ℕ → Option (List ℕ)) → SelectedSymbols
+symbols_by seen taken found versions sizes version_name =
+    symbols_of (record { entries = sized_from seen.class seen.order taken (has_modes seen.kind) found versions sizes 0; size = taken.size; strings = found.strings })
+    seen.names seen.sections seen.kind.elf_type version_name
 
 -- the content of a file's parts
 abbrev pub parts_view : Parts → SelectedSymbols
-parts_view p = symbols_by (sections_view p.sections) (taken_view p.taken) (record { strings = p.strings.items; rows = p.rows.items }) p.sizes.items
+parts_view p =
+    symbols_by (sections_view p.sections) (taken_view p.taken) (record { strings = p.strings.items; rows = p.rows.items }) p.versions.rows.items p.sizes.items
+    (name_by p.strings.items (λ index. slice_index_or p.versions.names.items index None))

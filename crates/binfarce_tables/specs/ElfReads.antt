@@ -3,10 +3,12 @@ use Rattle.std.specs.Prelude.{ℕ, ◌+◌, ◌*◌, List, [], ◌∷◌, ◌++�
 use Rattle.binfarce_bytes.specs.declared.ByteOrder.{ByteOrder}
 use Rattle.binfarce_bytes.specs.Part.{Part, part, whole_part, parts_if}
 use Rattle.binfarce_bytes.specs.Refusal.{Refusal}
+use Rattle.binfarce_bytes.specs.Walk.{Walk}
 use Rattle.binfarce_elf.specs.Classes.{class_of}
 use Rattle.binfarce_elf.specs.Elf.{ElfClass, SectionTable, Section, header_of, section_table, walk, whole_headers, names_section}
 use Rattle.binfarce_elf.specs.ElfSegments.{programs_size}
 use Rattle.binfarce_elf.specs.ElfSymbols.{TableSections, table_sections}
+use Rattle.binfarce_elf.specs.Versions.{definitions_section, versions_section}
 use Rattle.binfarce_elf.specs.declared.class.Width.{Width}
 use Rattle.binfarce_elf.specs.declared.symbol_table.SymbolTable.{SymbolTable}
 
@@ -53,14 +55,19 @@ unfoldable pub found_parts : List ℕ → Result TableSections Refusal → List 
 found_parts file (Ok sections) = rows_parts file sections
 found_parts file (Err refusal) = []
 
+-- the versions of a symbol table's rows, and their definitions, if they lie in the file
+abbrev pub version_parts : SymbolTable → List ℕ → Walk Section → List Part
+version_parts which file sections = parts_if (versions_section which sections) (section_parts file) ++ parts_if (definitions_section which sections) (section_parts file)
+
 -- what a reading of the sections reads: the file header, the section names and the section headers
 unfoldable pub elf_section_parts : ElfClass → ByteOrder → List ℕ → List Part
 elf_section_parts class order file = part 0 class.header_length ∷ table_parts class (table_of class order file)
 
--- what a reading of the function symbols reads: that, and the strings and the rows of this symbol table
+-- what a reading of the function symbols reads: that, and the strings, the rows and the versions of this symbol table
 unfoldable pub elf_parts : SymbolTable → ElfClass → ByteOrder → List ℕ → List Part
 elf_parts which class order file =
-    elf_section_parts class order file ++ found_parts file (table_sections which (walk class (table_of class order file)))
+    let sections = walk class (table_of class order file) in
+    elf_section_parts class order file ++ (found_parts file (table_sections which sections) ++ version_parts which file sections)
 
 -- what a reading of the load address reads: the file header, and the program headers, if they lie in the file
 unfoldable pub elf_load_parts : Width → ByteOrder → List ℕ → List Part

@@ -1,10 +1,10 @@
 //! The parts of an ELF file that have the function symbols of a selection.
 
-ghost use Rattle.std.specs.Prelude.{[], ◌∷◌, ◌≡◌, ◌≢◌, ◌⊎◌, ◌+◌, ◌<◌, ◌≤◌, List, ℕ, true, Ok, Some, length, IfOk, IfErr};
+ghost use Rattle.std.specs.Prelude.{[], ◌∷◌, ◌≡◌, ◌≢◌, ◌⊎◌, ◌+◌, ◌<◌, ◌≤◌, List, ℕ, true, Ok, Option, Some, None, length, IfOk, IfErr, slice_index_or};
 ghost use Rattle.std.specs.Result.{IsErr};
 ghost use Rattle.std.specs.Option.{option_map};
 ghost use Rattle.binfarce_bytes.specs.Number.{bytes_at};
-ghost use Rattle.binfarce_bytes.specs.Part.{part};
+ghost use Rattle.binfarce_bytes.specs.Part.{part, parts_if};
 ghost use Rattle.binfarce_bytes.specs.Source.{ReadsOnly};
 ghost use Rattle.binfarce_bytes.specs.Refusal.{Gives, refusal_of};
 ghost use Rattle.binfarce_bytes.specs.Selection.{section_of};
@@ -12,9 +12,10 @@ ghost use Rattle.binfarce_elf.specs.Classes.{class_of};
 ghost use Rattle.binfarce_elf.specs.Elf.{contents, header_of, names_bytes};
 ghost use Rattle.binfarce_elf.specs.ElfParts.{needed_view, table_sections_view};
 ghost use Rattle.binfarce_elf.specs.ElfSymbols.{file_kind, selected_file_answer, needed, rows_at, section_data};
-ghost use Rattle.binfarce_elf.specs.ElfViews.{kind_view, section_view, functions_left, selected_view, taken_view};
+ghost use Rattle.binfarce_elf.specs.ElfViews.{kind_view, section_view, functions_left, selected_view, taken_view, version_names};
+ghost use Rattle.binfarce_elf.specs.Versions.{bytes_if, definitions, definitions_section, name_offset, versions_section};
 ghost use Rattle.binfarce_tables.specs.ElfReading.{parts_view, symbols_by, symbols_in};
-ghost use Rattle.binfarce_tables.specs.ElfReads.{elf_parts, headers_size, names_parts, rows_parts, section_parts};
+ghost use Rattle.binfarce_tables.specs.ElfReads.{elf_parts, headers_size, names_parts, rows_parts, section_parts, version_parts};
 ghost use Rattle.binfarce_tables.specs.Reading.{Reads, Known};
 ghost use Rattle.binfarce_tables.specs.SectionReading.{sections_view};
 ghost use Rattle.binfarce_tables.specs.declared.error.ReadError.TheVariants.{Unreadable, OutOfMemory};
@@ -26,11 +27,12 @@ use binfarce_bytes::functions::Selection;
 use binfarce_bytes::parser::to_index;
 use binfarce_bytes::source::{Source, read_part};
 use binfarce_bytes::{ByteOrder, ParseError};
-use binfarce_elf::class::{Half, Width};
-use binfarce_elf::parts::{HeaderTable, needed_in, place_in, section_at, sizes_in};
+use binfarce_elf::class::{Half, Width, Word};
+use binfarce_elf::parts::{self, HeaderTable, needed_in, place_in, section_at, sizes_in};
 use binfarce_elf::sections::Section;
 use binfarce_elf::symbol_table::SymbolTable;
 use binfarce_elf::symbols::{Functions, Needed, TableSections, Taken, functions_in, whole_rows};
+use binfarce_elf::versions::{VersionNames, name_offsets};
 use std::alloc::{AllocError, Global};
 
 /// `ET_REL`, the type of an object file.
@@ -42,6 +44,7 @@ pub struct Parts {
     sections: SectionParts,
     rows: Vec<u8>,
     strings: Vec<u8>,
+    versions: VersionParts,
     taken: Taken,
     // For all sections, the size of each row in memory.
     sizes: Vec<u64>,
@@ -57,6 +60,7 @@ impl Parts {
         functions_in(
             &self.rows,
             &self.strings,
+            &self.versions.rows,
             self.sections.width,
             self.sections.place.byte_order,
             self.taken,
@@ -73,6 +77,17 @@ impl Parts {
         self.sections.name_of(number)
     }
 
+    /// The names of the versions that the function symbols have, which the file defines for its dynamic symbols. They
+    /// borrow the parts; nothing is copied.
+    pub fn version_names(&self) -> VersionNames<'_>
+        ensures { (version : ℕ) → version_names result version ≡ (parts_view self.entry.now).version_name version }
+    {
+        VersionNames {
+            offsets: &self.versions.names,
+            strings: &self.strings,
+        }
+    }
+
     /// Whether the selected sections share addresses: all those of an object file (`ET_REL`) do.
     pub fn shares_addresses(&self) -> bool
         ensures { result ≡ (parts_view self.now).shares_addresses }
@@ -83,9 +98,10 @@ impl Parts {
 
 /// Reads the parts of a file of this class that a selection's function symbols need by this symbol table, and the
 /// section names, numbers in the given order. These are the file header of 52 or 64 bytes, the header of the section
-/// names' own section, the section names, all section headers, the symbol table and its strings. Each is read once,
-/// into memory of its size, which is never more than the file has of it. No other byte is read, except the first byte
-/// of a section header table without headers. The magic number isn't checked.
+/// names' own section, the section names, all section headers, the symbol table and its strings; for the dynamic symbol
+/// table also its versions and their definitions. Each is read once, into memory of its size, which is never more than
+/// the file has of it; of the definitions the offsets of names are kept, at most 32,768. No other byte is read, except
+/// the first byte of a section header table without headers. The magic number isn't checked.
 ///
 /// # Errors
 ///
@@ -112,11 +128,13 @@ pub fn read<S: Source>(
     let needed = needed_of(&sections, which, selection)?;
     let len = sections.file_length;
     let table = read_rows(alloc, source, log, len, sections.width, needed.table)?;
+    let versions = read_versions(alloc, source, log, &sections, which)?;
     let sizes = sizes_of(alloc, &sections, needed.taken, &table)?;
     Ok(Parts {
         sections,
         rows: table.rows,
         strings: table.strings,
+        versions,
         taken: needed.taken,
         sizes,
     })
@@ -129,9 +147,9 @@ fn sizes_of(
     taken: Taken,
     table: &TableParts,
 ) -> Result<Vec<u64>, AllocError>
-    ensures { let seen = sections_view sections.now in IfOk result
-        (λ v. symbols_by seen (taken_view taken) (rows_view table.now) v.items
-        ≡ symbols_in seen (taken_view taken) (rows_view table.now)) }
+    ensures { (versions : List ℕ) (version_name : ℕ → Option (List ℕ)) → let seen = sections_view sections.now in
+        IfOk result (λ v. symbols_by seen (taken_view taken) (rows_view table.now) versions v.items version_name
+        ≡ symbols_in seen (taken_view taken) (rows_view table.now) versions version_name) }
 {
     sizes_in(
         alloc,
@@ -276,6 +294,65 @@ fn read_rows<S: Source>(
     let rows = read_section(alloc, source, log, len, sections.symbols)?;
     let _ = whole_rows(width, &rows)?;
     Ok(TableParts { strings, rows })
+}
+
+// The versions of the rows of a symbol table, and the offsets of their names.
+#[derive(Drop)]
+struct VersionParts {
+    rows: Vec<u8>,
+    names: Vec<Option<Word>>,
+}
+
+// Those of this symbol table, of a file with these sections.
+fn read_versions<S: Source>(
+    alloc: Global,
+    source: &S,
+    log: &mut S::Log,
+    sections: &SectionParts,
+    which: SymbolTable,
+) -> Result<VersionParts, ReadError>
+    ensures rows { (file : List ℕ) → Known (S.bytes source.now) sections.now.file_length file
+        → Reads (S.may_fail source.now) (λ v. v.rows.items)
+        (Ok (bytes_if file (versions_section which (sections_view sections.now).sections))) result }
+    ensures names { (file : List ℕ) → Known (S.bytes source.now) sections.now.file_length file
+        → let seen = sections_view sections.now in IfOk result (λ v. (index : ℕ) → index < 32768
+        → slice_index_or v.names.items index None
+        ≡ name_offset (definitions seen.order (bytes_if file (definitions_section which seen.sections))) index) }
+    ensures only { (file : List ℕ) → Known (S.bytes source.now) sections.now.file_length file
+        → ReadsOnly (S.is_sure source.now) (S.logs_only log.old) (S.logs_only log.new)
+        (version_parts which file (sections_view sections.now).sections) (IfErr result (λ e. e ≢ Unreadable)) }
+{
+    let len = sections.file_length;
+    let headers = &sections.headers;
+    let found = parts::version_sections(headers, sections.width, sections.place, which);
+    let rows = read_if(alloc, source, log, len, found.versions)?;
+    let definitions = read_if(alloc, source, log, len, found.definitions)?;
+    let names = name_offsets(alloc, &definitions, sections.place.byte_order)?;
+    Ok(VersionParts { rows, names })
+}
+
+// The bytes of a section, where there is one and they lie in the file.
+fn read_if<S: Source>(
+    alloc: Global,
+    source: &S,
+    log: &mut S::Log,
+    len: u64,
+    section: Option<Section<u64>>,
+) -> Result<Vec<u8>, ReadError>
+    ensures answer { (file : List ℕ) → Known (S.bytes source.now) len file
+        → Reads (S.may_fail source.now) (λ v. v.items)
+        (Ok (bytes_if file (option_map (section_view (λ n. n)) section))) result }
+    ensures only { (file : List ℕ) → Known (S.bytes source.now) len file
+        → ReadsOnly (S.is_sure source.now) (S.logs_only log.old) (S.logs_only log.new)
+        (parts_if (option_map (section_view (λ n. n)) section) (section_parts file)) (IfErr result (λ e. e ≢ Unreadable)) }
+{
+    let Some(section) = section else {
+        return Ok(Vec::new(alloc));
+    };
+    match read_contents(alloc, source, log, len, section)? {
+        None => Ok(Vec::new(alloc)),
+        Some(bytes) => Ok(bytes),
+    }
 }
 
 // The section's bytes, where they lie in the file.

@@ -1,5 +1,5 @@
 -- What `list` reports and what was taken follows from what its reader returned and its sink took.
-use Rattle.std.proofs.Common.{◌≡◌, ℕ, ◌+◌, ◌-◌, true, List, map, is_some, unwrap_or, ◌++◌, length, take, drop, Option, Some, None, Result, Ok, Err, refl, sym, ap, subst, ◌∙◌, inl, inr, append_assoc, arith}
+use Rattle.std.proofs.Common.{◌≡◌, ℕ, ◌+◌, ◌-◌, true, List, is_some, unwrap_or, ◌++◌, length, take, drop, Option, Some, None, Result, Ok, Err, refl, sym, ap, subst, ◌∙◌, inl, inr, append_assoc, arith}
 use Rattle.std.specs.Result.{IsErrAnd}
 use Rattle.std.specs.Io.KnownBytes.{Appends, Keeps}
 use Rattle.std.proofs.lemmas.List.{take-append-drop, take_all, length-drop}
@@ -7,7 +7,7 @@ use Rattle.std.proofs.Math.Seq.{take-add}
 use Rattle.binfarce.specs.declared.ParseError.{ParseError}
 use Rattle.binfarce.specs.declared.ParseError.TheVariants as errors
 use Rattle.binfarce.specs.Refusal.{Refusal, refusal_of, out_of_memory}
-use Rattle.binfarce.specs.SectionEntries.{SectionEntry, SelectedSymbols}
+use Rattle.binfarce.specs.SectionEntries.{SelectedSymbols}
 use Rattle.binfarce.specs.Symbol.{Answers}
 use Rattle.binfarce_tools.specs.declared.functions.Functions.{Functions}
 use Rattle.binfarce_tools.specs.declared.functions.Selected.{Selected}
@@ -59,7 +59,7 @@ pub listed : (memory : Result SelectedSymbols Refusal → Type 0) (answer : Opti
 listed memory None sized selected list size gets left is given = absurd gets
 listed memory (Some (Err refusal)) sized selected list size gets left is given = absurd gets
 listed memory (Some (Ok seen)) sized selected list size gets left is given =
-    (ap (map (λ (e : SectionEntry). e.entry)) (left ∙ gets.0), by_size seen.section_size (sized seen refl) ∙ ap (λ (n : ℕ). Some n) (sym (given ∙ ap (λ (o : Option ℕ). unwrap_or o 0) (is ∙ gets.1))))
+    (left ∙ gets.0, by_size seen.section_size (sized seen refl) ∙ ap (λ (n : ℕ). Some n) (sym (given ∙ ap (λ (o : Option ℕ). unwrap_or o 0) (is ∙ gets.1))))
   where
     by_size : (o : Option ℕ) → is_some o ≡ true → o ≡ Some (unwrap_or o 0)
     by_size (Some n) is = refl

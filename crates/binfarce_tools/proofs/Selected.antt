@@ -1,6 +1,8 @@
 -- What a file of each format answers for a section is the answer of its reader, with the size of the section.
 use Rattle.std.proofs.Common.{◌≡◌, ℕ, Bool, true, false, cond, ltb, List, [], ◌∷◌, map, length, Option, Some, None, is_some, unwrap_or, Result, Ok, Err, refl, sym, ap, subst, ◌∙◌}
-use Rattle.std.specs.Prelude.{nat_eq}
+use Rattle.std.proofs.Math.Path.{fun_ext}
+use Rattle.std.specs.Option.{option_and_then}
+use Rattle.std.specs.Prelude.{nat_eq, nat_le}
 use Rattle.std.specs.List.{sum_by}
 use Rattle.binfarce.specs.declared.ByteOrder.{ByteOrder}
 use Rattle.binfarce.specs.declared.Format.{Format}
@@ -15,6 +17,8 @@ use Rattle.binfarce.specs.Elf.{ElfClass, SectionTable, Section, elf32, elf64, he
 use Rattle.binfarce.specs.ElfSymbols as elf
 use Rattle.binfarce.specs.ElfSymbols.{TableSections, TableRows, NeededSections, Taken, sought, is_named, table_sections, taken, needed, rows_at, is_of_section, elf_selected, elf_answer, elf_file_answer}
 use Rattle.binfarce.specs.SymbolTables.{has_indirect}
+use Rattle.binfarce.specs.Text.{text_at}
+use Rattle.binfarce.specs.Versions.{bytes_if, definitions_from, definitions_section, index_of, version_name, versions_section}
 use Rattle.binfarce.specs.Macho.{least_length}
 use Rattle.binfarce.specs.MachoSections.{NumberedSection, numbered_sections}
 use Rattle.binfarce.specs.MachoSelection as macho
@@ -63,7 +67,7 @@ module _ (which : SymbolTable) (class : ElfClass) (order : ByteOrder) (file : Li
   with_table t sections = Ok (record { taken = t; table = sections })
 
   with_rows : Taken → TableRows → Result elf.Selected Refusal
-  with_rows t found = Ok (elf.selected_from class table.order (walk class table) (elf.kind_of class table) t found)
+  with_rows t found = Ok (elf.selected_from class table.order (walk class table) (elf.kind_of class table) t found (bytes_if table.file (versions_section which (walk class table))))
 
   of_needed : NeededSections → Result elf.Selected Refusal
   of_needed sections = rows_at class table.file sections.table >>= with_rows sections.taken
@@ -85,7 +89,7 @@ module _ (which : SymbolTable) (class : ElfClass) (order : ByteOrder) (file : Li
       by_taken (Ok t) at e = ap is_some (by_table t (table_sections which (walk class table)) e) ∙ taken_size section t at
 
   shown : elf.Selected → SelectedSymbols
-  shown s = elf.symbols_of s (names_bytes class table) (walk class table) (header_of class order file).elf_type
+  shown s = elf.symbols_of s (names_bytes class table) (walk class table) (header_of class order file).elf_type (version_name order s.strings (bytes_if file (definitions_section which (walk class table))))
 
   shares_none : (size : Option ℕ) (elf_type : ℕ) → is_some size ≡ true → elf.share_addresses size elf_type ≡ false
   shares_none (Some n) elf_type is = refl
@@ -104,6 +108,30 @@ module _ (which : SymbolTable) (class : ElfClass) (order : ByteOrder) (file : Li
       by_test : (short : Bool) → cond short (Err unexpected_eof) (elf_selected which class table section >>= λ s. Ok (shown s)) ≡ Ok seen → IsSized section seen
       by_test true e = absurd cc
       by_test false e = by_selected (elf_selected which class table section) refl e
+
+  -- by the symbol table no version has a name
+  no_names : (strings : List ℕ) → version_name order strings [] ≡ (λ version. None)
+  unfolding definitions_from
+  no_names strings = fun_ext (λ version. by_test version (nat_le (index_of version) 1))
+    where
+      by_test : (version : ℕ) (none : Bool) → cond none None (option_and_then (λ offset. text_at strings offset) None) ≡ None
+      by_test version true = refl
+      by_test version false = refl
+
+  elf_unversioned : (section : Option (List ℕ)) (seen : SelectedSymbols) → which ≡ Symtab → elf.selected_file_answer which class order file section ≡ Ok seen → seen.version_name ≡ (λ version. None)
+  unfolding elf.selected_file_answer shown
+  elf_unversioned section seen by is = by_test (ltb (length file) class.header_length) is
+    where
+      unversioned : (s : elf.Selected) → (shown s).version_name ≡ (λ version. None)
+      unversioned s = ap (λ (w : SymbolTable). version_name order s.strings (bytes_if file (definitions_section w (walk class table)))) by ∙ no_names s.strings
+
+      by_selected : (r : Result elf.Selected Refusal) → (r >>= λ s. Ok (shown s)) ≡ Ok seen → seen.version_name ≡ (λ version. None)
+      by_selected (Err why) e = absurd cc
+      by_selected (Ok s) e = ap (λ (s : SelectedSymbols). s.version_name) (sym (ok_is e)) ∙ unversioned s
+
+      by_test : (short : Bool) → cond short (Err unexpected_eof) (elf_selected which class table section >>= λ s. Ok (shown s)) ≡ Ok seen → seen.version_name ≡ (λ version. None)
+      by_test true e = absurd cc
+      by_test false e = by_selected (elf_selected which class table section) e
 
   pub elf_listed : (name : List ℕ) → elf_file_answer which class order file name ≡ one_list (elf.selected_file_answer which class order file (Some name))
   unfolding elf_answer elf.selected_file_answer shown
@@ -178,16 +206,16 @@ module _ (file : List ℕ) where
 
   abbrev pub IsMadeOf : macho.SelectedTables → SelectedSymbols → Type 0
   IsMadeOf t seen =
-      (seen.section_size ≡ macho.section_size t.sections t.symbols) × (macho.section_name t.sections ≡ seen.section_name) × (macho.shares_addresses t.sections t.is_object ≡ seen.shares_addresses)
+      (seen.section_size ≡ macho.section_size t.sections t.symbols) × (macho.section_name t.sections ≡ seen.section_name) × (macho.shares_addresses t.sections t.is_object ≡ seen.shares_addresses) × (seen.version_name ≡ (λ version. None))
 
   pub macho_made : (t : macho.SelectedTables) (seen : SelectedSymbols) → macho.symbols_of t ≡ Ok seen → IsMadeOf t seen
   unfolding macho.symbols_of
   macho_made t seen is = by_entries (macho.entries_in t.sections t.symbols) is
     where
-      by_entries : (r : Result _ Refusal) → (r >>= λ entries. Ok (record { entries = entries; section_size = macho.section_size t.sections t.symbols; section_name = macho.section_name t.sections; shares_addresses = macho.shares_addresses t.sections t.is_object })) ≡ Ok seen → IsMadeOf t seen
+      by_entries : (r : Result _ Refusal) → (r >>= λ entries. Ok (record { entries = entries; section_size = macho.section_size t.sections t.symbols; section_name = macho.section_name t.sections; shares_addresses = macho.shares_addresses t.sections t.is_object; version_name = λ version. None })) ≡ Ok seen → IsMadeOf t seen
       by_entries (Err why) e = absurd cc
       by_entries (Ok entries) e =
-          let same = ok_is e in (ap (λ (s : SelectedSymbols). s.section_size) (sym same), ap (λ (s : SelectedSymbols). s.section_name) same, ap (λ (s : SelectedSymbols). s.shares_addresses) same)
+          let same = ok_is e in (ap (λ (s : SelectedSymbols). s.section_size) (sym same), ap (λ (s : SelectedSymbols). s.section_name) same, ap (λ (s : SelectedSymbols). s.shares_addresses) same, ap (λ (s : SelectedSymbols). s.version_name) (sym same))
 
   macho_sized : (section : Option (List ℕ)) (seen : SelectedSymbols) → macho.selected_file_answer section file ≡ Ok seen → IsSized section seen
   unfolding macho.sections_in
@@ -208,6 +236,13 @@ module _ (file : List ℕ) where
       by_tables : (r : Result macho.SelectedTables Refusal) → macho.selected_file_tables None file ≡ r → (r >>= macho.symbols_of) ≡ Ok seen → IsSized None seen
       by_tables (Err why) at e = absurd cc
       by_tables (Ok t) at e = (ap is_some ((macho_made t seen e).0 ∙ no_size t (made None t at).0), λ one. absurd cc)
+
+  macho_unversioned : (section : Option (List ℕ)) (seen : SelectedSymbols) → macho.selected_file_answer section file ≡ Ok seen → seen.version_name ≡ (λ version. None)
+  macho_unversioned section seen is = by_tables (macho.selected_file_tables section file) is
+    where
+      by_tables : (r : Result macho.SelectedTables Refusal) → (r >>= macho.symbols_of) ≡ Ok seen → seen.version_name ≡ (λ version. None)
+      by_tables (Err why) e = absurd cc
+      by_tables (Ok t) e = (macho_made t seen e).3
 
 -- PE
 module _ (file : List ℕ) where
@@ -242,6 +277,23 @@ module _ (file : List ℕ) where
       by_test (Some name) false e = by_text (text_place (pe_sections file)) e
       by_test None false e = (by_all (pe.base_at file (places_of file)) (pe.whole_sections (pe_sections file)) e, λ one. absurd cc)
 
+  pe_unversioned : (section : Option (List ℕ)) (seen : SelectedSymbols) → pe.selected_file_answer section file ≡ Ok seen → seen.version_name ≡ (λ version. None)
+  unfolding pe.selected_answer
+  pe_unversioned section seen is = by_test section (ltb (length file) (pe_file.least_length file)) is
+    where
+      by_symbols : (chosen : pe.SelectedSections) (symbols : Result pe_symbols.CoffTable Refusal) → (symbols >>= λ symbols. Ok (pe.symbols_of chosen symbols)) ≡ Ok seen → seen.version_name ≡ (λ version. None)
+      by_symbols chosen (Err why) e = absurd cc
+      by_symbols chosen (Ok symbols) e = ap (λ (s : SelectedSymbols). s.version_name) (sym (ok_is e))
+
+      by_chosen : (r : Result pe.SelectedSections Refusal) → (r >>= λ chosen. pe_symbols.symbol_table file >>= λ symbols. Ok (pe.symbols_of chosen symbols)) ≡ Ok seen → seen.version_name ≡ (λ version. None)
+      by_chosen (Err why) e = absurd cc
+      by_chosen (Ok chosen) e = by_symbols chosen (pe_symbols.symbol_table file) e
+
+      by_test : (section : Option (List ℕ)) (short : Bool) → cond short (Err unexpected_eof) (pe.selected_answer section file) ≡ Ok seen → seen.version_name ≡ (λ version. None)
+      by_test section true e = absurd cc
+      by_test (Some name) false e = by_chosen (text_place (pe_sections file) >>= λ text. Ok (pe.the_text text)) e
+      by_test None false e = by_chosen (pe.whole_sections (pe_sections file) >>= λ sections. Ok (pe.all_sections (pe.base_at file (places_of file)) sections)) e
+
 -- a file of any format
 some_is : {A : Type 0} {a b : A} → Path (Option A) (Some a) (Some b) → a ≡ b
 some_is e = cc
@@ -260,4 +312,16 @@ module _ (which : SymbolTable) (file : List ℕ) where
       by_format (formats.Elf64 order) e = elf_sized which elf64 order file section seen (some_is e)
       by_format formats.Macho e = macho_sized file section seen (by_symtab which (macho.selected_file_answer section file) seen e)
       by_format formats.PE e = pe_sized file section seen (by_symtab which (pe.selected_file_answer section file) seen e)
+      by_format formats.Unknown e = absurd cc
+
+  -- by the symbol table no version has a name
+  pub unversioned_in : (section : Option (List ℕ)) (seen : SelectedSymbols) → which ≡ Symtab → selected_answer which section file ≡ Some (Ok seen) → seen.version_name ≡ (λ version. None)
+  unfolding selected_symbols
+  unversioned_in section seen by is = by_format (format_of file) is
+    where
+      by_format : (format : Format) → selected_symbols which section format file ≡ Some (Ok seen) → seen.version_name ≡ (λ version. None)
+      by_format (formats.Elf32 order) e = elf_unversioned which elf32 order file section seen by (some_is e)
+      by_format (formats.Elf64 order) e = elf_unversioned which elf64 order file section seen by (some_is e)
+      by_format formats.Macho e = macho_unversioned file section seen (by_symtab which (macho.selected_file_answer section file) seen e)
+      by_format formats.PE e = pe_unversioned file section seen (by_symtab which (pe.selected_file_answer section file) seen e)
       by_format formats.Unknown e = absurd cc

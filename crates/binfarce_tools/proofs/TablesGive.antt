@@ -1,6 +1,7 @@
 -- What the tables of a file give is what the file answers for the selection.
 use Rattle.std.proofs.Common.{◌≡◌, ℕ, Bool, true, false, List, map, Option, Some, None, is_some, Result, Ok, Err, refl, sym, ap, subst, ◌∙◌, inl, inr}
 use Rattle.std.specs.Global.{Vec}
+use Rattle.std.proofs.Math.Path.{fun_ext}
 use Rattle.std.specs.Result.{IsErrAnd}
 use Rattle.binfarce.specs.declared.Format.{Format}
 use Rattle.binfarce.specs.declared.Format.TheVariants as formats
@@ -14,6 +15,7 @@ use Rattle.binfarce.specs.Refusal.{Refusal}
 use Rattle.binfarce.specs.SectionEntries.{SectionEntry, SelectedSymbols, SelectsSome}
 use Rattle.binfarce.specs.Symbol.{Answers}
 use Rattle.binfarce.specs.SymbolViews.{HoldsSelected, section_function_view}
+use Rattle.binfarce_elf.specs.declared.versions.VersionNames.{VersionNames}
 use Rattle.binfarce_tables.specs.ElfReading as elf_reading
 use Rattle.binfarce_tables.specs.MachoReading as macho_reading
 use Rattle.binfarce_tables.specs.PeReading as pe_reading
@@ -25,10 +27,10 @@ use Rattle.binfarce_tools.specs.declared.tables.Tables.TheVariants as variants
 use Rattle.binfarce_tools.specs.Answer.{selected_symbols, selected_answer, MemoryIn, NeedsMemory}
 use Rattle.binfarce_tools.specs.Entries.{all_left, GetsAs, GetsIn, HoldsLeft}
 use Rattle.binfarce_tools.specs.ListWords.{list_error_of}
-use Rattle.binfarce_tools.specs.Tables.{AcceptsTables, AreTablesOf, given_by, may_be_refused, section_names, shares_addresses_of}
+use Rattle.binfarce_tools.specs.Tables.{AcceptsTables, AreTablesOf, given_by, may_be_refused, section_names, shares_addresses_of, version_names_of}
 use Rattle.binfarce_tools.proofs.Listings.{reported_refusal}
 use Rattle.binfarce_tools.proofs.Reported.{Reported}
-use Rattle.binfarce_tools.proofs.Selected.{sized_in, macho_made, macho_needs}
+use Rattle.binfarce_tools.proofs.Selected.{sized_in, unversioned_in, macho_made, macho_needs}
 use Rattle.binfarce_tools.proofs.TablesRead.{of_format}
 
 some_is : {A : Type 0} {a b : A} → Path (Option A) (Some a) (Some b) → a ≡ b
@@ -78,9 +80,9 @@ module _ (which : SymbolTable) (file : List ℕ) (section : Option (List ℕ)) w
   of_unknown is = subst (λ (a : Option (Result SelectedSymbols Refusal)). P a (Err errors.Unknown)) (sym (of_format which section file formats.Unknown is)) refl
 
   -- what was made of an answer is that answer
-  pub of_made : (functions : Vec SectionFunction) (size : ℕ) (value : Selected) → AreTablesOf which file section (variants.Made functions size) → all_left value.functions ≡ map section_function_view functions.items → value.size ≡ Some size → GetsIn which file section (Ok value)
+  pub of_made : (functions : Vec SectionFunction) (size : ℕ) (versions : VersionNames) (value : Selected) → AreTablesOf which file section (variants.Made functions size versions) → all_left value.functions ≡ map section_function_view functions.items → value.size ≡ Some size → GetsIn which file section (Ok value)
   unfolding AreTablesOf
-  of_made functions size value are left sized = subst (λ (a : Option (Result SelectedSymbols Refusal)). P a (Ok value)) (sym are.1) (left ∙ are.2, sized ∙ sym are.3)
+  of_made functions size versions value are left sized = subst (λ (a : Option (Result SelectedSymbols Refusal)). P a (Ok value)) (sym are.1) (left ∙ are.2, sized ∙ sym are.3)
 
   -- what a whole file gives is its own answer for its section by the symbol table
   pub of_whole : (whole named : List ℕ) (result : Result Selected ListError) → (which ≡ Symtab) × (file ≡ whole) × (section ≡ Some named) → GetsIn Symtab whole (Some named) result → GetsIn which file section result
@@ -124,7 +126,7 @@ module _ (which : SymbolTable) (file : List ℕ) (section : Option (List ℕ)) w
   answered (variants.Pe parts) are sure = (pe_reading.selected_view parts, are.1)
   answered variants.Unknown are sure = absurd cc
   answered (variants.Whole whole named) are sure = absurd cc
-  answered (variants.Made functions size) are sure = (are.0, are.1)
+  answered (variants.Made functions size versions) are sure = (are.0, are.1)
 
   -- the sections' names that were read are those of the answer for all sections
   pub names_are : (read : Tables) (seen : SelectedSymbols) → AreTablesOf which file section read → selected_answer which section file ≡ Some (Ok seen) → seen.section_size ≡ None → section_names read ≡ seen.section_name
@@ -136,7 +138,7 @@ module _ (which : SymbolTable) (file : List ℕ) (section : Option (List ℕ)) w
       let e : Path (Option (Result SelectedSymbols Refusal)) None (Some (Ok seen)) = sym (of_format which section file formats.Unknown are) ∙ is in absurd cc
   names_are (variants.Whole whole named) seen are is none =
       let never : false ≡ true = sym (ap is_some none) ∙ (sized_in which file section seen is).0 ∙ ap is_some are.2 in absurd cc
-  names_are (variants.Made functions size) seen are is none =
+  names_are (variants.Made functions size versions) seen are is none =
       let never : None ≡ Some size = sym none ∙ ap (λ (a : SelectedSymbols). a.section_size) (some_ok (sym is ∙ are.1)) ∙ are.3 in absurd cc
 
   -- they share addresses where those of the answer do
@@ -148,31 +150,46 @@ module _ (which : SymbolTable) (file : List ℕ) (section : Option (List ℕ)) w
   sharing_is variants.Unknown seen are is =
       let e : Path (Option (Result SelectedSymbols Refusal)) None (Some (Ok seen)) = sym (of_format which section file formats.Unknown are) ∙ is in absurd cc
   sharing_is (variants.Whole whole named) seen are is = sym ((sized_in which file section seen is).1 (ap is_some are.2))
-  sharing_is (variants.Made functions size) seen are is =
+  sharing_is (variants.Made functions size versions) seen are is =
       let sized = sized_in which file section seen is in
       let same : seen.section_size ≡ Some size = ap (λ (a : SelectedSymbols). a.section_size) (some_ok (sym is ∙ are.1)) ∙ are.3 in
       sym (sized.1 (sym sized.0 ∙ ap is_some same))
 
+  -- the names of versions that were read are those of the answer
+  pub versions_are : (read : Tables) (seen : SelectedSymbols) → AreTablesOf which file section read → selected_answer which section file ≡ Some (Ok seen) → version_names_of read ≡ seen.version_name
+  unfolding AreTablesOf selected_symbols
+  versions_are (variants.Elf parts) seen are is = ap (λ (a : SelectedSymbols). a.version_name) (some_ok (sym are ∙ is))
+  versions_are (variants.Macho parts) seen are is = sym (macho_made file (macho_reading.parts_view parts) seen (some_is (sym are.1 ∙ is))).3
+  versions_are (variants.Pe parts) seen are is = ap (λ (a : SelectedSymbols). a.version_name) (some_ok (sym are.1 ∙ is))
+  versions_are variants.Unknown seen are is =
+      let e : Path (Option (Result SelectedSymbols Refusal)) None (Some (Ok seen)) = sym (of_format which section file formats.Unknown are) ∙ is in absurd cc
+  versions_are (variants.Whole whole named) seen are is = sym (unversioned_in which file section seen are.0 is)
+  versions_are (variants.Made functions size versions) seen are is =
+      fun_ext (λ version. are.4 version) ∙ ap (λ (a : SelectedSymbols). a.version_name) (some_ok (sym are.1 ∙ is))
+
   -- a text of what the tables give is one of the file's answer, if names count only where there is no size
   pub as_answered : (IsText : SelectedSymbols → Type 0) (read : Tables) (selected : Selected) (seen : SelectedSymbols) → AreTablesOf which file section read → selected_answer which section file ≡ Some (Ok seen) → HoldsLeft seen selected
-      → ((entries : List SectionEntry) (size : ℕ) (names other : ℕ → Option (List ℕ)) (shares : Bool) → IsText (record { entries = entries; section_size = Some size; section_name = names; shares_addresses = shares })
-      → IsText (record { entries = entries; section_size = Some size; section_name = other; shares_addresses = shares }))
+      → ((entries : List SectionEntry) (size : ℕ) (names other : ℕ → Option (List ℕ)) (shares : Bool) (versions : ℕ → Option (List ℕ)) → IsText (record { entries = entries; section_size = Some size; section_name = names; shares_addresses = shares; version_name = versions })
+      → IsText (record { entries = entries; section_size = Some size; section_name = other; shares_addresses = shares; version_name = versions }))
       → IsText (given_by read selected) → IsText seen
-  as_answered IsText read selected seen are is held unnamed text = by_size seen.section_size refl (subst Sharing (sharing_is read seen are is) (subst Sized held.1 (subst Having held.0 text)))
+  as_answered IsText read selected seen are is held unnamed text = by_size seen.section_size refl (subst Versioned (versions_are read seen are is) (subst Sharing (sharing_is read seen are is) (subst Sized held.1 (subst Having held.0 text))))
     where
       Having : List SectionEntry → Type 0
-      Having entries = IsText (record { entries = entries; section_size = selected.size; section_name = section_names read; shares_addresses = shares_addresses_of read })
+      Having entries = IsText (record { entries = entries; section_size = selected.size; section_name = section_names read; shares_addresses = shares_addresses_of read; version_name = version_names_of read })
 
       Sized : Option ℕ → Type 0
-      Sized size = IsText (record { entries = seen.entries; section_size = size; section_name = section_names read; shares_addresses = shares_addresses_of read })
+      Sized size = IsText (record { entries = seen.entries; section_size = size; section_name = section_names read; shares_addresses = shares_addresses_of read; version_name = version_names_of read })
 
       Sharing : Bool → Type 0
-      Sharing shares = IsText (record { entries = seen.entries; section_size = seen.section_size; section_name = section_names read; shares_addresses = shares })
+      Sharing shares = IsText (record { entries = seen.entries; section_size = seen.section_size; section_name = section_names read; shares_addresses = shares; version_name = version_names_of read })
+
+      Versioned : (ℕ → Option (List ℕ)) → Type 0
+      Versioned versions = IsText (record { entries = seen.entries; section_size = seen.section_size; section_name = section_names read; shares_addresses = seen.shares_addresses; version_name = versions })
 
       With : Option ℕ → (ℕ → Option (List ℕ)) → Type 0
-      With size names = IsText (record { entries = seen.entries; section_size = size; section_name = names; shares_addresses = seen.shares_addresses })
+      With size names = IsText (record { entries = seen.entries; section_size = size; section_name = names; shares_addresses = seen.shares_addresses; version_name = seen.version_name })
 
       by_size : (size : Option ℕ) → seen.section_size ≡ size → With seen.section_size (section_names read) → With seen.section_size seen.section_name
       by_size None none text = subst (With seen.section_size) (names_are read seen are is none) text
       by_size (Some n) sized text =
-          subst (λ (o : Option ℕ). With o seen.section_name) (sym sized) (unnamed seen.entries n (section_names read) seen.section_name seen.shares_addresses (subst (λ (o : Option ℕ). With o (section_names read)) sized text))
+          subst (λ (o : Option ℕ). With o seen.section_name) (sym sized) (unnamed seen.entries n (section_names read) seen.section_name seen.shares_addresses seen.version_name (subst (λ (o : Option ℕ). With o (section_names read)) sized text))

@@ -7,7 +7,7 @@ use Rattle.binfarce.specs.Symbol.{Entry}
 use Rattle.binfarce.specs.SectionEntries.{SectionEntry, SelectedSymbols}
 use Rattle.binfarce.specs.SymbolViews.{section_function_view}
 use Rattle.binfarce.specs.declared.SymbolTable.{SymbolTable}
-use Rattle.binfarce_tools.specs.Answer.{entries_of, selected_answer, MemoryIn}
+use Rattle.binfarce_tools.specs.Answer.{selected_answer, MemoryIn}
 use Rattle.binfarce_tools.specs.declared.functions.AllFunctions.{AllFunctions}
 use Rattle.binfarce_tools.specs.declared.functions.AllFunctions.TheVariants as variants
 use Rattle.binfarce_tools.specs.declared.functions.Arranged.{Arranged}
@@ -39,9 +39,9 @@ functions_left functions = map (λ e. e.entry) (all_left functions.all)
 abbrev pub HoldsLeft : SelectedSymbols → Selected → Type 0
 HoldsLeft answer selected = (all_left selected.functions ≡ answer.entries) × (selected.size ≡ answer.section_size)
 
--- the entries of a section's answer are left, without their section, and this is its size
+-- the entries of a section's answer are left, and this is its size
 abbrev pub HoldsListed : SelectedSymbols → Functions × ℕ → Type 0
-HoldsListed answer listed = (functions_left listed.0 ≡ entries_of answer) × (answer.section_size ≡ Some listed.1)
+HoldsListed answer listed = (all_left listed.0.all ≡ answer.entries) × (answer.section_size ≡ Some listed.1)
 
 -- what reading the functions of a file returns where its answer is this: a value that holds what the answer does, or why it can't be had. In place of an answer that needs memory, and of no other, it may return that an allocation failed
 abbrev pub GetsAs : {L X : Type 0} → (L → X → Type 0) → (Result L Refusal → Type 0) → Option (Result L Refusal) → Result X ListError → Type 0

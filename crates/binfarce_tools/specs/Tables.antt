@@ -1,6 +1,7 @@
 -- The tables of a file's function symbols, and the result of reading them.
 use Rattle.std.specs.Prelude.{◌≡◌, ℕ, Bool, true, false, List, map, Option, Some, None, Result, Ok, Err}
 use Rattle.binfarce.specs.declared.Format.TheVariants as formats
+use Rattle.binfarce.specs.ElfViews.{version_names}
 use Rattle.binfarce.specs.Format.{format_of}
 use Rattle.binfarce.specs.MachoSelection as macho_file
 use Rattle.binfarce.specs.Refusal.{Refusal, refusal_of}
@@ -22,7 +23,7 @@ use Rattle.binfarce_tools.specs.declared.tables.Tables.TheVariants.{Elf, Macho, 
 
 -- the tables are those of this file's answer for a selection by this symbol table: the parts of an ELF or PE file have its function symbols, those of a
 -- Mach-O file what these are made of; for an unknown format there are none; a whole file has its own answer for its section by the symbol table; and
--- what was made has the entries and the size of a section's answer
+-- what was made has the entries, the size and the names of versions of a section's answer
 unfoldable pub AreTablesOf : SymbolTable → (file : List ℕ) → (section : Option (List ℕ)) → Tables → Type 0
 AreTablesOf which file section (Elf parts) = selected_answer which section file ≡ Some (Ok (elf.parts_view parts))
 AreTablesOf which file section (Macho parts) =
@@ -31,9 +32,9 @@ AreTablesOf which file section (Macho parts) =
 AreTablesOf which file section (Pe parts) = (format_of file ≡ formats.PE) × (selected_answer which section file ≡ Some (Ok (pe.selected_view parts)))
 AreTablesOf which file section Unknown = format_of file ≡ formats.Unknown
 AreTablesOf which file section (Whole whole named) = (which ≡ Symtab) × (file ≡ whole.now) × (section ≡ Some named.now)
-AreTablesOf which file section (Made functions size) =
+AreTablesOf which file section (Made functions size versions) =
     (selected : SelectedSymbols) × (selected_answer which section file ≡ Some (Ok selected)) × (map section_function_view functions.items ≡ selected.entries)
-    × (selected.section_size ≡ Some size)
+    × (selected.section_size ≡ Some size) × ((version : ℕ) → version_names versions version ≡ selected.version_name version)
 
 -- what a reading of a file with this answer gives: tables that are its own, or its refusal; or a read failed, which it may only where MayFail says so; or an allocation failed
 abbrev pub ReadsAs : {L T : Type 0} → (T → Type 0) → Type 0 → Option (Result L Refusal) → Result T ReadError → Type 0
@@ -53,7 +54,7 @@ may_be_refused (Macho parts) = true
 may_be_refused (Pe parts) = false
 may_be_refused Unknown = true
 may_be_refused (Whole whole named) = true
-may_be_refused (Made functions size) = false
+may_be_refused (Made functions size versions) = false
 
 -- what asking a file's tables for its answer gives: these tables where it has function symbols, and why it has none; an allocation may fail where the answer needs memory
 abbrev pub AcceptsTables : SymbolTable → (file : List ℕ) → (section : Option (List ℕ)) → Result Tables ListError → Type 0
@@ -73,6 +74,12 @@ shares_addresses_of (Macho parts) = macho_file.shares_addresses (macho.parts_vie
 shares_addresses_of (Pe parts) = (pe.selected_view parts).shares_addresses
 shares_addresses_of tables = false
 
+-- the names of versions that were read
+abbrev pub version_names_of : Tables → ℕ → Option (List ℕ)
+version_names_of (Elf parts) = (elf.parts_view parts).version_name
+version_names_of (Made functions size versions) = version_names versions
+version_names_of tables = λ version. None
+
 -- what the tables and the function symbols that they give have
 abbrev pub given_by : Tables → Selected → SelectedSymbols
 given_by tables selected = record {
@@ -80,4 +87,5 @@ given_by tables selected = record {
   section_size = selected.size;
   section_name = section_names tables;
   shares_addresses = shares_addresses_of tables;
+  version_name = version_names_of tables;
 }

@@ -2,6 +2,7 @@
 
 ghost use Rattle.std.specs.Prelude.{◌≡◌, ◌≢◌, ℕ, List, true, Option, Ok, Some, None, IfErr, MatchResult, codes};
 ghost use Rattle.std.specs.Option.{option_map};
+ghost use Rattle.binfarce.specs.ElfViews.{version_names};
 ghost use Rattle.binfarce.specs.Refusal.{refusal_of, section_is_missing};
 ghost use Rattle.binfarce.specs.SectionEntries.{SelectedSymbols};
 ghost use Rattle.binfarce.specs.declared.SymbolTable.{SymbolTable};
@@ -14,7 +15,7 @@ ghost use Rattle.binfarce_tools.specs.Entries.{GetsIn};
 ghost use Rattle.binfarce_tools.specs.Parts.{format_parts, parts_in};
 ghost use Rattle.binfarce_bytes.specs.Selection.{section_of};
 ghost use Rattle.binfarce_tools.specs.declared.list.ListError.TheVariants.{Write};
-ghost use Rattle.binfarce_tools.specs.Tables.{AcceptsTables, AreTablesOf, ReadsTables, may_be_refused, section_names, shares_addresses_of};
+ghost use Rattle.binfarce_tools.specs.Tables.{AcceptsTables, AreTablesOf, ReadsTables, may_be_refused, section_names, shares_addresses_of, version_names_of};
 
 use crate::functions::{Selected, listed, of_elf, section_functions, section_lent};
 use crate::list::ListError;
@@ -22,7 +23,7 @@ use binfarce::{Format, ParseError, SectionFunction, SymbolTable};
 pub use binfarce_bytes::functions::Selection;
 use binfarce_bytes::source::Source;
 use binfarce_tables::format::read_format;
-use binfarce_tables::{ReadError, Width, elf, macho, pe};
+use binfarce_tables::{ReadError, VersionNames, Width, elf, macho, pe};
 use std::alloc::Global;
 
 /// The tables of a file for the function symbols of a selection: those that were read, a whole file in memory, or what
@@ -42,10 +43,11 @@ pub enum Tables<'a> {
         file: &'a [u8],
         section: &'a str,
     },
-    /// The function symbols of a section, which were made before, and its size.
+    /// The function symbols of a section, which were made before, its size, and the names of their versions.
     Made {
         functions: Vec<SectionFunction<'a>>,
         size: u64,
+        versions: VersionNames<'a>,
     },
 }
 
@@ -103,7 +105,11 @@ impl<'a> Tables<'a> {
             Tables::Pe(parts) => Ok(listed(parts.functions(alloc)?, parts.section_size())),
             Tables::Unknown => Err(ListError::Unknown),
             Tables::Whole { file, section } => section_functions(alloc, file, section),
-            Tables::Made { functions, size } => Ok(section_lent(functions, *size)),
+            Tables::Made {
+                functions,
+                size,
+                ..
+            } => Ok(section_lent(functions, *size)),
         }
     }
 
@@ -127,6 +133,31 @@ impl<'a> Tables<'a> {
             Tables::Macho(parts) => parts.section_name(number),
             Tables::Pe(parts) => parts.section_name(number),
             _ => None,
+        }
+    }
+
+    /// The names of the versions that the function symbols have: those that an ELF file defines for its dynamic symbols.
+    /// They borrow the tables.
+    pub fn version_names(&self) -> VersionNames<'_>
+        ensures read { (version : ℕ) → version_names result version ≡ version_names_of self.entry.now version }
+        ensures file { (which : SymbolTable) (file : List ℕ) (section : Option (List ℕ)) (selected : SelectedSymbols)
+            → AreTablesOf which file section self.entry.now
+            → selected_answer which section file ≡ Some (Ok selected)
+            → (version : ℕ) → version_names result version ≡ selected.version_name version }
+    {
+        self.versions_read()
+    }
+
+    fn versions_read(&self) -> VersionNames<'_>
+        ensures { (version : ℕ) → version_names result version ≡ version_names_of self.entry.now version }
+    {
+        match self {
+            Tables::Elf(parts) => parts.version_names(),
+            Tables::Made { versions, .. } => *versions,
+            _ => VersionNames {
+                offsets: &[],
+                strings: &[],
+            },
         }
     }
 
@@ -154,7 +185,8 @@ impl<'a> Tables<'a> {
 
 /// Reads the tables of a file for the function symbols of a selection, by this symbol table: its first 8 bytes, which
 /// name its format, and the parts that `binfarce_tables` reads of a file of that format. Of a file of an unknown format
-/// no other byte is read. Each part that is kept takes no more memory than the file has bytes of it.
+/// no other byte is read. Each part that is kept takes no more memory than the file has bytes of it; of the versions of
+/// dynamic symbols the offsets of names are kept, at most 32,768.
 ///
 /// # Errors
 ///

@@ -7,6 +7,8 @@ use Rattle.binfarce_bytes.specs.Field.{Field, field}
 use Rattle.binfarce_elf.specs.declared.class.SymbolRow.{SymbolRow}
 use Rattle.binfarce_elf.specs.declared.sections.Table.{Table}
 use Rattle.binfarce_elf.specs.declared.symbols.Rows.{Rows}
+use Rattle.binfarce_elf.specs.declared.versions.Definition as code
+use Rattle.binfarce_elf.specs.Versions.{Definition}
 use Rattle.binfarce_elf.specs.Elf as elf
 use Rattle.binfarce_elf.specs.Elf.{ElfClass, Header, SectionHeader, SectionTable, section_of, whole_headers, walk}
 use Rattle.binfarce_elf.specs.ElfSymbols as symbols
@@ -50,6 +52,10 @@ symbol_view r = record { name = r.name; value = r.value; size = r.size; info = r
 
 abbrev pub table_view : Table → SectionTable
 table_view t = record { order = t.byte_order; file = t.data.now; shoff = t.shoff; shnum = t.shnum; shstrndx = t.shstrndx }
+
+-- a `Definition`
+abbrev pub definition_view : code.Definition → Definition
+definition_view d = record { index = d.index; name = d.name; next = d.next }
 
 -- how many sections there are
 abbrev pub section_count : ElfClass → SectionTable → ℕ

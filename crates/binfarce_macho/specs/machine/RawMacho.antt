@@ -111,4 +111,4 @@ IsInside section names r = (r.index < names) × (section.address ≤ r.address) 
 -- the entry of a row whose name has its number, in a section with this number and these kept rows
 abbrev pub function_in : Extent → ℕ → List (List ℕ) → List RowAddress → RowAddress → SectionEntry
 function_in section number names kept_rows r =
-    record { section = number; entry = record { name = get_or names r.row []; address = r.address; size = size_in section (addresses_of kept_rows) r.address } }
+    record { section = number; info = 0; version = 0; entry = record { name = get_or names r.row []; address = r.address; size = size_in section (addresses_of kept_rows) r.address } }

@@ -76,5 +76,5 @@ bound_of (all_sections base sections) index = memory_size sections index
 -- the entry of a row whose name has its number, in the section of this index, by the addresses that end sizes; none of a row without a name
 abbrev pub function_in : Rules → ℕ → List (Option (List ℕ)) → List ℕ → RowAddress → Option SectionEntry
 function_in rules index names addresses r =
-    option_map (λ name. record { section = index + 1; entry = record { name = name; address = rules.address index r.address; size = (rules.section index).size addresses r.address } })
+    option_map (λ name. record { section = index + 1; info = 0; version = 0; entry = record { name = name; address = rules.address index r.address; size = (rules.section index).size addresses r.address } })
     (get_or names r.row None)

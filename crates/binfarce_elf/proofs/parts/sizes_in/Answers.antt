@@ -1,6 +1,6 @@
-use Rattle.std.proofs.Common.{List, ℕ, Vec, Global, ap, sym, subst, ◌∙◌}
+use Rattle.std.proofs.Common.{ℕ, Vec, Global, ap, sym, subst, ◌∙◌}
 use Rattle.binfarce_elf.specs.Classes.{class_of}
-use Rattle.binfarce_elf.specs.Elf.{ElfClass, SectionTable, walk}
+use Rattle.binfarce_elf.specs.Elf.{walk}
 use Rattle.binfarce_elf.specs.ElfParts.{headers_alone}
 use Rattle.binfarce_elf.specs.ElfSymbols.{TableRows, ends_of}
 use Rattle.binfarce_elf.specs.ElfViews.{kind_view, taken_view}
@@ -12,7 +12,7 @@ use Rattle.binfarce_elf.proofs.parts.sizes_in.Goals as goal
 use Rattle.binfarce_elf.proofs.parts.sizes_in.Goals.{in-Bits32+in_ok-keys-in-Bits32, in-Bits64+in_ok-keys-in-Bits64}
 
 pub returns : goal.returns
-returns c =
+returns c = λ versions.
     let class = class_of c.args.width in
     let order = c.args.place.byte_order in
     let kind = kind_view c.args.place.kind in
@@ -30,4 +30,4 @@ returns c =
           let there = subst (λ (width : Width). AreKeysOf (ends_of (class_of width) order (walk (class_of width) alone) kind found) w.in_ok-keys-in-Bits64.keys.items) (sym w.in-Bits64.is) are in
           subst (AreKeysOf ends) (sym (c.deref.ensures.value ∙ ap (λ (v : Vec ℕ Global). v.items) w.keys-is)) there
     ] in
-    sizes_all class order (walk class alone) kind (taken_view c.args.taken) found (λ (v : Vec ℕ Global). v.items) c.sizes_of.result c.has_modes.result c.has_modes.ensures (c.sizes_of.ensures ends keys)
+    sizes_all class order (walk class alone) kind (taken_view c.args.taken) found versions (λ (v : Vec ℕ Global). v.items) c.sizes_of.result c.has_modes.result c.has_modes.ensures (c.sizes_of.ensures ends keys)

@@ -6,7 +6,7 @@ use Rattle.binfarce_bytes.specs.SymbolViews.{section_function_view}
 use Rattle.binfarce_elf.specs.Classes.{class_of}
 use Rattle.binfarce_elf.specs.Elf.{ElfClass, walk}
 use Rattle.binfarce_elf.specs.ElfParts.{needed_view}
-use Rattle.binfarce_elf.specs.ElfSymbols.{Selected, ends_of, kind_of, needed, rows_at}
+use Rattle.binfarce_elf.specs.ElfSymbols.{Selected, ends_of, kind_of, needed, rows_at, taken_from}
 use Rattle.binfarce_elf.specs.ElfViews.{HoldsAllFunctions, kind_view}
 use Rattle.binfarce_elf.specs.machine.RawElf.{AreKeysOf, table_view, rows_view}
 use Rattle.binfarce_elf.proofs.Selecting.{selected_is, listed_is}
@@ -23,6 +23,7 @@ returns g c =
     let also = ap (λ (k : ElfClass). rows_at k t.file n.table) (sym c.width.ensures) ∙ c.in_ok-found.ensures in
     let ends = ends_of class t.order (walk class t) kind found in
     let keys = subst (AreKeysOf ends) (sym c.deref.ensures.value) c.in_ok-keys.ensures in
-    let listed = listed_is class (class_of c.width-width.result) t.order (walk class t) (kind_of class t) kind c.has_modes-has_modes.result n.taken found
+    let listed = listed_is class (class_of c.width-width.result) t.order (walk class t) (kind_of class t) kind c.has_modes-has_modes.result n.taken found c.row_versions.result.now
     (map section_function_view c.in_ok-functions.functions.items) c.width-width.ensures c.requires c.has_modes-has_modes.ensures (c.in_ok-functions.ensures ends keys) in
-    subst (λ (a : Result Selected Refusal). Answers HoldsAllFunctions IsOk a (Ok c.in_ok-functions.functions)) (sym (selected_is c.args.which class t None n found is also)) listed
+    let with_versions = subst (λ (versions : List ℕ). map section_function_view c.in_ok-functions.functions.items ≡ taken_from class t.order (walk class t) (kind_of class t) n.taken found versions) c.row_versions.ensures listed in
+    subst (λ (a : Result Selected Refusal). Answers HoldsAllFunctions IsOk a (Ok c.in_ok-functions.functions)) (sym (selected_is c.args.which class t None n found is also)) with_versions

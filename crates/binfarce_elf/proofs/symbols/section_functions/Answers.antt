@@ -1,8 +1,8 @@
-use Rattle.std.proofs.Common.{◌≡◌, ◌∙◌, ap, sym, Some, Ok, List, [], Option, ℕ, false}
+use Rattle.std.proofs.Common.{◌∙◌, ap, ap₂, sym, Some, Ok, List, [], Option, ℕ, false}
 use Rattle.binfarce_bytes.specs.SectionEntries.{SectionEntry}
 use Rattle.binfarce_elf.specs.Elf.{ElfClass, walk, names_bytes}
 use Rattle.binfarce_elf.specs.ElfParts.{needed_view}
-use Rattle.binfarce_elf.specs.ElfSymbols.{kind_of, needed, rows_at}
+use Rattle.binfarce_elf.specs.ElfSymbols.{kind_of, needed, rows_at, selected_from}
 use Rattle.binfarce_elf.specs.ElfViews.{functions_left, sized_from}
 use Rattle.binfarce_elf.specs.machine.RawElf.{table_view, rows_view}
 use Rattle.binfarce_elf.proofs.Selecting.{selected_is, one_section}
@@ -18,7 +18,9 @@ returns g c =
     let is = ap (λ (names : Option (List ℕ)). needed c.args.which (walk class t) names t.shnum (Some c.args.name.now)) (sym c.names_bytes.ensures) ∙ c.in_ok-needed.ensures in
     let also = ap (λ (k : ElfClass). rows_at k t.file n.table) (sym c.width.ensures) ∙ c.in_ok-strings.ensures in
     let one = one_section c.args.which (walk class t) (names_bytes class t) t.shnum c.args.name.now n is in
-    let of_class = ap (λ (k : ElfClass). sized_from k t.order n.taken false found [] 0) c.width-2.ensures in
+    let versions = c.row_versions.result.now in
+    let of_class = ap (λ (k : ElfClass). sized_from k t.order n.taken false found versions [] 0) c.width-2.ensures in
     selected_is c.args.which class t (Some c.args.name.now) n found is also
-    ∙ ap (λ (entries : List SectionEntry). Ok (record { entries = entries; size = n.taken.size })) (sym (one_taken class t.order (walk class t) (kind_of class t) n.taken found [] false one) ∙ sym of_class ∙ sym c.functions_in.ensures.entries)
-    ∙ ap (λ (size : Option ℕ). Ok (record { entries = functions_left c.functions_in.result; size = size })) (sym c.functions_in.ensures.size)
+    ∙ ap (λ (versions : List ℕ). Ok (selected_from class t.order (walk class t) (kind_of class t) n.taken found versions)) (sym c.row_versions.ensures)
+    ∙ ap (λ (entries : List SectionEntry). Ok (record { entries = entries; size = n.taken.size; strings = found.strings })) (sym (one_taken class t.order (walk class t) (kind_of class t) n.taken found versions [] false one) ∙ sym of_class ∙ sym c.functions_in.ensures.entries)
+    ∙ ap₂ (λ (size : Option ℕ) (strings : List ℕ). Ok (record { entries = functions_left c.functions_in.result; size = size; strings = strings })) (sym c.functions_in.ensures.size) (sym c.functions_in.ensures.strings)

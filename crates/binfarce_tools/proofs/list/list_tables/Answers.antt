@@ -14,5 +14,5 @@ pub returns-clause-takes : goal.returns-clause-takes
 returns-clause-takes g c = λ which file section are.
     takes IsListingOf HoldsLeft (MemoryIn file section) (selected_answer which section file) c.in_ok-selected.selected c.as_bytes.result.now _ _ c.write_whole.result
     (c.in_ok-selected.ensures.gets which file section are)
-    (λ seen answer held. as_answered which file section (λ s. IsListingOf s c.as_bytes.result.now) c.args.tables.now c.in_ok-selected.selected seen are answer held (λ entries size names other shares is. is)
+    (λ seen answer held. as_answered which file section (λ s. IsListingOf s c.as_bytes.result.now) c.args.tables.now c.in_ok-selected.selected seen are answer held (λ entries size names other shares versions is. is)
     (subst (IsListingOf (given_by c.args.tables.now c.in_ok-selected.selected)) (sym c.as_bytes.ensures.value) c.in_ok-text.ensures)) c.write_whole.ensures.takes

@@ -64,4 +64,4 @@ returns-in-Whole-clause-gets c = λ which file section are.
 pub returns-in-Made-clause-gets : goal.returns-in-Made-clause-gets
 returns-in-Made-clause-gets c = λ which file section are.
     let is = subst (λ (t : Tables). AreTablesOf which file section t) c.in-Made.is are in
-    of_made which file section c.in-Made.functions c.in-Made.size c.section_lent.result is (c.section_lent.ensures.functions ∙ ap (map section_function_view) c.deref.ensures.value) c.section_lent.ensures.size
+    of_made which file section c.in-Made.functions c.in-Made.size c.in-Made.versions c.section_lent.result is (c.section_lent.ensures.functions ∙ ap (map section_function_view) c.deref.ensures.value) c.section_lent.ensures.size

@@ -1,10 +1,11 @@
 -- The lines of addresses, one after the other.
-use Rattle.std.proofs.Common.{◌≡◌, inl, inr, ℕ, ◌+◌, ◌-◌, Bool, false, ◌<◌, List, [], ◌∷◌, ◌++◌, length, get_or, take, Option, Some, None, Result, Ok, Err, refl, sym, ap, subst, ◌∙◌, append-nil, append_assoc}
+use Rattle.std.proofs.Common.{◌≡◌, inl, inr, ℕ, ◌+◌, Bool, false, ◌<◌, List, [], ◌∷◌, ◌++◌, length, get_or, take, Option, Some, None, Result, Ok, Err, refl, sym, ap, subst, ◌∙◌, append-nil, append_assoc}
 use Rattle.std.specs.List.{AllZip, concat}
 use Rattle.std.proofs.lemmas.List.{map-append, take_more}
-use Rattle.std.specs.Option.{option_map}
-use Rattle.binfarce_addresses.specs.Counts.{AreCountsOf, answers_at, answers_to, is_held}
+use Rattle.binfarce_addresses.specs.Counts.{AreCountsOf, answers_at, answers_to, is_held, reply_to}
 use Rattle.binfarce_addresses.specs.declared.counts.Counts.{Counts}
+use Rattle.binfarce_addresses.specs.declared.counts.Reply.{Reply}
+use Rattle.binfarce_addresses.specs.declared.counts.Reply.TheVariants.{Held}
 use Rattle.binfarce_addresses.specs.machine.Counting.{AddsUp}
 use Rattle.binfarce_addresses.proofs.Counting.{adds_both}
 use Rattle.std.proofs.lemmas.List.Folds.{concat-append}
@@ -18,14 +19,13 @@ use Rattle.binfarce_tools.specs.Json as json
 use Rattle.binfarce_tools.specs.Listing.{address_text, ListingFits}
 use Rattle.binfarce.specs.SectionEntries.{SelectedSymbols}
 use Rattle.binfarce.specs.Symbol.{Entry}
-use Rattle.binfarce_tools.specs.Answer.{entries_of}
 use Rattle.binfarce_tools.specs.declared.list.ListError.{ListError}
 use Rattle.binfarce_tools.specs.declared.list.ListError.TheVariants.{Unknown, Parse, OutOfMemory, Write}
 use Rattle.binfarce_tools.specs.ListWords as list
 use Rattle.binfarce_tools.specs.ListWords.{Writes}
 use Rattle.binfarce_tools.specs.Writing.{Outcome, EndsAs, Takes}
 use Rattle.binfarce_tools.proofs.Lines.{nothing, takes}
-use Rattle.binfarce_addresses.specs.Lookup.{found_at}
+use Rattle.binfarce_addresses.specs.Lookup.{found_at, places_in}
 use Rattle.binfarce_addresses.specs.declared.lookup.Lookup.{Lookup}
 use Rattle.binfarce_addresses.specs.Lines.{IsTextOf, address_line, IsLineAt, IsLineIn, AreLinesOf, AreLinesAt, outcome_of}
 use Rattle.binfarce_addresses.specs.PlacesViews.{IsMadeOf}
@@ -49,20 +49,20 @@ one_line entries lookup addresses i line text new lt are is grown =
     (are.0 ++ line ∷ [], all_zip_both (IsLineAt entries lookup) (take i addresses) (get_or addresses i 0 ∷ []) are.0 (line ∷ []) are.1 (is, tt), grown ∙ ap (λ (xs : List ℕ). xs ++ line) are.2 ∙ sym (concat_push are.0 line))
 
 -- one address more is counted
-pub one_counted : (entries : List Entry) (lookup : Lookup) (addresses : List ℕ) (i : ℕ) (held : Bool) (old new : Counts) → i < length addresses → AreCountsOf (answers_at entries lookup (take i addresses)) old → held ≡ is_held entries lookup (get_or addresses i 0) → AddsUp old new (Some held ∷ [])
+pub one_counted : (entries : List Entry) (lookup : Lookup) (addresses : List ℕ) (i : ℕ) (held : Bool) (old new : Counts) → i < length addresses → AreCountsOf (answers_at entries lookup (take i addresses)) old → held ≡ is_held entries lookup (get_or addresses i 0) → AddsUp old new (Held held ∷ [])
     → AreCountsOf (answers_at entries lookup (take (i + 1) addresses)) new
 one_counted entries lookup addresses i held old new lt are is adds =
-    let P : List (Option Bool) → Type 0 = λ xs. AreCountsOf xs new in
-    subst P (ap (λ (b : Bool). answers_at entries lookup (take i addresses) ++ Some b ∷ []) is ∙ sym (map-append (λ (a : ℕ). Some (is_held entries lookup a)) (take i addresses) (get_or addresses i 0 ∷ []))
+    let P : List Reply → Type 0 = λ xs. AreCountsOf xs new in
+    subst P (ap (λ (b : Bool). answers_at entries lookup (take i addresses) ++ Held b ∷ []) is ∙ sym (map-append (λ (a : ℕ). Held (is_held entries lookup a)) (take i addresses) (get_or addresses i 0 ∷ []))
     ∙ ap (answers_at entries lookup) (sym (take_more addresses i 0 lt))) (adds (answers_at entries lookup (take i addresses)) are)
 
 -- and one line more
-pub one_line_counted : (entries : List Entry) (lookup : Lookup) (addresses : List (Option ℕ)) (i : ℕ) (answer : Option Bool) (first old new : Counts) → i < length addresses → AddsUp first old (answers_to entries lookup (take i addresses))
-    → answer ≡ option_map (is_held entries lookup) (get_or addresses i None) → AddsUp old new (answer ∷ []) → AddsUp first new (answers_to entries lookup (take (i + 1) addresses))
-one_line_counted entries lookup addresses i answer first old new lt are is adds =
-    let P : List (Option Bool) → Type 0 = λ xs. AddsUp first new xs in
-    subst P (ap (λ (b : Option Bool). answers_to entries lookup (take i addresses) ++ b ∷ []) is ∙ sym (map-append (option_map (is_held entries lookup)) (take i addresses) (get_or addresses i None ∷ []))
-    ∙ ap (answers_to entries lookup) (sym (take_more addresses i None lt))) (adds_both first old new (answers_to entries lookup (take i addresses)) (answer ∷ []) are adds)
+pub one_line_counted : (entries : List Entry) (lookup : Lookup) (addresses : List (Option ℕ)) (i : ℕ) (reply : Reply) (first old new : Counts) → i < length addresses → AddsUp first old (answers_to entries lookup (take i addresses))
+    → reply ≡ reply_to entries lookup (get_or addresses i None) → AddsUp old new (reply ∷ []) → AddsUp first new (answers_to entries lookup (take (i + 1) addresses))
+one_line_counted entries lookup addresses i reply first old new lt are is adds =
+    let P : List Reply → Type 0 = λ xs. AddsUp first new xs in
+    subst P (ap (λ (b : Reply). answers_to entries lookup (take i addresses) ++ b ∷ []) is ∙ sym (map-append (reply_to entries lookup) (take i addresses) (get_or addresses i None ∷ []))
+    ∙ ap (answers_to entries lookup) (sym (take_more addresses i None lt))) (adds_both first old new (answers_to entries lookup (take i addresses)) (reply ∷ []) are adds)
 
 -- the answers of lines follow a text
 abbrev pub AreBehind : List Entry → Lookup → List (Option ℕ) → List ℕ → List ℕ → Type 0
@@ -101,7 +101,7 @@ pub err_takes : (lookup : Lookup) (addresses : List ℕ) (listed : SelectedSymbo
 err_takes lookup addresses listed text old new e (Ok x) are wrote is = absurd is
 err_takes lookup addresses listed text old new e (Err x) are wrote is =
     let P : ListError → Type 0 = λ e. Takes (AreLinesAt lookup addresses) (Some (Ok listed)) old new (outcome_of (Err e)) in
-    subst P (sym is) (takes (AreLinesAt lookup addresses) (λ (l : SelectedSymbols) (entries : List Entry). entries ≡ entries_of l) (λ _. ⊥) (Some (Ok listed)) (entries_of listed) text old new (Err e) refl
+    subst P (sym is) (takes (AreLinesAt lookup addresses) (λ (l : SelectedSymbols) (entries : List Entry). entries ≡ places_in l) (λ _. ⊥) (Some (Ok listed)) (places_in listed) text old new (Err e) refl
     (λ all answer same. let P : SelectedSymbols → Type 0 = λ l. AreLinesAt lookup addresses l text in all_of listed all answer P are) wrote)
   where
     all_of : (listed all : SelectedSymbols) → Path (Option (Result SelectedSymbols Refusal)) (Some (Ok listed)) (Some (Ok all)) → (P : SelectedSymbols → Type 0) → P listed → P all
@@ -129,27 +129,27 @@ no_memory memory listed (Err e) is =
 
 -- the end, and what is taken of the lines, are those of the answer that the places are made of
 pub ends_of : (memory : Result SelectedSymbols Refusal → Type 0) (answer : Option (Result SelectedSymbols Refusal)) (entries : List Entry) (o : Outcome) → IsMadeOf memory answer (Ok entries)
-    → ((listed : SelectedSymbols) → entries ≡ entries_of listed → EndsAs ListingFits (λ _. ⊥) (Some (Ok listed)) o) → EndsAs ListingFits memory answer o
+    → ((listed : SelectedSymbols) → entries ≡ places_in listed → EndsAs ListingFits (λ _. ⊥) (Some (Ok listed)) o) → EndsAs ListingFits memory answer o
 ends_of memory None entries o made ends = absurd made
 ends_of memory (Some (Err refusal)) entries o made ends = absurd made
 ends_of memory (Some (Ok listed)) entries o made ends = ends listed made
 
 pub takes_of : (memory : Result SelectedSymbols Refusal → Type 0) (answer : Option (Result SelectedSymbols Refusal)) (entries : List Entry) (lookup : Lookup) (addresses : List ℕ) (old new : Option (List ℕ)) (o : Outcome) → IsMadeOf memory answer (Ok entries)
-    → ((listed : SelectedSymbols) → entries ≡ entries_of listed → Takes (AreLinesAt lookup addresses) (Some (Ok listed)) old new o) → Takes (AreLinesAt lookup addresses) answer old new o
+    → ((listed : SelectedSymbols) → entries ≡ places_in listed → Takes (AreLinesAt lookup addresses) (Some (Ok listed)) old new o) → Takes (AreLinesAt lookup addresses) answer old new o
 takes_of memory None entries lookup addresses old new o made takes = absurd made
 takes_of memory (Some (Err refusal)) entries lookup addresses old new o made takes = absurd made
 takes_of memory (Some (Ok listed)) entries lookup addresses old new o made takes = takes listed made
 
 -- so are the counts
 pub counts_of : (memory : Result SelectedSymbols Refusal → Type 0) (answer : Option (Result SelectedSymbols Refusal)) (entries : List Entry) (listed : SelectedSymbols) (lookup : Lookup) (addresses : List ℕ) (counts : Counts) → IsMadeOf memory answer (Ok entries) → answer ≡ Some (Ok listed)
-    → AreCountsOf (answers_at entries lookup addresses) counts → AreCountsOf (answers_at (entries_of listed) lookup addresses) counts
+    → AreCountsOf (answers_at entries lookup addresses) counts → AreCountsOf (answers_at (places_in listed) lookup addresses) counts
 counts_of memory answer entries listed lookup addresses counts made is are =
-    let same : entries ≡ entries_of listed = subst (λ (a : Option (Result SelectedSymbols Refusal)). IsMadeOf memory a (Ok entries)) is made in
+    let same : entries ≡ places_in listed = subst (λ (a : Option (Result SelectedSymbols Refusal)). IsMadeOf memory a (Ok entries)) is made in
     subst (λ (es : List Entry). AreCountsOf (answers_at es lookup addresses) counts) same are
 
 -- where it is answered
 pub if_counts_of : (memory : Result SelectedSymbols Refusal → Type 0) (answer : Option (Result SelectedSymbols Refusal)) (entries : List Entry) (listed : SelectedSymbols) (lookup : Lookup) (addresses : List ℕ) (result : Result Counts ListError) → IsMadeOf memory answer (Ok entries) → answer ≡ Some (Ok listed)
-    → IfOk result (AreCountsOf (answers_at entries lookup addresses)) → IfOk result (AreCountsOf (answers_at (entries_of listed) lookup addresses))
+    → IfOk result (AreCountsOf (answers_at entries lookup addresses)) → IfOk result (AreCountsOf (answers_at (places_in listed) lookup addresses))
 if_counts_of memory answer entries listed lookup addresses (Ok counts) made is are = counts_of memory answer entries listed lookup addresses counts made is are
 if_counts_of memory answer entries listed lookup addresses (Err e) made is are = tt
 

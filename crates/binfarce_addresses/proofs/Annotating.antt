@@ -1,6 +1,6 @@
 -- A text in which addresses are annotated, one step after the other.
-use Rattle.std.proofs.Common.{◌≡◌, ◌⊎◌, inl, inr, false, true, Bool, ℕ, zero, suc, ◌+◌, ◌-◌, ◌<◌, ◌≤◌, List, [], ◌∷◌, ◌++◌, length, map, take, drop, get_or, min, Option, Some, None, refl, sym, ◌∙◌, ap, subst, append_assoc, append-nil, arith, length-append, length-drop, length-take}
-use Rattle.std.specs.Prelude.{codes, flat_map}
+use Rattle.std.proofs.Common.{◌≡◌, inl, inr, false, true, Bool, ℕ, zero, suc, ◌+◌, ◌-◌, ◌<◌, ◌≤◌, List, [], ◌∷◌, ◌++◌, length, map, take, drop, get_or, min, Option, Some, None, refl, sym, ◌∙◌, ap, subst, append_assoc, append-nil, arith, length-drop}
+use Rattle.std.specs.Prelude.{codes, Result, Ok, Err}
 use Rattle.std.specs.Fmt.{digits}
 use Rattle.std.proofs.Math.Seq.{take-add}
 use Rattle.std.proofs.lemmas.Bool.{cases_lt}
@@ -8,14 +8,15 @@ use Rattle.std.proofs.lemmas.Grind.{flat_map-append}
 use Rattle.std.proofs.lemmas.List.{drop-append-le, drop-drop, length-take-le, take-append-drop, take-append-le}
 use Rattle.binfarce.specs.Symbol.{Entry}
 use Rattle.binfarce_addresses.specs.Address.{address_of}
-use Rattle.binfarce_addresses.specs.Annotated.{ArePiecesAfter, File, IsAddedFor, IsAnnotated, IsCounted, IsPieceFor, IsPieceOf, IsPrefixOf, Piece, answers_for, answers_of, found_by, other, text_of}
+use Rattle.binfarce_addresses.specs.Annotated.{ArePiecesAfter, File, IsCounted, IsPieceFor, IsPieceOf, IsPrefixOf, Piece, answers_of, found_by, other, text_of}
 use Rattle.binfarce_addresses.specs.Annotated.ArePiecesAfter.{nothing, other_then, address_then}
 use Rattle.binfarce_addresses.specs.Counts.{AreCountsOf}
 use Rattle.binfarce_addresses.specs.Word.{address_len}
 use Rattle.binfarce_addresses.specs.declared.annotate.Annotating.{Annotating}
-use Rattle.binfarce_addresses.specs.declared.annotate.Files.{Files}
 use Rattle.binfarce_addresses.specs.declared.counts.Counts.{Counts}
-use Rattle.binfarce_addresses.specs.machine.Annotating.{Annotates, Grows, HasMade, HasShown, Holds, IsAtFile, IsEnough, IsFoundBy, IsFoundHere, IsSame, Leaves, LeavesAt, Shows, ShowsFirst, ShowsTo, reach}
+use Rattle.binfarce_addresses.specs.declared.counts.Reply.{Reply}
+use Rattle.binfarce_addresses.specs.declared.counts.Reply.TheVariants.{Held}
+use Rattle.binfarce_addresses.specs.machine.Annotating.{Annotates, Grows, HasMade, HasShown, Holds, IsEnough, IsFoundBy, IsSame, Leaves, LeavesAt, ShowsFirst, ShowsTo, reach}
 use Rattle.binfarce_addresses.specs.machine.Counting.{AddsUp}
 use Rattle.binfarce_addresses.specs.machine.Places.{IsNamedAt}
 use Rattle.binfarce_addresses.specs.machine.Words.{IsDecided, may_begin}
@@ -105,7 +106,7 @@ shows_address files bare before text piece len old new counts after is some le o
       let word = take-append-le len text more le in
       let step : P len = subst P this (address_then all (text ++ more) piece pieces) in
       let here : IsPieceOf files all (take len text) piece =
-      subst (λ (x : Option (Option (Entry × ℕ))). IsPieceFor x (take len text) piece) (sym (by_more files front before (address_of (take len text)) enough)) of in
+      subst (λ (x : Result (Option (Entry × ℕ)) Reply). IsPieceFor x (take len text) piece) (sym (by_more files front before (address_of (take len text)) enough)) of in
       step some (subst (λ (x : List ℕ). IsPieceOf files all x piece) (sym word) here)
       (same_pieces files bare _ _ _ _ _ _ (ap (λ (x : List ℕ). all ++ x) (sym word)) (sym (drop-append-le len text more le)) refl rest),
   (
@@ -114,38 +115,38 @@ shows_address files bare before text piece len old new counts after is some le o
   ),
 )
 
--- nothing is asked for
-pub piece_unasked : (files : List File) (before word : List ℕ) (old new : List ℕ) (counts after : Counts) → IsFoundBy files (found_by files before (address_of word)) None → new ≡ old ++ word → AddsUp counts after (None ∷ [])
+-- this is replied without a search
+pub piece_replied : (files : List File) (before word : List ℕ) (old new : List ℕ) (counts after : Counts) (reply : Reply) → IsFoundBy files (found_by files before (address_of word)) (Err reply) → new ≡ old ++ word → AddsUp counts after (reply ∷ [])
     → (piece : Piece) × IsPieceOf files before word piece × (new ≡ old ++ piece.0) × AddsUp counts after piece.1
-piece_unasked files before word old new counts after none is adds =
-    let answers : List (Option Bool) = None ∷ [] in
-    let P : Option (Option (Entry × ℕ)) → Type 0 = λ f. IsPieceFor f word (word, answers) in
-    ((word, answers), subst P (sym none) ([], refl, sym (append-nil word), refl), is, adds)
+piece_replied files before word old new counts after reply none is adds =
+    let replies : List Reply = reply ∷ [] in
+    let P : Result (Option (Entry × ℕ)) Reply → Type 0 = λ f. IsPieceFor f word (word, replies) in
+    ((word, replies), subst P (sym none) ([], refl, sym (append-nil word), refl), is, adds)
 
 -- what is asked for isn't found
-pub piece_unfound : (files : List File) (before word : List ℕ) (old new : List ℕ) (counts after : Counts) → IsFoundBy files (found_by files before (address_of word)) (Some None) → new ≡ old ++ word → AddsUp counts after (Some false ∷ [])
+pub piece_unfound : (files : List File) (before word : List ℕ) (old new : List ℕ) (counts after : Counts) → IsFoundBy files (found_by files before (address_of word)) (Ok None) → new ≡ old ++ word → AddsUp counts after (Held false ∷ [])
     → (piece : Piece) × IsPieceOf files before word piece × (new ≡ old ++ piece.0) × AddsUp counts after piece.1
 piece_unfound files before word old new counts after (found, by, none) is adds =
-    let answers : List (Option Bool) = Some false ∷ [] in
-    let P : Option (Option (Entry × ℕ)) → Type 0 = λ f. IsPieceFor f word (word, answers) in
-    ((word, answers), subst P (sym (by ∙ ap Some none)) ([], refl, sym (append-nil word), refl), is, adds)
+    let replies : List Reply = Held false ∷ [] in
+    let P : Result (Option (Entry × ℕ)) Reply → Type 0 = λ f. IsPieceFor f word (word, replies) in
+    ((word, replies), subst P (sym (by ∙ ap Ok none)) ([], refl, sym (append-nil word), refl), is, adds)
 
 regroup : (o w l n p d e : List ℕ) → (((o ++ w) ++ l) ++ n) ++ (p ++ (d ++ e)) ≡ o ++ (w ++ (l ++ ((n ++ (p ++ d)) ++ e)))
 regroup o w l n p d e = simp append_assoc
 
 -- and what is
-pub piece_found : (files : List File) (before word : List ℕ) (at place offset : ℕ) (own d : File) (name old mid angle named new : List ℕ) (counts after : Counts) → IsFoundBy files (found_by files before (address_of word)) (Some (Some (at, (place, offset)))) → own ≡ get_or files at d
-    → IsNamedAt own.0 place name → mid ≡ old ++ word → angle ≡ mid ++ codes " <" → named ≡ angle ++ name → new ≡ named ++ (codes "+0x" ++ (digits 16 false offset ++ codes ">")) → AddsUp counts after (Some true ∷ [])
+pub piece_found : (files : List File) (before word : List ℕ) (at place offset : ℕ) (own d : File) (name old mid angle named new : List ℕ) (counts after : Counts) → IsFoundBy files (found_by files before (address_of word)) (Ok (Some (at, (place, offset)))) → own ≡ get_or files at d
+    → IsNamedAt own.0 place name → mid ≡ old ++ word → angle ≡ mid ++ codes " <" → named ≡ angle ++ name → new ≡ named ++ (codes "+0x" ++ (digits 16 false offset ++ codes ">")) → AddsUp counts after (Held true ∷ [])
     → (piece : Piece) × IsPieceOf files before word piece × (new ≡ old ++ piece.0) × AddsUp counts after piece.1
 piece_found files before word at place offset own d name old mid angle named new counts after (found, by, (entry, is, (within, there))) value names first second third fourth adds =
     let shown = subst (λ (f : File). IsNamedAt f.0 place name) value names entry (there d) in
     let number = digits 16 false offset in
     let text : List ℕ = name ++ (codes "+0x" ++ number) in
     let added : List ℕ = codes " <" ++ (text ++ codes ">") in
-    let answers : List (Option Bool) = Some true ∷ [] in
-    let P : Option (Option (Entry × ℕ)) → Type 0 = λ f. IsPieceFor f word (word ++ added, answers) in (
-      (word ++ added, answers),
-      subst P (sym (by ∙ ap Some is)) (added, (text, (shown.0, shown.1, ap (λ (n : List ℕ). n ++ (codes "+0x" ++ number)) shown.2), refl), refl, refl),
+    let replies : List Reply = Held true ∷ [] in
+    let P : Result (Option (Entry × ℕ)) Reply → Type 0 = λ f. IsPieceFor f word (word ++ added, replies) in (
+      (word ++ added, replies),
+      subst P (sym (by ∙ ap Ok is)) (added, (text, (shown.0, shown.1, ap (λ (n : List ℕ). n ++ (codes "+0x" ++ number)) shown.2), refl), refl, refl),
       fourth ∙ ap (λ (x : List ℕ). x ++ (codes "+0x" ++ (number ++ codes ">"))) (third ∙ ap (λ (x : List ℕ). x ++ name) (second ∙ ap (λ (x : List ℕ). x ++ codes " <") first))
           ∙ regroup old word (codes " <") name (codes "+0x") number (codes ">"),
       adds,
@@ -262,7 +263,7 @@ makes_part files bare is_last text kept part bytes next made from at cut to show
   has.0 ++ shown,
   shows_part files bare is_last text kept part bytes next has.0 from at cut to shown same within le least less rest shows has.1,
   ap (λ (x : List ℕ). x ++ text_of shown) has.2 ∙ sym (text_both has.0 shown),
-  subst (λ (x : List (Option Bool)). AreCountsOf x after) (sym (answers_both has.0 shown)) (adds (answers_of has.0) has.3),
+  subst (λ (x : List Reply). AreCountsOf x after) (sym (answers_both has.0 shown)) (adds (answers_of has.0) has.3),
 )
 
 -- nothing is shown of no text

@@ -1,16 +1,16 @@
 -- The parts of a text, answered one after the other.
-use Rattle.std.proofs.Common.{◌≡◌, ◌≢◌, inl, inr, ◌⊎◌, false, true, Bool, ℕ, ◌+◌, List, [], ◌∷◌, ◌++◌, length, drop, get_or, Option, refl, sym, ◌∙◌, ap, subst, append_assoc, append-nil, arith}
-use Rattle.std.specs.Prelude.{◌==◌, is_none, cond}
+use Rattle.std.proofs.Common.{◌≡◌, ◌≢◌, inl, inr, ◌⊎◌, false, true, Bool, ℕ, List, [], ◌∷◌, ◌++◌, length, drop, get_or, Option, refl, sym, ◌∙◌, ap, subst, append_assoc, append-nil, arith}
+use Rattle.std.specs.Prelude.{◌==◌}
 use Rattle.std.specs.List.{AllZip, concat}
 use Rattle.std.proofs.lemmas.Bool.{eqb-true}
 use Rattle.std.proofs.lemmas.List.Elements.{All-append, All-head, All-tail}
 use Rattle.std.proofs.lemmas.List.Folds.{concat-append}
-use Rattle.std.specs.Option.{option_map}
 use Rattle.std.proofs.lemmas.List.{map-append}
 use Rattle.binfarce.specs.Symbol.{Entry}
 use Rattle.binfarce_addresses.specs.Answered.{AnswersOf}
-use Rattle.binfarce_addresses.specs.Counts.{AreCountsOf, answers_to, is_held}
+use Rattle.binfarce_addresses.specs.Counts.{AreCountsOf, answers_to, reply_to}
 use Rattle.binfarce_addresses.specs.declared.counts.Counts.{Counts}
+use Rattle.binfarce_addresses.specs.declared.counts.Reply.{Reply}
 use Rattle.binfarce_addresses.specs.machine.Counting.{AddsUp}
 use Rattle.binfarce_addresses.specs.Stream.{line_address, with_line_feeds, AnswersAll, AnswersSome, AnswersWhole, AreAnswersOf, Begins, HasNoLineFeed, IsAnswerOf, Writes}
 use Rattle.binfarce_addresses.specs.machine.Answering.{Answers, AnswersLines, AnswersPart, HasAnswered, Holds, IsDone, IsKeptOf, MayBreakOff}
@@ -24,7 +24,7 @@ use Rattle.binfarce_addresses.specs.declared.lookup.Lookup.{Lookup}
 counted_both : (entries : List Entry) (lookup : Lookup) (first second : List (Option ℕ)) (before after : Counts) → AreCountsOf (answers_to entries lookup first) before → AddsUp before after (answers_to entries lookup second)
     → AreCountsOf (answers_to entries lookup (first ++ second)) after
 counted_both entries lookup first second before after are adds =
-    subst (λ (x : List (Option Bool)). AreCountsOf x after) (sym (map-append (option_map (is_held entries lookup)) first second)) (adds (answers_to entries lookup first) are)
+    subst (λ (x : List Reply). AreCountsOf x after) (sym (map-append (reply_to entries lookup) first second)) (adds (answers_to entries lookup first) are)
 
 -- the answers of whole lines, counted from the first on
 pub answers_of_lines : (entries : List Entry) (lookup : Lookup) (s : List Entry × Lookup) (text old new : List ℕ) (begun after : Counts) (len : ℕ) → Path (List Entry × Lookup) s (entries, lookup) → AreCountsOf [] begun → AnswersLines s.0 s.1 text old new begun after len

@@ -1,13 +1,14 @@
 -- What comes before a text matters by its end alone.
-use Rattle.std.proofs.Common.{◌≡◌, ℕ, Bool, ◌+◌, ◌-◌, ◌<◌, ◌≤◌, List, [], ◌∷◌, ◌++◌, length, take, drop, get_or, refl, sym, ◌∙◌, ap, arith, length-append, length-take}
-use Rattle.std.specs.Prelude.{◌&&◌, ◌||◌, codes, nat_eq}
+use Rattle.std.proofs.Common.{◌≡◌, ℕ, Bool, ◌+◌, ◌-◌, ◌<◌, ◌≤◌, List, ◌++◌, length, take, drop, get_or, refl, ◌∙◌, ap, arith, length-append, length-drop, length-take, reverse}
+use Rattle.std.specs.Prelude.{◌&&◌, ◌||◌, codes, nat_eq, if◌then◌else◌}
 use Rattle.std.specs.Cmp.Lexicographic.{pointwise}
-use Rattle.std.specs.List.{ends_with}
+use Rattle.std.specs.List.{ends_with, position_or_len}
 use Rattle.std.proofs.Math.Seq.{drop-append-add, take-append-add}
 use Rattle.std.proofs.lemmas.List.{get_or-append-add}
 use Rattle.std.proofs.lemmas.Bool.Decides.{nat_tests}
-use Rattle.binfarce_addresses.specs.Module.{ends_with_mark, ends_with_name, ends_with_plus, may_begin_name, may_begin_path, names_module}
-use Rattle.binfarce_addresses.specs.Word.{address_len, bare_len}
+use Rattle.binfarce_addresses.specs.Module.{ends_with_mark, ends_with_name, ends_with_plus, may_begin_name, may_begin_path, name_len, names_module}
+use Rattle.binfarce_addresses.specs.Maps.{name_of}
+use Rattle.binfarce_addresses.specs.Word.{address_len}
 
 ends_more : (front text end : List ℕ) → length end ≤ length text → ends_with nat_eq (front ++ text) end ≡ ends_with nat_eq text end
 ends_more front text end le =
@@ -64,6 +65,13 @@ module_more name front text le =
     ap (λ a. P a (ends_with_mark name (codes "(+") (front ++ text)) (ends_with_mark name (codes " + ") (front ++ text))) one
     ∙ ap (λ b. P (ends_with_mark name (codes "+") text) b (ends_with_mark name (codes " + ") (front ++ text))) two
     ∙ ap (λ c. P (ends_with_mark name (codes "+") text) (ends_with_mark name (codes "(+") text) c) three
+
+pub name_len_more : (path front text : List ℕ) → length path + 5 ≤ length text → name_len path (front ++ text) ≡ name_len path text
+name_len_more path front text le =
+    let name = name_of path in
+    let short : length name ≤ length path = omega (arith, length-drop (length path - position_or_len (nat_eq 47) (reverse path)) path) in
+    let P : Bool → Bool → ℕ = λ a b. if a then length path else if b then length name else 0 in
+    ap (λ (a : Bool). P a (names_module name (front ++ text))) (module_more path front text le) ∙ ap (P (names_module path text)) (module_more name front text (omega (arith, le, short)))
 
 pub plus_more : (front text : List ℕ) → 2 ≤ length text → ends_with_plus (front ++ text) ≡ ends_with_plus text
 plus_more front text le = rw (ends_more front text (codes "+") (omega (arith, le)), ends_more front text (codes "+ ") le) refl

@@ -1,14 +1,15 @@
 -- Each text has exactly one annotated text.
-use Rattle.std.proofs.Common.{◌≡◌, ℕ, zero, suc, ◌+◌, ◌-◌, ◌<◌, ◌≤◌, Bool, true, false, List, [], ◌∷◌, ◌++◌, length, take, drop, get_or, codes, Option, Some, None, inl, inr, refl, sym, ◌∙◌, ap, subst, arith, length-drop}
+use Rattle.std.proofs.Common.{◌≡◌, ℕ, zero, suc, ◌<◌, ◌≤◌, Bool, true, false, List, [], ◌∷◌, ◌++◌, length, take, drop, get_or, codes, Option, Some, None, inl, inr, refl, sym, ◌∙◌, ap, subst, arith, length-drop}
 use Rattle.std.proofs.lemmas.Bool.{cases_lt}
-use Rattle.std.specs.Prelude.{unwrap_or}
+use Rattle.std.specs.Prelude.{Result, Ok, Err}
 use Rattle.std.specs.Fmt.{digits}
 use Rattle.binfarce.specs.Symbol.{Entry}
 use Rattle.binfarce_filtering.specs.Laws.{HasAnOutput, HasOneOutput}
 use Rattle.binfarce_filtering.proofs.Suffixed.{has_shown, one_shown}
 use Rattle.binfarce_addresses.specs.Address.{address_of}
-use Rattle.binfarce_addresses.specs.Annotated.{ArePiecesAfter, File, IsAddedFor, IsAnnotated, IsPieceFor, IsPieceOf, Piece, answers_for, found_by, other, text_of}
+use Rattle.binfarce_addresses.specs.Annotated.{ArePiecesAfter, File, IsAddedFor, IsAnnotated, IsPieceFor, IsPieceOf, Piece, found_by, other, reply_for, text_of}
 use Rattle.binfarce_addresses.specs.Annotated.ArePiecesAfter.{nothing, other_then, address_then}
+use Rattle.binfarce_addresses.specs.declared.counts.Reply.{Reply}
 use Rattle.binfarce_addresses.specs.Lines.{IsPlaceOf}
 use Rattle.binfarce_addresses.specs.Word.{address_len}
 
@@ -20,24 +21,26 @@ one_place entry offset first second is also =
     let number : List ℕ = codes "+0x" ++ digits 16 false offset in
     is.2 ∙ ap (λ (x : List ℕ). x ++ number) (one_shown entry.name is.0 also.0 is.1 also.1) ∙ sym also.2
 
-added_for : (found : Option (Entry × ℕ)) → (added : List ℕ) × IsAddedFor found added
-added_for None = ([], refl)
-added_for (Some (entry, offset)) = let at = place entry offset in (_, (at.0, at.1, refl))
+added_for : (found : Result (Option (Entry × ℕ)) Reply) → (added : List ℕ) × IsAddedFor found added
+added_for (Err reply) = ([], refl)
+added_for (Ok None) = ([], refl)
+added_for (Ok (Some (entry, offset))) = let at = place entry offset in (_, (at.0, at.1, refl))
 
-one_added_for : (found : Option (Entry × ℕ)) (first second : List ℕ) → IsAddedFor found first → IsAddedFor found second → first ≡ second
-one_added_for None first second is also = is ∙ sym also
-one_added_for (Some (entry, offset)) first second is also =
+one_added_for : (found : Result (Option (Entry × ℕ)) Reply) (first second : List ℕ) → IsAddedFor found first → IsAddedFor found second → first ≡ second
+one_added_for (Err reply) first second is also = is ∙ sym also
+one_added_for (Ok None) first second is also = is ∙ sym also
+one_added_for (Ok (Some (entry, offset))) first second is also =
     is.2 ∙ ap (λ (x : List ℕ). codes " <" ++ (x ++ codes ">")) (one_place entry offset is.0 also.0 is.1 also.1) ∙ sym also.2
 
-piece_for : (found : Option (Option (Entry × ℕ))) (word : List ℕ) → (piece : Piece) × IsPieceFor found word piece
-piece_for found word = let added = added_for (unwrap_or found None) in ((word ++ added.0, answers_for found), (added.0, added.1, refl, refl))
+piece_for : (found : Result (Option (Entry × ℕ)) Reply) (word : List ℕ) → (piece : Piece) × IsPieceFor found word piece
+piece_for found word = let added = added_for found in ((word ++ added.0, reply_for found ∷ []), (added.0, added.1, refl, refl))
 
-one_piece_for : (found : Option (Option (Entry × ℕ))) (word : List ℕ) (first second : Piece) → IsPieceFor found word first → IsPieceFor found word second → first ≡ second
+one_piece_for : (found : Result (Option (Entry × ℕ)) Reply) (word : List ℕ) (first second : Piece) → IsPieceFor found word first → IsPieceFor found word second → first ≡ second
 one_piece_for found word (a, x) (b, y) (added, is, text, answers) (more, also, other_text, others) =
-    let same = one_added_for (unwrap_or found None) added more is also in
+    let same = one_added_for found added more is also in
     let texts : a ≡ b = text ∙ ap (λ (t : List ℕ). word ++ t) same ∙ sym other_text in
     let marks : x ≡ y = answers ∙ sym others in
-    ap (λ (t : List ℕ). (t, x)) texts ∙ ap (λ (m : List (Option Bool)). (b, m)) marks
+    ap (λ (t : List ℕ). (t, x)) texts ∙ ap (λ (m : List Reply). (b, m)) marks
 
 pieces_within : (files : List File) (bare : Bool) (most : ℕ) (before text : List ℕ) → length text ≤ most → (pieces : List Piece) × ArePiecesAfter files bare before text pieces
 pieces_within files bare most before [] short = ([], nothing before)

@@ -12,8 +12,10 @@ use Rattle.binfarce_addresses.specs.Range.{AreSpansOf, Holds, IsSpanAt, NoneHold
 use Rattle.binfarce.specs.Found.{holds, higher_of, highest, entry_at}
 use Rattle.binfarce_addresses.specs.Lookup.{entry_for, found_in}
 use Rattle.binfarce_addresses.specs.declared.ranges.Span.{Span}
-use Rattle.binfarce_addresses.specs.Counts.{is_held}
+use Rattle.binfarce_addresses.specs.Counts.{reply_to}
+use Rattle.binfarce_addresses.specs.declared.counts.Reply.TheVariants.{Held}
 use Rattle.binfarce_addresses.specs.declared.lookup.Lookup.{Lookup}
+use Rattle.binfarce_addresses.specs.machine.Answers.{reply_by}
 use Rattle.binfarce_addresses.specs.machine.Places.{range_of, ranges_of, IsAtPlace, IsFoundFor, IsFoundIn, IsPlaceFor}
 
 -- the test says whether the range holds the address
@@ -146,10 +148,10 @@ module _ (functions : List FunctionSymbol) (spans : List Span) (entries : List E
   place_is = placed place found
 
 -- whether something is found, is whether a function symbol holds the address
-pub found_held : (entries : List Entry) (lookup : Lookup) (address : Option ℕ) (found : Option (ℕ × ℕ)) → IsFoundFor entries lookup address found → option_map (λ (a : ℕ). is_some found) address ≡ option_map (is_held entries lookup) address
+pub found_held : (entries : List Entry) (lookup : Lookup) (address : Option ℕ) (found : Option (ℕ × ℕ)) → IsFoundFor entries lookup address found → reply_by address found ≡ reply_to entries lookup address
 found_held entries lookup None here is = refl
-found_held entries lookup (Some a) None is = ap (λ (x : Option (Entry × ℕ)). Some (is_some x)) (sym is)
-found_held entries lookup (Some a) (Some f) (entry, is, at) = ap (λ (x : Option (Entry × ℕ)). Some (is_some x)) (sym is)
+found_held entries lookup (Some a) None is = ap (λ (x : Option (Entry × ℕ)). Held (is_some x)) (sym is)
+found_held entries lookup (Some a) (Some f) (entry, is, at) = ap (λ (x : Option (Entry × ℕ)). Held (is_some x)) (sym is)
 
 -- a place has one entry
 pub same_entry : (entries : List Entry) (place : ℕ) (entry other : Entry) → IsAtPlace entries place entry → IsAtPlace entries place other → entry ≡ other

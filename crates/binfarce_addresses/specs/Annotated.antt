@@ -1,14 +1,17 @@
 -- A text in which each address is followed by its symbol, by the function symbols of some files.
-use Rattle.std.specs.Prelude.{◌≡◌, ◌<◌, ℕ, ◌+◌, Bool, List, [], ◌∷◌, ◌++◌, codes, drop, take, flat_map, map, Option, Some, None, is_some, unwrap_or, Result, if◌then◌else◌}
+use Rattle.std.specs.Prelude.{◌≡◌, ◌<◌, ℕ, ◌+◌, Bool, List, [], ◌∷◌, ◌++◌, codes, drop, take, flat_map, map, max, nat_eq, Option, Some, None, is_some, Result, Ok, Err, if◌then◌else◌}
+use Rattle.std.specs.List.{filter}
 use Rattle.std.specs.Option.{option_or}
 use Rattle.binfarce.specs.Symbol.{Entry}
 use Rattle.binfarce_addresses.specs.Address.{address_of}
 use Rattle.binfarce_addresses.specs.Counts.{AreCountsOf}
 use Rattle.binfarce_addresses.specs.Lines.{IsPlaceOf}
 use Rattle.binfarce_addresses.specs.Lookup.{found_at, found_in, in_64_bits}
-use Rattle.binfarce_addresses.specs.Module.{ends_with_plus, names_module}
+use Rattle.binfarce_addresses.specs.Module.{ends_with_plus, name_len}
 use Rattle.binfarce_addresses.specs.Word.{address_len}
 use Rattle.binfarce_addresses.specs.declared.counts.Counts.{Counts}
+use Rattle.binfarce_addresses.specs.declared.counts.Reply.{Reply}
+use Rattle.binfarce_addresses.specs.declared.counts.Reply.TheVariants.{Unasked, Unclear, Held}
 use Rattle.binfarce_addresses.specs.declared.lookup.Lookup.{Lookup}
 use Rattle.binfarce_addresses.specs.declared.modules.Module as code
 use Rattle.binfarce_text.specs.Streams.{Streams}
@@ -31,42 +34,57 @@ abbrev pub found_among : List File → ℕ → Option (Entry × ℕ)
 found_among [] address = None
 found_among (file ∷ files) address = option_or (found_at file.0 file.1 address) (found_among files address)
 
--- what is found at an offset that comes after `before`: in the first file whose name is there. `None` where no file's name is: the offset is one of
+-- how many bytes the longest name of a file has that comes before an offset, at the end of `before`. 0 where no file's name is there
+abbrev pub longest_name : List File → (before : List ℕ) → ℕ
+longest_name [] before = 0
+longest_name (file ∷ files) before = max (name_len file.1.path.now before) (longest_name files before)
+
+-- the files whose name there is so long
+abbrev pub named_by : (len : ℕ) → List File → (before : List ℕ) → List File
+named_by len files before = filter (λ (file : File). nat_eq (name_len file.1.path.now before) len) files
+
+-- what is found at an offset in these files: one file answers, and none of several
+abbrev pub found_in_one : List File → (offset : ℕ) → Result (Option (Entry × ℕ)) Reply
+found_in_one [] offset = Err Unasked
+found_in_one (file ∷ []) offset = Ok (found_in file.0 file.1.is_return (at_offset file.1 offset))
+found_in_one (file ∷ other ∷ files) offset = Err Unclear
+
+-- what is found at an offset that comes after `before`: in the file that has the longest name there. Where no file's name is there, the offset is one of
 -- another file or into a function, and not asked for
-abbrev pub found_behind : List File → (before : List ℕ) → (offset : ℕ) → Option (Option (Entry × ℕ))
-found_behind [] before offset = None
-found_behind (file ∷ files) before offset = if names_module file.1.name.now before then Some (found_in file.0 file.1.is_return (at_offset file.1 offset)) else found_behind files before offset
+abbrev pub found_behind : List File → (before : List ℕ) → (offset : ℕ) → Result (Option (Entry × ℕ)) Reply
+found_behind files before offset = if nat_eq (longest_name files before) 0 then Err Unasked else found_in_one (named_by (longest_name files before) files before) offset
 
 -- what is found for a number that comes after `before`: behind `+` it is an offset, and else an address
-abbrev pub found_for : List File → (before : List ℕ) → (number : ℕ) → Option (Option (Entry × ℕ))
-found_for files before number = if ends_with_plus before then found_behind files before number else Some (found_among files number)
+abbrev pub found_for : List File → (before : List ℕ) → (number : ℕ) → Result (Option (Entry × ℕ)) Reply
+found_for files before number = if ends_with_plus before then found_behind files before number else Ok (found_among files number)
 
 -- the same of a word, which may write no number
-abbrev pub found_by : List File → (before : List ℕ) → (number : Option ℕ) → Option (Option (Entry × ℕ))
-found_by files before None = None
+abbrev pub found_by : List File → (before : List ℕ) → (number : Option ℕ) → Result (Option (Entry × ℕ)) Reply
+found_by files before None = Err Unasked
 found_by files before (Some number) = found_for files before number
 
 -- what is added for what is found: ` <{name}+0x{offset:x}>`, or nothing
-abbrev pub IsAddedFor : (found : Option (Entry × ℕ)) (added : List ℕ) → Type 0
-IsAddedFor None added = added ≡ []
-IsAddedFor (Some (entry, offset)) added = (place : List ℕ) × IsPlaceOf entry offset place × (added ≡ codes " <" ++ (place ++ codes ">"))
+abbrev pub IsAddedFor : (found : Result (Option (Entry × ℕ)) Reply) (added : List ℕ) → Type 0
+IsAddedFor (Err reply) added = added ≡ []
+IsAddedFor (Ok None) added = added ≡ []
+IsAddedFor (Ok (Some (entry, offset))) added = (place : List ℕ) × IsPlaceOf entry offset place × (added ≡ codes " <" ++ (place ++ codes ">"))
 
--- a piece of the annotated text: its bytes, and the answers to the addresses in it, whether a function symbol holds each that is asked for
+-- a piece of the annotated text: its bytes, and the replies to the numbers in it
 abbrev pub Piece : Type 0
-Piece = List ℕ × List (Option Bool)
+Piece = List ℕ × List Reply
 
 -- a byte with which no address begins
 abbrev pub other : ℕ → Piece
 other b = (b ∷ [], [])
 
--- the answer for what is found, if it is asked for; `None` to an offset that isn't
-abbrev pub answers_for : Option (Option (Entry × ℕ)) → List (Option Bool)
-answers_for None = None ∷ []
-answers_for (Some found) = Some (is_some found) ∷ []
+-- the reply for what is found
+abbrev pub reply_for : Result (Option (Entry × ℕ)) Reply → Reply
+reply_for (Err reply) = reply
+reply_for (Ok found) = Held (is_some found)
 
 -- the piece of a word for which this is found: the word, and what is added
-abbrev pub IsPieceFor : (found : Option (Option (Entry × ℕ))) (word : List ℕ) (piece : Piece) → Type 0
-IsPieceFor found word piece = (added : List ℕ) × IsAddedFor (unwrap_or found None) added × (piece.0 ≡ word ++ added) × (piece.1 ≡ answers_for found)
+abbrev pub IsPieceFor : (found : Result (Option (Entry × ℕ)) Reply) (word : List ℕ) (piece : Piece) → Type 0
+IsPieceFor found word piece = (added : List ℕ) × IsAddedFor found added × (piece.0 ≡ word ++ added) × (piece.1 ≡ reply_for found ∷ [])
 
 -- the piece of an address that comes after `before`
 abbrev pub IsPieceOf : List File → (before word : List ℕ) → Piece → Type 0
@@ -85,15 +103,15 @@ pub data ArePiecesAfter (files : List File) (bare : Bool) : (before text : List 
 abbrev pub text_of : List Piece → List ℕ
 text_of pieces = flat_map (λ (piece : Piece). piece.0) pieces
 
--- the answers to the addresses in them
-abbrev pub answers_of : List Piece → List (Option Bool)
+-- the replies to the numbers in them
+abbrev pub answers_of : List Piece → List Reply
 answers_of pieces = flat_map (λ (piece : Piece). piece.1) pieces
 
 -- annotated is the text with its symbols
 abbrev pub IsAnnotated : (files : List File) (bare : Bool) (text annotated : List ℕ) → Type 0
 IsAnnotated files bare text annotated = (pieces : List Piece) × ArePiecesAfter files bare [] text pieces × (annotated ≡ text_of pieces)
 
--- the same, and these are the counts of the answers
+-- the same, and these are the counts of the replies
 abbrev pub IsCounted : (files : List File) (bare : Bool) (counts : Counts) (text annotated : List ℕ) → Type 0
 IsCounted files bare counts text annotated = (pieces : List Piece) × ArePiecesAfter files bare [] text pieces × (annotated ≡ text_of pieces) × AreCountsOf (answers_of pieces) counts
 

@@ -5,7 +5,6 @@ use Rattle.std.specs.List.{AllZip, concat}
 use Rattle.binfarce.specs.Named.{IsShown}
 use Rattle.binfarce.specs.SectionEntries.{SelectedSymbols}
 use Rattle.binfarce.specs.Symbol.{Entry}
-use Rattle.binfarce_tools.specs.Answer.{entries_of}
 use Rattle.binfarce_tools.specs.Json as json
 use Rattle.binfarce_tools.specs.Json.{Style, style_of, address_member, number_member, object_start, text_member}
 use Rattle.binfarce_tools.specs.ListWords as list
@@ -13,7 +12,7 @@ use Rattle.binfarce_tools.specs.Listing.{address_text}
 use Rattle.binfarce_tools.specs.Writing.{Outcome, written}
 use Rattle.binfarce_tools.specs.declared.list.ListError.{ListError}
 use Rattle.binfarce_addresses.specs.declared.counts.Counts.{Counts}
-use Rattle.binfarce_addresses.specs.Lookup.{found_at}
+use Rattle.binfarce_addresses.specs.Lookup.{found_at, places_in}
 use Rattle.binfarce_addresses.specs.declared.lookup.Lookup.{Lookup}
 
 -- `{name}+0x{offset:x}`, with the answer of the entry's name and the offset into the entry
@@ -68,6 +67,6 @@ abbrev pub outcome_of : Result Counts ListError → Outcome
 outcome_of (Ok counts) = written
 outcome_of (Err e) = list.outcome_of (Err e)
 
--- the same for the entries that a file lists
+-- the same for the places of a file's entries
 abbrev pub AreLinesAt : Lookup → List ℕ → SelectedSymbols → List ℕ → Type 0
-AreLinesAt lookup addresses selected text = AreLinesOf (entries_of selected) lookup addresses text
+AreLinesAt lookup addresses selected text = AreLinesOf (places_in selected) lookup addresses text

@@ -1,9 +1,29 @@
 -- What an address symbolizes to.
-use Rattle.std.specs.Prelude.{ℕ, ◌+◌, ◌-◌, ◌^◌, Bool, true, false, List, Option, Some, None, nat_lt, if◌then◌else◌}
+use Rattle.std.specs.Prelude.{ℕ, ◌+◌, ◌-◌, ◌^◌, Bool, true, false, ◌&&◌, List, ◌++◌, Option, Some, None, nat_lt, if◌then◌else◌}
+use Rattle.std.specs.List.{filter_map}
 use Rattle.std.specs.Option.{option_map, option_or}
 use Rattle.binfarce.specs.Found.{entry_at}
+use Rattle.binfarce.specs.SectionEntries.{SectionEntry, SelectedSymbols}
 use Rattle.binfarce.specs.Symbol.{Entry}
 use Rattle.binfarce_addresses.specs.declared.lookup.Lookup.{Lookup}
+
+-- a symbol of an ELF file is local where its binding, the high four bits of its info, is STB_LOCAL (0); the type of a function isn't 0 (System V gABI,
+-- "Symbol Table")
+abbrev pub is_local : (info : ℕ) → Bool
+is_local info = nat_lt 0 info && nat_lt info 16
+
+abbrev pub local_entry : SectionEntry → Option Entry
+local_entry e = if is_local e.info then Some e.entry else None
+
+abbrev pub other_entry : SectionEntry → Option Entry
+other_entry e = if is_local e.info then None else Some e.entry
+
+-- the entries among which an address is looked up: those that aren't local before those that are. So of aliases, the name that other files know comes first
+abbrev pub with_local_last : List SectionEntry → List Entry
+with_local_last entries = filter_map other_entry entries ++ filter_map local_entry entries
+
+abbrev pub places_in : SelectedSymbols → List Entry
+places_in selected = with_local_last selected.entries
 
 -- the number, if 64 bits hold it
 abbrev pub in_64_bits : ℕ → Option ℕ

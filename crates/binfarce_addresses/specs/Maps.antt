@@ -1,7 +1,9 @@
 -- Where a file is loaded, by a text in the form of /proc/PID/maps (proc(5)): each line is `start-end perms offset dev inode path`, with blanks before the path.
+-- A log may have words of its own before that in a line, and carriage returns behind it.
 use Rattle.std.specs.Prelude.{◌≡◌, ◌+◌, ◌-◌, ◌^◌, ◌%◌, ◌&&◌, ◌||◌, ℕ, List, [], ◌∷◌, codes, length, take, drop, reverse, min, nat_eq, nat_lt, Bool, true, false, Option, Some, None, unwrap_or, Result, Ok, Err, is_some, if◌then◌else◌}
 use Rattle.std.proofs.Common.{refl}
-use Rattle.std.specs.List.{after_first, before_first, ends_with, list_any, position_or_len, slice_split}
+use Rattle.std.specs.Char.{is_ascii_whitespace}
+use Rattle.std.specs.List.{after_first, before_first, ends_with, list_all, list_any, position_or_len, slice_split}
 use Rattle.std.specs.Option.{ok_or, option_and_then, option_map}
 use Rattle.binfarce_addresses.specs.Address.{hexadecimal}
 use Rattle.binfarce_addresses.specs.Stream.{trim_start}
@@ -18,19 +20,43 @@ before_blank text = before_first (nat_eq 32) text
 abbrev pub behind_blank : (text : List ℕ) → List ℕ
 behind_blank text = after_first (nat_eq 32) text
 
--- the mapping with this range, permissions and offset: none where start, end and offset aren't hexadecimal numbers
+-- permissions are four letters of `rwxsp`, or `-` in place of one
+abbrev pub is_permission : ℕ → Bool
+is_permission b = list_any (nat_eq b) (codes "rwxsp-")
+
+abbrev pub are_permissions : List ℕ → Bool
+are_permissions field = nat_eq (length field) 4 && list_all is_permission field
+
+-- the mapping with these permissions, range and offset in the file, if they are permissions
+abbrev pub mapping_at : (permissions : List ℕ) (start end place : ℕ) → Option Mapping
+mapping_at permissions start end place = if are_permissions permissions then Some (record {
+  start = start;
+  size = end - start;
+  offset = place;
+  is_code = list_any (λ b. nat_eq b 120) permissions;
+}) else None
+
+-- the same where start and end, with `-` between, and the offset are hexadecimal numbers
 abbrev pub mapping_with : (range permissions offset : List ℕ) → Option Mapping
 mapping_with range permissions offset =
-    option_and_then (λ start. option_and_then (λ end. option_map (λ place. record {
-      start = start;
-      size = end - start;
-      offset = place;
-      is_code = list_any (λ b. nat_eq b 120) permissions;
-    }) (hexadecimal offset)) (hexadecimal (after_first (nat_eq 45) range))) (hexadecimal (before_first (nat_eq 45) range))
+    option_and_then (λ start. option_and_then (λ end. option_and_then (mapping_at permissions start end) (hexadecimal offset)) (hexadecimal (after_first (nat_eq 45) range))) (hexadecimal (before_first (nat_eq 45) range))
 
--- the mapping of a line: its first field has start and end, with `-` between, its second an `x` if it may be executed, and its third the offset in the file
+-- the mapping of a line: its first field has start and end, its second an `x` if it may be executed, and its third the offset in the file
 abbrev pub mapping_of : (line : List ℕ) → Option Mapping
 mapping_of line = mapping_with (before_blank line) (before_blank (behind_blank line)) (before_blank (behind_blank (behind_blank line)))
+
+-- a text from the first word on from which it has the form of a mapping; a word may begin at its first byte, or none does. Empty where there is none
+abbrev pub begun_at : (may_begin : Bool) (text : List ℕ) → List ℕ
+begun_at may_begin [] = []
+begun_at may_begin (b ∷ text) = if may_begin && is_some (mapping_of (b ∷ text)) then b ∷ text else begun_at (is_ascii_whitespace b) text
+
+-- a line without the carriage return at its end
+abbrev pub without_return : (line : List ℕ) → List ℕ
+without_return line = if ends_with nat_eq line (codes "\r") then take (length line - 1) line else line
+
+-- the part of a line that has the form of a mapping
+abbrev pub begun : (line : List ℕ) → List ℕ
+begun line = begun_at true (without_return line)
 
 -- the path of a mapping, after five fields, without the mark of a file that was deleted; it is empty where no file is mapped
 abbrev pub without_mark : (path : List ℕ) → List ℕ
@@ -62,8 +88,9 @@ abbrev pub lowest_among : (value : List ℕ → Option ℕ) (lines : List (List 
 lowest_among value [] = None
 lowest_among value (line ∷ lines) = less_of (value line) (lowest_among value lines)
 
+-- the lowest value among those that the mappings in lines have
 abbrev pub lowest : (value : List ℕ → Option ℕ) (maps : List ℕ) → Option ℕ
-lowest value maps = lowest_among value (slice_split (nat_eq 10) maps)
+lowest value maps = lowest_among (λ line. value (begun line)) (slice_split (nat_eq 10) maps)
 
 -- the first address of a mapping
 abbrev pub start_of : Option Mapping → Option ℕ
@@ -143,6 +170,14 @@ worked_name = refl
 
 worked_start : start_of (mapping_of (codes "00400000-00401000 r--p 00000000 fe:00 11002236                           /tmp/app")) ≡ Some 0x400000
 worked_start = refl
+
+-- one in a log, with the words of that before it and a carriage return behind it
+worked_begun : begun (codes "app[12]: 00400000-00401000 r--p 00000000 fe:00 11 /tmp/app\r") ≡ codes "00400000-00401000 r--p 00000000 fe:00 11 /tmp/app"
+worked_begun = refl
+
+-- a date, a time and a number before it are no mapping
+worked_dated : begun (codes "11-29 05:55:01.123 12345 12346 I app: 00400000-00401000 r--p 00000000 fe:00 11 /tmp/app") ≡ codes "00400000-00401000 r--p 00000000 fe:00 11 /tmp/app"
+worked_dated = refl
 
 -- one that maps no file
 worked_none : path_of (codes "7fa8dc3e4000-7fa8dc3e7000 rw-p 00000000 00:00 0 ") ≡ []

@@ -1,7 +1,8 @@
 -- Offsets into modules in a text.
-use Rattle.std.specs.Prelude.{◌≡◌, ℕ, ◌-◌, Bool, true, false, List, ◌&&◌, ◌||◌, codes, length, nat_eq, take}
+use Rattle.std.specs.Prelude.{◌≡◌, ℕ, ◌-◌, Bool, true, false, List, ◌&&◌, ◌||◌, codes, length, nat_eq, take, if◌then◌else◌}
 use Rattle.std.proofs.Common.{refl}
 use Rattle.std.specs.List.{ends_with}
+use Rattle.binfarce_addresses.specs.Maps.{name_of}
 
 -- a path may begin after this text, or go on: it is empty, or ends with `/`, `[`, a blank, a tab or a line feed
 abbrev pub may_begin_path : (text : List ℕ) → Bool
@@ -23,6 +24,10 @@ ends_with_mark name mark text = ends_with nat_eq text mark && ends_with_name nam
 -- an offset into this module comes after the text: it ends with `NAME+`, `NAME(+` or `NAME + `
 abbrev pub names_module : (name text : List ℕ) → Bool
 names_module name text = ends_with_mark name (codes "+") text || (ends_with_mark name (codes "(+") text || ends_with_mark name (codes " + ") text)
+
+-- how many bytes the name of the file of this path has that is before an offset, which comes after the text: that of the path, or else that of the name behind its last `/`. 0 where neither is there
+abbrev pub name_len : (path text : List ℕ) → ℕ
+name_len path text = if names_module path text then length path else if names_module (name_of path) text then length (name_of path) else 0
 
 -- an offset comes after the text
 abbrev pub ends_with_plus : (text : List ℕ) → Bool
@@ -55,3 +60,13 @@ worked_java = refl
 -- another module, whose name ends alike
 worked_longer : names_module (codes "c.so") (codes "/lib/libc.so(+") ≡ false
 worked_longer = refl
+
+-- a path is longer than the name in it
+worked_path : name_len (codes "b/plugin.so") (codes "/x/b/plugin.so(+") ≡ 11
+worked_path = refl
+
+worked_name : name_len (codes "b/plugin.so") (codes "/x/a/plugin.so(+") ≡ 9
+worked_name = refl
+
+worked_neither : name_len (codes "b/plugin.so") (codes "libc.so.6(+") ≡ 0
+worked_neither = refl

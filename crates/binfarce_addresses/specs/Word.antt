@@ -11,9 +11,9 @@ use Rattle.binfarce_addresses.specs.Module.{ends_with_plus}
 abbrev pub digits_len : (text : List ℕ) → ℕ
 digits_len text = prefix_len is_ascii_hexdigit text
 
--- a byte of a word: a letter, a digit or `_`
+-- a byte of a word: a letter, a digit, `_`, or `-`, which is in the ranges of maps and in UUIDs
 abbrev pub is_word_byte : ℕ → Bool
-is_word_byte b = is_ascii_alphanumeric b || nat_eq b 95
+is_word_byte b = is_ascii_alphanumeric b || (nat_eq b 95 || nat_eq b 45)
 
 -- how many digits an address with a prefix has at least: an offset, which comes behind `+`, has one, and any other has 4
 abbrev pub least_digits : (before : List ℕ) → ℕ
@@ -53,7 +53,7 @@ worked_offset = refl
 worked_within : address_len false (codes "pc=a") (codes "0x12340x5678") ≡ 7
 worked_within = refl
 
--- and neither a letter, a digit nor `_` before or after one without a prefix
+-- and neither a letter, a digit, `_` nor `-` before or after one without a prefix
 worked_bare : address_len true (codes "[<") (codes "ffffffff8104fd3a>]") ≡ 16
 worked_bare = refl
 
@@ -65,3 +65,10 @@ worked_behind = refl
 
 worked_before : address_len true (codes " ") (codes "deadbeefs") ≡ 0
 worked_before = refl
+
+-- so neither the range of a mapping nor a part of a UUID is an address
+worked_start : address_len true (codes "") (codes "55d0c0000000-55d0c0001000 r-xp") ≡ 0
+worked_start = refl
+
+worked_end : address_len true (codes "55d0c0000000-") (codes "55d0c0001000 r-xp") ≡ 0
+worked_end = refl

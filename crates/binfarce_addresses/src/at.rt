@@ -4,22 +4,22 @@ ghost use Rattle.std.specs.Prelude.{◌≡◌, ◌≢◌, ◌++◌, ◌<◌, ℕ
 ghost use Rattle.binfarce.specs.SectionEntries.{SelectedSymbols};
 ghost use Rattle.binfarce.specs.Symbol.{Entry};
 ghost use Rattle.binfarce.specs.SymbolViews.{function_view};
-ghost use Rattle.binfarce_tools.specs.Answer.{entries_of, file_answer, selected_answer, MemoryIn};
-ghost use Rattle.binfarce_tools.specs.Entries.{functions_left};
+ghost use Rattle.binfarce_tools.specs.Answer.{file_answer, selected_answer, MemoryIn};
+ghost use Rattle.binfarce_tools.specs.Entries.{all_left};
 ghost use Rattle.binfarce_tools.specs.Listing.{ListingFits};
 ghost use Rattle.binfarce_tools.specs.Tables.{AreTablesOf};
 ghost use Rattle.binfarce_tools.specs.declared.SymbolTable.{SymbolTable};
 ghost use Rattle.binfarce_tools.specs.declared.list.ListError.TheVariants.{Write};
 ghost use Rattle.binfarce_tools.specs.Writing.{EndsAs, Takes, Fails, Leaves};
 ghost use Rattle.binfarce.specs.Found.{entry_at};
-ghost use Rattle.binfarce_addresses.specs.Lookup.{entry_for, found_at};
+ghost use Rattle.binfarce_addresses.specs.Lookup.{entry_for, found_at, is_local, places_in, with_local_last};
 ghost use Rattle.binfarce_addresses.specs.Counts.{AreCountsOf, answers_at, is_held};
 ghost use Rattle.binfarce_addresses.specs.Lines.{IsLineAt, AreLinesAt, outcome_of};
 ghost use Rattle.binfarce_addresses.specs.PlacesViews.{IsMadeOf};
 ghost use Rattle.binfarce_addresses.specs.Stream.{AreAnswersOf, IsAnswerOf};
-ghost use Rattle.binfarce_addresses.specs.machine.Places.{ArePlacesOf, IsAtPlace, IsFoundFor, IsFoundIn, IsPlaceFor};
+ghost use Rattle.binfarce_addresses.specs.machine.Places.{ArePlacesOf, IsAtPlace, IsFoundFor, IsFoundIn, IsPlaceFor, ranges_of};
 
-use crate::counts::Counts;
+use crate::counts::{Counts, Reply};
 use crate::lookup::Lookup;
 use crate::names::Names;
 use crate::ranges::{AddressRange, Ranges};
@@ -33,7 +33,7 @@ use std::marker::Model;
 
 /// The function symbols of a file, arranged for lookups by address.
 ///
-/// Contracts speak of its entries, in the order of the listing.
+/// Contracts speak of its entries, in the order of the listing, but the local symbols of an ELF file after the others.
 #[derive(Drop)]
 pub struct Places<'a> {
     pub(crate) functions: Vec<FunctionSymbol<'a>>,
@@ -164,17 +164,45 @@ impl<'a> Places<'a> {
 
 // The places of function symbols.
 fn places_of(alloc: Global, listed: Functions<'_>) -> Result<Places<'_>, AllocError>
-    ensures { IfOk result (λ p. p ≡ functions_left listed.entry) }
+    ensures { IfOk result (λ p. p ≡ with_local_last (all_left listed.entry.all)) }
 {
     let mut functions = Vec::new(alloc);
-    let mut ranges = Vec::new(alloc);
-    for function in listed {
-        let FunctionSymbol { address, size, .. } = function;
-        ranges.push(AddressRange { address, size })?;
-        functions.push(function)?;
+    let mut local = Vec::new(alloc);
+    for function in listed.all {
+        if is_local(function.info) {
+            local.push(function.function)?;
+        } else {
+            functions.push(function.function)?;
+        }
     }
+    functions.extend_from_slice(&local)?;
+    let ranges = ranges_of(alloc, &functions)?;
     let ranges = Ranges::new(alloc, &ranges)?;
     Ok(Places { functions, ranges })
+}
+
+// Whether a symbol of an ELF file with this info is local: its binding is `STB_LOCAL`.
+fn is_local(info: u8) -> bool
+    ensures { result ≡ is_local info }
+{
+    0 < info && info < 16
+}
+
+// The ranges of function symbols.
+fn ranges_of(
+    alloc: Global,
+    functions: &[FunctionSymbol<'_>],
+) -> Result<Vec<AddressRange>, AllocError>
+    ensures { IfOk result (λ v. v.items ≡ ranges_of functions.now) }
+{
+    let mut ranges = Vec::with_capacity(alloc, functions.len())?;
+    for function in functions {
+        ranges.push(AddressRange {
+            address: function.address,
+            size: function.size,
+        })?;
+    }
+    Ok(ranges)
 }
 
 /// Symbolizes addresses in an executable: a line for each, in their order.
@@ -183,7 +211,8 @@ fn places_of(alloc: Global, listed: Functions<'_>) -> Result<Places<'_>, AllocEr
 /// readable name of its function symbol, and the offset into it. With a base, the address in the file is as far behind
 /// `linked` as the address is behind the base. Of a return address the one before is looked up, but the offset is that
 /// of the address. A symbol holds the addresses of its range, or of size 0 its own. Of several that hold an address, it
-/// is the one of greatest address, and of several there the first in the order of the listing. The line is
+/// is the one of greatest address, and of several there the first in the order of the listing, in an ELF file the first
+/// that isn't local, if there is one. The line is
 /// `{address:016x} ??` for an address that none holds, and for one below the base. Returns how many addresses there are,
 /// and how many of them a symbol holds.
 ///
@@ -203,7 +232,7 @@ pub fn at<S: Sink>(
     ensures takes { Takes (AreLinesAt lookup.entry addresses.now) (file_answer file.now section.now)
         (S.taken out.old) (S.taken out.new) (outcome_of result) }
     ensures counts { (selected : SelectedSymbols) → file_answer file.now section.now ≡ Some (Ok selected)
-        → IfOk result (AreCountsOf (answers_at (entries_of selected) lookup.entry addresses.now)) }
+        → IfOk result (AreCountsOf (answers_at (places_in selected) lookup.entry addresses.now)) }
     ensures fails { Fails (S.has_failed out.old) (S.has_failed out.new) (outcome_of result) }
     ensures leaves { Leaves out.old out.new (outcome_of result) }
 {
@@ -231,7 +260,7 @@ pub fn at_tables<S: Sink>(
         (selected_answer which section file) (S.taken out.old) (S.taken out.new) (outcome_of result) }
     ensures counts { (which : SymbolTable) (file : List ℕ) (section : Option (List ℕ)) (selected : SelectedSymbols)
         → AreTablesOf which file section tables.now → selected_answer which section file ≡ Some (Ok selected)
-        → IfOk result (AreCountsOf (answers_at (entries_of selected) lookup.entry addresses.now)) }
+        → IfOk result (AreCountsOf (answers_at (places_in selected) lookup.entry addresses.now)) }
     ensures fails { Fails (S.has_failed out.old) (S.has_failed out.new) (outcome_of result) }
     ensures leaves { Leaves out.old out.new (outcome_of result) }
 {
@@ -253,9 +282,9 @@ pub fn write_lines<S: Sink>(
     addresses: &[u64],
     out: &mut S,
 ) -> Result<Counts, ListError>
-    ensures outcome { (selected : SelectedSymbols) → places.now ≡ entries_of selected
+    ensures outcome { (selected : SelectedSymbols) → places.now ≡ places_in selected
         → EndsAs ListingFits (λ _. ⊥) (Some (Ok selected)) (outcome_of result) }
-    ensures takes { (selected : SelectedSymbols) → places.now ≡ entries_of selected
+    ensures takes { (selected : SelectedSymbols) → places.now ≡ places_in selected
         → Takes (AreLinesAt lookup.entry addresses.now)
         (Some (Ok selected)) (S.taken out.old) (S.taken out.new) (outcome_of result) }
     ensures counts { IfOk result (AreCountsOf (answers_at places.now lookup.entry addresses.now)) }
@@ -267,7 +296,7 @@ pub fn write_lines<S: Sink>(
     let mut counts = Counts::new();
     for address in addresses {
         let held = names.push_address_line(&mut text, *address)?;
-        counts.add(Some(held));
+        counts.add(Reply::Held(held));
     }
     write_whole(out, text.as_slice())?;
     Ok(counts)

@@ -1,10 +1,28 @@
 //! Offsets into modules in a text.
 
 ghost use Rattle.std.specs.Prelude.{◌≡◌, length};
-ghost use Rattle.binfarce_addresses.specs.Module.{ends_with_mark, ends_with_name, ends_with_plus, may_begin_name, may_begin_path, names_module};
+ghost use Rattle.binfarce_addresses.specs.Module.{ends_with_mark, ends_with_name, ends_with_plus, may_begin_name, may_begin_path, name_len, names_module};
+
+use crate::maps::name_of;
+
+// How many bytes the name of the file of this path has that is before an offset, which comes after the text. 0 where none
+// is.
+pub(crate) fn name_len(path: &[u8], text: &[u8]) -> usize
+    ensures { result ≡ name_len path.now text.now }
+{
+    if names_module(path, text) {
+        return path.len();
+    }
+    let name = name_of(path);
+    if names_module(name, text) {
+        name.len()
+    } else {
+        0
+    }
+}
 
 // Whether an offset into this module comes after the text.
-pub(crate) fn names_module(name: &[u8], text: &[u8]) -> bool
+fn names_module(name: &[u8], text: &[u8]) -> bool
     ensures { result ≡ names_module name.now text.now }
 {
     ends_with_mark(name, b"+", text)

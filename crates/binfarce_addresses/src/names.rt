@@ -7,16 +7,17 @@ ghost use Rattle.binfarce_tools.specs.Json.{lines, objects, text_member};
 ghost use Rattle.binfarce_addresses.specs.Annotated.{at_offset};
 ghost use Rattle.binfarce_addresses.specs.Counts.{is_held};
 ghost use Rattle.binfarce_addresses.specs.Lines.{IsLineAt, address_value, symbol_members};
-ghost use Rattle.binfarce_addresses.specs.Module.{names_module};
+ghost use Rattle.binfarce_addresses.specs.Module.{name_len};
 ghost use Rattle.binfarce_addresses.specs.Stream.{IsAnswerIn, IsAnswerOf};
 ghost use Rattle.binfarce_addresses.specs.declared.lookup.Lookup.{Lookup};
 ghost use Rattle.binfarce_addresses.specs.machine.Places.{AreKept, IsFoundIn, IsNamedAt, IsShownAt, IsSymbolAt};
-ghost use Rattle.binfarce_addresses.specs.machine.Answers.{AreAnswersTo, IsAnswerTo, is_held_by};
+ghost use Rattle.binfarce_addresses.specs.machine.Answers.{AreAnswersTo, IsAnswerTo, reply_of};
 
 use crate::at::{Found, Places};
+use crate::counts::Reply;
 use crate::digits::{push_address, push_offset};
 use crate::lookup::Lookup;
-use crate::module::names_module;
+use crate::module::name_len;
 use binfarce::demangle::Demangler;
 use binfarce_tools::json::{
     Form, push_address_member, push_number_member, push_start, push_text_member,
@@ -46,14 +47,14 @@ pub(crate) struct Answer {
 }
 
 impl Answer {
-    // Whether a function symbol holds the address; none of a line without one.
+    // What is replied: whether a function symbol holds the address, if the line has one.
     #[inline(always)]
-    pub(crate) fn is_held(self) -> Option<bool>
-        ensures { result ≡ is_held_by self }
+    pub(crate) fn reply(self) -> Reply
+        ensures { result ≡ reply_of self }
     {
         match self.address {
-            Some(_) => Some(self.found.is_some()),
-            None => None,
+            Some(_) => Reply::Held(self.found.is_some()),
+            None => Reply::Unasked,
         }
     }
 }
@@ -97,18 +98,18 @@ impl<'b, 'a> Names<'b, 'a> {
         Names::new(alloc, places, lookup, places.functions.len())
     }
 
-    // How many bytes before an address can matter: the name, and what may come before and after it.
+    // How many bytes before an address can matter: the path, and what may come before and after it.
     pub(crate) fn reach(&self) -> usize
-        ensures { result ≡ length self.now.1.name.now + 5 }
+        ensures { result ≡ length self.now.1.path.now + 5 }
     {
-        self.lookup.name.len() + 5
+        self.lookup.path.len() + 5
     }
 
-    // Whether the file's name is before an offset that comes after this text.
-    pub(crate) fn is_named_in(&self, before: &[u8]) -> bool
-        ensures { result ≡ names_module self.now.1.name.now before.now }
+    // How many bytes the file's name has that is before an offset, which comes after this text. 0 where none is.
+    pub(crate) fn name_len(&self, before: &[u8]) -> usize
+        ensures { result ≡ name_len self.now.1.path.now before.now }
     {
-        names_module(self.lookup.name, before)
+        name_len(self.lookup.path, before)
     }
 
     // What is found at an offset from the file's origin.

@@ -11,7 +11,7 @@ use Rattle.binfarce_words.specs.declared.words.Reading.{Reading}
 use Rattle.binfarce_words.specs.declared.words.Limit.{Limit}
 use Rattle.binfarce_words.specs.declared.words.Limit.TheVariants.{Bytes, Percent}
 use Rattle.binfarce_words.specs.declared.words.Wrong.{Wrong}
-use Rattle.binfarce_words.specs.declared.words.Wrong.TheVariants.{NoCommand, UnknownCommand, UnknownOption, NoValue, Exclusive, Needs, NotEach, NoAddress, NotMaps, NotMapped, Several, BadValue, OnlyFunctions, OnlyGrowth, NoFile, NoSecondFile, TooMany, BytesAsJson, NotUtf8, OutOfMemory}
+use Rattle.binfarce_words.specs.declared.words.Wrong.TheVariants.{NoCommand, UnknownCommand, UnknownOption, NoValue, Exclusive, Needs, NotEach, NoAddress, NotMaps, BadValue, OnlyFunctions, OnlyGrowth, NoFile, NoSecondFile, TooMany, BytesAsJson, NotUtf8, OutOfMemory}
 
 -- the printed words of a limit
 abbrev pub limit_words : Limit → List ℕ
@@ -44,8 +44,6 @@ wrong_words (Needs one other) = flag_name one ++ (codes " needs " ++ flag_name o
 wrong_words (NotEach flag) = flag_name flag ++ codes " comes once for each file, in their order, or not at all"
 wrong_words (NoAddress word) = codes "not an address: " ++ word.now
 wrong_words (NotMaps path) = codes "no line of " ++ (path.now ++ codes " is one of /proc/PID/maps")
-wrong_words (NotMapped file path) = path.now ++ (codes " maps no file named as " ++ (file.now ++ codes "; --as=NAME takes another name"))
-wrong_words (Several file path) = path.now ++ (codes " has " ++ (file.now ++ codes " at several addresses; --base takes one of them, --as=PATH one of several paths"))
 wrong_words (BadValue flag word) = flag_name flag ++ (codes " takes " ++ (words.values_of (words.form_of flag).2 ++ (codes ", and not " ++ word.now)))
 wrong_words (OnlyFunctions flag) = flag_name flag ++ codes " is for functions, as --by=function-section; --by=section is not"
 wrong_words (OnlyGrowth word) = codes "--fail-above=" ++ (word.now ++ codes " is for diff; size takes a number of bytes")
@@ -67,8 +65,6 @@ wrong_view (Needs one other) = words.needs one other
 wrong_view (NotEach flag) = words.not_each flag
 wrong_view (NoAddress word) = words.no_address word.now
 wrong_view (NotMaps path) = words.not_maps path.now
-wrong_view (NotMapped file path) = words.not_mapped file.now path.now
-wrong_view (Several file path) = words.several file.now path.now
 wrong_view (BadValue flag word) = words.not_taken flag word.now
 wrong_view (OnlyFunctions flag) = words.only_functions flag
 wrong_view (OnlyGrowth word) = words.only_growth word.now

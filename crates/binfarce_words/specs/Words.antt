@@ -85,7 +85,7 @@ key_named name = if bytes_eq name (codes "crate") then Some keys.Crate
 abbrev pub flag_name : Flag → List ℕ
 flag_name flag = (form_of flag).0
 
--- why a call is wrong; `not_maps`, `not_mapped` and `several`, where its file of maps is; the last two, where its words can't be taken
+-- why a call is wrong; `not_maps`, where its file of maps is; the last two, where its words can't be taken
 pub data Wrong : Type 0 where
   no_command : Wrong
   unknown_command : (word : List ℕ) → Wrong
@@ -96,8 +96,6 @@ pub data Wrong : Type 0 where
   not_each : (flag : Flag) → Wrong
   no_address : (word : List ℕ) → Wrong
   not_maps : (path : List ℕ) → Wrong
-  not_mapped : (file path : List ℕ) → Wrong
-  several : (file path : List ℕ) → Wrong
   not_taken : (flag : Flag) (word : List ℕ) → Wrong
   only_functions : (flag : Flag) → Wrong
   only_growth : (word : List ℕ) → Wrong

@@ -1,20 +1,21 @@
 -- The steps of annotating a text.
-use Rattle.std.specs.Prelude.{◌≡◌, ◌≤◌, ◌<◌, ◌⊎◌, ℕ, ◌+◌, max, Bool, true, false, List, [], ◌∷◌, ◌++◌, drop, length, take, slice_index_or, Option, Some, None, MatchOption}
+use Rattle.std.specs.Prelude.{◌≡◌, ◌≤◌, ◌<◌, ◌⊎◌, ℕ, ◌+◌, max, Bool, true, false, List, [], ◌∷◌, ◌++◌, drop, length, take, slice_index_or, Option, Some, None, MatchOption, Result, Ok, Err}
 use Rattle.binfarce.specs.Symbol.{Entry}
-use Rattle.binfarce_addresses.specs.Annotated.{ArePiecesAfter, File, IsAnnotated, IsCounted, IsPrefixOf, Piece, answers_of, text_of}
+use Rattle.binfarce_addresses.specs.Annotated.{ArePiecesAfter, File, IsCounted, IsPrefixOf, Piece, answers_of, text_of}
 use Rattle.binfarce_addresses.specs.Counts.{AreCountsOf}
 use Rattle.binfarce_addresses.specs.Word.{address_len}
 use Rattle.binfarce_addresses.specs.declared.annotate.Annotating.{Annotating}
 use Rattle.binfarce_addresses.specs.declared.annotate.Files.{Files}
 use Rattle.binfarce_addresses.specs.declared.counts.Counts.{Counts}
+use Rattle.binfarce_addresses.specs.declared.counts.Reply.{Reply}
 use Rattle.binfarce_addresses.specs.machine.Counting.{AddsUp}
 use Rattle.binfarce_addresses.specs.machine.Places.{IsAtPlace}
 use Rattle.binfarce_addresses.specs.machine.Words.{MayFollow}
 
--- how many bytes before an address can matter: the longest name, and what may come before and after it
+-- how many bytes before an address can matter: the longest path, and what may come before and after it
 abbrev pub reach : List File → ℕ
 reach [] = 5
-reach (file ∷ files) = max (length file.1.name.now + 5) (reach files)
+reach (file ∷ files) = max (length file.1.path.now + 5) (reach files)
 
 -- the files stay, and what an address is
 abbrev pub IsSame : (old new : Files) → Type 0
@@ -28,9 +29,10 @@ IsAtFile files at place entry = (at < length files) × ((d : File) → IsAtPlace
 abbrev pub IsFoundHere : List File → Option (Entry × ℕ) → Option (ℕ × (ℕ × ℕ)) → Type 0
 IsFoundHere files found here = MatchOption here (found ≡ None) (λ h. (entry : Entry) × (found ≡ Some (entry, h.1.1)) × IsAtFile files h.0 h.1.0 entry)
 
--- the same, where it is asked for
-abbrev pub IsFoundBy : List File → Option (Option (Entry × ℕ)) → Option (Option (ℕ × (ℕ × ℕ))) → Type 0
-IsFoundBy files found here = MatchOption here (found ≡ None) (λ h. (f : Option (Entry × ℕ)) × (found ≡ Some f) × IsFoundHere files f h)
+-- the same, where it is asked for and clear
+abbrev pub IsFoundBy : List File → Result (Option (Entry × ℕ)) Reply → Result (Option (ℕ × (ℕ × ℕ))) Reply → Type 0
+IsFoundBy files found (Err reply) = found ≡ Err reply
+IsFoundBy files found (Ok here) = (f : Option (Entry × ℕ)) × (found ≡ Ok f) × IsFoundHere files f here
 
 -- all of the text before a position, which comes after `front`, is kept, or enough of it
 abbrev pub IsEnough : List File → (front : List ℕ) (at : ℕ) → Type 0

@@ -1,7 +1,8 @@
 -- What is answered to lines: their addresses, and what these symbolize to.
-use Rattle.std.specs.Prelude.{◌≡◌, ℕ, ◌<◌, Bool, List, length, slice_index_or, Option, None, is_some}
-use Rattle.std.specs.Option.{option_map}
+use Rattle.std.specs.Prelude.{◌≡◌, ℕ, ◌<◌, List, length, slice_index_or, Option, Some, None, is_some}
 use Rattle.binfarce.specs.Symbol.{Entry}
+use Rattle.binfarce_addresses.specs.declared.counts.Reply.{Reply}
+use Rattle.binfarce_addresses.specs.declared.counts.Reply.TheVariants.{Unasked, Held}
 use Rattle.binfarce_addresses.specs.declared.lookup.Lookup.{Lookup}
 use Rattle.binfarce_addresses.specs.declared.names.Answer.{Answer}
 use Rattle.binfarce_addresses.specs.machine.Places.{IsFoundFor}
@@ -10,9 +11,13 @@ use Rattle.binfarce_addresses.specs.machine.Places.{IsFoundFor}
 abbrev pub IsAnswerTo : List Entry → Lookup → Answer → Type 0
 IsAnswerTo entries lookup answer = IsFoundFor entries lookup answer.address answer.found
 
--- whether a function symbol holds the address; none of a line without one
-abbrev pub is_held_by : Answer → Option Bool
-is_held_by answer = option_map (λ address. is_some answer.found) answer.address
+-- what is replied to a line with the address, for which this is found
+abbrev pub reply_by : (address : Option ℕ) (found : Option (ℕ × ℕ)) → Reply
+reply_by None found = Unasked
+reply_by (Some address) found = Held (is_some found)
+
+abbrev pub reply_of : Answer → Reply
+reply_of answer = reply_by answer.address answer.found
 
 abbrev pub no_answer : Answer
 no_answer = record { address = None; found = None }

@@ -1,7 +1,8 @@
 ghost use Rattle.std.specs.Prelude.{◌≡◌, IfOk, Ok, Some, codes};
 ghost use Rattle.binfarce.specs.SectionEntries.{SelectedSymbols};
 ghost use Rattle.binfarce_addresses.specs.Lines.{IsLineAt};
-ghost use Rattle.binfarce_tools.specs.Answer.{entries_of, file_answer};
+ghost use Rattle.binfarce_addresses.specs.Lookup.{places_in};
+ghost use Rattle.binfarce_tools.specs.Answer.{file_answer};
 
 use binfarce_addresses::Lookup;
 use binfarce_addresses::at::Places;
@@ -17,7 +18,7 @@ pub fn line_of(
 ) -> Result<Vec<u8>, ListError>
     ensures { IfOk result
         (λ line. (selected : SelectedSymbols) × (file_answer file.now (codes ".text") ≡ Some (Ok selected))
-        × IsLineAt (entries_of selected) lookup.entry address line.items) }
+        × IsLineAt (places_in selected) lookup.entry address line.items) }
 {
     let places = places_of(alloc, file)?;
     let mut line = Vec::new(alloc);
@@ -30,7 +31,7 @@ pub fn places_of(alloc: Global, file: &[u8]) -> Result<Places<'_>, ListError>
     ensures { IfOk result
         (λ places. (selected : SelectedSymbols)
         × (file_answer file.entry.now (codes ".text") ≡ Some (Ok selected))
-        × (places ≡ entries_of selected)) }
+        × (places ≡ places_in selected)) }
 {
     Places::of_file(alloc, file, ".text")
 }

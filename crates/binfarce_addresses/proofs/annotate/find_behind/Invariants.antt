@@ -1,7 +1,6 @@
-use Rattle.std.proofs.Common.{◌≡◌, drop}
-use Rattle.binfarce_addresses.specs.Annotated.{found_behind}
+use Rattle.binfarce_addresses.proofs.Among.{IsOnly}
 use Rattle.binfarce_addresses.proofs.annotate.find_behind.Given as goal
 
--- no file so far has its name there
+-- the only file so far that has the longest name
 abbrev pub invariant-loop-at : goal.invariant-loop-at
-invariant-loop-at l = found_behind l.names l.before l.offset ≡ found_behind (drop l.at l.names) l.before l.offset
+invariant-loop-at l = IsOnly l.longest l.names l.before l.at l.here

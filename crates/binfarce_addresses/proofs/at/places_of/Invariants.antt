@@ -1,12 +1,13 @@
 use Rattle.std.proofs.Common.{◌≡◌, ◌++◌, map}
+use Rattle.std.specs.List.{filter_map}
 use Rattle.binfarce.specs.SymbolViews.{function_view}
-use Rattle.binfarce_tools.specs.Entries.{functions_left}
-use Rattle.binfarce_addresses.specs.machine.Places.{ranges_of}
+use Rattle.binfarce_tools.specs.Entries.{all_left}
+use Rattle.binfarce_addresses.specs.Lookup.{local_entry, other_entry}
 use Rattle.binfarce_addresses.proofs.at.places_of.Given as goal
 
--- those that are kept, and after them those that are left, are all
+-- those that are kept of each kind, and after them those that are left, are all of that kind
 abbrev pub invariant-loop-function : goal.invariant-loop-function
 invariant-loop-function l = record {
-  all : map function_view l.functions.items ++ functions_left l.function-iterator ≡ functions_left l.fn.listed;
-  ranges : l.ranges.items ≡ ranges_of l.functions.items;
+  others : map function_view l.functions.items ++ filter_map other_entry (all_left l.function-iterator) ≡ filter_map other_entry (all_left l.fn.listed.all);
+  locals : map function_view l.local.items ++ filter_map local_entry (all_left l.function-iterator) ≡ filter_map local_entry (all_left l.fn.listed.all);
 }

@@ -1,6 +1,5 @@
 use Rattle.std.proofs.Common.{◌<◌, ◌∙◌, ℕ, List, Option, None, ap, get_or, length, subst, sym, arith}
-use Rattle.std.specs.Option.{option_map}
-use Rattle.binfarce_addresses.specs.Counts.{is_held}
+use Rattle.binfarce_addresses.specs.Counts.{reply_to}
 use Rattle.binfarce_addresses.proofs.Shown.{found_held}
 use Rattle.binfarce.specs.Symbol.{Entry}
 use Rattle.binfarce_addresses.specs.Stream.{IsAnswerOf}
@@ -25,6 +24,6 @@ loop-answer-preserved c =
     let P : List Entry × Lookup → Type 0 = λ s. IsAnswerOf s.0 s.1 address written.0 in
     record {
       lines = one_behind c.args.self.now.0 c.args.self.now.1 addresses k address written.0 c.args.text.now.items c.loop-answer.text.items c.push_line.new.text.items within c.loop-answer.invariant.lines is (subst P c.loop-answer.invariant.same written.1) written.2;
-      counts = one_line_counted c.args.self.now.0 c.args.self.now.1 addresses k c.is_held.result c.args.counts.now c.loop-answer.counts c.add.new.self within c.loop-answer.invariant.counts (c.is_held.ensures ∙ found_held c.args.self.now.0 c.args.self.now.1 address (get_or items k no_answer).found to ∙ ap (option_map (is_held c.args.self.now.0 c.args.self.now.1)) is) c.add.ensures;
+      counts = one_line_counted c.args.self.now.0 c.args.self.now.1 addresses k c.reply.result c.args.counts.now c.loop-answer.counts c.add.new.self within c.loop-answer.invariant.counts (c.reply.ensures ∙ found_held c.args.self.now.0 c.args.self.now.1 address (get_or items k no_answer).found to ∙ ap (reply_to c.args.self.now.0 c.args.self.now.1) is) c.add.ensures;
       same = c.in_ok-push_line.ensures.same ∙ c.loop-answer.invariant.same;
     }

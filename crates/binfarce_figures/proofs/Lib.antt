@@ -7,6 +7,7 @@ pub mod LastNames
 pub mod InnerCrates
 pub mod Spans
 pub mod Places
+pub mod Once
 pub mod Arguments
 pub mod Widths
 pub mod Numbers

@@ -85,7 +85,7 @@ module _ {X Y K : Type 0} (f : X → Y) (key : Y → K) (cmp : K → K → Order
 pub entries_by_address : (functions sorted : List SectionFunction) → IsByKey (λ (f : SectionFunction). f.function.address) nat_cmp functions sorted → IsByAddress (map section_function_view functions) (map section_function_view sorted)
 entries_by_address functions sorted by =
     by_key_of_values section_function_view (λ (e : SectionEntry). e.entry.address) nat_cmp
-    (λ k f. record { section = f.section; function = record { name = f.function.name; address = k; size = f.function.size } }) (λ k f. refl) functions sorted by
+    (λ k f. record { section = f.section; info = f.info; version = f.version; function = record { name = f.function.name; address = k; size = f.function.size } }) (λ k f. refl) functions sorted by
 
 pub entries_by_size : {E : Type 0} (functions rising sorted : List SectionFunction) (result : Result (Unit {0}) E) → IsByAddress (map section_function_view functions) (map section_function_view rising)
     → OnOk result (IsByKey (λ (f : SectionFunction). f.function.size) falling rising sorted) → OnOk result (IsBySize (map section_function_view functions) (map section_function_view sorted))
@@ -93,7 +93,7 @@ entries_by_size functions rising sorted (Ok x) by_address by = (
   map section_function_view rising,
   by_address,
   by_key_of_values section_function_view (λ (e : SectionEntry). e.entry.size) falling
-      (λ k f. record { section = f.section; function = record { name = f.function.name; address = f.function.address; size = k } }) (λ k f. refl) rising sorted by,
+      (λ k f. record { section = f.section; info = f.info; version = f.version; function = record { name = f.function.name; address = f.function.address; size = k } }) (λ k f. refl) rising sorted by,
 )
 entries_by_size functions rising sorted (Err e) by_address by = tt
 

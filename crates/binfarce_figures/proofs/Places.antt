@@ -1,10 +1,8 @@
 -- The bytes that entries add, one entry after the other.
-use Rattle.std.proofs.Common.{◌≡◌, ℕ, zero, suc, ◌+◌, ◌<◌, ◌≤◌, Bool, true, false, not, ◌&&◌, ◌||◌, List, [], ◌∷◌, ◌++◌, length, drop, get_or, nat_le, nat_lt, refl, sym, ap, subst, ◌∙◌, arith, append-nil, append_assoc}
+use Rattle.std.proofs.Common.{◌≡◌, ℕ, suc, ◌+◌, ◌<◌, ◌≤◌, Bool, not, ◌&&◌, ◌||◌, List, [], ◌∷◌, ◌++◌, length, drop, get_or, nat_le, nat_lt, refl, sym, ap, subst, ◌∙◌, arith, append-nil, append_assoc}
 use Rattle.std.specs.List.{list_any}
-use Rattle.std.proofs.lemmas.List.Sums.{sum_by-cons}
-use Rattle.std.specs.Prelude.{if◌then◌else◌}
 use Rattle.binfarce.specs.SectionEntries.{SectionEntry}
-use Rattle.binfarce_figures.specs.Claims.{claimed, claimed_after, count, has, new_bytes, place_of, sum_of_sizes, with_size}
+use Rattle.binfarce_figures.specs.Claims.{claimed, claimed_after, has, new_bytes, place_of, with_size}
 use Rattle.binfarce_figures.specs.declared.claims.Span.{Span}
 use Rattle.binfarce_figures.specs.machine.Falling.{Falls}
 use Rattle.binfarce_figures.specs.machine.Spans.{Ascend, CoverMore, covers, gaps}
@@ -71,26 +69,3 @@ module _ (rows claims : List SectionEntry) (spans : List Span) (i : ℕ) (row : 
 
 pub ended : (rows claims : List SectionEntry) (i : ℕ) (spans : List Span) → drop i rows ≡ [] → Claimed rows claims i spans → claims ≡ claimed rows
 ended rows claims i spans none w = sym (append-nil claims) ∙ ap (λ (rs : List SectionEntry). claims ++ claimed_after w.before rs) (sym none) ∙ w.are
-
--- no more numbers below n pass a test than n
-count_le : (test : ℕ → Bool) (n : ℕ) → count test n ≤ n
-count_le test zero = omega arith
-count_le test (suc n) = by_test (test n) (count_le test n)
-  where
-    by_test : (b : Bool) → count test n ≤ n → count test n + (if b then 1 else 0) ≤ suc n
-    by_test true le = omega (arith, le)
-    by_test false le = omega (arith, le)
-
-claims_le : (before rows : List SectionEntry) → sum_of_sizes (claimed_after before rows) ≤ sum_of_sizes rows
-claims_le before [] = omega arith
-claims_le before (row ∷ rows) = omega (
-  arith,
-  sum_by-cons (λ (e : SectionEntry). e.entry.size) (with_size row (new_bytes before row)) (claimed_after (row ∷ before) rows),
-  sum_by-cons (λ (e : SectionEntry). e.entry.size) row rows,
-  count_le (λ n. not (list_any (has (place_of row + n)) before)) row.entry.size,
-  claims_le (row ∷ before) rows,
-)
-
--- the sum of what entries add is no greater than that of their sizes
-pub claimed_le : (rows : List SectionEntry) → sum_of_sizes (claimed rows) ≤ sum_of_sizes rows
-claimed_le rows = claims_le [] rows

@@ -9,7 +9,7 @@ use Rattle.binfarce.specs.declared.SymbolTable.{SymbolTable}
 use Rattle.binfarce_tools.specs.Answer.{selected_answer}
 use Rattle.binfarce_tools.specs.Entries.{HoldsLeft}
 use Rattle.binfarce_tools.specs.Json.{Style, lines, objects, style_of}
-use Rattle.binfarce_tools.specs.Tables.{AreTablesOf, section_names}
+use Rattle.binfarce_tools.specs.Tables.{AreTablesOf, section_names, version_names_of}
 use Rattle.binfarce_tools.specs.declared.functions.Selected.{Selected}
 use Rattle.binfarce_tools.specs.declared.tables.Tables.{Tables}
 use Rattle.binfarce_tools.proofs.Lines.{AreLines}
@@ -29,18 +29,18 @@ use Rattle.binfarce_figures.proofs.Growing.{zip_more}
 -- the listing of what is left of a selection is that of the file's answer
 pub listing_of : (shown : Shown) (style : Style) (which : SymbolTable) (file : List ℕ) (section : Option (List ℕ)) (tables : Tables) (selected : Selected) (seen : SelectedSymbols) (entries : List SectionEntry) (size : Option ℕ) (text : List ℕ)
     → AreTablesOf which file section tables → selected_answer which section file ≡ Some (Ok seen) → HoldsLeft seen selected → IsListOf selected entries size
-    → IsListingOf shown style (section_names tables) size entries text → IsListingBy shown style seen text
+    → IsListingOf shown style (section_names tables) (version_names_of tables) size entries text → IsListingBy shown style seen text
 listing_of shown style which file section tables selected seen entries size text are answer held list is =
-    as_answered which file section (λ s. IsListingBy shown style s text) tables selected seen are answer held (λ entries size names other shares. unnamed shown style entries size names other text)
-    (subst (λ (es : List SectionEntry). IsListingOf shown style (section_names tables) selected.size es text) list.0 (subst (λ (n : Option ℕ). IsListingOf shown style (section_names tables) n entries text) list.1 is))
+    as_answered which file section (λ s. IsListingBy shown style s text) tables selected seen are answer held (λ entries size names other shares versions. unnamed shown style entries size names other versions text)
+    (subst (λ (es : List SectionEntry). IsListingOf shown style (section_names tables) (version_names_of tables) selected.size es text) list.0 (subst (λ (n : Option ℕ). IsListingOf shown style (section_names tables) (version_names_of tables) n entries text) list.1 is))
   where
-    unnamed : (shown : Shown) (style : Style) (entries : List SectionEntry) (size : ℕ) (names other : ℕ → Option (List ℕ)) (text : List ℕ) → IsListingOf shown style names (Some size) entries text → IsListingOf shown style other (Some size) entries text
-    unnamed shown lines entries size names other text is = is
-    unnamed shown (objects file name) entries size names other text is = is
+    unnamed : (shown : Shown) (style : Style) (entries : List SectionEntry) (size : ℕ) (names other versions : ℕ → Option (List ℕ)) (text : List ℕ) → IsListingOf shown style names versions (Some size) entries text → IsListingOf shown style other versions (Some size) entries text
+    unnamed shown lines entries size names other versions text is = is
+    unnamed shown (objects file name) entries size names other versions text is = is
 
 -- a row of a listing
 abbrev pub IsRow : Listing → SectionEntry → List ℕ → Type 0
-IsRow l e row = IsRowOf l.shown.now.naming (style_of l.form) (section_names l.tables.now) l.size e row
+IsRow l e row = IsRowOf l.shown.now.naming (style_of l.form) (section_names l.tables.now) (version_names_of l.tables.now) l.size e row
 
 -- one line more
 pub lines_more : {X A : Type 0} (IsLine : X → List ℕ → Type 0) (f : A → X) (es : List A) (i : ℕ) (d : A) (line text new : List ℕ) → i < length es → new ≡ text ++ line → IsLine (f (get_or es i d)) line
@@ -52,13 +52,13 @@ lines_more IsLine f es i d line text new lt grown is (before, are, all) = (
 )
 
 -- the rows of the first are complete
-pub rows_are : {A : Type 0} (shown : Shown) (style : Style) (names : ℕ → Option (List ℕ)) (size : Option ℕ) (f : A → SectionEntry) (all : List A) (i count : ℕ) (text : List ℕ) → count ≡ count_of shown.first (length all) → length (take count all) ≤ i
-    → AreLines (IsRowOf shown.naming style names size) (map f (take i (take count all))) text → AreFirstRows shown style names size (map f all) text
-rows_are shown style names size f all i count text is le are =
+pub rows_are : {A : Type 0} (shown : Shown) (style : Style) (names versions : ℕ → Option (List ℕ)) (size : Option ℕ) (f : A → SectionEntry) (all : List A) (i count : ℕ) (text : List ℕ) → count ≡ count_of shown.first (length all) → length (take count all) ≤ i
+    → AreLines (IsRowOf shown.naming style names versions size) (map f (take i (take count all))) text → AreFirstRows shown style names versions size (map f all) text
+rows_are shown style names versions size f all i count text is le are =
     let of_all : count ≡ count_of shown.first (length (map f all)) = is ∙ ap (count_of shown.first) (sym (length-map all f)) in
     let first : map f (take i (take count all)) ≡ take (count_of shown.first (length (map f all))) (map f all) =
     ap (map f) (take_all i (take count all) le) ∙ sym (take-map f count all) ∙ ap (λ (n : ℕ). take n (map f all)) of_all in
-    subst (λ (es : List SectionEntry). AreLines (IsRowOf shown.naming style names size) es text) first are
+    subst (λ (es : List SectionEntry). AreLines (IsRowOf shown.naming style names versions size) es text) first are
 
 -- entries that are sorted without names are in any other order than that of names
 pub placed : (naming : Naming) (order : Option Order) (entries sorted : List SectionEntry) → is_by_name order ≡ false → IsPlaced order entries sorted → IsInOrder naming order entries sorted

@@ -1,34 +1,35 @@
 -- The text of sums, from shares and from a file's answer.
-use Rattle.std.proofs.Common.{◌≡◌, ℕ, ◌<◌, ◌≤◌, ◌^◌, true, BTreeMap, List, [], ◌∷◌, ◌++◌, String, length, Option, None, Some, filter, unwrap_or, refl, sym, ap, subst, ◌∙◌, arith}
+use Rattle.std.proofs.Common.{◌≡◌, ℕ, ◌<◌, ◌^◌, true, BTreeMap, List, [], ◌∷◌, ◌++◌, String, length, Option, None, Some, Result, Ok, filter, unwrap_or, refl, sym, ap, subst, ◌∙◌, arith}
 use Rattle.std.specs.Global.{Global}
 use Rattle.std.specs.List.{AllZip}
 use denote.Ref.{Bor}
 use Rattle.std.proofs.lemmas.List.{length-map}
 use Rattle.std.proofs.lemmas.List.Sums.{sum_by-cons}
 use Rattle.std.proofs.lemmas.Slice.Zip.{AllZip-long}
-use Rattle.std.proofs.lemmas.List.Sorted.{sum_by-IsPermutation}
-use Rattle.binfarce.specs.SectionEntries.{SectionEntry}
+use Rattle.binfarce.specs.Refusal.{Refusal}
+use Rattle.binfarce.specs.SectionEntries.{SectionEntry, SelectedSymbols}
 use Rattle.binfarce.specs.SymbolViews.{section_function_view}
 use Rattle.binfarce.specs.declared.SymbolTable.{SymbolTable}
-use Rattle.binfarce_tools.specs.Report.{Share, sum_of, total}
+use Rattle.binfarce_tools.specs.Answer.{selected_answer}
+use Rattle.binfarce_tools.specs.Report.{Share, sum_of, total, unknown_crate}
 use Rattle.binfarce_figures.specs.declared.key.Grouping.{Grouping}
 use Rattle.binfarce_figures.specs.declared.figures.Columns.TheVariants.{Sums}
 use Rattle.binfarce_figures.specs.declared.sums.Claims.{Claims}
 use Rattle.binfarce_figures.specs.declared.sums.Counting.TheVariants.{Symbols}
 use Rattle.binfarce_figures.specs.declared.sums.Figures.{Figures}
 use Rattle.binfarce_figures.specs.declared.sums.Numbers.{Numbers}
-use Rattle.binfarce_figures.specs.Claims.{AreClaimsOf, IsSumOf, claimed, sum_of_sizes}
-use Rattle.binfarce_figures.specs.Figures.{AreRowsOf, AreSharesIn, IsShareOf, IsTextOfShares, copies_of, numbers_of, sum_row, whole_text}
+use Rattle.binfarce_figures.specs.Claims.{AreClaimsOf, IsSumOf, bytes_of, sum_of_sizes}
+use Rattle.binfarce_figures.specs.Figures.{AreRowsOf, AreSharesIn, AreSumsBy, IsShareOf, IsTextOfShares, copies_of, numbers_of, sum_row, whole_text}
 use Rattle.binfarce_figures.specs.Keys.{section_keys}
 use Rattle.binfarce_tools.specs.Json.{style_of}
 use Rattle.binfarce_tools.specs.Tables.{section_names}
 use Rattle.binfarce_tools.specs.declared.json.Form.{Form}
 use Rattle.binfarce_figures.specs.machine.Columns.{AreRowsFor}
-use Rattle.binfarce_figures.specs.machine.Counts.{AddsShares, AreNumbersOf}
+use Rattle.binfarce_figures.specs.machine.Counts.{AddsShares, AreNumbersFor, AreNumbersOf, numbers_at}
 use Rattle.binfarce_figures.specs.machine.Got.{AreClaimsIn}
 use Rattle.binfarce_figures.specs.machine.Shares.{AddUp, AreSharesWith, entries_of}
 use Rattle.binfarce_figures.proofs.Counted.{counts_are, of_symbols, ones}
-use Rattle.binfarce_figures.proofs.Places.{claimed_le}
+use Rattle.binfarce_figures.proofs.Once.{bytes_are}
 
 all_kept : {X : Type 0} (xs : List X) → filter (λ x. true) xs ≡ xs
 all_kept [] = refl
@@ -64,10 +65,6 @@ of_claims grouping claims shares old new add_up empty are adds =
     let few : length shares < 2 ^ 64 = omega (arith, AllZip-long (IsShareOf grouping sections) (entries_of claims) shares are, length-map claims.list.items section_function_view, add_up.few) in
     of_symbols shares old new empty adds fits few
 
--- what is claimed is no more than all sizes
-pub claims_le : (entries claims : List SectionEntry) → AreClaimsOf entries claims → sum_of_sizes claims ≤ sum_of_sizes entries
-claims_le entries claims (sorted, by, is) = omega (arith, ap sum_of_sizes is, claimed_le sorted, sum_by-IsPermutation (λ (e : SectionEntry). e.entry.size) entries sorted by.same)
-
 keys_are : (size : Option ℕ) (names other : ℕ → Option (List ℕ)) → (size ≡ None → names ≡ other) → section_keys names size ≡ section_keys other size
 keys_are None names other same = ap (λ (ns : ℕ → Option (List ℕ)). section_keys ns None) (same refl)
 keys_are (Some n) names other same = refl
@@ -83,4 +80,18 @@ shares_in grouping which file section claims shares (entries, (seen, answer, fit
 
 -- so is their sum
 pub sum_in : (which : SymbolTable) (file : List ℕ) (section : Option (List ℕ)) (claims : Claims) (got : AreClaimsIn which file section claims) → AddUp claims → IsSumOf got.1.0 claims.total
-sum_in which file section claims (entries, (seen, answer, fits, same, size_is, named), claimed) add_up = (entries_of claims, subst (λ (es : List SectionEntry). AreClaimsOf es (entries_of claims)) same claimed, add_up.total_is)
+sum_in which file section claims (entries, (seen, answer, fits, same, size_is, named), claimed) add_up = add_up.total_is ∙ bytes_are entries (entries_of claims) claimed ∙ ap bytes_of same
+
+same_answer : (a b : SelectedSymbols) → Path (Option (Result SelectedSymbols Refusal)) (Some (Ok a)) (Some (Ok b)) → a ≡ b
+same_answer a b e = cc
+
+-- and that of `[unknown]`
+pub sums_in : (grouping : Grouping) (which : SymbolTable) (file : List ℕ) (section : Option (List ℕ)) (claims : Claims) (numbers : BTreeMap (String Global) Numbers) (unknown : ℕ) (got : AreClaimsIn which file section claims) → AddUp claims → AreNumbersFor grouping claims numbers
+    → unknown ≡ (numbers_at numbers unknown_crate).sum → (selected : SelectedSymbols) → selected_answer which section file ≡ Some (Ok selected) → AreSumsBy grouping selected (record { total = claims.total; unknown = unknown })
+sums_in grouping which file section claims numbers unknown got add_up (shares, with, are) is selected answer =
+    subst (λ (s : SelectedSymbols). AreSumsBy grouping s (record { total = claims.total; unknown = unknown })) (same_answer got.1.0 selected (sym got.1.1 ∙ answer)) (record {
+      total_is = sum_in which file section claims got add_up;
+      shares = shares;
+      are = shares_in grouping which file section claims shares got with;
+      unknown_is = is ∙ sym (are.sums_are unknown_crate);
+    })

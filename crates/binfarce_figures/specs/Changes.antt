@@ -6,7 +6,7 @@ use Rattle.binfarce.specs.SectionEntries.{SelectedSymbols}
 use Rattle.binfarce.specs.declared.SymbolTable.{SymbolTable}
 use Rattle.binfarce_tools.specs.Json.{Style, number_member}
 use Rattle.binfarce_tools.specs.Listing.{pad_left, size_text}
-use Rattle.binfarce_tools.specs.Report.{Share, AreCratesOf, ReportFits, sum_of, total}
+use Rattle.binfarce_tools.specs.Report.{Share, AreCratesOf, sum_of, total}
 use Rattle.binfarce_tools.specs.ReportWords.{outcome_of}
 use Rattle.binfarce_tools.specs.Answer.{selected_answer, MemoryIn}
 use Rattle.binfarce_tools.specs.Tables.{AreTablesOf}
@@ -16,7 +16,7 @@ use Rattle.binfarce_tools.specs.declared.tables.Tables.{Tables}
 use Rattle.binfarce_figures.specs.declared.diff.DiffError.{DiffError}
 use Rattle.binfarce_figures.specs.declared.diff.Growth.{Growth}
 use Rattle.binfarce_figures.specs.declared.sums.Figures.{Figures}
-use Rattle.binfarce_figures.specs.Claims.{IsSumOf}
+use Rattle.binfarce_figures.specs.Claims.{IsSumOf, SumFits}
 use Rattle.binfarce_figures.specs.Figures.{AreRowsOf, AreSharesIn, hundredths, numbers_of, percent_member, row_of}
 
 -- the distance of two numbers
@@ -107,11 +107,11 @@ both None new = None
 
 -- a call ends as one that sums the old file, if that fails; and otherwise as one that sums the new file, or an allocation failed
 abbrev pub EndsAfter : (old : Option (Result SelectedSymbols Refusal)) → (Old New : Outcome → Type 0) → Outcome → Type 0
-EndsAfter (Some (Ok selected)) Old New outcome = (outcome ≡ no_memory) ⊎ (ReportFits selected × New outcome) ⊎ ((¬ (ReportFits selected)) × (outcome ≡ too_large))
+EndsAfter (Some (Ok selected)) Old New outcome = (outcome ≡ no_memory) ⊎ (SumFits selected × New outcome) ⊎ ((¬ (SumFits selected)) × (outcome ≡ too_large))
 EndsAfter old Old New outcome = Old outcome
 
 abbrev pub EndsFor : Asked → Outcome → Type 0
-EndsFor asked outcome = EndsAs ReportFits (MemoryIn asked.file asked.section) (answer_for asked) outcome
+EndsFor asked outcome = EndsAs SumFits (MemoryIn asked.file asked.section) (answer_for asked) outcome
 
 abbrev pub EndsForBoth : (old new : Asked) → Outcome → Type 0
 EndsForBoth old new outcome = EndsAfter (answer_for old) (EndsFor old) (EndsFor new) outcome
@@ -139,7 +139,7 @@ other_error e = record { error = e; is_of_old = false }
 -- the error is the old file's where that file can't be summed; and where it isn't, that file can be
 abbrev pub IsOf : Asked → (is_of_old : Bool) → ReportError → Type 0
 IsOf before true e = EndsFor before (outcome_of (Err e))
-IsOf before false e = (selected : SelectedSymbols) × (answer_for before ≡ Some (Ok selected)) × ReportFits selected
+IsOf before false e = (selected : SelectedSymbols) × (answer_for before ≡ Some (Ok selected)) × SumFits selected
 
 abbrev pub IsWhose : (before : Asked) → DiffError → Type 0
 IsWhose before e = IsOf before e.is_of_old e.error

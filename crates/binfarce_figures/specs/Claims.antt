@@ -1,5 +1,5 @@
 -- How many bytes each function symbol adds to those before it.
-use Rattle.std.specs.Prelude.{◌≡◌, ℕ, ◌+◌, ◌*◌, ◌^◌, zero, suc, Bool, not, ◌&&◌, List, [], ◌∷◌, IsPermutation, nat_le, nat_lt, if◌then◌else◌}
+use Rattle.std.specs.Prelude.{◌≡◌, ◌<◌, ℕ, ◌+◌, ◌*◌, ◌^◌, zero, suc, Bool, not, ◌&&◌, List, [], ◌∷◌, IsPermutation, nat_le, nat_lt, if◌then◌else◌}
 use Rattle.std.specs.Cmp.Lexicographic.{slice_cmp}
 use Rattle.std.specs.List.{list_any, sum_by}
 use Rattle.std.specs.List.Sorted.{IsSorted}
@@ -35,7 +35,7 @@ new_bytes before e = count (λ n. not (list_any (has (place_of e + n)) before)) 
 
 -- an entry with another size
 abbrev pub with_size : SectionEntry → ℕ → SectionEntry
-with_size e size = record { section = e.section; entry = record { name = e.entry.name; address = e.entry.address; size = size } }
+with_size e size = record { section = e.section; info = e.info; version = e.version; entry = record { name = e.entry.name; address = e.entry.address; size = size } }
 
 -- entries with the bytes that each adds as its size
 abbrev pub claimed_after : (before : List SectionEntry) → List SectionEntry → List SectionEntry
@@ -53,6 +53,18 @@ AreClaimsOf entries claims = (sorted : List SectionEntry) × IsInward entries so
 abbrev pub sum_of_sizes : List SectionEntry → ℕ
 sum_of_sizes entries = sum_by (λ e. e.entry.size) entries
 
--- n is how many bytes the function symbols of a file's answer have: each byte counts once
+-- a place that no entry reaches: the sum of their ends
+abbrev pub past_all : List SectionEntry → ℕ
+past_all entries = sum_by (λ e. place_of e + e.entry.size) entries
+
+-- how many bytes entries have: each byte counts once, however many have it
+abbrev pub bytes_of : List SectionEntry → ℕ
+bytes_of entries = count (λ place. list_any (has place) entries) (past_all entries)
+
+-- n is how many bytes the function symbols of a file's answer have
 abbrev pub IsSumOf : SelectedSymbols → ℕ → Type 0
-IsSumOf selected n = (claims : List SectionEntry) × AreClaimsOf selected.entries claims × (n ≡ sum_of_sizes claims)
+IsSumOf selected n = n ≡ bytes_of selected.entries
+
+-- they can be summed where that is a number of 64 bits
+abbrev pub SumFits : SelectedSymbols → Type 0
+SumFits selected = bytes_of selected.entries < 2 ^ 64

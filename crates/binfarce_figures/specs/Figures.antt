@@ -8,14 +8,15 @@ use Rattle.binfarce_chart.specs.Chart.{others_label}
 use Rattle.binfarce_tools.specs.Json.{Style, lines, objects, number_member, object_start, text_member}
 use Rattle.binfarce_tools.specs.Listing.{pad_left, size_text}
 use Rattle.binfarce_tools.specs.Map.{IsMapOfShares}
-use Rattle.binfarce_tools.specs.Report.{Share, AreCratesOf, sum_of, total, total_line}
+use Rattle.binfarce_tools.specs.Report.{Share, AreCratesOf, sum_of, total, total_line, unknown_crate}
 use Rattle.binfarce_tools.specs.declared.report.ReportError.{ReportError}
 use Rattle.binfarce_figures.specs.declared.key.Grouping.{Grouping}
 use Rattle.binfarce_figures.specs.declared.key.Key.{Key}
 use Rattle.binfarce_figures.specs.declared.key.Key.TheVariants.{Generic, Stack}
 use Rattle.binfarce_figures.specs.declared.figures.Figure.{Figure}
 use Rattle.binfarce_figures.specs.declared.sums.Figures.{Figures}
-use Rattle.binfarce_figures.specs.Claims.{AreClaimsOf}
+use Rattle.binfarce_figures.specs.declared.sums.Sums.{Sums}
+use Rattle.binfarce_figures.specs.Claims.{AreClaimsOf, IsSumOf}
 use Rattle.binfarce_figures.specs.Rows.{count_of}
 use Rattle.binfarce_figures.specs.RowListing.{last_line}
 use Rattle.binfarce_figures.specs.Keys.{IsKeyOf, section_keys}
@@ -147,7 +148,14 @@ claim_line share = if nat_eq share.size 0 then [] else share.name ++ (codes " " 
 abbrev pub AreStacksIn : (joins_std : Bool) → SelectedSymbols → List ℕ → Type 0
 AreStacksIn joins_std = IsShownBy (record { key = Stack; joins_std = joins_std }) (λ size shares text. text ≡ flat_map claim_line shares)
 
+-- sums are those of a file's answer: of all its bytes, and of those that count for `[unknown]`
+pub record AreSumsBy (grouping : Grouping) (selected : SelectedSymbols) (sums : Sums) : Type 0 where
+  pub total_is : IsSumOf selected sums.total
+  pub shares : List Share
+  pub are : AreSharesIn grouping selected shares
+  pub unknown_is : sums.unknown ≡ sum_of shares unknown_crate
+
 -- a result without its value
-abbrev pub ended : Result ℕ ReportError → Result (Unit {0}) ReportError
+abbrev pub ended : Result Sums ReportError → Result (Unit {0}) ReportError
 ended (Ok n) = Ok tt
 ended (Err e) = Err e

@@ -79,6 +79,8 @@ fn with_size<'a>(function: SectionFunction<'a>, size: u64) -> SectionFunction<'a
 {
     SectionFunction {
         section: function.section,
+        info: function.info,
+        version: function.version,
         function: FunctionSymbol {
             size,
             ..function.function

@@ -6,16 +6,17 @@ ghost use Rattle.binfarce.specs.declared.SymbolTable.{SymbolTable};
 ghost use Rattle.binfarce_chart.specs.Views.{bar_view};
 ghost use Rattle.binfarce_tools.specs.Answer.{selected_answer, MemoryIn};
 ghost use Rattle.binfarce_tools.specs.Map.{IsMapOfShares, crate_rows};
-ghost use Rattle.binfarce_tools.specs.Report.{Share, AreCratesOf, ReportFits, total};
+ghost use Rattle.binfarce_tools.specs.Report.{Share, AreCratesOf, total};
 ghost use Rattle.binfarce_tools.specs.ReportWords.{outcome_of};
 ghost use Rattle.binfarce_tools.specs.Tables.{AreTablesOf};
 ghost use Rattle.binfarce_tools.specs.Writing.{EndsAs, Takes, Fails, Leaves};
+ghost use Rattle.binfarce_figures.specs.Claims.{SumFits};
 ghost use Rattle.binfarce_figures.specs.Figures.{IsPictureBy};
 ghost use Rattle.binfarce_figures.specs.machine.Counts.{AreNumbersOf};
 ghost use Rattle.binfarce_figures.specs.machine.Shares.{AddUp, AreSharesWith};
 
 use crate::key::Grouping;
-use crate::sums::{Claims, Counting, Numbers, add_claims, claims_in};
+use crate::sums::{Claims, Numbers, claims_in, numbers_of};
 use binfarce_chart::bars::Bar;
 use binfarce_chart::svg::chart;
 use binfarce_tools::list::Sink;
@@ -41,7 +42,7 @@ pub fn map_by<S: Sink>(
 ) -> Result<(), ReportError>
     ensures outcome { (which : SymbolTable) (file : List ℕ) (section : Option (List ℕ))
         → AreTablesOf which file section tables.now
-        → EndsAs ReportFits (MemoryIn file section) (selected_answer which section file) (outcome_of result) }
+        → EndsAs SumFits (MemoryIn file section) (selected_answer which section file) (outcome_of result) }
     ensures takes { (which : SymbolTable) (file : List ℕ) (section : Option (List ℕ))
         → AreTablesOf which file section tables.now → Takes (IsPictureBy title.now grouping first)
         (selected_answer which section file) (S.taken out.old) (S.taken out.new) (outcome_of result) }
@@ -64,8 +65,7 @@ fn picture_of(
     ensures { IfOk result (λ t. (shares : List Share) × AreSharesWith grouping claims.now shares
         × IsMapOfShares title.now shares claims.now.size first (string_bytes t)) }
 {
-    let mut numbers = BTreeMap::new(alloc);
-    add_claims(alloc, claims, grouping, Counting::Symbols, &mut numbers)?;
+    let numbers = numbers_of(alloc, claims, grouping)?;
     let bars = bars_of(alloc, &numbers)?;
     chart(alloc, title, bars.as_slice(), claims.size, first)
 }

@@ -5,6 +5,7 @@ ghost use Rattle.std.specs.BTreeMap.{get_by_text};
 ghost use Rattle.std.specs.Cmp.Lexicographic.{slice_cmp};
 ghost use Rattle.std.specs.Global.{Global};
 ghost use Rattle.std.specs.List.{All, AllZip};
+ghost use Rattle.std.specs.Option.{option_map};
 ghost use Rattle.std.specs.Ordering.{nat_cmp};
 ghost use Rattle.std.specs.String.{string_bytes};
 ghost use Rattle.binfarce.specs.SectionEntries.{SectionEntry};
@@ -14,11 +15,11 @@ ghost use Rattle.binfarce_tools.specs.Listing.{ListingFits};
 ghost use Rattle.binfarce_tools.specs.ListWords.{outcome_of};
 ghost use Rattle.binfarce_tools.specs.Answer.{selected_answer, MemoryIn};
 ghost use Rattle.binfarce_tools.specs.Entries.{all_left};
-ghost use Rattle.binfarce_tools.specs.Tables.{AreTablesOf};
+ghost use Rattle.binfarce_tools.specs.Tables.{AreTablesOf, version_names_of};
 ghost use Rattle.binfarce_tools.specs.Writing.{EndsAs, Takes, Fails, Leaves};
 ghost use Rattle.binfarce_figures.specs.Order.{AreNamed, IsByKey, IsInOrder, Named};
 ghost use Rattle.binfarce_figures.specs.Rows.{IsNameText, count_of};
-ghost use Rattle.binfarce_figures.specs.RowListing.{IsListingBy, last_line};
+ghost use Rattle.binfarce_figures.specs.RowListing.{IsListingBy, binding_word, kind_word, last_line, symbol_members, word_of};
 ghost use Rattle.binfarce_tools.specs.Json.{style_of};
 ghost use Rattle.binfarce_figures.specs.machine.Listings.{AreRows, AreTexts, HasName, IsPlaced, IsRowNamed, IsTextAt, IsTextFor, Notes, entry_of, name_of};
 
@@ -63,8 +64,8 @@ pub struct Shown {
 }
 
 /// As `list_tables`, but in an order, of the first lines alone, with other names, without the last line, or as objects
-/// with the members `file`, `section`, `address`, `size`, `name`, `raw` (the stored name) and `crate`, and no last
-/// line.
+/// with the members `file`, `section`, `address`, `size`, `name`, `raw` (the stored name), `crate`, `binding`, `kind`
+/// and `version`, and no last line.
 ///
 /// # Errors
 ///
@@ -308,9 +309,25 @@ impl Listing<'_, '_> {
                 push_text_member(text, "name", Some(name))?;
                 push_text_member(text, "raw", Some(stored))?;
                 push_text_member(text, "crate", Some(crate_name.as_str()))?;
+                self.push_symbol(text, function)?;
                 text.push_str("}\n")
             }
         }
+    }
+
+    // Appends the members of a symbol's binding, type and version.
+    fn push_symbol(
+        &self,
+        text: &mut String,
+        function: SectionFunction<'_>,
+    ) -> Result<(), AllocError>
+        ensures { OnOk result (string_bytes text.new ≡ string_bytes text.old
+            ++ symbol_members (version_names_of self.now.tables.now) (section_function_view function.entry)) }
+    {
+        let version = self.tables.version_names().name(function.version);
+        push_text_member(text, "binding", binding_word(function.info))?;
+        push_text_member(text, "kind", kind_word(function.info))?;
+        push_text_member(text, "version", version)
     }
 
     // Appends the line of the section's size, if it is wanted.
@@ -325,6 +342,40 @@ impl Listing<'_, '_> {
             ),
             _ => Ok(()),
         }
+    }
+}
+
+// The type of a function symbol with this info.
+fn kind_word(info: u8) -> Option<&'static str>
+    ensures { option_map (λ t. t.now) result ≡ kind_word info }
+{
+    const STT_FUNC: u8 = 2;
+    const STT_GNU_IFUNC: u8 = 10;
+    match info % 16 {
+        STT_FUNC => Some("function"),
+        STT_GNU_IFUNC => Some("indirect"),
+        _ => None,
+    }
+}
+
+// The binding of a function symbol with this info.
+fn binding_word(info: u8) -> Option<&'static str>
+    ensures { option_map (λ t. t.now) result ≡ binding_word info }
+{
+    kind_word(info)?;
+    word_of(info / 16)
+}
+
+// The word for a binding.
+fn word_of(binding: u8) -> Option<&'static str>
+    ensures { option_map (λ t. t.now) result ≡ word_of binding }
+{
+    match binding {
+        0 => Some("local"),
+        1 => Some("global"),
+        2 => Some("weak"),
+        10 => Some("unique"),
+        _ => None,
     }
 }
 

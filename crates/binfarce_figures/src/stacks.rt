@@ -4,11 +4,12 @@ ghost use Rattle.std.specs.Prelude.{◌≡◌, ◌++◌, ℕ, List, Option, code
 ghost use Rattle.std.specs.List.{flat_map};
 ghost use Rattle.std.specs.String.{string_bytes};
 ghost use Rattle.binfarce.specs.declared.SymbolTable.{SymbolTable};
-ghost use Rattle.binfarce_tools.specs.Report.{Share, ReportFits};
+ghost use Rattle.binfarce_tools.specs.Report.{Share};
 ghost use Rattle.binfarce_tools.specs.ReportWords.{outcome_of};
 ghost use Rattle.binfarce_tools.specs.Answer.{selected_answer, MemoryIn};
 ghost use Rattle.binfarce_tools.specs.Tables.{AreTablesOf};
 ghost use Rattle.binfarce_tools.specs.Writing.{EndsAs, Takes, Fails, Leaves};
+ghost use Rattle.binfarce_figures.specs.Claims.{SumFits};
 ghost use Rattle.binfarce_figures.specs.Figures.{AreStacksIn, claim_line};
 ghost use Rattle.binfarce_figures.specs.Keys.{IsCrateOf, IsTrimmedOf};
 ghost use Rattle.binfarce_figures.specs.Stacks.{stack, stack_of};
@@ -43,7 +44,7 @@ pub fn fold_tables<S: Sink>(
 ) -> Result<(), ReportError>
     ensures outcome { (which : SymbolTable) (file : List ℕ) (section : Option (List ℕ))
         → AreTablesOf which file section tables.now
-        → EndsAs ReportFits (MemoryIn file section) (selected_answer which section file) (outcome_of result) }
+        → EndsAs SumFits (MemoryIn file section) (selected_answer which section file) (outcome_of result) }
     ensures takes { (which : SymbolTable) (file : List ℕ) (section : Option (List ℕ))
         → AreTablesOf which file section tables.now → Takes (AreStacksIn joins_std)
         (selected_answer which section file) (S.taken out.old) (S.taken out.new) (outcome_of result) }

@@ -6,15 +6,15 @@ ghost use Rattle.binfarce.specs.SectionEntries.{SelectedSymbols};
 ghost use Rattle.binfarce.specs.SymbolViews.{section_function_view};
 ghost use Rattle.binfarce.specs.declared.SymbolTable.{SymbolTable};
 ghost use Rattle.binfarce_tools.specs.Json.{style_of};
-ghost use Rattle.binfarce_tools.specs.Report.{Share, ReportFits};
+ghost use Rattle.binfarce_tools.specs.Report.{Share};
 ghost use Rattle.binfarce_tools.specs.ReportWords.{outcome_of};
 ghost use Rattle.binfarce_tools.specs.Answer.{selected_answer, MemoryIn};
 ghost use Rattle.binfarce_tools.specs.Tables.{AreTablesOf};
 ghost use Rattle.binfarce_tools.specs.Writing.{EndsAs, Takes, Fails, Leaves};
 ghost use Rattle.binfarce_tools.specs.declared.report.ReportError.TheVariants.{Write};
-ghost use Rattle.binfarce_figures.specs.Claims.{IsSumOf, sum_of_sizes};
-ghost use Rattle.binfarce_figures.specs.Figures.{AreFiguresBy, IsTextOfShares, ended, section_member, whole_text};
-ghost use Rattle.binfarce_figures.specs.machine.Counts.{AddsNumbers, AddsShares, counts, numbers_at};
+ghost use Rattle.binfarce_figures.specs.Claims.{SumFits, sum_of_sizes};
+ghost use Rattle.binfarce_figures.specs.Figures.{AreFiguresBy, AreSumsBy, IsTextOfShares, ended, section_member, whole_text};
+ghost use Rattle.binfarce_figures.specs.machine.Counts.{AddsNumbers, AddsShares, AreNumbersFor, counts, numbers_at};
 ghost use Rattle.binfarce_figures.specs.machine.Got.{AreClaimsIn, IsFaultOf};
 ghost use Rattle.binfarce_figures.specs.machine.Shares.{AddUp, AreSharesWith};
 
@@ -40,6 +40,15 @@ pub struct Figures {
     pub first: Option<usize>,
     /// Whether each line has its share of the whole, in per cent.
     pub has_percent: bool,
+}
+
+/// The sums of a file.
+#[derive(Debug, Clone, Copy, PartialEq)]
+pub struct Sums {
+    /// The sum of all sizes, each byte counted once.
+    pub total: u64,
+    /// That of the key `[unknown]`; by crate, of the function symbols without one.
+    pub unknown: u64,
 }
 
 /// What the function symbols of a selection add to the sums of their keys.
@@ -78,7 +87,7 @@ pub(crate) enum Counting {
 /// Writes a line for each key: the sum of the sizes of its function symbols, the greatest first, those of one size in
 /// the order of the keys' bytes; and the lines for the whole, as `report_tables` does. A byte that several symbols of a
 /// section have counts for the innermost of them: the one that begins last, of these the shortest, and of these the one
-/// whose stored name is least. The sum of all is returned.
+/// whose stored name is least. The sum of all is returned, and that of `[unknown]`.
 ///
 /// A line is `{sum:>10} {key}`. Before the key it has the share of the section, or of all sections in the sum of all
 /// sizes, as `{percent:>3}.{hundredths:02}% `, if that is wanted; and for `Key::Generic` the number of function symbols
@@ -88,37 +97,43 @@ pub(crate) enum Counting {
 ///
 /// # Errors
 ///
-/// Those of `report_tables`.
+/// Those of `list_tables`; `TooLarge` where the sum of all, each byte counted once, is 2^64 or more. Only after `Write` a
+/// beginning of the text may be written.
 pub fn sum_by<S: Sink>(
     alloc: Global,
     tables: &Tables<'_>,
     figures: &Figures,
     form: Form<'_>,
     out: &mut S,
-) -> Result<u64, ReportError>
+) -> Result<Sums, ReportError>
     ensures outcome { (which : SymbolTable) (file : List ℕ) (section : Option (List ℕ))
         → AreTablesOf which file section tables.now
-        → EndsAs ReportFits (MemoryIn file section) (selected_answer which section file) (outcome_of (ended result)) }
+        → EndsAs SumFits (MemoryIn file section) (selected_answer which section file) (outcome_of (ended result)) }
     ensures takes { (which : SymbolTable) (file : List ℕ) (section : Option (List ℕ))
         → AreTablesOf which file section tables.now
         → Takes (AreFiguresBy figures.now (style_of form.entry))
         (selected_answer which section file) (S.taken out.old) (S.taken out.new) (outcome_of (ended result)) }
-    ensures sum { (which : SymbolTable) (file : List ℕ) (section : Option (List ℕ)) (selected : SelectedSymbols)
+    ensures sums { (which : SymbolTable) (file : List ℕ) (section : Option (List ℕ)) (selected : SelectedSymbols)
         → AreTablesOf which file section tables.now
-        → selected_answer which section file ≡ Some (Ok selected) → IfOk result (IsSumOf selected) }
+        → selected_answer which section file ≡ Some (Ok selected)
+        → IfOk result (AreSumsBy figures.now.grouping selected) }
     ensures fails { Fails (S.has_failed out.old) (S.has_failed out.new) (outcome_of (ended result)) }
     ensures leaves { Leaves out.old out.new (outcome_of (ended result)) }
 {
     let claims = claims_in(alloc, tables)?;
-    write_made(out, text_of(alloc, figures, form, &claims))?;
-    Ok(claims.total)
+    let numbers = numbers_of(alloc, &claims, figures.grouping)?;
+    write_made(out, text_of(alloc, figures, form, &claims, &numbers))?;
+    Ok(Sums {
+        total: claims.total,
+        unknown: sum_at(&numbers, "[unknown]"),
+    })
 }
 
 /// What the function symbols that the tables were read for add.
 ///
 /// # Errors
 ///
-/// Those of `report_tables`, but for `Write`.
+/// Those of `sum_by`, but for `Write`.
 pub(crate) fn claims_in<'b, 'a>(
     alloc: Global,
     tables: &'b Tables<'a>,
@@ -130,16 +145,16 @@ pub(crate) fn claims_in<'b, 'a>(
 {
     let selected = tables.functions(alloc)?;
     let (functions, size) = list_of(alloc, selected)?;
-    if total_of(&functions) > u128::from(u64::MAX) {
+    let list = claims_of(alloc, functions)?;
+    let total = total_of(&list);
+    if total > u128::from(u64::MAX) {
         return Err(ReportError::TooLarge);
     }
-    let list = claims_of(alloc, functions)?;
-    let total = total_of(&list) as u64;
     Ok(Claims {
         tables,
         size,
         list,
-        total,
+        total: total as u64,
     })
 }
 
@@ -157,19 +172,13 @@ fn text_of(
     figures: &Figures,
     form: Form<'_>,
     claims: &Claims<'_, '_>,
+    numbers: &BTreeMap<String, Numbers>,
 ) -> Result<String, AllocError>
-    requires { AddUp claims.now }
+    requires add_up { AddUp claims.now }
+    requires numbers { AreNumbersFor figures.now.grouping claims.now numbers.now }
     ensures { IfOk result (λ t. (shares : List Share) × AreSharesWith figures.now.grouping claims.now shares
         × IsTextOfShares figures.now (style_of form.entry) claims.now.size shares (string_bytes t)) }
 {
-    let mut numbers = BTreeMap::new(alloc);
-    add_claims(
-        alloc,
-        claims,
-        figures.grouping,
-        Counting::Symbols,
-        &mut numbers,
-    )?;
     let columns = Columns::Sums(claims.size.unwrap_or(claims.total));
     let layout = Layout {
         alloc,
@@ -177,9 +186,33 @@ fn text_of(
         form,
         columns,
     };
-    let mut text = layout.rows(&numbers)?;
+    let mut text = layout.rows(numbers)?;
     push_whole(&mut text, form, claims.total, claims.size)?;
     Ok(text)
+}
+
+/// The two numbers of each key of function symbols: the sum of what they add, and how many they are.
+pub(crate) fn numbers_of(
+    alloc: Global,
+    claims: &Claims<'_, '_>,
+    grouping: Grouping,
+) -> Result<BTreeMap<String, Numbers>, AllocError>
+    requires { AddUp claims.now }
+    ensures { IfOk result (AreNumbersFor grouping claims.now) }
+{
+    let mut numbers = BTreeMap::new(alloc);
+    add_claims(alloc, claims, grouping, Counting::Symbols, &mut numbers)?;
+    Ok(numbers)
+}
+
+// The sum of a key, 0 where there is none.
+fn sum_at(numbers: &BTreeMap<String, Numbers>, key: &str) -> u64
+    ensures { result ≡ (numbers_at numbers.now key.now).sum }
+{
+    match numbers.get(key) {
+        Some(found) => found.sum,
+        None => 0,
+    }
 }
 
 /// Adds what function symbols add to the numbers of their keys.

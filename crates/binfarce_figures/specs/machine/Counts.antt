@@ -7,9 +7,12 @@ use Rattle.std.specs.Option.{is_some, unwrap_or}
 use Rattle.std.specs.Str.{bytes_eq}
 use Rattle.binfarce_tools.specs.Report.{Share, sum_of, total}
 use Rattle.binfarce_tools.specs.Sums.{occurs}
+use Rattle.binfarce_figures.specs.declared.key.Grouping.{Grouping}
+use Rattle.binfarce_figures.specs.declared.sums.Claims.{Claims}
 use Rattle.binfarce_figures.specs.declared.sums.Counting.{Counting}
 use Rattle.binfarce_figures.specs.declared.sums.Counting.TheVariants.{Symbols, Old, New}
 use Rattle.binfarce_figures.specs.declared.sums.Numbers.{Numbers}
+use Rattle.binfarce_figures.specs.machine.Shares.{AreSharesWith}
 
 -- what a function symbol that adds so many bytes adds to the two numbers of its key
 abbrev pub counts : Counting → (size : ℕ) → Numbers
@@ -47,3 +50,7 @@ abbrev pub AddsShares : Counting → List Share → (old new : BTreeMap (String 
 AddsShares counting shares old new =
     (first second : List Share) → total (first ++ firsts counting shares) < 2 ^ 64 → total (second ++ seconds counting shares) < 2 ^ 64
     → AreNumbersOf first second old → AreNumbersOf (first ++ firsts counting shares) (second ++ seconds counting shares) new
+
+-- numbers are the sums, and the counts, of what claims add by their keys
+abbrev pub AreNumbersFor : Grouping → Claims → BTreeMap (String Global) Numbers → Type 0
+AreNumbersFor grouping claims numbers = (shares : List Share) × AreSharesWith grouping claims shares × AreNumbersOf shares (seconds Symbols shares) numbers

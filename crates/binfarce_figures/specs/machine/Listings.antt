@@ -6,7 +6,7 @@ use Rattle.std.specs.String.{string_bytes}
 use Rattle.binfarce.specs.SectionEntries.{SectionEntry}
 use Rattle.binfarce.specs.SymbolViews.{section_function_view}
 use Rattle.binfarce_tools.specs.Json.{style_of}
-use Rattle.binfarce_tools.specs.Tables.{section_names}
+use Rattle.binfarce_tools.specs.Tables.{section_names, version_names_of}
 use Rattle.binfarce_bytes.specs.declared.functions.SectionFunction.{SectionFunction}
 use Rattle.binfarce_figures.specs.declared.order.Order.{Order}
 use Rattle.binfarce_figures.specs.declared.order.Order.TheVariants.{Address, Size, Name}
@@ -55,11 +55,11 @@ abbrev pub Notes : (old : BTreeMap (String Global) ℕ) → (name : List ℕ) �
 Notes old name index new = (stored : List ℕ) (i : ℕ) → get_by_text new stored ≡ Some i → ((stored ≡ name) × (i ≡ index)) ⊎ (get_by_text old stored ≡ Some i)
 
 abbrev pub IsRowNamed : Listing → SectionEntry → (name row : List ℕ) → Type 0
-IsRowNamed l e name row = IsRowWith (style_of l.form) (section_names l.tables.now) l.size e name row
+IsRowNamed l e name row = IsRowWith (style_of l.form) (section_names l.tables.now) (version_names_of l.tables.now) l.size e name row
 
 abbrev pub AreRows : Listing → List SectionEntry → List ℕ → Type 0
-AreRows l sorted text = AreFirstRows l.shown.now (style_of l.form) (section_names l.tables.now) l.size sorted text
+AreRows l sorted text = AreFirstRows l.shown.now (style_of l.form) (section_names l.tables.now) (version_names_of l.tables.now) l.size sorted text
 
 -- text is the listing of entries
 abbrev pub IsTextFor : Listing → List SectionEntry → List ℕ → Type 0
-IsTextFor l entries text = IsListingOf l.shown.now (style_of l.form) (section_names l.tables.now) l.size entries text
+IsTextFor l entries text = IsListingOf l.shown.now (style_of l.form) (section_names l.tables.now) (version_names_of l.tables.now) l.size entries text

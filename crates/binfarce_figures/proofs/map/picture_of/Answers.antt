@@ -8,14 +8,11 @@ use Rattle.binfarce_chart.specs.Chart.{Row}
 use Rattle.binfarce_tools.specs.Report.{total}
 use Rattle.binfarce_tools.proofs.Totals.{totals_add_up}
 use Rattle.binfarce_figures.proofs.Counted.{ones}
-use Rattle.binfarce_figures.proofs.Summed.{of_claims}
 use Rattle.binfarce_figures.proofs.map.picture_of.Goals as goal
 
 pub chart-requires : goal.chart-requires
 chart-requires c =
-    let (shares, with, adds) = c.in_ok-add_claims.ensures in
-    let numbers = c.add_claims.new.numbers in
-    let are = of_claims c.args.grouping c.args.claims.now shares c.new-numbers.result numbers c.requires c.new-numbers.ensures.empty with adds in
+    let (shares, with, are) = c.in_ok-numbers.ensures in
     let P : List Bar → Type 0 = λ bars. bars_total (map bar_view bars) < 2 ^ 64 in
     let (names, crates, bars) = c.in_ok-bars.ensures shares (ones shares) are in
     let sum : bars_total (map bar_view c.in_ok-bars.bars.items) ≡ total shares = ap (λ (rs : List Row). bars_total rs) bars ∙ totals_add_up shares names crates in
@@ -23,10 +20,8 @@ chart-requires c =
 
 pub returns : goal.returns
 returns c =
-    let (shares, with, adds) = c.in_ok-add_claims.ensures in
+    let (shares, with, are) = c.in_ok-numbers.ensures in
     let claims = c.args.claims.now in
-    let numbers = c.add_claims.new.numbers in
-    let are = of_claims c.args.grouping claims shares c.new-numbers.result numbers c.requires c.new-numbers.ensures.empty with adds in
     let (names, crates, bars) = c.in_ok-bars.ensures shares (ones shares) are in
     let shown = ap (map bar_view) c.as_slice.ensures.value ∙ bars in
     IfOk-weaker c.chart.result _ _ (λ t is. (shares, with, (names, crates, subst (λ (rs : List Row). IsChartOf c.args.title.now rs claims.size c.args.first (string_bytes t)) shown is))) c.chart.ensures

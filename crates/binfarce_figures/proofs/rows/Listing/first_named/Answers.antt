@@ -2,7 +2,7 @@ use Rattle.std.proofs.Common.{[], take}
 use Rattle.std.proofs.lemmas.List.Elements.{All-get_or, All-take}
 use Rattle.std.specs.String.{string_bytes}
 use Rattle.binfarce_tools.specs.Json.{style_of}
-use Rattle.binfarce_tools.specs.Tables.{section_names}
+use Rattle.binfarce_tools.specs.Tables.{section_names, version_names_of}
 use Rattle.binfarce_figures.specs.machine.Listings.{HasName, entry_of}
 use Rattle.binfarce_figures.proofs.RowListings.{IsRow, lines_more, rows_are}
 use Rattle.binfarce_figures.proofs.rows.Listing.first_named.Goals as goal
@@ -23,5 +23,5 @@ loop-row-preserved c =
 pub returns : goal.returns
 returns c =
     let listing = c.args.self.now in
-    rows_are listing.shown.now (style_of listing.form) (section_names listing.tables.now) listing.size entry_of c.args.rows.now c.loop-row.row-index c.count_of-count.result (string_bytes c.loop-row.text)
+    rows_are listing.shown.now (style_of listing.form) (section_names listing.tables.now) (version_names_of listing.tables.now) listing.size entry_of c.args.rows.now c.loop-row.row-index c.count_of-count.result (string_bytes c.loop-row.text)
     c.count_of-count.ensures c.loop-row-test.false c.loop-row.invariant

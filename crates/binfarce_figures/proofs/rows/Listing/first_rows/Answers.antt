@@ -2,7 +2,7 @@ use Rattle.std.proofs.Common.{[], subst, sym}
 use Rattle.std.specs.String.{string_bytes}
 use Rattle.binfarce.specs.SymbolViews.{section_function_view}
 use Rattle.binfarce_tools.specs.Json.{style_of}
-use Rattle.binfarce_tools.specs.Tables.{section_names}
+use Rattle.binfarce_tools.specs.Tables.{section_names, version_names_of}
 use Rattle.binfarce_figures.specs.Rows.{IsNameText}
 use Rattle.binfarce_figures.proofs.RowListings.{IsRow, lines_more, rows_are}
 use Rattle.binfarce_figures.proofs.rows.Listing.first_rows.Goals as goal
@@ -19,5 +19,5 @@ loop-function-preserved c =
 pub returns : goal.returns
 returns c =
     let listing = c.args.self.now in
-    rows_are listing.shown.now (style_of listing.form) (section_names listing.tables.now) listing.size section_function_view c.args.functions.now c.loop-function.function-index c.count_of-count.result (string_bytes c.loop-function.text)
+    rows_are listing.shown.now (style_of listing.form) (section_names listing.tables.now) (version_names_of listing.tables.now) listing.size section_function_view c.args.functions.now c.loop-function.function-index c.count_of-count.result (string_bytes c.loop-function.text)
     c.count_of-count.ensures c.loop-function-test.false c.loop-function.invariant

@@ -6,10 +6,10 @@ use Rattle.std.specs.String.{string_bytes}
 use Rattle.binfarce.specs.SymbolViews.{section_function_view}
 use Rattle.binfarce_tools.specs.Json.{address_member, number_member, object_start, style_of, text_member}
 use Rattle.binfarce_tools.specs.Listing.{line_head, section_part}
-use Rattle.binfarce_tools.specs.Tables.{section_names}
+use Rattle.binfarce_tools.specs.Tables.{section_names, version_names_of}
 use Rattle.binfarce_tools.specs.declared.json.Form.{Form}
 use Rattle.binfarce_tools.proofs.Objects.{one, more}
-use Rattle.binfarce_figures.specs.RowListing.{IsRowWith, row_line, row_object, section_value}
+use Rattle.binfarce_figures.specs.RowListing.{IsRowWith, row_line, row_object, section_value, symbol_members}
 use Rattle.binfarce_figures.proofs.rows.Listing.push_row.Goals.{in-Some, in-None}
 use Rattle.binfarce_figures.proofs.rows.Listing.push_row.Goals as goal
 
@@ -18,6 +18,7 @@ returns-in_ok-push_str-in-Lines c =
     let old = string_bytes c.args.text.now in
     let listing = c.args.self.now in
     let names = section_names listing.tables.now in
+    let versions = version_names_of listing.tables.now in
     let e = section_function_view c.args.function in
     let name = c.args.name.now in
     let head = line_head e.entry.address e.entry.size in
@@ -26,14 +27,15 @@ returns-in_ok-push_str-in-Lines c =
     let t1 = one old (string_bytes c.push_head.new.text) head c.in_ok-push_head-in-Lines.ensures in
     let t2 = more old (string_bytes c.push_head.new.text) (string_bytes c.push_section_part.new.text) (head ∷ []) part t1 c.in_ok-push_section_part-in-Lines.ensures in
     let t3 = more old (string_bytes c.push_section_part.new.text) (string_bytes c.push_str.new.self) (head ∷ part ∷ []) name t2 c.in_ok-push_str-in-Lines.ensures.bytes in
-    subst (λ (form : Form). OnOk c.push_str-in-Lines.result ((row : List ℕ) × IsRowWith (style_of form) names listing.size e name row × (new ≡ old ++ row))) (sym c.in-Lines.is)
+    subst (λ (form : Form). OnOk c.push_str-in-Lines.result ((row : List ℕ) × IsRowWith (style_of form) names versions listing.size e name row × (new ≡ old ++ row))) (sym c.in-Lines.is)
     (on_ok_weaker c.push_str-in-Lines.result (λ is. (row_line names listing.size e name, refl, more old (string_bytes c.push_str.new.self) new (head ∷ part ∷ name ∷ []) (codes "\n") t3 is)) (search rules))
 
-pub returns-in_ok-push_text_member-in-Objects-4 : goal.returns-in_ok-push_text_member-in-Objects-4
-returns-in_ok-push_text_member-in-Objects-4 c =
+pub returns-in_ok-push_symbol-in-Objects : goal.returns-in_ok-push_symbol-in-Objects
+returns-in_ok-push_symbol-in-Objects c =
     let old = string_bytes c.args.text.now in
     let listing = c.args.self.now in
     let names = section_names listing.tables.now in
+    let versions = version_names_of listing.tables.now in
     let e = section_function_view c.args.function in
     let file = c.in-Objects.file.now in
     let selected = c.in-Objects.selected.now in
@@ -57,9 +59,10 @@ returns-in_ok-push_text_member-in-Objects-4 c =
     let t6 = more old (string_bytes c.push_text_member-in-Objects.new.text) (string_bytes c.push_text_member-in-Objects-2.new.text) (start ∷ section_part ∷ address ∷ size ∷ name ∷ []) raw t5 c.in_ok-push_text_member-in-Objects-3.ensures in
     let t7 = more old (string_bytes c.push_text_member-in-Objects-2.new.text) (string_bytes c.push_text_member-in-Objects-3.new.text) (start ∷ section_part ∷ address ∷ size ∷ name ∷ raw ∷ []) crate_part t6
     (c.in_ok-push_text_member-in-Objects-4.ensures ∙ ap (λ (v : List ℕ). string_bytes c.push_text_member-in-Objects-2.new.text ++ text_member (codes "crate") (Some v)) c.as_str.ensures.value) in
-    subst (λ (form : Form). OnOk c.push_str-in-Objects.result ((row : List ℕ) × IsRowWith (style_of form) names listing.size e c.args.name.now row × (new ≡ old ++ row))) (sym c.in-Objects.is)
+    let t8 = more old (string_bytes c.push_text_member-in-Objects-3.new.text) (string_bytes c.push_symbol.new.text) (start ∷ section_part ∷ address ∷ size ∷ name ∷ raw ∷ crate_part ∷ []) (symbol_members versions e) t7 c.in_ok-push_symbol-in-Objects.ensures in
+    subst (λ (form : Form). OnOk c.push_str-in-Objects.result ((row : List ℕ) × IsRowWith (style_of form) names versions listing.size e c.args.name.now row × (new ≡ old ++ row))) (sym c.in-Objects.is)
     (on_ok_weaker c.push_str-in-Objects.result (λ is. (
-      row_object file selected names listing.size e c.args.name.now crate_text,
+      row_object file selected names versions listing.size e c.args.name.now crate_text,
       (crate_text, c.in_ok-put_crate-in-Objects.ensures, refl),
-      more old (string_bytes c.push_text_member-in-Objects-3.new.text) new (start ∷ section_part ∷ address ∷ size ∷ name ∷ raw ∷ crate_part ∷ []) (codes "}\n") t7 is,
+      more old (string_bytes c.push_symbol.new.text) new (start ∷ section_part ∷ address ∷ size ∷ name ∷ raw ∷ crate_part ∷ symbol_members versions e ∷ []) (codes "}\n") t8 is,
     )) (search rules))

@@ -3,10 +3,12 @@ use Rattle.std.proofs.Common.{◌≡◌, ◌≢◌, ◌∙◌, inl, inr, ℕ, Bo
 use Rattle.std.specs.Prelude.{IfOk}
 use Rattle.std.proofs.lemmas.List.{length-map}
 use Rattle.std.specs.Global.{Vec}
+use Rattle.binfarce.specs.ElfViews.{version_names}
 use Rattle.binfarce.specs.Refusal.{Refusal}
 use Rattle.binfarce.specs.SectionEntries.{SelectedSymbols}
 use Rattle.binfarce.specs.SymbolViews.{section_function_view}
 use Rattle.binfarce.specs.declared.SectionFunction.{SectionFunction}
+use Rattle.binfarce_elf.specs.declared.versions.VersionNames.{VersionNames}
 use Rattle.binfarce_tools.specs.declared.SymbolTable.{SymbolTable}
 use Rattle.binfarce_tools.specs.declared.functions.AllFunctions.{AllFunctions}
 use Rattle.binfarce_tools.specs.declared.functions.Selected.{Selected}
@@ -48,9 +50,11 @@ module _ (which : SymbolTable) (file name : List ℕ) where
       by_size (Some n) is = refl
       by_size None is = absurd cc
 
-  pub are_made : (list : Vec SectionFunction) (size : ℕ) → IsMade which file name list.items size → AreTablesOf which file (Some name) (Made list size)
+  pub are_made : (list : Vec SectionFunction) (size : ℕ) (versions : VersionNames) → IsMade which file name list.items size
+      → ((seen : SelectedSymbols) → selected_answer which (Some name) file ≡ Some (Ok seen) → (version : ℕ) → version_names versions version ≡ seen.version_name version)
+      → AreTablesOf which file (Some name) (Made list size versions)
   unfolding AreTablesOf
-  are_made list size made = made
+  are_made list size versions made named = (made.0, made.1, made.2, made.3, named made.0 made.1)
 
   -- the hint on them is that on the section
   pub hinted : {T E : Type 0} (given : List SectionFunction) (list : Vec SectionFunction) (size : ℕ) (hint : Option Hint) (result : Result T E) → given ≡ list.items → IsMade which file name list.items size

@@ -8,6 +8,7 @@ use Rattle.binfarce.specs.Refusal.{◌>>=◌, Refusal}
 use Rattle.binfarce.specs.SectionEntries.{SelectedSymbols}
 use Rattle.binfarce.specs.Symbol.{Entry}
 use Rattle.binfarce_addresses.specs.Address.{address_of}
+use Rattle.binfarce_addresses.specs.Lookup.{places_in}
 use Rattle.binfarce_addresses.specs.PlacesViews.{IsMadeOf}
 use Rattle.binfarce_addresses.specs.Stream.{Streams}
 use Rattle.binfarce_addresses.specs.declared.counts.Counts.{Counts}
@@ -17,7 +18,7 @@ use Rattle.binfarce_elf.specs.declared.segments.LoadAddress.{LoadAddress}
 use Rattle.binfarce_tables.specs.Loading.{load_address}
 use Rattle.binfarce_tools.specs.ListWords as list
 use Rattle.binfarce_tools.specs.declared.list.ListError.{ListError}
-use Rattle.binfarce_tools.specs.Answer.{addresses_are_shared, entries_of}
+use Rattle.binfarce_tools.specs.Answer.{addresses_are_shared}
 use Rattle.binfarce_tools.specs.Writing.{Outcome, no_memory, unreadable, written}
 use Rattle.binfarce_jobs.specs.Faults.{failure, list_fault}
 use Rattle.binfarce_jobs.specs.Show.{answer_for}
@@ -87,8 +88,8 @@ IsWhyNot MayFail share NeedsMemory answer fault =
     ⊎ ((share ≡ true) × (fault ≡ SharedAddresses))
     ⊎ ((e : ListError) × IsMadeOf NeedsMemory answer (Err e) × (failure fault ≡ list.outcome_of (Err e)))
 
--- how standard input is answered of a file whose answer is this: not at all for such a fault; or its entries answer the lines
+-- how standard input is answered of a file whose answer is this: not at all for such a fault; or its places answer the lines
 abbrev pub AnswersInput : Type 0 → (share : Bool) → (Result SelectedSymbols Refusal → Type 0) → Option (Result SelectedSymbols Refusal) → Lookup → Option (List ℕ) → Option (List ℕ) → Option (List ℕ) → Option (List ℕ) → Result Counts Fault → Type 0
 AnswersInput MayFail share NeedsMemory answer lookup given left old new result =
     ((fault : Fault) × (result ≡ Err fault) × IsWhyNot MayFail share NeedsMemory answer fault × IsUntouched given left old new)
-    ⊎ ((share ≡ false) × (selected : SelectedSymbols) × (ended : Result Counts StreamError) × (answer ≡ Some (Ok selected)) × Streams (entries_of selected) lookup given left old new ended × (result ≡ lines_end ended))
+    ⊎ ((share ≡ false) × (selected : SelectedSymbols) × (ended : Result Counts StreamError) × (answer ≡ Some (Ok selected)) × Streams (places_in selected) lookup given left old new ended × (result ≡ lines_end ended))

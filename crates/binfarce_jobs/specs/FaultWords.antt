@@ -1,5 +1,5 @@
 -- The words of a fault.
-use Rattle.std.specs.Prelude.{ℕ, List, [], ◌∷◌, ◌++◌, codes, nat_eq, Some, if◌then◌else◌}
+use Rattle.std.specs.Prelude.{ℕ, List, [], ◌∷◌, ◌++◌, codes, nat_eq, Some, None, if◌then◌else◌}
 use Rattle.std.specs.Fmt.{decimal}
 use Rattle.std.specs.List.{concat}
 use Rattle.std.specs.Str.{bytes_eq}
@@ -13,6 +13,8 @@ use Rattle.binfarce_tools.specs.declared.report.ReportError.TheVariants as sums
 use Rattle.binfarce_jobs.specs.Foreign.{foreign_words}
 use Rattle.binfarce_jobs.specs.declared.fault.Fault.{Fault}
 use Rattle.binfarce_jobs.specs.declared.fault.Fault.TheVariants.{Report, Section, Stream, Unsupported, NotUtf8, SharedAddresses, Missing}
+use Rattle.binfarce_jobs.specs.declared.message.Unplaced.{Unplaced}
+use Rattle.binfarce_jobs.specs.declared.message.Unplaced.TheVariants.{NotMapped, Several}
 
 -- of a refusal: an ELF file without a symbol table may have a dynamic one
 abbrev pub refused_words : Refusal → List ℕ
@@ -38,6 +40,12 @@ fault_words (Unsupported kind) = foreign_words kind
 fault_words NotUtf8 = codes "not UTF-8"
 fault_words SharedAddresses = codes "its sections share addresses; --section=NAME takes one of them"
 fault_words (Missing count) = missing_words count
+
+-- of a file that maps don't place
+abbrev pub unplaced_words : Unplaced → List ℕ
+unplaced_words (NotMapped path None) = codes "no file named as " ++ (path.now ++ codes " in the maps; --as=NAME takes another name")
+unplaced_words (NotMapped path (Some name)) = codes "no file named as " ++ (path.now ++ (codes " or " ++ (name.now ++ codes " in the maps; --as=NAME takes another name")))
+unplaced_words (Several path) = path.now ++ codes " is at several addresses in the maps; give --base in place of --maps, or --as=PATH for one of several paths"
 
 -- the refusal of a file as a JSON object: its file, and the printed text
 abbrev pub refusal_object : (file message : List ℕ) → List ℕ

@@ -1,5 +1,5 @@
 -- Hints on files.
-use Rattle.std.specs.Prelude.{◌≡◌, ℕ, zero, suc, Bool, true, false, ◌&&◌, List, ◌++◌, length, codes, nat_eq, nat_lt, Option, Some, None, unwrap_or, Result, Ok, Err, if◌then◌else◌}
+use Rattle.std.specs.Prelude.{◌≡◌, ℕ, zero, suc, ◌*◌, Bool, true, false, ◌&&◌, List, ◌++◌, length, codes, nat_eq, nat_le, nat_lt, Option, Some, None, unwrap_or, Result, Ok, Err, if◌then◌else◌}
 use Rattle.std.specs.Fmt.{decimal}
 use Rattle.std.specs.List.{sum_by}
 use Rattle.std.specs.String.{string_bytes}
@@ -11,6 +11,9 @@ use Rattle.binfarce_bytes.specs.Format.{format_of}
 use Rattle.binfarce_bytes.specs.declared.format.Format.{Format}
 use Rattle.binfarce_bytes.specs.declared.format.Format.TheVariants as formats
 use Rattle.binfarce_tools.specs.Answer.{entries_of, selected_answer}
+use Rattle.binfarce_figures.specs.declared.key.Key.{Key}
+use Rattle.binfarce_figures.specs.declared.key.Key.TheVariants.{Crate}
+use Rattle.binfarce_figures.specs.declared.sums.Sums.{Sums}
 use Rattle.binfarce_words.specs.WordViews.{limit_words}
 use Rattle.binfarce_jobs.specs.declared.hint.Hint.{Hint}
 use Rattle.binfarce_jobs.specs.declared.hint.Hint.TheVariants as hints
@@ -33,11 +36,13 @@ hint_words (hints.Others count) = codes "no function symbols in the section; --a
 hint_words (hints.Dynamic count) = codes "--dynamic --all takes " ++ (decimal count ++ codes " function symbols")
 hint_words (hints.Stripped places) = codes "its debug symbols may be in " ++ string_bytes places
 hint_words (hints.Missed count loaded) = codes "0 of " ++ (decimal count ++ (codes " addresses are in a function symbol; " ++ loaded_words loaded))
+hint_words (hints.Unknown bytes sum) = decimal bytes ++ (codes " of " ++ (decimal sum ++ codes " bytes have no crate, as those of C, C++ and assembly; --by=function shows whose they are"))
 hint_words (hints.Above sum most) = codes "the sum is " ++ (decimal sum ++ (codes " bytes, and --fail-above allows " ++ decimal most))
 hint_words (hints.Grown by limit) = codes "the sum grew by " ++ (decimal by ++ (codes " bytes, and --fail-above allows " ++ limit_words limit))
 hint_words (hints.NoAddress true) = codes "no address in the text"
 hint_words (hints.NoAddress false) = codes "no address in the text; --bare takes those without 0x, too"
 hint_words (hints.Offsets count) = codes "no address in the text, and offsets (" ++ (decimal count ++ codes ") only behind other names; --as=NAME takes one of these")
+hint_words (hints.Unclear count) = codes "offsets (" ++ (decimal count ++ codes ") behind a name that several files have; --as=PATH tells them apart")
 
 -- the hint on a section with so many function symbols: it has none
 abbrev pub hint_on : (count : ℕ) → Option Hint
@@ -46,6 +51,11 @@ hint_on count = if nat_eq count 0 then Some hints.None else None
 -- the hint is that on this section of a file, which has an answer
 abbrev pub IsHintOn : SymbolTable → (file section : List ℕ) → Option Hint → Type 0
 IsHintOn which file section hint = (selected : SelectedSymbols) × (selected_answer which (Some section) file ≡ Some (Ok selected)) × (hint ≡ hint_on (length selected.entries))
+
+-- the hint on sums by crate: at least half of the bytes have none
+abbrev pub unknown_in : Key → Sums → Option Hint
+unknown_in Crate sums = if nat_lt 0 sums.unknown && nat_le sums.total (2 * sums.unknown) then Some (hints.Unknown sums.unknown sums.total) else None
+unknown_in key sums = None
 
 -- how many function symbols an answer has; without an answer there are none
 abbrev pub count_of : Option (Result SelectedSymbols Refusal) → ℕ

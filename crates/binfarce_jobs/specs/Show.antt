@@ -6,12 +6,12 @@ use Rattle.binfarce.specs.declared.Format.{Format}
 use Rattle.binfarce.specs.declared.Format.TheVariants as formats
 use Rattle.binfarce.specs.Refusal.{Refusal, symbols_section_is_missing}
 use Rattle.binfarce.specs.SectionEntries.{SelectedSymbols}
-use Rattle.binfarce_figures.specs.Claims.{IsSumOf}
-use Rattle.binfarce_figures.specs.Figures.{AreFiguresBy, AreStacksIn, IsPictureBy}
+use Rattle.binfarce_figures.specs.Claims.{SumFits}
+use Rattle.binfarce_figures.specs.Figures.{AreFiguresBy, AreStacksIn, AreSumsBy, IsPictureBy}
 use Rattle.binfarce_figures.specs.RowListing.{IsListingBy}
+use Rattle.binfarce_figures.specs.declared.sums.Sums.{Sums}
 use Rattle.binfarce_tools.specs.Json.{Style, lines, objects}
 use Rattle.binfarce_tools.specs.Listing.{IsListingOf, ListingFits}
-use Rattle.binfarce_tools.specs.Report.{ReportFits}
 use Rattle.binfarce_bytes.specs.Selection.{section_of}
 use Rattle.binfarce_tools.specs.Answer.{selected_answer, MemoryIn}
 use Rattle.binfarce_tools.specs.Tables.{AreTablesOf}
@@ -31,10 +31,10 @@ IsTextOf (Figures figures) path style = AreFiguresBy figures style
 IsTextOf (Picture grouping first) path style = IsPictureBy path grouping first
 IsTextOf (Stacks joins_std) path style = AreStacksIn joins_std
 
--- the sum that was seen is that of a file's answer, where sums are shown
-abbrev pub HasSum : Kind → SelectedSymbols → (sum : Option ℕ) → Type 0
-HasSum (Figures figures) selected sum = (n : ℕ) × (sum ≡ Some n) × IsSumOf selected n
-HasSum kind selected sum = Unit {0}
+-- the sums that were seen are those of a file's answer, where sums are shown
+abbrev pub HasSums : Kind → SelectedSymbols → Option Sums → Type 0
+HasSums (Figures figures) selected seen = (sums : Sums) × (seen ≡ Some sums) × AreSumsBy figures.grouping selected sums
+HasSums kind selected seen = Unit {0}
 
 -- the name of the section that is selected; empty for all sections
 abbrev pub selected_name : Option (List ℕ) → List ℕ
@@ -49,9 +49,9 @@ style_for asked path = if asked.is_json then objects path (selected_name (sectio
 abbrev pub Fits : Kind → SelectedSymbols → Type 0
 Fits Listing = ListingFits
 Fits (Rows shown) = ListingFits
-Fits (Figures figures) = ReportFits
-Fits (Picture grouping first) = ReportFits
-Fits (Stacks joins_std) = ReportFits
+Fits (Figures figures) = SumFits
+Fits (Picture grouping first) = SumFits
+Fits (Stacks joins_std) = SumFits
 
 -- the section can be selected in a file of this format: in a Mach-O or PE file `.text` is the code section, and there is no other name
 abbrev pub is_taken : (section : Option (List ℕ)) → Format → Bool

@@ -4,9 +4,10 @@ ghost use Rattle.std.specs.Prelude.{◌≡◌, ◌≢◌, ℕ, List, Option, tru
 ghost use Rattle.binfarce.specs.SectionEntries.{SelectedSymbols};
 ghost use Rattle.binfarce_addresses.specs.Counts.{AreCountsOf, answers_at};
 ghost use Rattle.binfarce_addresses.specs.Lines.{AreLinesAt};
+ghost use Rattle.binfarce_addresses.specs.Lookup.{places_in};
 ghost use Rattle.binfarce_tables.specs.Reading.{Reads};
 ghost use Rattle.binfarce_tools.specs.Listing.{ListingFits};
-ghost use Rattle.binfarce_tools.specs.Answer.{addresses_are_shared, entries_of, selected_answer, MemoryIn};
+ghost use Rattle.binfarce_tools.specs.Answer.{addresses_are_shared, selected_answer, MemoryIn};
 ghost use Rattle.binfarce_tools.specs.Tables.{AreTablesOf};
 ghost use Rattle.binfarce_tools.specs.declared.SymbolTable.{SymbolTable};
 ghost use Rattle.binfarce_tools.specs.Writing.{ProgramEndsAs, Takes, Fails, Leaves, write_failed};
@@ -79,7 +80,7 @@ pub fn answer_all<S: Source<Log = ()>, K: Sink>(
         (answer_for symbols.now file) (K.taken out.old) (K.taken out.new) (outcome_of result) }
     ensures counts { (file : List ℕ) (selected : SelectedSymbols) → S.bytes source.now ≡ Some file
         → answer_for symbols.now file ≡ Some (Ok selected)
-        → IfOk result (AreCountsOf (answers_at (entries_of selected) lookup.entry addresses.now)) }
+        → IfOk result (AreCountsOf (answers_at (places_in selected) lookup.entry addresses.now)) }
     ensures fails { Fails (K.has_failed out.old) (K.has_failed out.new) (outcome_of result) }
     ensures leaves { Leaves out.old out.new (outcome_of result) }
 {

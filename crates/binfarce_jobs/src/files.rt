@@ -7,7 +7,7 @@ ghost use Rattle.binfarce_jobs.specs.Foreign.{foreign_in};
 ghost use Rattle.binfarce_jobs.specs.Input.{IsForeign, IsReadOf, IsUnreadable, bytes_of, may_fail_of};
 
 use crate::fault::Fault;
-use crate::hint::{Hint, completed, refusal_hints};
+use crate::hint::{Hint, completed, refusal_hints, unknown_in};
 use crate::input::OpenFile;
 use crate::limit::above;
 use crate::output::Output;
@@ -99,10 +99,10 @@ fn show_file<F: Read + Source<Log = ()> + Drop, Y: System<F>, W: Write>(
     };
     let mut seen = Seen {
         hint: None,
-        sum: None,
+        sums: None,
     };
     let shown = show_source(alloc, asked, path, &input, &mut seen, out);
-    let Seen { hint, sum } = seen;
+    let Seen { hint, sums } = seen;
     let hint = completed(
         alloc,
         &input,
@@ -113,10 +113,14 @@ fn show_file<F: Read + Source<Log = ()> + Drop, Y: System<F>, W: Write>(
         out.len(),
     );
     give(system, path, hint);
-    let excess = match sum {
-        Some(sum) => above(sum, asked.limit),
-        None => None,
+    let (unknown, excess) = match (asked.kind, sums) {
+        (Kind::Figures(figures), Some(sums)) => (
+            unknown_in(figures.grouping.key, sums),
+            above(sums.total, asked.limit),
+        ),
+        _ => (None, None),
     };
+    give(system, path, unknown);
     give(system, path, excess);
     reported(alloc, system, path, &input, shown)
 }

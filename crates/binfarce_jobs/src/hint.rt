@@ -4,7 +4,7 @@
 ghost use Rattle.std.specs.Prelude.{◌≡◌, ℕ, List, Some, IfOk, length};
 ghost use Rattle.binfarce_bytes.specs.Selection.{section_of};
 ghost use Rattle.binfarce_tools.specs.Answer.{selected_answer};
-ghost use Rattle.binfarce_jobs.specs.Hints.{count_of, dynamic_by, dynamic_in, hint_on, lack_by, lack_in, lack_of, loaded_words};
+ghost use Rattle.binfarce_jobs.specs.Hints.{count_of, dynamic_by, dynamic_in, hint_on, lack_by, lack_in, lack_of, loaded_words, unknown_in};
 
 use crate::fault::Fault;
 use crate::show::Symbols;
@@ -12,6 +12,8 @@ use binfarce_bytes::ParseError;
 use binfarce_bytes::format::Format;
 use binfarce_bytes::functions::SectionFunction;
 use binfarce_bytes::source::Source;
+use binfarce_figures::key::Key;
+use binfarce_figures::sums::Sums;
 use binfarce_sections::bytes::write_section_of;
 use binfarce_sections::error::SectionError;
 use binfarce_tables::format::read_format;
@@ -45,6 +47,10 @@ pub enum Hint {
     NoAddress(bool),
     /// There is no address in a text, and so many offsets behind other names than those of the files.
     Offsets(u64),
+    /// So many offsets in a text are behind a name that several files have.
+    Unclear(u64),
+    /// So many bytes of a sum of so many have no crate.
+    Unknown(u64, u64),
     /// The sum is so many bytes, more than so many that are allowed.
     Above(u64, usize),
     /// The sum grew by so many bytes, more than is allowed.
@@ -89,6 +95,10 @@ impl fmt::Display for Hint {
                 let why = loaded.words();
                 write!(f, "0 of {count} addresses are in a function symbol; {why}")
             }
+            Hint::Unknown(bytes, sum) => write!(
+                f,
+                "{bytes} of {sum} bytes have no crate, as those of C, C++ and assembly; --by=function shows whose they are"
+            ),
             Hint::Above(sum, most) => write!(
                 f,
                 "the sum is {sum} bytes, and --fail-above allows {most}"
@@ -105,6 +115,10 @@ impl fmt::Display for Hint {
             Hint::Offsets(count) => write!(
                 f,
                 "no address in the text, and offsets ({count}) only behind other names; --as=NAME takes one of these"
+            ),
+            Hint::Unclear(count) => write!(
+                f,
+                "offsets ({count}) behind a name that several files have; --as=PATH tells them apart"
             ),
         }
     }
@@ -131,6 +145,18 @@ pub fn hint_on(functions: &[SectionFunction<'_>]) -> Option<Hint>
         return Some(Hint::None);
     }
     None
+}
+
+/// The hint on sums by crate of which at least half is that of `[unknown]`.
+pub(crate) fn unknown_in(key: Key, sums: Sums) -> Option<Hint>
+    ensures { result ≡ unknown_in key sums }
+{
+    let Sums { total, unknown } = sums;
+    let is_half = 2 * u128::from(unknown) >= u128::from(total);
+    match key {
+        Key::Crate if unknown > 0 && is_half => Some(Hint::Unknown(unknown, total)),
+        _ => None,
+    }
 }
 
 // As many bytes are written at least of a file that has function symbols, where it is shown whole.

@@ -10,7 +10,7 @@ ghost use Rattle.binfarce_tools.specs.declared.SymbolTable.{SymbolTable};
 ghost use Rattle.binfarce_tools.specs.Writing.{EndsAs, Takes, Fails, Leaves};
 ghost use Rattle.binfarce_jobs.specs.Faults.{outcome_of};
 ghost use Rattle.binfarce_jobs.specs.Hints.{IsHintOn};
-ghost use Rattle.binfarce_jobs.specs.Show.{AreTablesFor, Fits, HasSum, IsTextOf, MayEnd, TakesText, answer_for, is_taken, style_for};
+ghost use Rattle.binfarce_jobs.specs.Show.{AreTablesFor, Fits, HasSums, IsTextOf, MayEnd, TakesText, answer_for, is_taken, style_for};
 
 use crate::fault::Fault;
 use crate::hint::{Hint, hint_on};
@@ -22,7 +22,7 @@ use binfarce_figures::key::Grouping;
 use binfarce_figures::map::map_by;
 use binfarce_figures::rows::{Shown, list_by};
 use binfarce_figures::stacks::fold_tables;
-use binfarce_figures::sums::{Figures, sum_by};
+use binfarce_figures::sums::{Figures, Sums, sum_by};
 use binfarce_tables::ReadError;
 use binfarce_tables::format::read_format;
 use binfarce_tools::SymbolTable;
@@ -74,8 +74,8 @@ pub struct Request<'a> {
 pub struct Seen {
     /// The hint on its function symbols, if there is one.
     pub hint: Option<Hint>,
-    /// The sum of all sizes, each byte counted once, where sums are shown.
-    pub sum: Option<u64>,
+    /// The sum of all sizes, each byte counted once, and that of `[unknown]`, where sums are shown.
+    pub sums: Option<Sums>,
 }
 
 /// The tables of the source for these function symbols.
@@ -130,13 +130,13 @@ fn form_for<'a>(asked: &Request<'a>, path: &'a str) -> Form<'a>
     }
 }
 
-/// Writes the requested function symbols of the source, and sets `seen` to the hint on them, if any, and their sum; a
+/// Writes the requested function symbols of the source, and sets `seen` to the hint on them, if any, and their sums; a
 /// picture's title is the path. Of the source it reads the headers, the symbol table and the names alone.
 ///
 /// # Errors
 ///
-/// `Unreadable` where a read fails; `Unknown`, `Parse`, `OutOfMemory`, `TooLarge` and `Write` as in `list` and
-/// `report`. Only after `Write` a beginning may be written.
+/// `Unreadable` where a read fails; `Unknown`, `Parse`, `OutOfMemory` and `Write` as in `list`, `TooLarge` as in
+/// `sum_by`. Only after `Write` a beginning may be written.
 pub fn show<S: Source<Log = ()>, K: Sink>(
     alloc: Global,
     asked: &Request<'_>,
@@ -149,9 +149,9 @@ pub fn show<S: Source<Log = ()>, K: Sink>(
         → MayEnd (S.may_fail source.now ≡ true) asked.now file (outcome_of result) }
     ensures takes { (file : List ℕ) → S.bytes source.now ≡ Some file
         → TakesText asked.now path.now file (K.taken out.old) (K.taken out.new) (outcome_of result) }
-    ensures sum { (file : List ℕ) (selected : SelectedSymbols) → S.bytes source.now ≡ Some file
+    ensures sums { (file : List ℕ) (selected : SelectedSymbols) → S.bytes source.now ≡ Some file
         → answer_for asked.now.symbols file ≡ Some (Ok selected)
-        → IfOk result (λ _. HasSum asked.now.kind selected seen.new.sum) }
+        → IfOk result (λ _. HasSums asked.now.kind selected seen.new.sums) }
     ensures fails { Fails (K.has_failed out.old) (K.has_failed out.new) (outcome_of result) }
     ensures leaves { Leaves out.old out.new (outcome_of result) }
 {
@@ -164,7 +164,7 @@ pub fn show<S: Source<Log = ()>, K: Sink>(
 }
 
 // Shows the function symbols of a section, which are made once, and sets `seen` to the hint on them, if any, and their
-// sum.
+// sums.
 fn show_section<K: Sink>(
     alloc: Global,
     kind: Kind,
@@ -181,10 +181,10 @@ fn show_section<K: Sink>(
         (selected_answer which (Some name) file) (K.taken out.old) (K.taken out.new) (outcome_of result) }
     ensures hint { (which : SymbolTable) (file name : List ℕ) → AreTablesOf which file (Some name) tables.now
         → IfOk result (λ _. IsHintOn which file name seen.new.hint) }
-    ensures sum { (which : SymbolTable) (file name : List ℕ) (selected : SelectedSymbols)
+    ensures sums { (which : SymbolTable) (file name : List ℕ) (selected : SelectedSymbols)
         → AreTablesOf which file (Some name) tables.now
         → selected_answer which (Some name) file ≡ Some (Ok selected)
-        → IfOk result (λ _. HasSum kind selected seen.new.sum) }
+        → IfOk result (λ _. HasSums kind selected seen.new.sums) }
     ensures fails { Fails (K.has_failed out.old) (K.has_failed out.new) (outcome_of result) }
     ensures leaves { Leaves out.old out.new (outcome_of result) }
 {
@@ -195,11 +195,12 @@ fn show_section<K: Sink>(
     let made = Tables::Made {
         functions: list,
         size,
+        versions: tables.version_names(),
     };
     show_tables(alloc, kind, path, form, &made, seen, out)
 }
 
-// Shows the function symbols of these tables, and sets the sum that was seen.
+// Shows the function symbols of these tables, and sets the sums that were seen.
 fn show_tables<K: Sink>(
     alloc: Global,
     kind: Kind,
@@ -216,10 +217,10 @@ fn show_tables<K: Sink>(
         → AreTablesOf which file section tables.now
         → Takes (IsTextOf kind path.now (style_of form.entry))
         (selected_answer which section file) (K.taken out.old) (K.taken out.new) (outcome_of result) }
-    ensures sum { (which : SymbolTable) (file : List ℕ) (section : Option (List ℕ)) (selected : SelectedSymbols)
+    ensures sums { (which : SymbolTable) (file : List ℕ) (section : Option (List ℕ)) (selected : SelectedSymbols)
         → AreTablesOf which file section tables.now
         → selected_answer which section file ≡ Some (Ok selected)
-        → IfOk result (λ _. HasSum kind selected seen.new.sum) }
+        → IfOk result (λ _. HasSums kind selected seen.new.sums) }
     ensures hint { seen.new.hint ≡ seen.old.hint }
     ensures fails { Fails (K.has_failed out.old) (K.has_failed out.new) (outcome_of result) }
     ensures leaves { Leaves out.old out.new (outcome_of result) }
@@ -228,7 +229,7 @@ fn show_tables<K: Sink>(
         Kind::Listing => Ok(list_tables(alloc, tables, out)?),
         Kind::Rows(shown) => Ok(list_by(alloc, tables, &shown, form, out)?),
         Kind::Figures(figures) => {
-            seen.sum = Some(sum_by(alloc, tables, &figures, form, out)?);
+            seen.sums = Some(sum_by(alloc, tables, &figures, form, out)?);
             Ok(())
         }
         Kind::Picture(grouping, first) => Ok(map_by(alloc, path, tables, grouping, first, out)?),

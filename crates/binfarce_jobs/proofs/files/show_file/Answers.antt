@@ -13,7 +13,7 @@ returns-clause-shows g c = λ held is.
     let new = state_of g.W.Write.contents c.show_source-shown.new.out (g.Y.System.reports c.reported.new.system) in
     let old = taken g.W.Write.contents c.args.out.now in
     let read = c.in-Some.ensures.input (held path) is in
-    let kept : g.Y.System.reports c.give-2.new.system ≡ g.Y.System.reports c.open_input.new.system = c.give-2.ensures.reports ∙ c.give.ensures.reports in
+    let kept : g.Y.System.reports c.give-3.new.system ≡ g.Y.System.reports c.open_input.new.system = c.give-3.ensures.reports ∙ c.give-2.ensures.reports ∙ c.give.ensures.reports in
     let one = came_to files path (record { bytes = g.W.Write.contents (writer_of begun); taken = old; reports = g.Y.System.reports c.open_input.new.system }) new read.0 (pending begun)
     (may_fail_of g.F.Source.may_fail c.in-Some.input ≡ true) read.1 read.3 (c.begin.ensures.pending ∙ c.in_ok-heading.ensures) read.4 c.show_source-shown.result c.reported.result (c.show_source-shown.ensures read.0 read.2)
     (subst (λ (before : Option (List Refused)). ReportsWhy path before (g.Y.System.reports c.reported.new.system) c.show_source-shown.result c.reported.result) kept c.reported.ensures.reports) in

@@ -34,16 +34,18 @@ returns-clause-outcome g c = λ which file name are.
     let functions = c.into_list-functions.result.0 in
     let list = c.in_ok-list.list in
     let collected : map section_function_view list.items ≡ all_left functions.all = map_from_collect {E = Unit {0}} (Ok list) c.in_ok-list.ensures.ran (YieldsList-from_first section_function_view all_left (all_left functions.all) refl) in
-    c.show_tables.ensures.outcome which file (Some name) (are_made which file name list c.unwrap_or-size.result
-    (made which file name c.in_ok-functions.field-0 functions.all c.into_list-functions.result.1 list c.unwrap_or-size.result (c.in_ok-functions.ensures.gets which file (Some name) are) c.into_list-functions.ensures.functions c.into_list-functions.ensures.size collected c.unwrap_or-size.ensures))
+    c.show_tables.ensures.outcome which file (Some name) (are_made which file name list c.unwrap_or-size.result c.version_names.result
+    (made which file name c.in_ok-functions.field-0 functions.all c.into_list-functions.result.1 list c.unwrap_or-size.result (c.in_ok-functions.ensures.gets which file (Some name) are) c.into_list-functions.ensures.functions c.into_list-functions.ensures.size collected c.unwrap_or-size.ensures)
+    (λ seen is. c.version_names.ensures.file which file (Some name) seen are is))
 
 pub returns-clause-takes : goal.returns-clause-takes
 returns-clause-takes g c = λ which file name are.
     let functions = c.into_list-functions.result.0 in
     let list = c.in_ok-list.list in
     let collected : map section_function_view list.items ≡ all_left functions.all = map_from_collect {E = Unit {0}} (Ok list) c.in_ok-list.ensures.ran (YieldsList-from_first section_function_view all_left (all_left functions.all) refl) in
-    c.show_tables.ensures.takes which file (Some name) (are_made which file name list c.unwrap_or-size.result
-    (made which file name c.in_ok-functions.field-0 functions.all c.into_list-functions.result.1 list c.unwrap_or-size.result (c.in_ok-functions.ensures.gets which file (Some name) are) c.into_list-functions.ensures.functions c.into_list-functions.ensures.size collected c.unwrap_or-size.ensures))
+    c.show_tables.ensures.takes which file (Some name) (are_made which file name list c.unwrap_or-size.result c.version_names.result
+    (made which file name c.in_ok-functions.field-0 functions.all c.into_list-functions.result.1 list c.unwrap_or-size.result (c.in_ok-functions.ensures.gets which file (Some name) are) c.into_list-functions.ensures.functions c.into_list-functions.ensures.size collected c.unwrap_or-size.ensures)
+    (λ seen is. c.version_names.ensures.file which file (Some name) seen are is))
 
 pub returns-clause-hint : goal.returns-clause-hint
 returns-clause-hint g c = λ which file name are.
@@ -54,10 +56,11 @@ returns-clause-hint g c = λ which file name are.
     (hinted which file name c.deref.result.now list c.unwrap_or-size.result c.hint_on.result c.show_tables.result c.deref.ensures.value
     (made which file name c.in_ok-functions.field-0 functions.all c.into_list-functions.result.1 list c.unwrap_or-size.result (c.in_ok-functions.ensures.gets which file (Some name) are) c.into_list-functions.ensures.functions c.into_list-functions.ensures.size collected c.unwrap_or-size.ensures) c.hint_on.ensures)
 
-pub returns-clause-sum : goal.returns-clause-sum
-returns-clause-sum g c = λ which file name selected are.
+pub returns-clause-sums : goal.returns-clause-sums
+returns-clause-sums g c = λ which file name selected are.
     let functions = c.into_list-functions.result.0 in
     let list = c.in_ok-list.list in
     let collected : map section_function_view list.items ≡ all_left functions.all = map_from_collect {E = Unit {0}} (Ok list) c.in_ok-list.ensures.ran (YieldsList-from_first section_function_view all_left (all_left functions.all) refl) in
-    c.show_tables.ensures.sum which file (Some name) selected (are_made which file name list c.unwrap_or-size.result
-    (made which file name c.in_ok-functions.field-0 functions.all c.into_list-functions.result.1 list c.unwrap_or-size.result (c.in_ok-functions.ensures.gets which file (Some name) are) c.into_list-functions.ensures.functions c.into_list-functions.ensures.size collected c.unwrap_or-size.ensures))
+    c.show_tables.ensures.sums which file (Some name) selected (are_made which file name list c.unwrap_or-size.result c.version_names.result
+    (made which file name c.in_ok-functions.field-0 functions.all c.into_list-functions.result.1 list c.unwrap_or-size.result (c.in_ok-functions.ensures.gets which file (Some name) are) c.into_list-functions.ensures.functions c.into_list-functions.ensures.size collected c.unwrap_or-size.ensures)
+    (λ seen is. c.version_names.ensures.file which file (Some name) seen are is))

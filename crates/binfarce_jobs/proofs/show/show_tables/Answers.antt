@@ -1,8 +1,8 @@
-use Rattle.std.proofs.Common.{sym, subst}
+use Rattle.std.proofs.Common.{Some, refl, sym, subst}
 use Rattle.binfarce_tools.specs.Json.{style_of}
 use Rattle.binfarce_tools.specs.Answer.{selected_answer}
 use Rattle.binfarce_tools.specs.Writing.{Outcome, Takes, written}
-use Rattle.binfarce_jobs.specs.Show.{IsTextOf}
+use Rattle.binfarce_jobs.specs.Show.{HasSums, IsTextOf}
 use Rattle.binfarce_jobs.specs.declared.show.Kind.{Kind}
 use Rattle.binfarce_jobs.specs.declared.show.Kind.TheVariants.{Listing, Rows, Figures, Picture, Stacks}
 use Rattle.binfarce_jobs.proofs.Shown.{list_in, report_in}
@@ -52,3 +52,8 @@ returns-in_err-fold_tables-in-Stacks-clause-takes g c = λ which file section ar
 pub returns-in_ok-fold_tables-in-Stacks-clause-takes : goal.returns-in_ok-fold_tables-in-Stacks-clause-takes
 returns-in_ok-fold_tables-in-Stacks-clause-takes g c = λ which file section are.
     subst (λ (k : Kind). Takes (IsTextOf k c.args.path.now (style_of c.args.form)) (selected_answer which section file) (g.K.Sink.taken c.args.out.now) (g.K.Sink.taken c.fold_tables.new.out) written) (sym c.in-Stacks.is) (c.in_ok-fold_tables-in-Stacks.ensures.takes which file section are)
+
+pub returns-in_ok-sum_by-in-Figures-clause-sums : goal.returns-in_ok-sum_by-in-Figures-clause-sums
+returns-in_ok-sum_by-in-Figures-clause-sums g c = λ which file section selected are answer.
+    let sums = c.in_ok-sum_by-in-Figures.field-0 in
+    subst (λ (k : Kind). HasSums k selected (Some sums)) (sym c.in-Figures.is) (sums, refl, c.in_ok-sum_by-in-Figures.ensures.sums which file section selected are answer)

@@ -1,9 +1,10 @@
 //! Panics, and prints the functions of its own backtrace, those of shared objects too: where each file is loaded is in
-//! `/proc/self/maps`. It runs on Linux, position-independent or not.
+//! `/proc/self/maps`. It runs on Linux, position-independent or not, and also if its file was deleted or replaced meanwhile.
 
 use binfarce::{Selection, SymbolTable, Symbolizer, Tables, demangle, mapped_at, read_load_address};
 use std::backtrace::Backtrace;
 use std::fs::{self, File};
+use std::path::Path;
 use std::{env, error::Error, panic};
 
 mod inner {
@@ -27,11 +28,20 @@ fn paths(maps: &str) -> Vec<&str> {
     paths
 }
 
+/// Where a file of the maps can be opened: the program by its link, also where its path ends with ` (deleted)`.
+fn place(path: &str) -> &str {
+    let link = "/proc/self/exe";
+    let is_program = fs::read_link(link).map_or(false, |program| program == Path::new(path));
+    if is_program { link } else { path }
+}
+
 /// The function symbols of a file where the maps load it: of a stripped one its dynamic symbols.
 fn symbolizer(maps: &str, path: &str) -> Result<Symbolizer<'static>, Box<dyn Error>> {
-    let tables = Tables::read(File::open(path)?, Selection::All, SymbolTable::Symtab)
-        .or_else(|_| Tables::read(File::open(path)?, Selection::All, SymbolTable::Dynsym))?;
-    let loaded = read_load_address(File::open(path)?)?;
+    let open = || File::open(place(path));
+    let tables = Tables::read(open()?, Selection::All, SymbolTable::Symtab)
+        .or_else(|_| Tables::read(open()?, Selection::All, SymbolTable::Dynsym))?;
+    let loaded = read_load_address(open()?)?;
+    let path = path.strip_suffix(" (deleted)").unwrap_or(path);
     let base = mapped_at(maps.as_bytes(), path, loaded).ok_or("the maps don't have it, or several times")?;
     let linked = loaded.map_or(0, |loaded| loaded.address);
     Ok(Symbolizer::new(&tables)?.into_owned()?.with_linked(linked).with_base(base))

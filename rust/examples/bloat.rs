@@ -1,5 +1,6 @@
 //! bloat FILE [N]: prints how many bytes the functions of a program take, by crate and by generic function, the N greatest of
-//! each, by default 20.
+//! each, by default 20. The sum is below the size of the sections with code: padding between functions, and code without a function
+//! symbol, count for none.
 
 use binfarce::figures::Key;
 use binfarce::{Selection, SymbolTable, Tables};

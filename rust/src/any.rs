@@ -8,18 +8,20 @@ use crate::erased::binfarce_sections::sections as sections_of;
 use crate::erased::binfarce_tools::functions as functions_of;
 use crate::erased::binfarce_tools::list::{self as listing, ListError, Sink};
 use crate::erased::binfarce_tools::report::{self as reporting, ReportError};
-use crate::error::{Error, ParseError};
+use crate::error::{Error, Foreign, ParseError};
+use crate::foreign::{FIRST_LENGTH, named_by};
 use crate::shim::{self, alloc::Global};
 #[cfg(feature = "std")]
-use crate::streams::Kept;
+use crate::streams::read_by_format;
 use crate::{AllFunctions, Format, FunctionSymbol, string_of};
 use alloc::string::String;
 #[cfg(feature = "std")]
-use core::cell::RefCell;
-#[cfg(feature = "std")]
-use std::io::{self, ErrorKind, Read, Seek};
+use std::io::{self, Read, Seek};
 
 /// Returns the format that a file's first 8 bytes name; a shorter file has none. The readers themselves don't check magic numbers.
+///
+/// As in the original, universal, 32-bit and big-endian Mach-O files and Java class files are [`Format::Macho`] here, though
+/// [`macho`](crate::macho) can't read them. Calls for any format, such as [`sections`], refuse them with [`Error::UnknownFormat`].
 ///
 /// # Examples
 ///
@@ -34,6 +36,20 @@ use std::io::{self, ErrorKind, Read, Seek};
 /// ```
 pub fn detect_format(file: &[u8]) -> Format {
     format::detect_format(file)
+}
+
+/// Returns the format of a file that a reader reads, by its first `FIRST_LENGTH` bytes, or all of a shorter one.
+///
+/// # Errors
+///
+/// [`Error::UnknownFormat`] for any other file.
+pub(crate) fn known_format(file: &[u8]) -> Result<Format, Error> {
+    let first = file.get(..FIRST_LENGTH).unwrap_or(file);
+    match (named_by(first), detect_format(first)) {
+        (None, Format::Unknown) => Err(Error::UnknownFormat(None)),
+        (None, format) => Ok(format),
+        (Some(foreign), _) => Err(Error::UnknownFormat(Some(Foreign(foreign)))),
+    }
 }
 
 /// Returns the function symbol at an address: of those in the list whose range holds it the one of greatest address, and of several
@@ -60,6 +76,10 @@ pub fn symbol_at<'a>(functions: &[FunctionSymbol<'a>], address: u64) -> Option<F
 /// The section is the one with the name `section` of an ELF file, usually `.text`; of a Mach-O or PE file it is always the
 /// text section. The names are parts of the file, still mangled.
 ///
+/// Left out are symbols of size 0 and indirect functions (`STT_GNU_IFUNC`) of an ELF file, those at address 0 of a Mach-O file, so
+/// the first function of an object file, and static functions of a PE file. [`Tables`](crate::Tables) of
+/// [`Selection::All`](crate::Selection::All) have them.
+///
 /// # Errors
 ///
 /// [`Error::UnknownFormat`]; [`Error::Parse`] where the reader of the file's format refuses it; [`Error::OutOfMemory`] where
@@ -75,7 +95,19 @@ pub fn symbol_at<'a>(functions: &[FunctionSymbol<'a>], address: u64) -> Option<F
 /// assert_eq!((sizes, text_size), (vec![("a", 64), ("b", 64), ("c", 192)], 256));
 /// # Ok::<(), Box<dyn std::error::Error>>(())
 /// ```
+///
+/// The largest functions first:
+///
+/// ```
+/// # let path = concat!(env!("CARGO_MANIFEST_DIR"), "/samples/macho.bin");
+/// let file = std::fs::read(path)?;
+/// let mut functions = binfarce::functions(&file, ".text")?.0.collect::<Vec<_>>();
+/// functions.sort_by_key(|function| std::cmp::Reverse(function.size));
+/// assert_eq!(functions.iter().map(|function| function.name).collect::<Vec<_>>(), ["c", "a", "b"]);
+/// # Ok::<(), Box<dyn std::error::Error>>(())
+/// ```
 pub fn functions<'a>(file: &'a [u8], section: &str) -> Result<(Functions<'a>, u64), Error> {
+    known_format(file)?;
     let (functions, size) = functions_of::functions_of_file(Global, file, section)?;
     Ok((Functions(AllFunctions::new(functions.all)?), size))
 }
@@ -222,6 +254,7 @@ impl<'a> Section<'a> {
 /// # Ok::<(), Box<dyn std::error::Error>>(())
 /// ```
 pub fn sections(file: &[u8]) -> Result<Sections<'_>, Error> {
+    known_format(file)?;
     Ok(Sections(sections_of::sections_of(file)?))
 }
 
@@ -288,10 +321,12 @@ impl<I: Iterator> Iterator for Bounded<I> {
 /// # Ok::<(), Box<dyn std::error::Error>>(())
 /// ```
 pub fn section_bytes<'a>(file: &'a [u8], name: &str) -> Result<&'a [u8], Error> {
+    known_format(file)?;
     Ok(bytes_of::section_bytes(file, name)?)
 }
 
-/// Returns the bytes of the first section with this name, of a file that is read at offsets: only its headers and these bytes.
+/// Returns the bytes of the first section with this name, of a file that is read at offsets: only its first 512 bytes, its headers
+/// and these bytes. With the feature `std`.
 ///
 /// # Errors
 ///
@@ -307,14 +342,9 @@ pub fn section_bytes<'a>(file: &'a [u8], name: &str) -> Result<&'a [u8], Error> 
 /// ```
 #[cfg(feature = "std")]
 pub fn read_section<R: Read + Seek>(file: R, name: &str) -> io::Result<Vec<u8>> {
-    let file = RefCell::new(Kept::new(file));
     let mut text = Text::new();
-    match bytes_of::write_section_of(Global, &file, &mut (), name, &mut text) {
-        Ok(()) => Ok(text.bytes.into_std()),
-        Err(SectionError::Unreadable) => Err(file.into_inner().into_error(ErrorKind::UnexpectedEof)),
-        Err(SectionError::Write) => Err(crate::OutOfMemory.into()),
-        Err(e) => Err(Error::from(e).into()),
-    }
+    read_by_format(file, |file, _| bytes_of::write_section_of(Global, file, &mut (), name, &mut text))?;
+    Ok(text.bytes.into_std())
 }
 
 /// Returns the listing of a file's function symbols: a line `{address:016x} {size:>10} {trimmed name}` for each, and last
@@ -333,6 +363,7 @@ pub fn read_section<R: Read + Seek>(file: R, name: &str) -> io::Result<Vec<u8>> 
 /// # Ok::<(), Box<dyn std::error::Error>>(())
 /// ```
 pub fn list(file: &[u8], section: &str) -> Result<String, Error> {
+    known_format(file)?;
     let mut text = Text::new();
     listing::list(Global, file, section, &mut text)?;
     Ok(text.into_string())
@@ -355,6 +386,7 @@ pub fn list(file: &[u8], section: &str) -> Result<String, Error> {
 /// # Ok::<(), Box<dyn std::error::Error>>(())
 /// ```
 pub fn report(file: &[u8], section: &str) -> Result<String, Error> {
+    known_format(file)?;
     let mut text = Text::new();
     reporting::report(Global, file, section, &mut text)?;
     Ok(text.into_string())
@@ -391,7 +423,7 @@ impl Sink for Text {
 impl From<ListError> for Error {
     fn from(e: ListError) -> Self {
         match e {
-            ListError::Unknown => Error::UnknownFormat,
+            ListError::Unknown => Error::UnknownFormat(None),
             ListError::Parse(e) => Error::from(e),
             // A text fails where there is no memory for it.
             ListError::OutOfMemory | ListError::Write => Error::OutOfMemory,
@@ -403,7 +435,7 @@ impl From<ListError> for Error {
 impl From<ReportError> for Error {
     fn from(e: ReportError) -> Self {
         match e {
-            ReportError::Unknown => Error::UnknownFormat,
+            ReportError::Unknown => Error::UnknownFormat(None),
             ReportError::Parse(e) => Error::from(e),
             ReportError::TooLarge => Error::TooLarge,
             ReportError::OutOfMemory | ReportError::Write => Error::OutOfMemory,
@@ -415,14 +447,15 @@ impl From<ReportError> for Error {
 impl From<SectionError> for Error {
     fn from(e: SectionError) -> Self {
         match e {
-            SectionError::Unknown => Error::UnknownFormat,
+            SectionError::Unknown => Error::UnknownFormat(None),
             SectionError::Parse(e) => Error::from(e),
             SectionError::NoSection => Error::NoSection,
             SectionError::NoBytes => Error::NoBytes,
             SectionError::PastEnd => Error::PastEnd,
-            SectionError::OutOfMemory => Error::OutOfMemory,
+            // A text fails where there is no memory for it.
+            SectionError::OutOfMemory | SectionError::Write => Error::OutOfMemory,
             // Not of bytes in memory.
-            SectionError::Write | SectionError::Unreadable => Error::Parse(ParseError::UnexpectedEof),
+            SectionError::Unreadable => Error::Parse(ParseError::UnexpectedEof),
         }
     }
 }

@@ -247,7 +247,8 @@ impl Demangler {
     }
 
     /// Returns the crate of `name`: that of a v0 name as [`SymbolName::crate_name`] has it, and of a legacy name the first
-    /// part of its path, unless that begins with `<`.
+    /// part of its path; `None` if that begins with `<`. [`Key::Crate`](crate::figures::Key::Crate) has a crate for most such
+    /// names, that of the type or of the trait, in the sums of [`Tables::sums_by_key`](crate::Tables::sums_by_key).
     ///
     /// # Errors
     ///
@@ -261,6 +262,8 @@ impl Demangler {
     /// let mut demangler = Demangler::new();
     /// assert_eq!(demangler.crate_of("_ZN3foo3bar17h05af221e174051e9E")?.as_deref(), Some("foo"));
     /// assert_eq!(demangler.crate_of("main")?, None);
+    /// // `<foo::Bar as core::fmt::Debug>::fmt`, which `Key::Crate` counts for `foo`.
+    /// assert_eq!(demangler.crate_of("_ZN45_$LT$foo..Bar$u20$as$u20$core..fmt..Debug$GT$3fmt17h0123456789abcdefE")?, None);
     /// # Ok::<(), binfarce::OutOfMemory>(())
     /// ```
     pub fn crate_of(&mut self, name: &str) -> Result<Option<String>, OutOfMemory> {
@@ -359,15 +362,16 @@ impl<'a> Demangle<'a> {
         erased::demangle(self.0).kind()
     }
 
-    /// Returns the name without the prefix of its mangling and without a suffix of LLVM (`.llvm.` and digits); all of a
-    /// name that isn't mangled. Nothing is allocated.
+    /// Returns the name without the prefix of its mangling and without a suffix of LLVM: its first `.llvm.` and all that follows,
+    /// if that is only `0` to `9`, `A` to `F` and `@`, or nothing. All of a name that isn't mangled. Nothing is allocated.
     ///
     /// # Examples
     ///
     /// ```
     /// use binfarce::demangle::demangle;
     ///
-    /// assert_eq!(demangle("_ZN3foo3barE.llvm.123").part(), "3foo3barE");
+    /// assert_eq!(demangle("_ZN3foo3barE.llvm.9D1C9369@@16").part(), "3foo3barE");
+    /// assert_eq!(demangle("_ZN3foo3barE.llvm.9d1c").part(), "3foo3barE.llvm.9d1c");
     /// assert_eq!(demangle("main").part(), "main");
     /// ```
     pub fn part(&self) -> &'a str {

@@ -168,6 +168,7 @@ macro_rules! reader {
         ///
         /// # Errors
         ///
+        #[doc = concat!("[`ParseError::UnexpectedEof`] for fewer than ", $least, " bytes.")]
         ///
         /// # Examples
         ///
@@ -176,7 +177,6 @@ macro_rules! reader {
         /// assert_eq!(elf.header().shnum, 5);
         /// # Ok::<(), Box<dyn std::error::Error>>(())
         /// ```
-        #[doc = concat!("[`ParseError::UnexpectedEof`] for fewer than ", $least, " bytes.")]
         pub fn parse(data: &[u8], byte_order: ByteOrder) -> Result<$Elf<'_>, ParseError> {
             Ok($Elf(erased::parse(data, byte_order)?))
         }
@@ -303,7 +303,8 @@ macro_rules! reader {
             }
 
             /// Returns the function symbols of the section with this name with readable names, in the order of the symbol
-            /// table, and the section's size in bytes.
+            /// table, and the section's size in bytes. Symbols of size 0 and indirect functions (`STT_GNU_IFUNC`) are left
+            /// out; `all_functions` has them.
             ///
             /// Where an allocation fails, the program ends as it does where a `Vec` can't grow; `try_symbols` returns an
             /// error there.

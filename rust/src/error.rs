@@ -1,6 +1,7 @@
 //! Errors.
 
 use crate::erased::binfarce_bytes;
+use crate::foreign;
 use crate::shim::alloc::AllocError;
 use alloc::alloc::{Layout, handle_alloc_error};
 use core::{fmt, num};
@@ -70,6 +71,7 @@ impl fmt::Display for ParseError {
     }
 }
 
+/// With the feature `std`.
 #[cfg(feature = "std")]
 impl error::Error for ParseError {}
 
@@ -111,6 +113,7 @@ impl fmt::Display for UnexpectedEof {
     }
 }
 
+/// With the feature `std`.
 #[cfg(feature = "std")]
 impl error::Error for UnexpectedEof {}
 
@@ -121,15 +124,16 @@ impl error::Error for UnexpectedEof {}
 /// ```
 /// use binfarce::{Error, ErrorKind, ParseError};
 ///
-/// let refused = binfarce::functions(b"#!/bin/sh", ".text").err();
-/// assert_eq!(refused, Some(Error::UnknownFormat));
+/// let refused = binfarce::functions(b"#!/bin/sh", ".text").unwrap_err();
+/// assert_eq!(refused.kind(), ErrorKind::UnknownFormat);
+/// assert_eq!(refused.to_string(), "a script; its first line names the program that runs it");
 /// assert_eq!(Error::Parse(ParseError::SectionIsMissing(".symtab")).kind(), ErrorKind::NoSymbolTable);
 /// ```
 #[derive(Debug, Clone, Copy, PartialEq, Eq, Hash)]
 #[non_exhaustive]
 pub enum Error {
-    /// The file's first bytes name no format that is read.
-    UnknownFormat,
+    /// The file's first bytes name no format that is read; with what the file is, where they say that.
+    UnknownFormat(Option<Foreign>),
     /// The reader of the file's format refused it.
     Parse(ParseError),
     /// The file has no section of this name.
@@ -144,11 +148,35 @@ pub enum Error {
     OutOfMemory,
 }
 
+/// What a file is that no reader reads, where its first 512 bytes name it: a universal, 32-bit or big-endian Mach-O file, a Java
+/// class file, an archive, a COFF object file, a PDB file, a WebAssembly module, LLVM bitcode, a script, or a text in ASCII.
+///
+/// `{}` prints what it is and what would help, as the command `binfarce` does.
+///
+/// # Examples
+///
+/// ```
+/// use binfarce::Error;
+///
+/// let Err(Error::UnknownFormat(Some(foreign))) = binfarce::sections(b"\xca\xfe\xba\xbe\0\0\0\x02") else { panic!() };
+/// assert_eq!(foreign.to_string(), "a universal Mach-O file; `lipo -thin ARCHITECTURE FILE` extracts a part");
+/// ```
+#[derive(Debug, Clone, Copy, PartialEq, Eq, Hash)]
+pub struct Foreign(pub(crate) foreign::Foreign);
+
+impl fmt::Display for Foreign {
+    fn fmt(&self, f: &mut fmt::Formatter<'_>) -> fmt::Result {
+        fmt::Display::fmt(&self.0, f)
+    }
+}
+
 /// What kind of error an [`Error`] is, whatever the file's format: what callers tell apart.
 #[derive(Debug, Clone, Copy, PartialEq, Eq, Hash)]
 #[non_exhaustive]
 pub enum ErrorKind {
-    /// The file's first bytes name no format that is read.
+    /// The file's first bytes name no format that is read. Where they name another one, as those of a universal, 32-bit or
+    /// big-endian Mach-O file, the error's text says which. [`detect_format`](crate::detect_format) and the readers' `parse`
+    /// return no such error.
     UnknownFormat,
     /// The file has no symbol table of this kind: an ELF file lacks `.symtab` or `.dynsym`, or a Mach-O or PE file was asked for
     /// its dynamic symbols.
@@ -168,6 +196,13 @@ pub enum ErrorKind {
 impl Error {
     /// Returns what kind of error it is.
     ///
+    /// | kind | errors |
+    /// |---|---|
+    /// | `UnknownFormat`, `NoBytes`, `TooLarge`, `OutOfMemory` | the error of the same name |
+    /// | `NoSymbolTable` | [`ParseError::SectionIsMissing`] of `.symtab` or `.dynsym` |
+    /// | `NoSection` | [`Error::NoSection`] and [`ParseError::SymbolsSectionIsMissing`] |
+    /// | `Invalid` | [`Error::PastEnd`] and every other [`ParseError`] |
+    ///
     /// # Examples
     ///
     /// ```
@@ -182,7 +217,7 @@ impl Error {
     /// ```
     pub fn kind(&self) -> ErrorKind {
         match self {
-            Error::UnknownFormat => ErrorKind::UnknownFormat,
+            Error::UnknownFormat(_) => ErrorKind::UnknownFormat,
             Error::Parse(ParseError::SectionIsMissing(".symtab" | ".dynsym")) => ErrorKind::NoSymbolTable,
             Error::Parse(ParseError::SymbolsSectionIsMissing) | Error::NoSection => ErrorKind::NoSection,
             Error::NoBytes => ErrorKind::NoBytes,
@@ -192,8 +227,8 @@ impl Error {
         }
     }
 
-    /// Returns the error that became this [`io::Error`]. `None` for an error of a stream, and where an allocation failed, which
-    /// [`io::Error::kind`] says.
+    /// Returns the error that became this [`io::Error`]; for each of the kind [`io::ErrorKind::OutOfMemory`] that is
+    /// [`Error::OutOfMemory`]. `None` for any other error of a stream. With the feature `std`.
     ///
     /// # Examples
     ///
@@ -205,14 +240,18 @@ impl Error {
     /// ```
     #[cfg(feature = "std")]
     pub fn of_io(e: &io::Error) -> Option<Error> {
-        e.get_ref()?.downcast_ref().copied()
+        match e.kind() {
+            io::ErrorKind::OutOfMemory => Some(Error::OutOfMemory),
+            _ => e.get_ref()?.downcast_ref().copied(),
+        }
     }
 }
 
 impl fmt::Display for Error {
     fn fmt(&self, f: &mut fmt::Formatter<'_>) -> fmt::Result {
         match self {
-            Error::UnknownFormat => write!(f, "unknown file format"),
+            Error::UnknownFormat(Some(foreign)) => write!(f, "{foreign}"),
+            Error::UnknownFormat(None) => write!(f, "unknown file format"),
             Error::Parse(e) => write!(f, "{e}"),
             Error::NoSection => write!(f, "no section of this name"),
             Error::NoBytes => write!(f, "section has no bytes in the file"),
@@ -223,6 +262,7 @@ impl fmt::Display for Error {
     }
 }
 
+/// With the feature `std`.
 #[cfg(feature = "std")]
 impl error::Error for Error {}
 
@@ -262,6 +302,7 @@ impl From<binfarce_bytes::ParseError> for Error {
     }
 }
 
+/// With the feature `std`. [`Error::of_io`] leads back.
 #[cfg(feature = "std")]
 impl From<Error> for io::Error {
     fn from(e: Error) -> Self {
@@ -282,6 +323,7 @@ impl fmt::Display for OutOfMemory {
     }
 }
 
+/// With the feature `std`.
 #[cfg(feature = "std")]
 impl error::Error for OutOfMemory {}
 
@@ -292,6 +334,7 @@ impl From<AllocError> for OutOfMemory {
     }
 }
 
+/// With the feature `std`.
 #[cfg(feature = "std")]
 impl From<OutOfMemory> for io::Error {
     fn from(_: OutOfMemory) -> Self {

@@ -23,9 +23,9 @@
 //! # Ok::<(), Box<dyn std::error::Error>>(())
 //! ```
 //!
-//! [`Tables::rows_to`]: crate::Tables::rows_to
-//! [`Tables::figures_to`]: crate::Tables::figures_to
-//! [`Tables::changes_to`]: crate::Tables::changes_to
+//! [`Tables::rows_to`]: crate::Tables#method.rows_to
+//! [`Tables::figures_to`]: crate::Tables#method.figures_to
+//! [`Tables::changes_to`]: crate::Tables#method.changes_to
 
 use crate::erased::binfarce_figures::key;
 #[cfg(feature = "std")]
@@ -37,7 +37,7 @@ pub use crate::erased::binfarce_figures::key::Key;
 pub use crate::erased::binfarce_figures::order::Order;
 pub use crate::erased::binfarce_figures::rows::Naming;
 
-/// What a listing shows. By default it is the text of [`Tables::list_to`](crate::Tables::list_to).
+/// What a listing shows. By default it is the text of [`Tables::list_to`](crate::Tables#method.list_to).
 ///
 /// # Examples
 ///
@@ -50,7 +50,7 @@ pub use crate::erased::binfarce_figures::rows::Naming;
 #[derive(Debug, Clone, Copy, PartialEq, Eq, Hash)]
 #[non_exhaustive]
 pub struct Shown {
-    /// What its lines are sorted by; `None` for the order of [`Tables::list_to`](crate::Tables::list_to).
+    /// What its lines are sorted by; `None` for the order of [`Tables::list_to`](crate::Tables#method.list_to).
     pub order: Option<Order>,
     /// How many lines it has at most; `None` for all.
     pub first: Option<usize>,
@@ -61,8 +61,8 @@ pub struct Shown {
 }
 
 impl Shown {
-    /// Returns what is shown by default: all lines in the order of [`Tables::list_to`](crate::Tables::list_to), trimmed names, and
-    /// the section's size.
+    /// Returns what is shown by default: all lines in the order of [`Tables::list_to`](crate::Tables#method.list_to), trimmed
+    /// names, and the section's size.
     pub fn new() -> Self {
         Shown { order: None, first: None, naming: Naming::Trimmed, has_total: true }
     }
@@ -224,7 +224,7 @@ impl<'a> Layout<'a> {
     }
 }
 
-/// The sums of all sizes of two files, in bytes: the answer of [`Tables::changes_to`](crate::Tables::changes_to).
+/// The sums of all sizes of two files, in bytes: the answer of [`Tables::changes_to`](crate::Tables#method.changes_to).
 #[derive(Debug, Clone, Copy, PartialEq, Eq, Hash)]
 #[non_exhaustive]
 pub struct Growth {

@@ -26,9 +26,10 @@ pub enum Form {
 ///
 /// A name begins with `_ZN` and a digit, or with `_R` and one of `N`, `I`, `M`, `X` and `Y`, also within a word such as
 /// `.text._ZN..`, and ends where its mangling does. One with `_ZN` has a hash as its last element, `17h` and 16 lower-case
-/// hexadecimal digits: so C++ names stay whole. What follows a name is kept, except `.llvm.` and a number where the name is
-/// replaced. A name whose readable form has a control character or more than 2^20 bytes is unchanged. So is a run of more
-/// than 2^20 bytes: a run goes from a `_` to the next byte other than an ASCII letter or digit, `_`, `$` and `.`.
+/// hexadecimal digits: so C++ names stay whole. What follows a name is kept, except `.llvm.` and LLVM's number, of `0` to `9`, `A`
+/// to `F` and `@`, where the name is replaced. A name whose readable form has a control character or more than 2^20 bytes is
+/// unchanged. So is a run of more than 2^20 bytes: a run goes from a `_` to the next byte other than an ASCII letter or digit,
+/// `_`, `$` and `.`.
 ///
 /// # Errors
 ///
@@ -50,7 +51,7 @@ pub fn filter(text: &str, form: Form) -> Result<String, OutOfMemory> {
 
 /// Copies `input` to `output` as [`filter`] does, byte strings of any kind. What has been read is written before the next
 /// read, except the beginning of what may become a name, and `output` is flushed each time: so it serves in a pipe. Memory
-/// goes by the longest run that may hold names.
+/// goes by the longest run that may hold names. With the feature `std`.
 ///
 /// # Errors
 ///

@@ -5,11 +5,11 @@
 //! them is plain Rust made from sources in Rattle by erasing their contracts: those sources are proved for every byte string,
 //! and this crate is safe Rust without dependencies.
 //!
-//! - Names: [`demangle`], and [`filter()`] and [`filter_stream`] for those in a text.
+//! - Names: [`demangle`], and [`filter()`] and [`filter_stream`](crate#functions) for those in a text.
 //! - A file in memory, of any format: [`functions`], [`sections`], [`section_bytes`]; of one format: [`elf32`], [`elf64`],
 //!   [`macho`], [`pe`].
 //! - Function symbols of all sections, dynamic ones, sums of their sizes, and files that are read at offsets: [`Tables`] and
-//!   [`read_section`].
+//!   [`read_section`](crate#functions).
 //! - The function at an address: [`Symbolizer`].
 //!
 //! # Examples
@@ -90,8 +90,9 @@ macro_rules! of_values {
 
 of_values! {
     FunctionSymbol<'_>: |it| (it.name, it.address, it.size);
-    SectionFunction<'_>: |it| (it.section, it.function);
+    SectionFunction<'_>: |it| (it.section, it.info, it.version, it.function);
     else
+    foreign::Foreign: |it| core::mem::discriminant(it);
     figures::Key: |it| core::mem::discriminant(it);
     figures::Naming: |it| core::mem::discriminant(it);
     figures::Order: |it| core::mem::discriminant(it);
@@ -120,6 +121,14 @@ mod erased;
 mod error;
 pub mod figures;
 mod filter;
+// What the command says of a file that no reader reads. Without the programs its crate isn't built, but for this file.
+#[cfg(any(test, feature = "programs"))]
+use erased::binfarce_jobs::foreign;
+#[cfg(not(any(test, feature = "programs")))]
+#[path = "erased/binfarce_jobs/foreign.rs"]
+#[allow(clippy::all)]
+#[rustfmt::skip]
+mod foreign;
 pub mod macho;
 pub mod pe;
 #[cfg(doctest)]
@@ -144,7 +153,7 @@ pub use erased::binfarce_bytes::ByteOrder;
 pub use erased::binfarce_bytes::format::Format;
 pub use erased::binfarce_bytes::functions::{FunctionSymbol, SectionFunction};
 pub use erased::binfarce_elf::segments::{CodeSegment, LoadAddress};
-pub use error::{Error, ErrorKind, OutOfMemory, ParseError, UnexpectedEof};
+pub use error::{Error, ErrorKind, Foreign, OutOfMemory, ParseError, UnexpectedEof};
 #[cfg(feature = "std")]
 pub use filter::filter_stream;
 pub use filter::{Form, filter};

@@ -121,7 +121,8 @@ impl fmt::Debug for Macho<'_> {
     }
 }
 
-/// Reads the file header. The magic number isn't checked: [`detect_format`](crate::detect_format) does that.
+/// Reads the file header. The magic number isn't checked: what is returned of a universal, 32-bit or big-endian file has no meaning.
+/// [`detect_format`](crate::detect_format) doesn't tell them apart; [`sections`](crate::sections) and its like refuse them.
 ///
 /// # Errors
 ///
@@ -241,7 +242,8 @@ impl<'a> Macho<'a> {
         Ok(self.0.section_bytes(&section.0)?)
     }
 
-    /// Returns the function symbols of the text section with readable names, by address, and the section's size in bytes.
+    /// Returns the function symbols of the text section with readable names, by address, and the section's size in bytes. Those at
+    /// address 0 are left out, so the first function of an object file; [`Macho::all_functions`] has them.
     ///
     /// A symbol's size is the distance to the next greater address, or to the end of the section. Where an allocation
     /// fails, the program ends as it does where a `Vec` can't grow; [`Macho::try_symbols`] returns an error there.

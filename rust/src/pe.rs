@@ -260,7 +260,7 @@ impl<'a> Pe<'a> {
     }
 
     /// Returns the function symbols of the section `.text` with readable names, by address, and the section's size in
-    /// bytes.
+    /// bytes. Static functions are left out; [`Pe::all_functions`] has them.
     ///
     /// A symbol's size is the distance to the next greater one of the symbols' addresses and the section's end, or 0 if
     /// none is greater. Where an allocation fails, the program ends as it does where a `Vec` can't grow;

@@ -1,15 +1,18 @@
 //! Streams that tables are read of, and that texts are written to. Their errors are kept: the proved code learns only that one failed.
 
+use crate::any::known_format;
 use crate::erased::binfarce_bytes::source::Source;
 use crate::erased::binfarce_figures::{diff::diff, map::map_by, rows::list_by, stacks::fold_tables, sums::sum_by};
+use crate::erased::binfarce_sections::error::SectionError;
 use crate::erased::binfarce_tables::loading::{self, LoadAddress};
-use crate::erased::binfarce_tables::{ReadError, format::read_format};
+use crate::erased::binfarce_tables::{ReadError, part};
 use crate::erased::binfarce_tools::list::{Sink, list_tables};
 use crate::erased::binfarce_tools::report::{ReportError, report_tables};
 use crate::erased::binfarce_tools::tables;
 use crate::figures::{Figures, Grouping, Growth, Layout, Shown};
+use crate::foreign::FIRST_LENGTH;
 use crate::shim::alloc::Global;
-use crate::{Error, Selection, SymbolTable, Tables};
+use crate::{Error, Format, Selection, SymbolTable, Tables};
 use core::cell::RefCell;
 use std::io::{self, ErrorKind, Read, Seek, SeekFrom, Write};
 
@@ -106,10 +109,34 @@ impl<S: Read + Seek> Source for RefCell<Kept<S>> {
     }
 }
 
+/// Reads a file by its format, and returns what `read` does. Where a read fails, the error is the stream's own.
+///
+/// # Errors
+///
+/// That of `file`; [`Error::UnknownFormat`] and that of `read`, each as an [`io::Error`].
+pub(crate) fn read_by_format<S, T, F>(file: S, read: F) -> io::Result<T>
+where
+    S: Read + Seek,
+    F: FnOnce(&RefCell<Kept<S>>, Format) -> Result<T, SectionError>,
+{
+    let file = RefCell::new(Kept::new(file));
+    let len = file.length().map_err(ReadError::from);
+    let first = len.and_then(|len| part(Global, &file, &mut (), 0, len.min(FIRST_LENGTH as u64)));
+    let answer = match first {
+        Ok(first) => read(&file, known_format(&first)?),
+        Err(e) => Err(e.into()),
+    };
+    match answer {
+        Ok(answer) => Ok(answer),
+        Err(SectionError::Unreadable) => Err(file.into_inner().into_error(ErrorKind::UnexpectedEof)),
+        Err(e) => Err(Error::from(e).into()),
+    }
+}
+
 impl Tables<'static> {
-    /// Reads the tables of a file at offsets: its first 8 bytes, its headers, the symbol table and its strings, and the last
+    /// Reads the tables of a file at offsets: its first 512 bytes, its headers, the symbol table and its strings, and the last
     /// byte; but all of a Mach-O file whose load commands pass their stated end. `file` is a [`File`](std::fs::File), or
-    /// anything else that can be read from the offsets that it is set to.
+    /// anything else that can be read from the offsets that it is set to. With the feature `std`.
     ///
     /// # Errors
     ///
@@ -126,19 +153,17 @@ impl Tables<'static> {
     /// # Ok::<(), Box<dyn std::error::Error>>(())
     /// ```
     pub fn read<R: Read + Seek>(file: R, selection: Selection<'_>, table: SymbolTable) -> io::Result<Self> {
-        let file = RefCell::new(Kept::new(file));
-        let tables = tables::read(Global, &file, &mut (), table.into_erased(), selection.into());
-        match tables {
-            Ok(tables) => tables.accepted(Global).map(Tables).map_err(|e| Error::from(e).into()),
-            Err(ReadError::Unreadable) => Err(file.into_inner().into_error(ErrorKind::UnexpectedEof)),
-            Err(e) => Err(Error::from(e).into()),
-        }
+        let (table, selection) = (table.into_erased(), selection.into());
+        let tables = read_by_format(file, |file, format| {
+            Ok(tables::read_tables(Global, file, &mut (), format, table, selection)?)
+        })?;
+        Ok(Tables(tables.accepted(Global).map_err(Error::from)?))
     }
 }
 
 impl Tables<'_> {
     /// Writes the text of [`list`](crate::list). For [`Selection::All`] each line has the name of the symbol's section
-    /// before the symbol's, or its number in brackets where it has none, and there is no last line.
+    /// before the symbol's, or its number in brackets where it has none, and there is no last line. With the feature `std`.
     ///
     /// # Errors
     ///
@@ -162,7 +187,8 @@ impl Tables<'_> {
         write_to(output, |sink| Ok(list_tables(Global, &self.0, sink)?))
     }
 
-    /// Writes the text of [`report`](crate::report). For [`Selection::All`] its last line is that of the sum.
+    /// Writes the text of [`report`](crate::report). For [`Selection::All`] its last line is that of the sum. With the feature
+    /// `std`.
     ///
     /// # Errors
     ///
@@ -186,11 +212,11 @@ impl Tables<'_> {
     }
 
     /// Writes the sums of [`Tables::sums_by_key`] as a picture: an SVG document with this title, such as the file's name, and a
-    /// bar for each sum, the greatest first.
+    /// bar for each sum, the greatest first. With the feature `std`.
     ///
     /// # Errors
     ///
-    /// Those of [`Tables::report_to`].
+    /// Those of [`Tables::figures_to`].
     ///
     /// # Examples
     ///
@@ -210,7 +236,7 @@ impl Tables<'_> {
         write_to(output, |sink| map_by(Global, title, &self.0, grouping, None, sink))
     }
 
-    /// Writes a listing in an order, of the first rows, or with other names, as lines or as JSON objects.
+    /// Writes a listing in an order, of the first rows, or with other names, as lines or as JSON objects. With the feature `std`.
     ///
     /// # Errors
     ///
@@ -236,11 +262,12 @@ impl Tables<'_> {
     }
 
     /// Writes sums by a key, the greatest first, as lines or as JSON objects, and returns the sum of all sizes. A byte of several
-    /// function symbols counts once.
+    /// function symbols counts once. With the feature `std`.
     ///
     /// # Errors
     ///
-    /// Those of [`Tables::report_to`].
+    /// Those of [`Tables::list_to`]; [`Error::TooLarge`], as an [`io::Error`], where the sum of all, each byte counted once, is
+    /// 2^64 or more.
     ///
     /// # Examples
     ///
@@ -258,15 +285,17 @@ impl Tables<'_> {
     /// # Ok::<(), Box<dyn std::error::Error>>(())
     /// ```
     pub fn figures_to<W: Write>(&self, figures: &Figures, layout: Layout<'_>, output: W) -> io::Result<u64> {
-        write_to(output, |sink| sum_by(Global, &self.0, &figures.into_erased(), layout.into_erased(), sink))
+        let sums =
+            write_to(output, |sink| sum_by(Global, &self.0, &figures.into_erased(), layout.into_erased(), sink))?;
+        Ok(sums.total)
     }
 
     /// Writes how the sums of [`Tables::figures_to`] differ from those of an older file, the greatest change first, and returns
-    /// the sums of all sizes.
+    /// the sums of all sizes. With the feature `std`.
     ///
     /// # Errors
     ///
-    /// Those of [`Tables::report_to`], first for the older file.
+    /// Those of [`Tables::figures_to`], first for the older file.
     ///
     /// # Examples
     ///
@@ -302,11 +331,11 @@ impl Tables<'_> {
     }
 
     /// Writes a line for each function symbol that adds bytes to [`Tables::sums_by_key`], as tools for flame graphs read it: its
-    /// crate and the parts of its name, with `;` between them, and the number of these bytes.
+    /// crate and the parts of its name, with `;` between them, and the number of these bytes. With the feature `std`.
     ///
     /// # Errors
     ///
-    /// Those of [`Tables::report_to`].
+    /// Those of [`Tables::figures_to`].
     ///
     /// # Examples
     ///
@@ -340,18 +369,12 @@ where
     }
 }
 
-/// Returns [`load_address`](crate::load_address) of a file that is read at offsets: its headers alone are read.
+/// Returns [`load_address`](crate::load_address) of a file that is read at offsets: its first 512 bytes and its headers alone are
+/// read. With the feature `std`.
 ///
 /// # Errors
 ///
 /// That of `file`; otherwise that of [`load_address`](crate::load_address), as an [`io::Error`].
 pub fn read_load_address<R: Read + Seek>(file: R) -> io::Result<Option<LoadAddress>> {
-    let file = RefCell::new(Kept::new(file));
-    let format = read_format(Global, &file, &mut ());
-    let loaded = format.and_then(|format| loading::read_load_address(Global, &file, &mut (), format));
-    match loaded {
-        Ok(loaded) => Ok(loaded),
-        Err(ReadError::Unreadable) => Err(file.into_inner().into_error(ErrorKind::UnexpectedEof)),
-        Err(e) => Err(Error::from(e).into()),
-    }
+    read_by_format(file, |file, format| Ok(loading::read_load_address(Global, file, &mut (), format)?))
 }

@@ -1,7 +1,7 @@
 //! The function symbol at an address, in one file or several.
 
 use crate::FunctionSymbol;
-use crate::any::detect_format;
+use crate::any::known_format;
 use crate::erased::binfarce_addresses::at::Places;
 use crate::erased::binfarce_addresses::lookup::Lookup;
 use crate::erased::binfarce_addresses::maps::base_of;
@@ -97,7 +97,8 @@ impl<'a> Symbolizer<'a> {
         Symbolizer { base: Some(base), ..self }
     }
 
-    /// Sets the address that the file itself says it is loaded at: that of [`load_address`] and [`read_load_address`](crate::read_load_address).
+    /// Sets the address that the file itself says it is loaded at: that of [`load_address`] and
+    /// [`read_load_address`](crate#functions).
     ///
     /// # Examples
     ///
@@ -162,7 +163,7 @@ impl<'a> Symbolizer<'a> {
     }
 
     /// Returns the function symbol at an address, and the offset into it. Of several that hold the address it is the one of
-    /// greatest address, and of several there the first. `None` where none holds it, and for an address below the base.
+    /// greatest address, and of several there the first, in an ELF file the first that isn't local if there is one. `None` where none holds it, and for an address below the base.
     ///
     /// # Examples
     ///
@@ -235,7 +236,7 @@ impl<'a> Symbolizer<'a> {
 
     fn look_up(&self, address: u64, is_return: bool) -> Option<(FunctionSymbol<'_>, u64)> {
         let lookup =
-            Lookup { base: self.base, linked: self.linked, origin: 0, is_return, form: Form::Lines, name: &[] };
+            Lookup { base: self.base, linked: self.linked, origin: 0, is_return, form: Form::Lines, path: &[] };
         match &self.functions {
             Arranged::Borrowed(places) => places.find(lookup, address),
             Arranged::Owned { names, rows, ranges } => {
@@ -266,12 +267,12 @@ debug_by_name!(Symbolizer);
 
 /// Returns where a file says that it is loaded, unless the loader chooses another address: of ELF the page of 4096 bytes of its
 /// lowest loaded segment, and its first code segment; of Mach-O the address of `__TEXT`, of PE its image base. `None` where there
-/// is none, as in an object file, and for an unknown format.
+/// is none, as in an object file.
 ///
 /// # Errors
 ///
-/// [`Error::Parse`] where the file is too short for what states it, and for a bad Mach-O load command before that;
-/// [`Error::OutOfMemory`] where an allocation failed.
+/// [`Error::UnknownFormat`]; [`Error::Parse`] where the file is too short for what states it, and for a bad Mach-O load command
+/// before that; [`Error::OutOfMemory`] where an allocation failed.
 ///
 /// # Examples
 ///
@@ -282,14 +283,14 @@ debug_by_name!(Symbolizer);
 /// # Ok::<(), Box<dyn std::error::Error>>(())
 /// ```
 pub fn load_address(file: &[u8]) -> Result<Option<LoadAddress>, Error> {
-    Ok(loading::read_load_address(Global, &file, &mut (), detect_format(file))?)
+    Ok(loading::read_load_address(Global, &file, &mut (), known_format(file)?)?)
 }
 
 /// Returns where a file is loaded by a text in the form of `/proc/PID/maps`, if [`load_address`] returns this of it: where the
 /// mappings of its code have it, or of a file without code the lowest address of its mappings. A mapping is one of the file if its
 /// path ends with this path, after a `/` if there is one; if none is, those are whose paths end so with the name behind the last `/`.
-/// A ` (deleted)` after a path isn't part of it. `None` where no line maps the file, and where its code is at several places. Other
-/// lines may stand between.
+/// A ` (deleted)` after a path isn't part of it, nor is a carriage return. `None` where no line maps the file, and where its code is
+/// at several places. Other lines may stand between, and words of a log before a mapping in its line.
 ///
 /// # Examples
 ///

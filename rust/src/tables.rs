@@ -1,9 +1,9 @@
 //! The function symbols of a file of any format: of one section or of all, from memory or from a file that is read at offsets.
 
-use crate::any::Functions;
+use crate::any::{Functions, known_format};
 use crate::erased::binfarce::elf32;
 use crate::erased::binfarce_elf::symbol_table;
-use crate::erased::binfarce_figures::sums::{Counting, add_claims, claims_in};
+use crate::erased::binfarce_figures::sums::{claims_in, numbers_of};
 use crate::erased::binfarce_tables::ReadError;
 use crate::erased::binfarce_tools::functions::{self as functions_of, Selected};
 use crate::erased::binfarce_tools::tables;
@@ -11,7 +11,6 @@ use crate::error::{Error, ParseError};
 use crate::figures::Grouping;
 use crate::shim;
 use crate::shim::alloc::Global;
-use crate::shim::collections::BTreeMap;
 use crate::{FunctionSymbol, SectionFunction};
 use alloc::string::String;
 use alloc::vec::Vec;
@@ -105,13 +104,14 @@ impl<'a> Tables<'a> {
     ///
     /// # let path = concat!(env!("CARGO_MANIFEST_DIR"), "/samples/elf64-little.bin");
     /// assert_eq!(tables(&std::fs::read(path)?)?.functions()?.count(), 1);
-    /// assert_eq!(tables(b"#!/bin/sh").err(), Some(Error::UnknownFormat));
+    /// assert_eq!(tables(b"#!/bin/sh").unwrap_err().kind(), ErrorKind::UnknownFormat);
     /// # Ok::<(), Box<dyn std::error::Error>>(())
     /// ```
     pub fn new(file: &'a [u8], selection: Selection<'a>, table: SymbolTable) -> Result<Self, Error> {
+        let format = known_format(file)?;
         let tables = match (selection, table) {
             (Selection::Section(section), SymbolTable::Symtab) => tables::Tables::whole(file, section),
-            _ => tables::read(Global, &file, &mut (), table.into_erased(), selection.into())?,
+            _ => tables::read_tables(Global, &file, &mut (), format, table.into_erased(), selection.into())?,
         };
         Ok(Tables(tables.accepted(Global)?))
     }
@@ -201,12 +201,13 @@ impl<'a> Tables<'a> {
         self.0.shares_addresses()
     }
 
-    /// Returns the sums of [`Tables::figures_to`] by a [`Key`](crate::figures::Key) or a [`Grouping`]: how many bytes each crate,
-    /// function, generic function or section takes. A byte of several function symbols counts once.
+    /// Returns the sums of [`Tables::figures_to`](Tables#method.figures_to) by a [`Key`](crate::figures::Key) or a [`Grouping`]:
+    /// how many bytes each crate, function, generic function or section takes. A byte of several function symbols counts once.
     ///
     /// # Errors
     ///
-    /// Those of [`Tables::functions`]; [`Error::TooLarge`] where the sum of all sizes is 2^64 or more.
+    /// Those of [`Tables::functions`]; [`Error::TooLarge`] where the sum of all, each byte counted once, is 2^64 or
+    /// more.
     ///
     /// # Examples
     ///
@@ -224,8 +225,7 @@ impl<'a> Tables<'a> {
     /// ```
     pub fn sums_by_key(&self, grouping: impl Into<Grouping>) -> Result<Sums<String>, Error> {
         let claims = claims_in(Global, &self.0)?;
-        let mut numbers = BTreeMap::new(Global);
-        add_claims(Global, &claims, grouping.into().into_erased(), Counting::Symbols, &mut numbers)?;
+        let numbers = numbers_of(Global, &claims, grouping.into().into_erased())?;
         let mut rows = shim::Vec::new(Global);
         for (name, numbers) in numbers {
             rows.push((name.into_std(), numbers.sum))?;
@@ -238,7 +238,7 @@ impl<'a> Tables<'a> {
     ///
     /// # Errors
     ///
-    /// Those of [`Tables::sums_by_key`], and of `key`.
+    /// Those of [`Tables::functions`], and of `key`; [`Error::TooLarge`] where the sum of all sizes is 2^64 or more.
     ///
     /// # Examples
     ///
@@ -324,11 +324,12 @@ of_iterators!(AllFunctions);
 #[derive(Debug, Clone, PartialEq, Eq, Hash)]
 #[non_exhaustive]
 pub struct Sums<K> {
-    /// Each key, and the sum of the sizes of its function symbols in bytes, in the order of the keys.
+    /// Each key, and how many bytes its function symbols take, in the order of the keys. Of [`Tables::sums_by_key`] a byte of
+    /// several counts once, of [`Tables::sums_by`] each symbol counts whole.
     pub rows: Vec<(K, u64)>,
-    /// The sum of all sizes in bytes.
+    /// The sum of the rows in bytes. Of [`Tables::sums_by_key`] it is at most `section_size`, where the symbols lie in the section.
     pub total: u64,
-    /// The size of the section in bytes; for [`Selection::All`] the sum of all sizes.
+    /// The size of the section in bytes; for [`Selection::All`] the same as `total`.
     pub section_size: u64,
 }
 

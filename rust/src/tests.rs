@@ -194,12 +194,73 @@ fn tables_of_refused_files() {
             assert_eq!(Tables::new(file, selection, SymbolTable::Dynsym).unwrap_err(), missing);
         }
     }
-    let unknown = Tables::read(Cursor::new("#!/bin/sh"), Selection::All, SymbolTable::Symtab).unwrap_err();
-    assert_eq!(unknown.to_string(), "unknown file format");
     let truncated = Tables::read(Cursor::new(&PE[..90]), Selection::All, SymbolTable::Symtab).unwrap_err();
     assert_eq!((truncated.kind(), truncated.to_string().as_str()), (ErrorKind::InvalidData, "unexpected end of file"));
     let tables = Tables::new(PE, Selection::All, SymbolTable::Symtab).unwrap();
     assert_eq!(tables.sums_by(|_| Err::<(), _>(Error::NoBytes)).unwrap_err(), Error::NoBytes);
+}
+
+/// The errors of all calls that take a file of any format.
+fn errors_of_each_call(file: &[u8]) -> Vec<Error> {
+    let of_io = |e: io::Error| Error::of_io(&e).unwrap();
+    let mut errors = vec![
+        functions(file, ".text").err(),
+        sections(file).err(),
+        section_bytes(file, ".text").err(),
+        read_section(Cursor::new(file), ".text").err().map(of_io),
+        list(file, ".text").err(),
+        report(file, ".text").err(),
+        load_address(file).err(),
+        read_load_address(Cursor::new(file)).err().map(of_io),
+    ];
+    for selection in [Selection::Section(".text"), Selection::All] {
+        for table in [SymbolTable::Symtab, SymbolTable::Dynsym] {
+            errors.push(Tables::new(file, selection, table).err());
+            errors.push(Tables::read(Cursor::new(file), selection, table).err().map(of_io));
+        }
+    }
+    errors.into_iter().map(|e| e.unwrap()).collect()
+}
+
+#[test]
+fn a_file_that_no_reader_reads_is_refused_with_what_it_is() {
+    let first = |bytes: &[u8]| [bytes, &[0; 32]].concat();
+    let text = [b'a'; 512];
+    let files = [
+        (
+            first(b"\xca\xfe\xba\xbe\0\0\0\x02"),
+            "a universal Mach-O file; `lipo -thin ARCHITECTURE FILE` extracts a part",
+        ),
+        (first(b"\xca\xfe\xba\xbf\0\0\0\x02"), "a universal Mach-O file;"),
+        (first(b"\xca\xfe\xba\xbe\0\0\0\x34"), "a Java class file;"),
+        (first(b"\xfe\xed\xfa\xce"), "a Mach-O file of 32 bits;"),
+        (first(b"\xce\xfa\xed\xfe"), "a Mach-O file of 32 bits;"),
+        (first(b"\xfe\xed\xfa\xcf"), "a big-endian Mach-O file;"),
+        (first(b"!<arch>\n"), "an archive;"),
+        (first(b"!<thin>\n"), "a thin archive;"),
+        (first(b"\x64\x86"), "a COFF object file;"),
+        (first(b"Microsoft C/C++ MSF 7.00"), "a PDB file;"),
+        (first(b"\0asm"), "a WebAssembly module;"),
+        (first(b"BC\xc0\xde"), "LLVM bitcode;"),
+        (b"#!/bin/sh".to_vec(), "a script; its first line names the program that runs it"),
+        // Of a text only these bytes are looked at.
+        ([&text[..], b"\0"].concat(), "a text;"),
+        ([&text[1..], b"\0"].concat(), "unknown file format"),
+        (Vec::new(), "unknown file format"),
+        (vec![0; 64], "unknown file format"),
+    ];
+    for (file, words) in files {
+        let errors = errors_of_each_call(&file);
+        assert!(errors.iter().all(|e| *e == errors[0]), "{words} {errors:?}");
+        assert_eq!(errors[0].kind(), crate::ErrorKind::UnknownFormat);
+        assert!(errors[0].to_string().starts_with(words), "{}", errors[0]);
+        assert_eq!(errors[0] == Error::UnknownFormat(None), words == "unknown file format");
+        // The original's calls answer as they did.
+        let starts = [b"\xca\xfe\xba\xbe", b"\xfe\xed\xfa\xce", b"\xce\xfa\xed\xfe", b"\xfe\xed\xfa\xcf"];
+        let is_macho = starts.iter().any(|start| file.starts_with(&start[..]));
+        assert_eq!(detect_format(&file), if is_macho { Format::Macho } else { Format::Unknown });
+        assert_eq!(macho::parse(&file).is_ok(), file.len() >= 28);
+    }
 }
 
 /// What is refused is refused at once: for each beginning of a file, and for files with other numbers.
@@ -285,7 +346,7 @@ fn traits() {
     small::<(elf32::Section, elf64::Section, macho::Section<'_>, pe::Section<'_>)>();
     small::<(elf32::Elf32Header, elf64::Elf64Header, macho::MachoHeader, pe::PeHeader)>();
     small::<(Figures, Layout<'_>, Growth, Grouping, Key, Naming, Order, Shown)>();
-    small::<(ParseError, Error, UnexpectedEof, OutOfMemory)>();
+    small::<(ParseError, Error, Foreign, UnexpectedEof, OutOfMemory)>();
     let _: [fn(); 4] = [error::<ParseError>, error::<Error>, error::<UnexpectedEof>, error::<OutOfMemory>];
     value::<(SymbolData, SymbolName, Sums<String>)>();
     reader::<(elf32::Elf32<'_>, elf64::Elf64<'_>, macho::Macho<'_>, pe::Pe<'_>)>();
@@ -308,7 +369,7 @@ fn values_are_compared_by_their_fields() {
     ];
     let all: HashSet<_> = other.into_iter().chain([function, function]).collect();
     assert_eq!(all.len(), 4);
-    let of = |section| SectionFunction { section, function };
+    let of = |section| SectionFunction { section, info: 0x12, version: 0, function };
     assert_eq!(HashSet::from([of(1), of(2), of(1)]).len(), 2);
     let read = |file| sections(file).unwrap().map(Result::unwrap).collect::<HashSet<_>>();
     assert_eq!(read(ELF64_LITTLE), read(ELF64_BIG));
@@ -475,11 +536,13 @@ fn errors_are_those_of_the_original() {
     file[267 + 2 * 64 + 4] = 1;
     assert_eq!(words(symbols(&file).err().unwrap()), ".symtab");
     assert_eq!(functions(&file, ".text").unwrap_err(), Error::Parse(ParseError::SectionIsMissing(".symtab")));
-    assert_eq!(functions(b"#!/bin/sh", ".text").unwrap_err(), Error::UnknownFormat);
     assert_eq!(ParseError::from(UnexpectedEof {}).to_string(), "unexpected end of file");
-    let e = io::Error::from(Error::UnknownFormat);
+    let e = io::Error::from(Error::UnknownFormat(None));
     assert_eq!((e.kind(), e.to_string().as_str()), (ErrorKind::InvalidData, "unknown file format"));
-    assert_eq!(io::Error::from(Error::OutOfMemory).kind(), ErrorKind::OutOfMemory);
+    assert_eq!(Error::of_io(&e), Some(Error::UnknownFormat(None)));
+    let e = io::Error::from(Error::OutOfMemory);
+    assert_eq!((e.kind(), Error::of_io(&e)), (ErrorKind::OutOfMemory, Some(Error::OutOfMemory)));
+    assert_eq!(Error::of_io(&ErrorKind::NotFound.into()), None);
 }
 
 /// Asks with each allocation refused in turn, until none is. Whether one is refused, that is what the call says.
@@ -506,7 +569,7 @@ fn a_failed_allocation_is_an_error() {
         refuses_each(|| report(file, ".text"));
     }
     refuses_each(|| Ok(Demangler::new().push_crate(&mut String::new(), NAME)?));
-    let refused = |e: io::Error| if e.kind() == ErrorKind::OutOfMemory { Error::OutOfMemory } else { panic!("{e}") };
+    let refused = |e: io::Error| Error::of_io(&e).unwrap_or_else(|| panic!("{e}"));
     refuses_each(|| read_section(Cursor::new(ELF32_BIG), ".text").map_err(refused));
     for (file, _) in FILES {
         for selection in [Selection::Section(".text"), Selection::All] {
@@ -624,13 +687,14 @@ impl Seek for Counting {
     }
 }
 
-/// A file that becomes shorter when its length was asked for twice, and whether it was asked for once.
-struct Shrinking(Cursor<Vec<u8>>, bool);
+/// A file that becomes shorter when its length was asked for three times, and how often it was.
+struct Shrinking(Cursor<Vec<u8>>, usize);
 
 impl Seek for Shrinking {
     fn seek(&mut self, to: SeekFrom) -> io::Result<u64> {
         let place = self.0.seek(to);
-        if to == SeekFrom::End(0) && std::mem::replace(&mut self.1, true) {
+        self.1 += usize::from(to == SeekFrom::End(0));
+        if self.1 == 3 {
             self.0.get_mut().truncate(99);
         }
         place
@@ -648,7 +712,7 @@ fn tables_give_the_error_of_their_stream() {
     let read = |calls| Tables::read(Broken { calls }, Selection::All, SymbolTable::Symtab).unwrap_err().to_string();
     assert_eq!(read(0), "cable pulled");
     assert_eq!(read_section(Counting, ".text").unwrap_err().kind(), ErrorKind::InvalidData);
-    let shrinking = Shrinking(Cursor::new(ELF64_LITTLE.to_vec()), false);
+    let shrinking = Shrinking(Cursor::new(ELF64_LITTLE.to_vec()), 0);
     assert_eq!(read_section(shrinking, ".text").unwrap_err().kind(), ErrorKind::UnexpectedEof);
     let tables = Tables::new(ELF64_LITTLE, Selection::All, SymbolTable::Symtab).unwrap();
     assert_eq!(tables.list_to(Broken { calls: 0 }).unwrap_err().to_string(), "cable pulled");

@@ -56,7 +56,19 @@ fn text(name: &str, words: &[&str]) -> String {
 #[test]
 #[cfg(target_os = "linux")]
 fn a_backtrace_names_its_functions() {
-    let text = text("backtrace", &[]);
+    // The second one runs after its file is deleted.
+    let copy = env::temp_dir().join(format!("binfarce-backtrace-{}", std::process::id()));
+    fs::copy(example("backtrace"), &copy).unwrap();
+    let script = "exec 3<\"$0\"; rm \"$0\"; exec /proc/self/fd/3";
+    let deleted = Command::new("sh").args(["-c", script]).arg(&copy).output().unwrap();
+    assert!(!copy.exists() && deleted.stderr.is_empty(), "{deleted:?}");
+    for text in [text("backtrace", &[]), String::from_utf8(deleted.stdout).unwrap()] {
+        names_its_functions(&text);
+    }
+}
+
+#[cfg(target_os = "linux")]
+fn names_its_functions(text: &str) {
     let names = text.lines().filter_map(|line| line.split(' ').nth(1)?.split('+').next()).collect::<Vec<_>>();
     let place = |wanted| names.iter().position(|name| *name == wanted).unwrap_or_else(|| panic!("{wanted}: {text}"));
     let order = ["backtrace::print_backtrace", "backtrace::inner::divide", "backtrace::main", "main"].map(place);

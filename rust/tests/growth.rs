@@ -44,7 +44,7 @@ fn enums_may_grow() {
         _ => false,
     });
     assert!(match Error::TooLarge {
-        Error::UnknownFormat | Error::Parse(_) | Error::NoSection | Error::NoBytes => false,
+        Error::UnknownFormat(_) | Error::Parse(_) | Error::NoSection | Error::NoBytes => false,
         Error::PastEnd | Error::TooLarge | Error::OutOfMemory => true,
         _ => false,
     });

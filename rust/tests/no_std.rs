@@ -25,6 +25,7 @@ text 32
 Some("bad")
 [("[unknown]", 16), ("foo", 16)]
 true
+a script; its first line names the program that runs it
 panicked in a::b
 panicked in _RNvC1a1b, V0, true
 "#;

@@ -57,6 +57,32 @@ fn functions_have_examples() {
     assert!(shown >= 60, "{shown} of {all}");
 }
 
+/// Each public function that needs the feature `std` says so, and is in README.md's row of that feature.
+#[test]
+fn what_needs_std_says_so() {
+    let readme = read("README.md");
+    let row = readme.lines().find(|line| line.starts_with("| `std`")).unwrap();
+    let mut found = Vec::new();
+    for file in
+        ["any", "demangle", "elf", "error", "figures", "filter", "macho", "pe", "streams", "symbolizer", "tables"]
+    {
+        let source = read(&format!("src/{file}.rs"));
+        for (start, _) in source.match_indices("pub fn ") {
+            let name = source[start + 7..].split(['<', '(']).next().unwrap();
+            let before = source[..start].rsplit("\n\n").next().unwrap();
+            let needs_std = file == "streams" || before.contains("#[cfg(feature = \"std\")]");
+            let said = before.replace("\n    ///", "").replace("\n///", "");
+            assert_eq!(said.contains("With the feature `std`."), needs_std, "{name}");
+            if needs_std {
+                let is_in_row = row.contains(&format!("{name}`"));
+                assert!(is_in_row || name.ends_with("_to") && row.contains("the `.._to` of `Tables`"), "{name}");
+                found.push(name.to_string());
+            }
+        }
+    }
+    assert!(found.len() >= 12, "{found:?}");
+}
+
 /// Cargo ignores `[lints]` before 1.74.
 #[test]
 fn unsafe_code_is_forbidden_in_the_sources() {

@@ -55,6 +55,19 @@ fn one_file() -> Result<(), Box<dyn std::error::Error>> {
     Ok(())
 }
 
+#[test]
+fn one_file_of_another_format() -> Result<(), Box<dyn std::error::Error>> {
+    let file = std::fs::read(concat!(env!("CARGO_MANIFEST_DIR"), "/samples/macho.bin"))?;
+    let (reader, segment, name) = (macho::parse(&file)?, "__TEXT", "__text");
+    assert_eq!(reader.section_with_name(segment, name)?, reader.sections().next().transpose()?);
+    assert_eq!(reader.functions()?.0.len(), reader.symbols()?.0.len());
+    let file = std::fs::read(concat!(env!("CARGO_MANIFEST_DIR"), "/samples/pe.bin"))?;
+    let (reader, name) = (pe::parse(&file)?, ".text");
+    assert_eq!(reader.section_with_name(name)?, reader.sections().next().transpose()?);
+    assert_eq!(reader.functions()?.0.len(), reader.symbols()?.0.len());
+    Ok(())
+}
+
 fn read(file: impl Read + Seek) -> io::Result<Tables<'static>> {
     Tables::read(file, Selection::Section(".text"), SymbolTable::Symtab)
 }

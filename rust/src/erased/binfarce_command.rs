@@ -7,12 +7,11 @@ pub(crate) mod help;
 pub(crate) mod report;
 
 use crate::shim::{HostRuntime, String, Vec};
-use crate::erased::binfarce_command::asked::{Addresses, name_of};
+use crate::erased::binfarce_command::asked::{Addresses, path_of};
 use crate::erased::binfarce_command::help::{VERSION, help};
 use crate::erased::binfarce_command::report::{ended, refuse, report};
 use crate::erased::binfarce_addresses::annotate::annotate_stream;
 use crate::erased::binfarce_addresses::at::Places;
-use crate::erased::binfarce_addresses::maps::NoBase;
 use crate::erased::binfarce_addresses::{Counts, Lookup, Module};
 use crate::erased::binfarce_bytes::source::Source;
 use crate::erased::binfarce_figures::diff::{DiffError, Growth, diff};
@@ -27,7 +26,7 @@ use crate::erased::binfarce_jobs::filter::lines_of;
 use crate::erased::binfarce_jobs::hint::{Hint, Loaded, lack};
 use crate::erased::binfarce_jobs::input::{FileOrStdin, OpenFile};
 use crate::erased::binfarce_jobs::limit::{above, grown};
-use crate::erased::binfarce_jobs::message::{Message, message_of, push_refusal};
+use crate::erased::binfarce_jobs::message::{Message, Unplaced, message_of, push_refusal};
 use crate::erased::binfarce_jobs::output::Output;
 use crate::erased::binfarce_jobs::section::{Asked, write_sections};
 use crate::erased::binfarce_jobs::show::{Kind, Request, Symbols, tables_of};
@@ -144,11 +143,11 @@ fn run<'a>(rt: &HostRuntime, words: &'a [String]) -> Result<u8, Wrong<'a>> {
     };
     let mut out = Output::new(rt.alloc(), io::writer(rt));
     let mut is_above = false;
-    let mut unplaced = None;
-    let done = answer(rt, &call, &asked, &mut out, &mut is_above, &mut unplaced);
-    if let Some((at, why)) = unplaced {
+    let mut are_no_maps = false;
+    let done = answer(rt, &call, &asked, &mut out, &mut is_above, &mut are_no_maps);
+    if are_no_maps {
         if let Call::Run(_, given) = &call {
-            return Err(asked::wrong_of(given, at, why));
+            return Err(Wrong::NotMaps(given.value(Maps).unwrap_or("")));
         }
     }
     Ok(ended(rt, done, is_above, out.into_parts().1))
@@ -169,15 +168,15 @@ fn has_any(given: &Arguments<'_>, flags: &[Flag]) -> bool {
     flags.iter().any(|flag| given.has(*flag))
 }
 
-// Runs a call, and flushes the output. `false` where a file was refused. Sets whether a sum is above its limit, and which
-// file the maps don't place and why, if there is one: nothing is then written.
+// Runs a call, and flushes the output. `false` where a file was refused. Sets whether a sum is above its limit, and whether
+// the maps have no mapping: nothing is then written.
 fn answer<W: Write>(
     rt: &HostRuntime,
     call: &Call<'_>,
     asked: &Addresses,
     out: &mut Output<W>,
     is_above: &mut bool,
-    unplaced: &mut Option<(usize, NoBase)>,
+    are_no_maps: &mut bool,
 ) -> Result<bool, Fault> {
     let is_done = match call {
         Call::Help(topic) => {
@@ -196,12 +195,12 @@ fn answer<W: Write>(
                 host,
                 given,
                 out,
-                unplaced: None,
+                are_no_maps: false,
             };
             let is_done = work.run(*command, asked)?;
             work.print_refusals()?;
             *is_above = work.host.is_above;
-            *unplaced = work.unplaced;
+            *are_no_maps = work.are_no_maps;
             is_done
         }
     };
@@ -216,12 +215,12 @@ fn print<W: Write>(text: &str, out: &mut Output<W>) -> Result<bool, Fault> {
         .map_err(|_| Fault::Report(ReportError::Write))
 }
 
-// A command's work: the system around it, what it is given, where it writes, and which file the maps don't place and why.
+// A command's work: the system around it, what it is given, where it writes, and whether the maps have no mapping.
 struct Work<'a, 'b, W> {
     host: Host<'a>,
     given: &'a Arguments<'b>,
     out: &'a mut Output<W>,
-    unplaced: Option<(usize, NoBase)>,
+    are_no_maps: bool,
 }
 
 // Where the file at a place among the operands is loaded, where it says that it is, and the address for an offset in a text.
@@ -473,8 +472,8 @@ impl<'a, W: Write> Work<'a, '_, W> {
         }
     }
 
-    // Where the file at this place is loaded, which says that it is loaded there. `None` where the maps don't place it:
-    // why is kept.
+    // Where the file at this place is loaded, which says that it is loaded there. `None` where the maps don't place it: it
+    // is refused, unless they have no mapping.
     fn placed(
         &mut self,
         asked: &Addresses,
@@ -489,7 +488,12 @@ impl<'a, W: Write> Work<'a, '_, W> {
                 origin: loaded.1,
             }),
             Err(why) => {
-                self.unplaced = Some((at, why));
+                match asked::unplaced(self.given, at, why) {
+                    Some(why) => self
+                        .host
+                        .refuse_unplaced(asked::file_at(self.given, at), &why),
+                    None => self.are_no_maps = true,
+                }
                 None
             }
         }
@@ -504,7 +508,7 @@ impl<'a, W: Write> Work<'a, '_, W> {
             origin: placed.origin,
             is_return: given.has(Return),
             form: form_of(given, asked::file_at(given, placed.at)),
-            name: name_of(given, placed.at),
+            path: path_of(given, placed.at).as_bytes(),
         }
     }
 
@@ -535,7 +539,10 @@ impl<'a, W: Write> Work<'a, '_, W> {
             match self.module(asked, at, &file, &symbols) {
                 Ok((tables, loaded)) => {
                     let Some(placed) = self.placed(asked, at, loaded) else {
-                        return Ok(false);
+                        if self.are_no_maps {
+                            return Ok(false);
+                        }
+                        continue;
                     };
                     if read.push(tables).is_err() || all.push(placed).is_err() {
                         return Err(Fault::Report(ReportError::OutOfMemory));
@@ -585,9 +592,15 @@ impl<'a, W: Write> Work<'a, '_, W> {
         }
     }
 
-    // Gives a hint where a text has no address, or only offsets behind other names, or none of it is in a function symbol.
+    // Gives a hint where several files have a name in a text; where it has no address, or only offsets behind other names;
+    // and where none of its other addresses is in a function symbol.
     fn hint_on_text(&mut self, counts: Counts) {
         let given = self.given;
+        if counts.unclear > 0 {
+            let hint = Hint::Unclear(counts.unclear);
+            self.host.hint("standard input", hint);
+        }
+        let clear = counts.asked.saturating_sub(counts.unclear);
         if counts.asked == 0 {
             let hint = match counts.missing {
                 0 => Hint::NoAddress(given.has(Bare)),
@@ -595,12 +608,12 @@ impl<'a, W: Write> Work<'a, '_, W> {
             };
             return self.host.hint("standard input", hint);
         }
-        if counts.found > 0 {
+        if counts.found > 0 || clear == 0 {
             return;
         }
         let alloc = self.host.rt.alloc();
         let path = first(given);
-        let mut hint = Hint::Missed(counts.asked, loaded_by(given));
+        let mut hint = Hint::Missed(clear, loaded_by(given));
         if given.operands.len() == 1 {
             if let Some(file) = open_input(alloc, &mut self.host, path) {
                 let symbols = symbols_of(given, true);
@@ -805,6 +818,16 @@ impl Host<'_> {
         if let Ok(words) = String::formatted(alloc, format_args!("{message}")) {
             let _ = push_refusal(&mut self.refusals, name, words.as_str());
         }
+    }
+
+    // Reports why the maps don't place a file, which is refused.
+    fn refuse_unplaced(&mut self, name: &str, why: &Unplaced<'_>) {
+        let alloc = self.rt.alloc();
+        let message = match String::formatted(alloc, format_args!("{why}")) {
+            Ok(words) => Message::Reason(words),
+            Err(e) => Message::Fault(Fault::from(e)),
+        };
+        self.refuse(name, &message);
     }
 
     // Reports that standard input can't be read.

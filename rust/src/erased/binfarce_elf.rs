@@ -11,3 +11,4 @@ pub mod sections;
 pub mod segments;
 pub mod symbol_table;
 pub mod symbols;
+pub mod versions;

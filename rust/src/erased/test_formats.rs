@@ -160,6 +160,7 @@ fn answer(
         "texts" => texts::all_texts(alloc, rest, file),
         "all" => texts::text_of_all(alloc, rest, file),
         "shares" => texts::shares_addresses(alloc, file),
+        "versions" => texts::versions(alloc, file),
         "written" => writers::written(alloc, rest, file),
         "drawn-in-part" => writers::drawn_in_part(alloc, file),
         "parts" => calls::parts(alloc, file),

@@ -5,9 +5,9 @@
 use crate::shim::Vec;
 use crate::erased::binfarce_addresses::address::parse_address;
 use crate::erased::binfarce_addresses::at::Found;
-use crate::erased::binfarce_addresses::counts::Counts;
+use crate::erased::binfarce_addresses::counts::{Counts, Reply};
 use crate::erased::binfarce_addresses::digits::push_offset;
-use crate::erased::binfarce_addresses::module::{ends_with_plus, names_module};
+use crate::erased::binfarce_addresses::module::ends_with_plus;
 use crate::erased::binfarce_addresses::modules::Module;
 use crate::erased::binfarce_addresses::names::Names;
 use crate::erased::binfarce_addresses::stream::CHUNK;
@@ -20,11 +20,13 @@ use crate::shim::io::Read;
 
 /// Appends the text with ` <name+0x1f>` after each address that a function symbol of these files holds: its readable
 /// name, and the offset of the address into it. An address is `0x` or `0X` and 4 to 16 hexadecimal digits, in upper or
-/// lower case, up to the next other byte; of bare words also 8 to 16 digits that no letter, digit or `_` comes before or
-/// after. The first file with a function symbol that holds it answers. After `+` the number, of 1 to 16 digits, is an
-/// offset, which is looked up only behind a file's name, in the first file of this name: `NAME+0x1f`, `NAME(+0x1f)` or
-/// `NAME + 0x1f`, after `/`, `[`, a blank, a tab, a line feed or nothing, perhaps with a parenthesis between. All other
-/// bytes stay as they are, and need not be UTF-8. Returns how many addresses there are, and how many were found.
+/// lower case, up to the next other byte; of bare words also 8 to 16 digits that no letter, digit, `_` or `-` comes
+/// before or after. The first file with a function symbol that holds it answers. After `+` the number, of 1 to 16 digits,
+/// is an offset, which is looked up only behind a file's name: `NAME+0x1f`, `NAME(+0x1f)` or `NAME + 0x1f`, after `/`,
+/// `[`, a blank, a tab, a line feed or nothing, perhaps with a parenthesis between. NAME is the file's path or what comes
+/// behind its last `/`. The file with the longest name there answers, and none where several have it: also not one that
+/// is given twice. All other bytes stay as they are, and need not be UTF-8. Returns how many addresses there are, how many
+/// were found, and how many are offsets that no file answers for this reason.
 ///
 /// # Errors
 ///
@@ -43,7 +45,7 @@ pub fn push_annotated(
 
 /// Annotates a stream: writes what `push_annotated` gives for all that the reader gives. Each line is written as soon
 /// as its line feed has come: of an unfinished line at most 18 bytes at its end wait, an address that may go on. A read
-/// that was interrupted is tried again. Returns how many addresses there are, and how many were found.
+/// that was interrupted is tried again. Returns the same counts.
 ///
 /// # Errors
 ///
@@ -96,7 +98,7 @@ impl Annotating<'_> {
     }
 }
 
-// How many bytes before an address can matter: the longest name, and what may come before and after it.
+// How many bytes before an address can matter: the longest path, and what may come before and after it.
 fn reach_of(names: &[Names<'_, '_>]) -> usize {
     let mut reach: usize = 5;
     for file in names {
@@ -106,18 +108,20 @@ fn reach_of(names: &[Names<'_, '_>]) -> usize {
     reach
 }
 
-// What is found for a number that comes after `before`: the place of the file, and what is found there. `None` where it
-// isn't asked for.
+// What is found for a number that comes after `before`: the place of the file, and what is found there. An error where it
+// isn't asked for, or several files are named.
 fn find_by(
     names: &[Names<'_, '_>],
     before: &[u8],
     number: Option<u64>,
-) -> Option<Option<(usize, Found)>> {
-    let number = number?;
+) -> Result<Option<(usize, Found)>, Reply> {
+    let Some(number) = number else {
+        return Err(Reply::Unasked);
+    };
     if ends_with_plus(before) {
         return find_behind(names, before, number);
     }
-    Some(find_among(names, number))
+    Ok(find_among(names, number))
 }
 
 // What is found at an offset that comes after `before`.
@@ -125,16 +129,37 @@ fn find_behind(
     names: &[Names<'_, '_>],
     before: &[u8],
     offset: u64,
-) -> Option<Option<(usize, Found)>> {
+) -> Result<Option<(usize, Found)>, Reply> {
+    let longest = longest_name(names, before);
+    if longest == 0 {
+        return Err(Reply::Unasked);
+    }
+    let mut here = None;
     for at in 0..names.len() {
-        if names[at].is_named_in(before) {
-            return Some(match names[at].find_offset(offset) {
-                Some(found) => Some((at, found)),
-                None => None,
-            });
+        if names[at].name_len(before) == longest {
+            if here.is_some() {
+                return Err(Reply::Unclear);
+            }
+            here = Some(at);
         }
     }
-    None
+    let Some(at) = here else {
+        return Err(Reply::Unasked);
+    };
+    match names[at].find_offset(offset) {
+        Some(found) => Ok(Some((at, found))),
+        None => Ok(None),
+    }
+}
+
+// How many bytes the longest name of a file has that is before an offset, which comes after `before`. 0 where none is.
+fn longest_name(names: &[Names<'_, '_>], before: &[u8]) -> usize {
+    let mut longest: usize = 0;
+    for file in names {
+        let own = file.name_len(before);
+        longest = longest.max(own);
+    }
+    longest
 }
 
 // What is found at an address.
@@ -210,11 +235,14 @@ impl Files<'_> {
         out: &mut Vec<u8>,
     ) -> Result<(), AllocError> {
         out.extend_from_slice(word)?;
-        let Some(found) = find_by(&self.names, before, parse_address(word)) else {
-            self.counts.add(None);
-            return Ok(());
+        let found = match find_by(&self.names, before, parse_address(word)) {
+            Ok(found) => found,
+            Err(reply) => {
+                self.counts.add(reply);
+                return Ok(());
+            }
         };
-        self.counts.add(Some(found.is_some()));
+        self.counts.add(Reply::Held(found.is_some()));
         let Some((file, (place, offset))) = found else {
             return Ok(());
         };

@@ -3,7 +3,7 @@
 //! Symbolizes addresses in an executable, a line for each.
 
 use crate::shim::Vec;
-use crate::erased::binfarce_addresses::counts::Counts;
+use crate::erased::binfarce_addresses::counts::{Counts, Reply};
 use crate::erased::binfarce_addresses::lookup::Lookup;
 use crate::erased::binfarce_addresses::names::Names;
 use crate::erased::binfarce_addresses::ranges::{AddressRange, Ranges};
@@ -16,7 +16,7 @@ use crate::shim::alloc::{AllocError, Global};
 
 /// The function symbols of a file, arranged for lookups by address.
 ///
-/// Contracts speak of its entries, in the order of the listing.
+/// Contracts speak of its entries, in the order of the listing, but the local symbols of an ELF file after the others.
 pub struct Places<'a> {
     pub(crate) functions: Vec<FunctionSymbol<'a>>,
     ranges: Ranges,
@@ -113,14 +113,38 @@ impl<'a> Places<'a> {
 // The places of function symbols.
 fn places_of(alloc: Global, listed: Functions<'_>) -> Result<Places<'_>, AllocError> {
     let mut functions = Vec::new(alloc);
-    let mut ranges = Vec::new(alloc);
-    for function in listed {
-        let FunctionSymbol { address, size, .. } = function;
-        ranges.push(AddressRange { address, size })?;
-        functions.push(function)?;
+    let mut local = Vec::new(alloc);
+    for function in listed.all {
+        if is_local(function.info) {
+            local.push(function.function)?;
+        } else {
+            functions.push(function.function)?;
+        }
     }
+    functions.extend_from_slice(&local)?;
+    let ranges = ranges_of(alloc, &functions)?;
     let ranges = Ranges::new(alloc, &ranges)?;
     Ok(Places { functions, ranges })
+}
+
+// Whether a symbol of an ELF file with this info is local: its binding is `STB_LOCAL`.
+fn is_local(info: u8) -> bool {
+    0 < info && info < 16
+}
+
+// The ranges of function symbols.
+fn ranges_of(
+    alloc: Global,
+    functions: &[FunctionSymbol<'_>],
+) -> Result<Vec<AddressRange>, AllocError> {
+    let mut ranges = Vec::with_capacity(alloc, functions.len())?;
+    for function in functions {
+        ranges.push(AddressRange {
+            address: function.address,
+            size: function.size,
+        })?;
+    }
+    Ok(ranges)
 }
 
 /// Symbolizes addresses in an executable: a line for each, in their order.
@@ -129,7 +153,8 @@ fn places_of(alloc: Global, listed: Functions<'_>) -> Result<Places<'_>, AllocEr
 /// readable name of its function symbol, and the offset into it. With a base, the address in the file is as far behind
 /// `linked` as the address is behind the base. Of a return address the one before is looked up, but the offset is that
 /// of the address. A symbol holds the addresses of its range, or of size 0 its own. Of several that hold an address, it
-/// is the one of greatest address, and of several there the first in the order of the listing. The line is
+/// is the one of greatest address, and of several there the first in the order of the listing, in an ELF file the first
+/// that isn't local, if there is one. The line is
 /// `{address:016x} ??` for an address that none holds, and for one below the base. Returns how many addresses there are,
 /// and how many of them a symbol holds.
 ///
@@ -181,7 +206,7 @@ pub fn write_lines<S: Sink>(
     let mut counts = Counts::new();
     for address in addresses {
         let held = names.push_address_line(&mut text, *address)?;
-        counts.add(Some(held));
+        counts.add(Reply::Held(held));
     }
     write_whole(out, text.as_slice())?;
     Ok(counts)

@@ -9,9 +9,22 @@ pub struct Counts {
     pub asked: u64,
     /// How many of them a function symbol holds.
     pub found: u64,
+    /// How many of them are offsets in a text behind a name that several files have: none of these answers them.
+    pub unclear: u64,
     /// How many lines have no address. In a text how many offsets are into another file or a function; of given addresses
     /// none.
     pub missing: u64,
+}
+
+// What is replied to a line, or to a number in a text.
+#[derive(Debug, Clone, Copy, PartialEq)]
+pub(crate) enum Reply {
+    // It isn't asked for: a line has no address; an offset is into another file or a function.
+    Unasked,
+    // Several files have the name that is before an offset.
+    Unclear,
+    // Whether a function symbol holds the address.
+    Held(bool),
 }
 
 impl Counts {
@@ -20,16 +33,21 @@ impl Counts {
         Counts {
             asked: 0,
             found: 0,
+            unclear: 0,
             missing: 0,
         }
     }
 
-    // Counts an answer: whether a function symbol holds an address, or `None` to a line without one.
+    // Counts a reply.
     #[cfg_attr(not(debug_assertions), inline(always))]
-    pub(crate) fn add(&mut self, answer: Option<bool>) {
-        match answer {
-            None => self.missing = self.missing.saturating_add(1),
-            Some(held) => {
+    pub(crate) fn add(&mut self, reply: Reply) {
+        match reply {
+            Reply::Unasked => self.missing = self.missing.saturating_add(1),
+            Reply::Unclear => {
+                self.asked = self.asked.saturating_add(1);
+                self.unclear = self.unclear.saturating_add(1);
+            }
+            Reply::Held(held) => {
                 self.asked = self.asked.saturating_add(1);
                 self.found = self.found.saturating_add(u64::from(held));
             }

@@ -20,8 +20,9 @@ pub struct Lookup<'a> {
     pub is_return: bool,
     /// How the answers are written. Objects don't have the section.
     pub form: Form<'a>,
-    /// The file's name in a text. An offset after it, as in `name+0x1f`, is one from the origin.
-    pub name: &'a [u8],
+    /// The file's path in a text. An offset after it, or after the name behind its last `/`, is one from the origin:
+    /// `path+0x1f`.
+    pub path: &'a [u8],
 }
 
 impl Lookup<'_> {

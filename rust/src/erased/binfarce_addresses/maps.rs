@@ -47,9 +47,10 @@ enum Wanted<'a> {
 }
 
 /// Where a file is loaded that says that it is loaded there: where the mappings of its code have it, or without code at
-/// the lowest address of its mappings. Each line of the text is as in `/proc/PID/maps`. A mapping is one of the file if its
-/// path ends with the given one, after a `/` if there is one, or is the same; where none is, if it ends so with the name
-/// behind the last `/` of the given one. A ` (deleted)` after a path isn't part of it. Nothing is allocated.
+/// the lowest address of its mappings. A mapping is a line as in `/proc/PID/maps`, or such words at its end: it begins at
+/// the first word from which the line has this form. A mapping is one of the file if its path ends with the given one,
+/// after a `/` if there is one, or is the same; where none is, if it ends so with the name behind the last `/` of the given
+/// one. A ` (deleted)` after a path isn't part of it, nor is a carriage return. Nothing is allocated.
 ///
 /// # Errors
 ///
@@ -91,8 +92,8 @@ fn placed_in(maps: &[u8], end: &[u8], loaded: LoadAddress) -> LoadAddress {
     }
 }
 
-/// The name of the file at this path: what comes behind its last `/`.
-pub fn name_of(path: &[u8]) -> &[u8] {
+// The name of the file at this path: what comes behind its last `/`.
+pub(crate) fn name_of(path: &[u8]) -> &[u8] {
     &path[path.len() - name_len(path)..]
 }
 
@@ -115,10 +116,36 @@ fn lowest(wanted: Wanted<'_>, maps: &[u8]) -> Option<u64> {
     let mut rest = maps;
     while !rest.is_empty() {
         let len = len_before(b'\n', rest);
-        lowest = less_of(lowest, value_for(wanted, &rest[..len]));
+        lowest = less_of(lowest, value_for(wanted, begun(&rest[..len])));
         rest = behind(len, rest);
     }
     lowest
+}
+
+// The part of a line that has the form of a mapping.
+fn begun(line: &[u8]) -> &[u8] {
+    begun_at(without_return(line))
+}
+
+// A text from the first word on from which it has the form of a mapping. Empty where there is none.
+fn begun_at(text: &[u8]) -> &[u8] {
+    let mut may_begin = true;
+    for at in 0..text.len() {
+        if may_begin && mapping_of(&text[at..]).is_some() {
+            return &text[at..];
+        }
+        may_begin = text[at].is_ascii_whitespace();
+    }
+    &[]
+}
+
+// A line without the carriage return at its end.
+fn without_return(line: &[u8]) -> &[u8] {
+    if line.ends_with(b"\r") {
+        &line[..line.len() - 1]
+    } else {
+        line
+    }
 }
 
 // The address of this kind that a line has.
@@ -131,10 +158,17 @@ fn value_for(wanted: Wanted<'_>, line: &[u8]) -> Option<u64> {
             _ => None,
         },
         Wanted::Base(end, loaded) => base_by(loaded, mapping_for(end, line)),
-        Wanted::OtherBase(end, loaded, base) => match base_by(loaded, mapping_for(end, line)) {
-            Some(other) if other != base => Some(other),
-            _ => None,
-        },
+        Wanted::OtherBase(end, loaded, base) => {
+            other_than(base, base_by(loaded, mapping_for(end, line)))
+        }
+    }
+}
+
+// An address that isn't this one.
+fn other_than(one: u64, base: Option<u64>) -> Option<u64> {
+    match base {
+        Some(other) if other != one => Some(other),
+        _ => None,
     }
 }
 
@@ -162,26 +196,45 @@ fn mapping_for(end: &[u8], line: &[u8]) -> Option<Mapping> {
 }
 
 fn mapping_of(line: &[u8]) -> Option<Mapping> {
-    let permissions = behind_blank(line);
-    let offset = behind_blank(permissions);
-    mapping_with(
-        before_blank(line),
-        before_blank(permissions),
-        before_blank(offset),
-    )
+    // No number begins with another byte, so no field is looked for.
+    if line.is_empty() || !line[0].is_ascii_hexdigit() {
+        return None;
+    }
+    let len = len_before(b' ', line);
+    mapping_with(&line[..len], behind(len, line))
 }
 
-fn mapping_with(range: &[u8], permissions: &[u8], offset: &[u8]) -> Option<Mapping> {
+// The mapping with this range, before its permissions and its offset. These aren't looked for before there is a range.
+fn mapping_with(range: &[u8], others: &[u8]) -> Option<Mapping> {
     let len = len_before(b'-', range);
     let start = hex_number(&range[..len])?;
     let end = hex_number(behind(len, range))?;
-    let offset = hex_number(offset)?;
+    let place = hex_number(before_blank(behind_blank(others)))?;
+    mapping_at(before_blank(others), start, end, place)
+}
+
+// The mapping with these permissions, range and offset in the file, if they are permissions.
+fn mapping_at(permissions: &[u8], start: u64, end: u64, place: u64) -> Option<Mapping> {
+    if !are_permissions(permissions) {
+        return None;
+    }
     Some(Mapping {
         start,
         size: end.saturating_sub(start),
-        offset,
+        offset: place,
         is_code: permissions.contains(&b'x'),
     })
+}
+
+// Whether a field is four letters of permissions, or `-` in place of one.
+fn are_permissions(field: &[u8]) -> bool {
+    field.len() == 4 && are_letters(field)
+}
+
+fn are_letters(field: &[u8]) -> bool {
+    field
+        .iter()
+        .all(|b| matches!(*b, b'r' | b'w' | b'x' | b's' | b'p' | b'-'))
 }
 
 // The path of a mapping.

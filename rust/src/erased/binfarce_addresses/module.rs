@@ -2,8 +2,24 @@
 
 //! Offsets into modules in a text.
 
+use crate::erased::binfarce_addresses::maps::name_of;
+
+// How many bytes the name of the file of this path has that is before an offset, which comes after the text. 0 where none
+// is.
+pub(crate) fn name_len(path: &[u8], text: &[u8]) -> usize {
+    if names_module(path, text) {
+        return path.len();
+    }
+    let name = name_of(path);
+    if names_module(name, text) {
+        name.len()
+    } else {
+        0
+    }
+}
+
 // Whether an offset into this module comes after the text.
-pub(crate) fn names_module(name: &[u8], text: &[u8]) -> bool {
+fn names_module(name: &[u8], text: &[u8]) -> bool {
     ends_with_mark(name, b"+", text)
         || ends_with_mark(name, b"(+", text)
         || ends_with_mark(name, b" + ", text)

@@ -4,9 +4,10 @@
 
 use crate::shim::{CollectIn, String, Vec};
 use crate::erased::binfarce_addresses::at::{Found, Places};
+use crate::erased::binfarce_addresses::counts::Reply;
 use crate::erased::binfarce_addresses::digits::{push_address, push_offset};
 use crate::erased::binfarce_addresses::lookup::Lookup;
-use crate::erased::binfarce_addresses::module::names_module;
+use crate::erased::binfarce_addresses::module::name_len;
 use crate::erased::binfarce::demangle::Demangler;
 use crate::erased::binfarce_tools::json::{
     Form, push_address_member, push_number_member, push_start, push_text_member,
@@ -34,12 +35,12 @@ pub(crate) struct Answer {
 }
 
 impl Answer {
-    // Whether a function symbol holds the address; none of a line without one.
+    // What is replied: whether a function symbol holds the address, if the line has one.
     #[cfg_attr(not(debug_assertions), inline(always))]
-    pub(crate) fn is_held(self) -> Option<bool> {
+    pub(crate) fn reply(self) -> Reply {
         match self.address {
-            Some(_) => Some(self.found.is_some()),
-            None => None,
+            Some(_) => Reply::Held(self.found.is_some()),
+            None => Reply::Unasked,
         }
     }
 }
@@ -71,14 +72,14 @@ impl<'b, 'a> Names<'b, 'a> {
         Names::new(alloc, places, lookup, places.functions.len())
     }
 
-    // How many bytes before an address can matter: the name, and what may come before and after it.
+    // How many bytes before an address can matter: the path, and what may come before and after it.
     pub(crate) fn reach(&self) -> usize {
-        self.lookup.name.len() + 5
+        self.lookup.path.len() + 5
     }
 
-    // Whether the file's name is before an offset that comes after this text.
-    pub(crate) fn is_named_in(&self, before: &[u8]) -> bool {
-        names_module(self.lookup.name, before)
+    // How many bytes the file's name has that is before an offset, which comes after this text. 0 where none is.
+    pub(crate) fn name_len(&self, before: &[u8]) -> usize {
+        name_len(self.lookup.path, before)
     }
 
     // What is found at an offset from the file's origin.

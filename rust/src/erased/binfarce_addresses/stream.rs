@@ -63,7 +63,7 @@ impl Names<'_, '_> {
         self.read_ahead(&answers)?;
         for answer in &answers {
             self.push_line(text, *answer)?;
-            counts.add(answer.is_held());
+            counts.add(answer.reply());
         }
         Ok(len)
     }

@@ -42,9 +42,9 @@ fn bare_len(before: &[u8], text: &[u8]) -> usize {
     }
 }
 
-// A letter, a digit or `_`.
+// A letter, a digit, `_` or `-`.
 fn is_word_byte(byte: u8) -> bool {
-    byte.is_ascii_alphanumeric() || byte == b'_'
+    byte.is_ascii_alphanumeric() || byte == b'_' || byte == b'-'
 }
 
 // How many hexadecimal digits the text begins with.

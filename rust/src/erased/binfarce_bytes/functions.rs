@@ -19,6 +19,11 @@ pub struct FunctionSymbol<'a> {
 pub struct SectionFunction<'a> {
     /// The section's number: in an ELF file the index of its section header, in Mach-O and PE files counted from 1.
     pub section: u32,
+    /// In an ELF file the symbol's binding, in the high four bits, and its type (`st_info`); 0 in other files.
+    pub info: u8,
+    /// The symbol's version in an ELF file: its row in `.gnu.version`, whose high bit says that the symbol is hidden; 0
+    /// where there is none, and in other files.
+    pub version: u16,
     /// The function symbol.
     pub function: FunctionSymbol<'a>,
 }

@@ -5,10 +5,10 @@
 use crate::shim::{HostRuntime, Vec};
 use crate::erased::binfarce_command::report::report;
 use crate::erased::binfarce_addresses::maps::{NoBase, base_of};
-use crate::erased::binfarce_addresses::{maps, parse_address};
+use crate::erased::binfarce_addresses::parse_address;
 use crate::erased::binfarce_jobs::at::read_addresses;
 use crate::erased::binfarce_jobs::fault::Fault;
-use crate::erased::binfarce_jobs::message::message_of;
+use crate::erased::binfarce_jobs::message::{Unplaced, message_of};
 use crate::erased::binfarce_sections::error::SectionError;
 use crate::erased::binfarce_tables::loading::LoadAddress;
 use crate::erased::binfarce_words::words::Flag::{self, Annotate, As, Base, Maps};
@@ -64,19 +64,22 @@ impl Addresses {
         loaded: LoadAddress,
     ) -> Result<Option<u64>, NoBase> {
         match &self.maps {
-            Some(maps) => Ok(Some(base_of(maps, path_of(given, at), loaded)?)),
+            Some(maps) => Ok(Some(base_of(maps, path_of(given, at).as_bytes(), loaded)?)),
             None => Ok(self.bases.get(at).copied().unwrap_or(None)),
         }
     }
 }
 
-/// What is wrong where the maps don't place the file at this place.
-pub fn wrong_of<'a>(given: &Arguments<'a>, at: usize, why: NoBase) -> Wrong<'a> {
-    let path = given.value(Maps).unwrap_or("");
+/// Why the maps don't place the file at this place. `None` where they are none.
+pub fn unplaced<'a>(given: &Arguments<'a>, at: usize, why: NoBase) -> Option<Unplaced<'a>> {
+    let path = path_of(given, at);
     match why {
-        NoBase::NotMaps => Wrong::NotMaps(path),
-        NoBase::NotMapped => Wrong::NotMapped(file_at(given, at), path),
-        NoBase::Several => Wrong::Several(file_at(given, at), path),
+        NoBase::NotMaps => None,
+        NoBase::NotMapped => {
+            let name = path.rsplit_once('/').map(|parts| parts.1);
+            Some(Unplaced::NotMapped(path, name))
+        }
+        NoBase::Several => Some(Unplaced::Several(path)),
     }
 }
 
@@ -178,14 +181,9 @@ fn nth<'a>(given: &Arguments<'a>, flag: Flag, at: usize) -> Option<&'a str> {
     Some(values.nth(at)?.1)
 }
 
-/// The name of the file at this place in a text: the last part of its path.
-pub fn name_of<'a>(given: &Arguments<'a>, at: usize) -> &'a [u8] {
-    maps::name_of(path_of(given, at))
-}
-
-// The path of the file at this place in maps: its own, or the name that is given.
-fn path_of<'a>(given: &Arguments<'a>, at: usize) -> &'a [u8] {
-    nth(given, As, at).unwrap_or(file_at(given, at)).as_bytes()
+/// The path of the file at this place in maps and in a text: its own, or the one that is given.
+pub fn path_of<'a>(given: &Arguments<'a>, at: usize) -> &'a str {
+    nth(given, As, at).unwrap_or(file_at(given, at))
 }
 
 // The operands after the first one.

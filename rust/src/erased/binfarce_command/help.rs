@@ -119,7 +119,7 @@ it. Without an ADDRESS the addresses are the lines of standard input.
   --base=ADDRESS   where the file is loaded; without it addresses are the file's own
   --maps=MAPS      takes the base from a copy of /proc/PID/maps; - is standard input,
                    with --annotate the text itself, which is then read to its end
-  --as=NAME        the file's name or path in MAPS, and its name in a text
+  --as=NAME        the file's name or path in MAPS and in a text
                    (of several files --base and --as come once for each, in order)
   --dynamic        by the dynamic symbol table of an ELF file (.dynsym)
   --section=NAME   the symbols of a section of an ELF file; of Mach-O and PE files

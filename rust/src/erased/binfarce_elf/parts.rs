@@ -11,6 +11,7 @@ use crate::erased::binfarce_elf::sections::{
 };
 use crate::erased::binfarce_elf::symbol_table::SymbolTable;
 use crate::erased::binfarce_elf::symbols::{Needed, Rows, Taken, needed_of};
+use crate::erased::binfarce_elf::versions::{definitions_section, versions_section};
 use crate::erased::binfarce_bytes::functions::Selection;
 use crate::erased::binfarce_bytes::parser::UnexpectedEof;
 use crate::erased::binfarce_bytes::{ByteOrder, ParseError};
@@ -82,6 +83,37 @@ pub fn needed_in(
         Width::Bits32 => needed_of::<u32>(table, names, which, selection),
         Width::Bits64 => needed_of::<u64>(table, names, which, selection),
     }
+}
+
+/// The sections of the versions of a symbol table's rows, and of their definitions.
+#[derive(Clone, Copy)]
+pub struct VersionSections {
+    pub versions: Option<Section<u64>>,
+    pub definitions: Option<Section<u64>>,
+}
+
+/// Those of this symbol table, found in these section headers. There are none where they aren't whole.
+pub fn version_sections(
+    headers: &[u8],
+    width: Width,
+    place: HeaderTable,
+    which: SymbolTable,
+) -> VersionSections {
+    let table = headers_alone(headers, place.byte_order, place.shnum);
+    match width {
+        Width::Bits32 => VersionSections {
+            versions: widened(versions_section::<u32>(table, which)),
+            definitions: widened(definitions_section::<u32>(table, which)),
+        },
+        Width::Bits64 => VersionSections {
+            versions: versions_section::<u64>(table, which),
+            definitions: definitions_section::<u64>(table, which),
+        },
+    }
+}
+
+fn widened(section: Option<Section<u32>>) -> Option<Section<u64>> {
+    Some(section?.widened())
 }
 
 /// The sizes in memory of all rows of a symbol table, for a selection of all sections: for one section none. The rows'

@@ -9,6 +9,7 @@ use crate::erased::binfarce_elf::sections::{
     Section, Table, first_section, names_bytes, section_data, section_named,
 };
 use crate::erased::binfarce_elf::symbol_table::{STRING_TABLE, SymbolTable};
+use crate::erased::binfarce_elf::versions::{row_versions, version_at};
 use crate::erased::binfarce_bytes::functions::{
     FunctionSymbol, SectionFunction, Selection, found_with,
 };
@@ -67,6 +68,7 @@ pub fn section_functions<'a, C: Class>(
     Ok(functions_in(
         rows,
         strings,
+        row_versions::<C>(table, which),
         C::width(),
         table.byte_order,
         needed.taken,
@@ -96,11 +98,13 @@ pub fn all_functions<'a, C: Class>(
         has_modes,
         needed.taken,
         found,
+        row_versions::<C>(table, which),
     )?;
     Ok(functions)
 }
 
-// The function symbols that a selection takes of these rows, by the keys of the ends of their sections.
+// The function symbols that a selection takes of these rows with their versions, by the keys of the ends of their
+// sections.
 fn list_in<'a>(
     alloc: Global,
     keys: &[u128],
@@ -109,13 +113,15 @@ fn list_in<'a>(
     has_modes: bool,
     taken: Taken,
     found: Rows<'a>,
+    versions: &[u8],
 ) -> Result<Vec<SectionFunction<'a>>, AllocError> {
     let length = width.symbol_length();
     let mut functions = Vec::new(alloc);
     for k in 0..found.rows.len() / length {
         let row = row_at(width, found.rows, k * length, byte_order).unwrap();
+        let version = version_at(versions, k, byte_order);
         let size = row_size(keys, has_modes, row);
-        match function_of(found.strings, taken, has_modes, row, size) {
+        match function_of(found.strings, taken, has_modes, row, version, size) {
             None => {}
             Some(function) => functions.push(function)?,
         }
@@ -124,11 +130,12 @@ fn list_in<'a>(
 }
 
 /// The function symbols that a selection takes of the rows of a symbol table of this class, whose names are in these
-/// strings. For all sections, `sizes` has the sizes of all rows in memory, and `has_modes` says whether bit 0 of a
-/// function's value is its instruction set.
+/// strings, and whose versions these are. For all sections, `sizes` has the sizes of all rows in memory, and `has_modes`
+/// says whether bit 0 of a function's value is its instruction set.
 pub fn functions_in<'a>(
     rows: &'a [u8],
     strings: &'a [u8],
+    versions: &'a [u8],
     width: Width,
     byte_order: ByteOrder,
     taken: Taken,
@@ -138,6 +145,7 @@ pub fn functions_in<'a>(
     Functions {
         rows,
         strings,
+        versions,
         width,
         byte_order,
         taken,
@@ -236,7 +244,7 @@ fn symbol_table<C: Class>(table: Table<'_>, which: SymbolTable) -> Result<Sectio
     ))
 }
 
-fn section_of_kind<C: Class>(
+pub(crate) fn section_of_kind<C: Class>(
     table: Table<'_>,
     kind: Word,
 ) -> Result<Option<Section<C>>, UnexpectedEof> {
@@ -288,6 +296,7 @@ pub fn whole_rows(width: Width, rows: &[u8]) -> Result<&[u8], ParseError> {
 pub struct Functions<'a> {
     rows: &'a [u8],
     strings: &'a [u8],
+    versions: &'a [u8],
     width: Width,
     byte_order: ByteOrder,
     taken: Taken,
@@ -330,8 +339,9 @@ impl<'a> Functions<'a> {
         let length = width.symbol_length();
         for k in self.next..self.rows.len() / length {
             let row = row_at(width, self.rows, k * length, self.byte_order).unwrap();
+            let version = version_at(self.versions, k, self.byte_order);
             let size = size_at(self.sizes, k);
-            match function_of(self.strings, self.taken, self.has_modes, row, size) {
+            match function_of(self.strings, self.taken, self.has_modes, row, version, size) {
                 None => continue,
                 Some(function) => return Some((function, k + 1)),
             }
@@ -357,34 +367,41 @@ fn size_at(sizes: &[u64], k: usize) -> u64 {
     if k < sizes.len() { sizes[k] } else { 0 }
 }
 
-// The function of a row of this size in memory with its section, where it is taken.
+// The function of a row of this version, and of this size in memory, with its section, where it is taken.
 #[cfg_attr(not(debug_assertions), inline(always))]
 fn function_of(
     strings: &[u8],
     taken: Taken,
     has_modes: bool,
     row: SymbolRow,
+    version: Half,
     size: u64,
 ) -> Option<SectionFunction<'_>> {
     match taken.size {
-        None => function_with(strings, taken, row, address_of(has_modes, row), size),
+        None => {
+            let address = address_of(has_modes, row);
+            function_with(strings, taken, row, version, address, size)
+        }
         Some(_) if row.size == 0 => None,
-        Some(_) => function_with(strings, taken, row, row.value, row.size),
+        Some(_) => function_with(strings, taken, row, version, row.value, row.size),
     }
 }
 
-// The function of a row with its section, of this address and size.
+// The function of a row with its section, of this version, address and size.
 #[cfg_attr(not(debug_assertions), inline(always))]
 fn function_with(
     strings: &[u8],
     taken: Taken,
     row: SymbolRow,
+    version: Half,
     address: u64,
     size: u64,
 ) -> Option<SectionFunction<'_>> {
     let name = function_name(strings, taken, row)?;
     Some(SectionFunction {
         section: u32::from(row.section),
+        info: row.info,
+        version,
         function: FunctionSymbol {
             name,
             address,

@@ -61,6 +61,8 @@ fn claimed<'a>(
 fn with_size<'a>(function: SectionFunction<'a>, size: u64) -> SectionFunction<'a> {
     SectionFunction {
         section: function.section,
+        info: function.info,
+        version: function.version,
         function: FunctionSymbol {
             size,
             ..function.function

@@ -4,7 +4,7 @@
 
 use crate::shim::{String, Vec};
 use crate::erased::binfarce_figures::key::Grouping;
-use crate::erased::binfarce_figures::sums::{Claims, Counting, Numbers, add_claims, claims_in};
+use crate::erased::binfarce_figures::sums::{Claims, Numbers, claims_in, numbers_of};
 use crate::erased::binfarce_chart::bars::Bar;
 use crate::erased::binfarce_chart::svg::chart;
 use crate::erased::binfarce_tools::list::Sink;
@@ -40,8 +40,7 @@ fn picture_of(
     first: Option<usize>,
     claims: &Claims<'_, '_>,
 ) -> Result<String, AllocError> {
-    let mut numbers = BTreeMap::new(alloc);
-    add_claims(alloc, claims, grouping, Counting::Symbols, &mut numbers)?;
+    let numbers = numbers_of(alloc, claims, grouping)?;
     let bars = bars_of(alloc, &numbers)?;
     chart(alloc, title, bars.as_slice(), claims.size, first)
 }

@@ -44,8 +44,8 @@ pub struct Shown {
 }
 
 /// As `list_tables`, but in an order, of the first lines alone, with other names, without the last line, or as objects
-/// with the members `file`, `section`, `address`, `size`, `name`, `raw` (the stored name) and `crate`, and no last
-/// line.
+/// with the members `file`, `section`, `address`, `size`, `name`, `raw` (the stored name), `crate`, `binding`, `kind`
+/// and `version`, and no last line.
 ///
 /// # Errors
 ///
@@ -238,9 +238,22 @@ impl Listing<'_, '_> {
                 push_text_member(text, "name", Some(name))?;
                 push_text_member(text, "raw", Some(stored))?;
                 push_text_member(text, "crate", Some(crate_name.as_str()))?;
+                self.push_symbol(text, function)?;
                 text.push_str("}\n")
             }
         }
+    }
+
+    // Appends the members of a symbol's binding, type and version.
+    fn push_symbol(
+        &self,
+        text: &mut String,
+        function: SectionFunction<'_>,
+    ) -> Result<(), AllocError> {
+        let version = self.tables.version_names().name(function.version);
+        push_text_member(text, "binding", binding_word(function.info))?;
+        push_text_member(text, "kind", kind_word(function.info))?;
+        push_text_member(text, "version", version)
     }
 
     // Appends the line of the section's size, if it is wanted.
@@ -252,6 +265,34 @@ impl Listing<'_, '_> {
             ),
             _ => Ok(()),
         }
+    }
+}
+
+// The type of a function symbol with this info.
+fn kind_word(info: u8) -> Option<&'static str> {
+    const STT_FUNC: u8 = 2;
+    const STT_GNU_IFUNC: u8 = 10;
+    match info % 16 {
+        STT_FUNC => Some("function"),
+        STT_GNU_IFUNC => Some("indirect"),
+        _ => None,
+    }
+}
+
+// The binding of a function symbol with this info.
+fn binding_word(info: u8) -> Option<&'static str> {
+    kind_word(info)?;
+    word_of(info / 16)
+}
+
+// The word for a binding.
+fn word_of(binding: u8) -> Option<&'static str> {
+    match binding {
+        0 => Some("local"),
+        1 => Some("global"),
+        2 => Some("weak"),
+        10 => Some("unique"),
+        _ => None,
     }
 }
 

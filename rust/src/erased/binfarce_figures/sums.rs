@@ -27,6 +27,15 @@ pub struct Figures {
     pub has_percent: bool,
 }
 
+/// The sums of a file.
+#[derive(Debug, Clone, Copy, PartialEq)]
+pub struct Sums {
+    /// The sum of all sizes, each byte counted once.
+    pub total: u64,
+    /// That of the key `[unknown]`; by crate, of the function symbols without one.
+    pub unknown: u64,
+}
+
 /// What the function symbols of a selection add to the sums of their keys.
 pub(crate) struct Claims<'b, 'a> {
     /// The tables that they were read from.
@@ -62,7 +71,7 @@ pub(crate) enum Counting {
 /// Writes a line for each key: the sum of the sizes of its function symbols, the greatest first, those of one size in
 /// the order of the keys' bytes; and the lines for the whole, as `report_tables` does. A byte that several symbols of a
 /// section have counts for the innermost of them: the one that begins last, of these the shortest, and of these the one
-/// whose stored name is least. The sum of all is returned.
+/// whose stored name is least. The sum of all is returned, and that of `[unknown]`.
 ///
 /// A line is `{sum:>10} {key}`. Before the key it has the share of the section, or of all sections in the sum of all
 /// sizes, as `{percent:>3}.{hundredths:02}% `, if that is wanted; and for `Key::Generic` the number of function symbols
@@ -72,40 +81,45 @@ pub(crate) enum Counting {
 ///
 /// # Errors
 ///
-/// Those of `report_tables`.
+/// Those of `list_tables`; `TooLarge` where the sum of all, each byte counted once, is 2^64 or more. Only after `Write` a
+/// beginning of the text may be written.
 pub fn sum_by<S: Sink>(
     alloc: Global,
     tables: &Tables<'_>,
     figures: &Figures,
     form: Form<'_>,
     out: &mut S,
-) -> Result<u64, ReportError> {
+) -> Result<Sums, ReportError> {
     let claims = claims_in(alloc, tables)?;
-    write_made(out, text_of(alloc, figures, form, &claims))?;
-    Ok(claims.total)
+    let numbers = numbers_of(alloc, &claims, figures.grouping)?;
+    write_made(out, text_of(alloc, figures, form, &claims, &numbers))?;
+    Ok(Sums {
+        total: claims.total,
+        unknown: sum_at(&numbers, "[unknown]"),
+    })
 }
 
 /// What the function symbols that the tables were read for add.
 ///
 /// # Errors
 ///
-/// Those of `report_tables`, but for `Write`.
+/// Those of `sum_by`, but for `Write`.
 pub(crate) fn claims_in<'b, 'a>(
     alloc: Global,
     tables: &'b Tables<'a>,
 ) -> Result<Claims<'b, 'a>, ReportError> {
     let selected = tables.functions(alloc)?;
     let (functions, size) = list_of(alloc, selected)?;
-    if total_of(&functions) > u128::from(u64::MAX) {
+    let list = claims_of(alloc, functions)?;
+    let total = total_of(&list);
+    if total > u128::from(u64::MAX) {
         return Err(ReportError::TooLarge);
     }
-    let list = claims_of(alloc, functions)?;
-    let total = total_of(&list) as u64;
     Ok(Claims {
         tables,
         size,
         list,
-        total,
+        total: total as u64,
     })
 }
 
@@ -121,15 +135,8 @@ fn text_of(
     figures: &Figures,
     form: Form<'_>,
     claims: &Claims<'_, '_>,
+    numbers: &BTreeMap<String, Numbers>,
 ) -> Result<String, AllocError> {
-    let mut numbers = BTreeMap::new(alloc);
-    add_claims(
-        alloc,
-        claims,
-        figures.grouping,
-        Counting::Symbols,
-        &mut numbers,
-    )?;
     let columns = Columns::Sums(claims.size.unwrap_or(claims.total));
     let layout = Layout {
         alloc,
@@ -137,9 +144,28 @@ fn text_of(
         form,
         columns,
     };
-    let mut text = layout.rows(&numbers)?;
+    let mut text = layout.rows(numbers)?;
     push_whole(&mut text, form, claims.total, claims.size)?;
     Ok(text)
+}
+
+/// The two numbers of each key of function symbols: the sum of what they add, and how many they are.
+pub(crate) fn numbers_of(
+    alloc: Global,
+    claims: &Claims<'_, '_>,
+    grouping: Grouping,
+) -> Result<BTreeMap<String, Numbers>, AllocError> {
+    let mut numbers = BTreeMap::new(alloc);
+    add_claims(alloc, claims, grouping, Counting::Symbols, &mut numbers)?;
+    Ok(numbers)
+}
+
+// The sum of a key, 0 where there is none.
+fn sum_at(numbers: &BTreeMap<String, Numbers>, key: &str) -> u64 {
+    match numbers.get(key) {
+        Some(found) => found.sum,
+        None => 0,
+    }
 }
 
 /// Adds what function symbols add to the numbers of their keys.

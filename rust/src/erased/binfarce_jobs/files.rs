@@ -4,7 +4,7 @@
 
 use crate::shim::{String, Vec};
 use crate::erased::binfarce_jobs::fault::Fault;
-use crate::erased::binfarce_jobs::hint::{Hint, completed, refusal_hints};
+use crate::erased::binfarce_jobs::hint::{Hint, completed, refusal_hints, unknown_in};
 use crate::erased::binfarce_jobs::input::OpenFile;
 use crate::erased::binfarce_jobs::limit::above;
 use crate::erased::binfarce_jobs::output::Output;
@@ -63,10 +63,10 @@ fn show_file<F: Read + Source<Log = ()>, Y: System<F>, W: Write>(
     };
     let mut seen = Seen {
         hint: None,
-        sum: None,
+        sums: None,
     };
     let shown = show_source(alloc, asked, path, &input, &mut seen, out);
-    let Seen { hint, sum } = seen;
+    let Seen { hint, sums } = seen;
     let hint = completed(
         alloc,
         &input,
@@ -77,10 +77,14 @@ fn show_file<F: Read + Source<Log = ()>, Y: System<F>, W: Write>(
         out.len(),
     );
     give(system, path, hint);
-    let excess = match sum {
-        Some(sum) => above(sum, asked.limit),
-        None => None,
+    let (unknown, excess) = match (asked.kind, sums) {
+        (Kind::Figures(figures), Some(sums)) => (
+            unknown_in(figures.grouping.key, sums),
+            above(sums.total, asked.limit),
+        ),
+        _ => (None, None),
     };
+    give(system, path, unknown);
     give(system, path, excess);
     reported(alloc, system, path, &input, shown)
 }

@@ -10,6 +10,8 @@ use crate::erased::binfarce_bytes::ParseError;
 use crate::erased::binfarce_bytes::format::Format;
 use crate::erased::binfarce_bytes::functions::SectionFunction;
 use crate::erased::binfarce_bytes::source::Source;
+use crate::erased::binfarce_figures::key::Key;
+use crate::erased::binfarce_figures::sums::Sums;
 use crate::erased::binfarce_sections::bytes::write_section_of;
 use crate::erased::binfarce_sections::error::SectionError;
 use crate::erased::binfarce_tables::format::read_format;
@@ -43,6 +45,10 @@ pub enum Hint {
     NoAddress(bool),
     /// There is no address in a text, and so many offsets behind other names than those of the files.
     Offsets(u64),
+    /// So many offsets in a text are behind a name that several files have.
+    Unclear(u64),
+    /// So many bytes of a sum of so many have no crate.
+    Unknown(u64, u64),
     /// The sum is so many bytes, more than so many that are allowed.
     Above(u64, usize),
     /// The sum grew by so many bytes, more than is allowed.
@@ -83,6 +89,10 @@ impl fmt::Display for Hint {
                 let why = loaded.words();
                 write!(f, "0 of {count} addresses are in a function symbol; {why}")
             }
+            Hint::Unknown(bytes, sum) => write!(
+                f,
+                "{bytes} of {sum} bytes have no crate, as those of C, C++ and assembly; --by=function shows whose they are"
+            ),
             Hint::Above(sum, most) => write!(
                 f,
                 "the sum is {sum} bytes, and --fail-above allows {most}"
@@ -99,6 +109,10 @@ impl fmt::Display for Hint {
             Hint::Offsets(count) => write!(
                 f,
                 "no address in the text, and offsets ({count}) only behind other names; --as=NAME takes one of these"
+            ),
+            Hint::Unclear(count) => write!(
+                f,
+                "offsets ({count}) behind a name that several files have; --as=PATH tells them apart"
             ),
         }
     }
@@ -121,6 +135,16 @@ pub fn hint_on(functions: &[SectionFunction<'_>]) -> Option<Hint> {
         return Some(Hint::None);
     }
     None
+}
+
+/// The hint on sums by crate of which at least half is that of `[unknown]`.
+pub(crate) fn unknown_in(key: Key, sums: Sums) -> Option<Hint> {
+    let Sums { total, unknown } = sums;
+    let is_half = 2 * u128::from(unknown) >= u128::from(total);
+    match key {
+        Key::Crate if unknown > 0 && is_half => Some(Hint::Unknown(unknown, total)),
+        _ => None,
+    }
 }
 
 // As many bytes are written at least of a file that has function symbols, where it is shown whole.

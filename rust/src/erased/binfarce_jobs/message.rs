@@ -28,6 +28,34 @@ impl fmt::Display for Message {
     }
 }
 
+/// Why maps don't place a file.
+#[derive(Debug, Clone, Copy, PartialEq)]
+pub enum Unplaced<'a> {
+    /// They map no file of this path, or of this name in it, if it has another.
+    NotMapped(&'a str, Option<&'a str>),
+    /// They have the code of the file of this path at several addresses.
+    Several(&'a str),
+}
+
+impl<'a> fmt::Display for Unplaced<'a> {
+    fn fmt(&self, f: &mut fmt::Formatter<'_>) -> fmt::Result {
+        match self {
+            Unplaced::NotMapped(path, None) => write!(
+                f,
+                "no file named as {path} in the maps; --as=NAME takes another name"
+            ),
+            Unplaced::NotMapped(path, Some(name)) => write!(
+                f,
+                "no file named as {path} or {name} in the maps; --as=NAME takes another name"
+            ),
+            Unplaced::Several(path) => write!(
+                f,
+                "{path} is at several addresses in the maps; give --base in place of --maps, or --as=PATH for one of several paths"
+            ),
+        }
+    }
+}
+
 /// Why a file is refused: the system's reason, where a read or a write failed.
 pub fn message_of(alloc: Global, fault: Fault, reason: Option<Error>) -> Message {
     match reason {

@@ -13,7 +13,7 @@ use crate::erased::binfarce_figures::key::Grouping;
 use crate::erased::binfarce_figures::map::map_by;
 use crate::erased::binfarce_figures::rows::{Shown, list_by};
 use crate::erased::binfarce_figures::stacks::fold_tables;
-use crate::erased::binfarce_figures::sums::{Figures, sum_by};
+use crate::erased::binfarce_figures::sums::{Figures, Sums, sum_by};
 use crate::erased::binfarce_tables::ReadError;
 use crate::erased::binfarce_tables::format::read_format;
 use crate::erased::binfarce_tools::SymbolTable;
@@ -65,8 +65,8 @@ pub struct Request<'a> {
 pub struct Seen {
     /// The hint on its function symbols, if there is one.
     pub hint: Option<Hint>,
-    /// The sum of all sizes, each byte counted once, where sums are shown.
-    pub sum: Option<u64>,
+    /// The sum of all sizes, each byte counted once, and that of `[unknown]`, where sums are shown.
+    pub sums: Option<Sums>,
 }
 
 /// The tables of the source for these function symbols.
@@ -114,13 +114,13 @@ fn form_for<'a>(asked: &Request<'a>, path: &'a str) -> Form<'a> {
     }
 }
 
-/// Writes the requested function symbols of the source, and sets `seen` to the hint on them, if any, and their sum; a
+/// Writes the requested function symbols of the source, and sets `seen` to the hint on them, if any, and their sums; a
 /// picture's title is the path. Of the source it reads the headers, the symbol table and the names alone.
 ///
 /// # Errors
 ///
-/// `Unreadable` where a read fails; `Unknown`, `Parse`, `OutOfMemory`, `TooLarge` and `Write` as in `list` and
-/// `report`. Only after `Write` a beginning may be written.
+/// `Unreadable` where a read fails; `Unknown`, `Parse`, `OutOfMemory` and `Write` as in `list`, `TooLarge` as in
+/// `sum_by`. Only after `Write` a beginning may be written.
 pub fn show<S: Source<Log = ()>, K: Sink>(
     alloc: Global,
     asked: &Request<'_>,
@@ -138,7 +138,7 @@ pub fn show<S: Source<Log = ()>, K: Sink>(
 }
 
 // Shows the function symbols of a section, which are made once, and sets `seen` to the hint on them, if any, and their
-// sum.
+// sums.
 fn show_section<K: Sink>(
     alloc: Global,
     kind: Kind,
@@ -155,11 +155,12 @@ fn show_section<K: Sink>(
     let made = Tables::Made {
         functions: list,
         size,
+        versions: tables.version_names(),
     };
     show_tables(alloc, kind, path, form, &made, seen, out)
 }
 
-// Shows the function symbols of these tables, and sets the sum that was seen.
+// Shows the function symbols of these tables, and sets the sums that were seen.
 fn show_tables<K: Sink>(
     alloc: Global,
     kind: Kind,
@@ -173,7 +174,7 @@ fn show_tables<K: Sink>(
         Kind::Listing => Ok(list_tables(alloc, tables, out)?),
         Kind::Rows(shown) => Ok(list_by(alloc, tables, &shown, form, out)?),
         Kind::Figures(figures) => {
-            seen.sum = Some(sum_by(alloc, tables, &figures, form, out)?);
+            seen.sums = Some(sum_by(alloc, tables, &figures, form, out)?);
             Ok(())
         }
         Kind::Picture(grouping, first) => Ok(map_by(alloc, path, tables, grouping, first, out)?),

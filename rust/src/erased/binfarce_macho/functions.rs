@@ -146,6 +146,8 @@ fn push_function<'a>(
 ) -> Result<(), AllocError> {
     functions.push(SectionFunction {
         section: 1,
+        info: 0,
+        version: 0,
         function,
     })?;
     Ok(())
@@ -309,6 +311,8 @@ fn push_kept<'a>(
         let row = rows[at];
         functions.push(SectionFunction {
             section: u32::from(number),
+            info: 0,
+            version: 0,
             function: FunctionSymbol {
                 name: names[row.index],
                 address: row.address,

@@ -363,6 +363,8 @@ fn push_rows<'a>(
         };
         functions.push(SectionFunction {
             section: index + 1,
+            info: 0,
+            version: 0,
             function: FunctionSymbol {
                 name,
                 address: address_of(sections, index, row.address),

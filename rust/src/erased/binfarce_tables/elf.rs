@@ -9,13 +9,16 @@ use crate::erased::binfarce_bytes::functions::Selection;
 use crate::erased::binfarce_bytes::parser::to_index;
 use crate::erased::binfarce_bytes::source::{Source, read_part};
 use crate::erased::binfarce_bytes::{ByteOrder, ParseError};
-use crate::erased::binfarce_elf::class::{Half, Width};
-use crate::erased::binfarce_elf::parts::{HeaderTable, needed_in, place_in, section_at, sizes_in};
+use crate::erased::binfarce_elf::class::{Half, Width, Word};
+use crate::erased::binfarce_elf::parts::{
+    self, HeaderTable, needed_in, place_in, section_at, sizes_in,
+};
 use crate::erased::binfarce_elf::sections::Section;
 use crate::erased::binfarce_elf::symbol_table::SymbolTable;
 use crate::erased::binfarce_elf::symbols::{
     Functions, Needed, TableSections, Taken, functions_in, whole_rows,
 };
+use crate::erased::binfarce_elf::versions::{VersionNames, name_offsets};
 use crate::shim::alloc::{AllocError, Global};
 
 /// `ET_REL`, the type of an object file.
@@ -26,6 +29,7 @@ pub struct Parts {
     sections: SectionParts,
     rows: Vec<u8>,
     strings: Vec<u8>,
+    versions: VersionParts,
     taken: Taken,
     // For all sections, the size of each row in memory.
     sizes: Vec<u64>,
@@ -38,6 +42,7 @@ impl Parts {
         functions_in(
             &self.rows,
             &self.strings,
+            &self.versions.rows,
             self.sections.width,
             self.sections.place.byte_order,
             self.taken,
@@ -52,6 +57,15 @@ impl Parts {
         self.sections.name_of(number)
     }
 
+    /// The names of the versions that the function symbols have, which the file defines for its dynamic symbols. They
+    /// borrow the parts; nothing is copied.
+    pub fn version_names(&self) -> VersionNames<'_> {
+        VersionNames {
+            offsets: &self.versions.names,
+            strings: &self.strings,
+        }
+    }
+
     /// Whether the selected sections share addresses: all those of an object file (`ET_REL`) do.
     pub fn shares_addresses(&self) -> bool {
         self.taken.size.is_none() && self.sections.place.kind.elf_type == RELOCATABLE
@@ -60,9 +74,10 @@ impl Parts {
 
 /// Reads the parts of a file of this class that a selection's function symbols need by this symbol table, and the
 /// section names, numbers in the given order. These are the file header of 52 or 64 bytes, the header of the section
-/// names' own section, the section names, all section headers, the symbol table and its strings. Each is read once,
-/// into memory of its size, which is never more than the file has of it. No other byte is read, except the first byte
-/// of a section header table without headers. The magic number isn't checked.
+/// names' own section, the section names, all section headers, the symbol table and its strings; for the dynamic symbol
+/// table also its versions and their definitions. Each is read once, into memory of its size, which is never more than
+/// the file has of it; of the definitions the offsets of names are kept, at most 32,768. No other byte is read, except
+/// the first byte of a section header table without headers. The magic number isn't checked.
 ///
 /// # Errors
 ///
@@ -82,11 +97,13 @@ pub fn read<S: Source>(
     let needed = needed_of(&sections, which, selection)?;
     let len = sections.file_length;
     let table = read_rows(alloc, source, log, len, sections.width, needed.table)?;
+    let versions = read_versions(alloc, source, log, &sections, which)?;
     let sizes = sizes_of(alloc, &sections, needed.taken, &table)?;
     Ok(Parts {
         sections,
         rows: table.rows,
         strings: table.strings,
+        versions,
         taken: needed.taken,
         sizes,
     })
@@ -205,6 +222,46 @@ fn read_rows<S: Source>(
     let rows = read_section(alloc, source, log, len, sections.symbols)?;
     let _ = whole_rows(width, &rows)?;
     Ok(TableParts { strings, rows })
+}
+
+// The versions of the rows of a symbol table, and the offsets of their names.
+struct VersionParts {
+    rows: Vec<u8>,
+    names: Vec<Option<Word>>,
+}
+
+// Those of this symbol table, of a file with these sections.
+fn read_versions<S: Source>(
+    alloc: Global,
+    source: &S,
+    log: &mut S::Log,
+    sections: &SectionParts,
+    which: SymbolTable,
+) -> Result<VersionParts, ReadError> {
+    let len = sections.file_length;
+    let headers = &sections.headers;
+    let found = parts::version_sections(headers, sections.width, sections.place, which);
+    let rows = read_if(alloc, source, log, len, found.versions)?;
+    let definitions = read_if(alloc, source, log, len, found.definitions)?;
+    let names = name_offsets(alloc, &definitions, sections.place.byte_order)?;
+    Ok(VersionParts { rows, names })
+}
+
+// The bytes of a section, where there is one and they lie in the file.
+fn read_if<S: Source>(
+    alloc: Global,
+    source: &S,
+    log: &mut S::Log,
+    len: u64,
+    section: Option<Section<u64>>,
+) -> Result<Vec<u8>, ReadError> {
+    let Some(section) = section else {
+        return Ok(Vec::new(alloc));
+    };
+    match read_contents(alloc, source, log, len, section)? {
+        None => Ok(Vec::new(alloc)),
+        Some(bytes) => Ok(bytes),
+    }
 }
 
 // The section's bytes, where they lie in the file.

@@ -11,7 +11,7 @@ use crate::erased::binfarce::{Format, ParseError, SectionFunction, SymbolTable};
 pub use crate::erased::binfarce_bytes::functions::Selection;
 use crate::erased::binfarce_bytes::source::Source;
 use crate::erased::binfarce_tables::format::read_format;
-use crate::erased::binfarce_tables::{ReadError, Width, elf, macho, pe};
+use crate::erased::binfarce_tables::{ReadError, VersionNames, Width, elf, macho, pe};
 use crate::shim::alloc::Global;
 
 /// The tables of a file for the function symbols of a selection: those that were read, a whole file in memory, or what
@@ -30,10 +30,11 @@ pub enum Tables<'a> {
         file: &'a [u8],
         section: &'a str,
     },
-    /// The function symbols of a section, which were made before, and its size.
+    /// The function symbols of a section, which were made before, its size, and the names of their versions.
     Made {
         functions: Vec<SectionFunction<'a>>,
         size: u64,
+        versions: VersionNames<'a>,
     },
 }
 
@@ -78,7 +79,11 @@ impl<'a> Tables<'a> {
             Tables::Pe(parts) => Ok(listed(parts.functions(alloc)?, parts.section_size())),
             Tables::Unknown => Err(ListError::Unknown),
             Tables::Whole { file, section } => section_functions(alloc, file, section),
-            Tables::Made { functions, size } => Ok(section_lent(functions, *size)),
+            Tables::Made {
+                functions,
+                size,
+                ..
+            } => Ok(section_lent(functions, *size)),
         }
     }
 
@@ -94,6 +99,23 @@ impl<'a> Tables<'a> {
             Tables::Macho(parts) => parts.section_name(number),
             Tables::Pe(parts) => parts.section_name(number),
             _ => None,
+        }
+    }
+
+    /// The names of the versions that the function symbols have: those that an ELF file defines for its dynamic symbols.
+    /// They borrow the tables.
+    pub fn version_names(&self) -> VersionNames<'_> {
+        self.versions_read()
+    }
+
+    fn versions_read(&self) -> VersionNames<'_> {
+        match self {
+            Tables::Elf(parts) => parts.version_names(),
+            Tables::Made { versions, .. } => *versions,
+            _ => VersionNames {
+                offsets: &[],
+                strings: &[],
+            },
         }
     }
 
@@ -115,7 +137,8 @@ impl<'a> Tables<'a> {
 
 /// Reads the tables of a file for the function symbols of a selection, by this symbol table: its first 8 bytes, which
 /// name its format, and the parts that `binfarce_tables` reads of a file of that format. Of a file of an unknown format
-/// no other byte is read. Each part that is kept takes no more memory than the file has bytes of it.
+/// no other byte is read. Each part that is kept takes no more memory than the file has bytes of it; of the versions of
+/// dynamic symbols the offsets of names are kept, at most 32,768.
 ///
 /// # Errors
 ///

@@ -71,7 +71,7 @@ pub enum Flag {
     Base,
     /// Names a file in the form of `/proc/PID/maps`, which says where the file is loaded.
     Maps,
-    /// The file's name in maps and in a text: of several files once for each.
+    /// The file's name or path in maps and in a text: of several files once for each.
     As,
     /// The addresses are return addresses.
     Return,
@@ -289,10 +289,6 @@ pub enum Wrong<'a> {
     NoAddress(&'a str),
     /// The file at this path has no line that is a mapping.
     NotMaps(&'a str),
-    /// The first file isn't mapped by the second.
-    NotMapped(&'a str, &'a str),
-    /// The code of the first file is mapped at several places by the second.
-    Several(&'a str, &'a str),
     /// The option doesn't take this value.
     BadValue(Flag, &'a str),
     /// The option is for function symbols, and sections are summed.
@@ -360,14 +356,6 @@ impl<'a> fmt::Display for Wrong<'a> {
             }
             Wrong::NoAddress(word) => write!(f, "not an address: {word}"),
             Wrong::NotMaps(path) => write!(f, "no line of {path} is one of /proc/PID/maps"),
-            Wrong::NotMapped(file, path) => write!(
-                f,
-                "{path} maps no file named as {file}; --as=NAME takes another name"
-            ),
-            Wrong::Several(file, path) => write!(
-                f,
-                "{path} has {file} at several addresses; --base takes one of them, --as=PATH one of several paths"
-            ),
             Wrong::BadValue(flag, word) => {
                 let name = flag.name();
                 let taken = flag.form().2.values();

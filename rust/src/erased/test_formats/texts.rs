@@ -126,3 +126,23 @@ pub fn shares_addresses(alloc: Global, file: &[u8]) -> Result<String, AllocError
     }
     Ok(text)
 }
+
+/// The dynamic function symbols of all sections with their versions, and the names of these.
+pub fn versions(alloc: Global, file: &[u8]) -> Result<String, AllocError> {
+    let tables = match read(alloc, &file, &mut (), SymbolTable::Dynsym, Selection::All) {
+        Ok(tables) => tables,
+        Err(error) => return String::formatted(alloc, format_args!("{error:?}")),
+    };
+    let mut text = String::new(alloc);
+    let functions = match tables.functions(alloc) {
+        Ok(selected) => selected.functions,
+        Err(error) => return String::formatted(alloc, format_args!("{error}")),
+    };
+    for function in functions {
+        let name = tables.version_names().name(function.version);
+        let name = name.unwrap_or("without a name");
+        let symbol = function.function.name;
+        writeln!(text, "{symbol}: {}, {name}", function.version)?;
+    }
+    Ok(text)
+}

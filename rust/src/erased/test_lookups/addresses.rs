@@ -50,7 +50,7 @@ fn lookup_of(words: &str, is_return: bool) -> io::Result<Lookup<'static>> {
         origin: number(linked, true)?,
         is_return,
         form: Form::Lines,
-        name: b"app",
+        path: b"app",
     })
 }
 
@@ -312,6 +312,7 @@ fn sum(first: Counts, second: Counts) -> Option<Counts> {
     Some(Counts {
         asked: first.asked.checked_add(second.asked)?,
         found: first.found.checked_add(second.found)?,
+        unclear: first.unclear.checked_add(second.unclear)?,
         missing: first.missing.checked_add(second.missing)?,
     })
 }

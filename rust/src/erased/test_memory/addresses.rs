@@ -28,7 +28,7 @@ const AS_THEY_ARE: Lookup<'static> = Lookup {
     origin: 0,
     is_return: false,
     form: Form::Lines,
-    name: b"a",
+    path: b"a",
 };
 
 const AS_OBJECTS: Lookup<'static> = Lookup {
@@ -37,7 +37,7 @@ const AS_OBJECTS: Lookup<'static> = Lookup {
     origin: 0,
     is_return: false,
     form: Form::Objects("a", ""),
-    name: b"a",
+    path: b"a",
 };
 
 fn are_lines(alloc: Global) -> Row {

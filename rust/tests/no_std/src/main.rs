@@ -95,6 +95,7 @@ fn show() -> Result<(), binfarce::Error> {
     print(format_args!("{:?}", tables.sums_by_key(Key::Crate)?.rows));
     let kind = Tables::new(FILE, Selection::All, SymbolTable::Dynsym).err().map(|e| e.kind());
     print(format_args!("{}", kind == Some(ErrorKind::NoSymbolTable)));
+    print(format_args!("{}", binfarce::sections(b"#!/bin/sh").unwrap_err()));
     Ok(())
 }
 

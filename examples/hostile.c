@@ -167,8 +167,8 @@ int main(int argc, char **argv) {
             memcpy(at, intact, length);
             for (size_t changes = k == 0 ? 0 : next() % 4 + 1; changes > 0 && length > 0; changes--)
                 at[next() % length] = next() % 2 ? (uint8_t)next() : (uint8_t)("\0\1\2\377\200"[next() % 5]);
-            struct binfarce_function found[2];
-            struct binfarce_elf_header header;
+            struct binfarce_function found[2] = {{0}};
+            struct binfarce_elf_header header = {0};
             lengths(LIST, at, length, out, kept, k % 16 == 0 ? 1 : 211);
             lengths(REPORT, at, length, out, kept, k % 16 == 0 ? 1 : 211);
             for (int big = 0; big < 2; big++) {

@@ -22,7 +22,7 @@ static uint8_t *read_file(const char *path, size_t *length) {
 
 /* Prints why a file was refused, and gives the status of the program. */
 static int refuse(uint32_t status, uint32_t detail) {
-    uint8_t words[64];
+    uint8_t words[64] = {0};
     size_t length = binfarce_status_text(status, words, sizeof words);
     if (status == BINFARCE_UNEXPECTED_SECTION_TYPE)
         fprintf(stderr, "expected section type 3 but found %u\n", detail);

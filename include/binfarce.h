@@ -8,7 +8,8 @@
  *
  * - Pointers. Each pointer points to as many bytes as the length after it says, for the whole call. They are readable, and
  *   writable where the pointer isn't const. Where the length is 0, it may be NULL; a pointer without a length may not. No
- *   length is above PTRDIFF_MAX. Memory that a call may write to is initialised before, as by calloc.
+ *   length is above PTRDIFF_MAX. Memory that a call may write to is initialised before, as by calloc, `= {0}` or in C++ `{}`,
+ *   also on the stack: Rust takes it as values, and may read them.
  * - Overlap. A buffer that a call writes to overlaps no other argument.
  * - Alignment. A pointer to a struct is aligned as C aligns it; bytes need no alignment.
  * - Stack. A call nests as deep as a name does, at most 500 levels. 512 KiB were enough for the deepest names that were tried;
@@ -19,7 +20,8 @@
  * `struct binfarce_mangling` into the caller's name.
  *
  * Texts are UTF-8, without a NUL at the end: their length is returned, and binfarce_terminate puts a NUL there. A name may contain
- * any character, even a line feed.
+ * any character, even a line feed. They are bytes, so a `char *` is cast: `(const uint8_t *)s`, and in C++
+ * `reinterpret_cast<const uint8_t *>(s.data())`.
  *
  * Lengths. A call that gives a text writes as much of it as the buffer has room for, and leaves the rest of the buffer
  * unchanged. It always returns the whole length: if that exceeds the buffer's, the caller grows the buffer and calls again. A
@@ -28,8 +30,9 @@
  * refusal.
  *
  * Memory. The calls that say so allocate by malloc and realloc while they run (on Windows by HeapAlloc), and free all of it
- * before they return. If an allocation fails, they return BINFARCE_OUT_OF_MEMORY. With the kit's archive malloc has to align
- * blocks as the C library's does.
+ * before they return. If an allocation fails, they return BINFARCE_OUT_OF_MEMORY. A name of 80 kB can have a text of 400 MB, and a
+ * call takes about twice a text's memory, even where the buffer's length is 0: bound the length of names from hostile files. With
+ * the kit's archive malloc has to align blocks as the C library's does.
  *
  * Threads. There is no global state: calls may run on any threads at once, as long as no buffer is shared. Only malloc may lock
  * or block. From a signal handler, or a child forked of a process with threads, only calls that don't allocate may come; a
@@ -43,13 +46,16 @@
  *     if (made.status == BINFARCE_OK && binfarce_terminate(text, sizeof text, made.length) == made.length)
  *         puts((const char *)text);
  *
- * `examples/symbols.c` lists the function symbols of a file.
+ * In the sources `examples/symbols.c` lists the function symbols of a file.
  *
- * Versions. Within libbinfarce.so.0 functions may be added; signatures, structs and the numbers of enums stay. The words of
- * a status may change, and how much stack and memory a call takes.
+ * Versions. Within libbinfarce.so.0 functions may be added; signatures, structs and the numbers of enums stay: another change
+ * makes libbinfarce.so.1. The words of a status may change, and how much stack and memory a call takes. Of a version's number n
+ * the parts are n >> 16, n >> 8 & 255 and n & 255; where binfarce_version() is BINFARCE_VERSION_NUMBER or greater, the library has
+ * each function of this header.
  *
- * Missing: the header fields of Mach-O and PE files, dynamic symbols, symbols of all sections, the function at an address, and
- * what the command has beside listings and reports: filter, diff, map, JSON.
+ * Missing: the header fields of Mach-O and PE files, dynamic symbols, symbols of all sections, the function at an address, what
+ * sections have beside addresses and ranges (the flags of an ELF section are at shoff + 64 * index + 8, with 32 bits at
+ * shoff + 40 * index + 8), and what the command has beside listings and reports: filter, diff, map, JSON.
  *
  * Machines. cargo's libraries are for every target of Rust of 32 or 64 bits; the kit's archive is for x86-64-v2 with the
  * System V calling convention. After ./install `pkg-config --cflags --libs binfarce` prints how to link the library.
@@ -110,7 +116,7 @@ struct binfarce_name {
     size_t complete_length; /* the whole lengths of the texts in bytes */
     size_t trimmed_length;
     size_t crate_length; /* 0 where has_crate is false; a crate's name may be empty too */
-    bool has_crate;
+    bool has_crate; /* false for a legacy name, whose crate binfarce_crate_of gives */
 };
 
 /* The BINFARCE_VERSION_NUMBER of the library that runs. Does not allocate. */
@@ -125,15 +131,18 @@ size_t binfarce_terminate(uint8_t *out, size_t out_length, size_t length);
 
 /*
  * The words of a status, as binfarce-list and binfarce-size print them, but without the number of
- * BINFARCE_UNEXPECTED_SECTION_TYPE: its words are "unexpected section type". Returns their length. Does not allocate.
+ * BINFARCE_UNEXPECTED_SECTION_TYPE: its words are "unexpected section type", and the call that was refused has the number in
+ * `detail`. Of a number that is no status they are "unknown status". 64 bytes have room for the words of this version. Returns
+ * their length. Does not allocate.
  */
 size_t binfarce_status_text(uint32_t status, uint8_t *out, size_t out_length);
 
 /*
  * A name's readable form: both texts and the crate. The complete text has the disambiguators of crates, or of a legacy name
- * its hash; the trimmed one doesn't. The crate is that of a v0 name's first crate root. A name that isn't mangled stays
- * unchanged in both texts, and so does a v0 name that nests deeper than 500 levels or takes more than 65,536 steps. A buffer
- * whose text isn't wanted has the length 0. Allocates.
+ * its hash; the trimmed one doesn't. Neither has what follows a mangling, such as `.cold`. The crate is that of a v0 name's first
+ * crate root. A name that isn't mangled stays unchanged in both texts, and so does a v0 name that has a form that isn't read
+ * (docs/NAMES.md of the sources), nests deeper than 500 levels or takes more than 65,536 steps. A buffer whose text isn't wanted
+ * has the length 0. Allocates.
  */
 struct binfarce_name binfarce_demangle(const uint8_t *name, size_t name_length,
                                        uint8_t *complete, size_t complete_length,
@@ -149,7 +158,7 @@ struct binfarce_text binfarce_trimmed(const uint8_t *name, size_t name_length, u
  */
 struct binfarce_text binfarce_crate_of(const uint8_t *name, size_t name_length, uint8_t *out, size_t out_length);
 
-/* How a name is mangled, and the part of it that is kept. */
+/* How a name is mangled, and the part of it that is kept. In C++ its type is `struct binfarce_mangling`: the function hides it. */
 struct binfarce_mangling {
     const uint8_t *part; /* the part after the mangling's prefix, in the caller's name, without the `.llvm.` suffix; all of a
                             name that isn't mangled. NULL if it is empty */
@@ -225,7 +234,12 @@ uint32_t binfarce_elf64_header(const uint8_t *file, size_t file_length, bool big
 uint32_t binfarce_macho_header(const uint8_t *file, size_t file_length);
 uint32_t binfarce_pe_header(const uint8_t *file, size_t file_length);
 
-/* A function symbol. */
+/*
+ * A function symbol: in an ELF file of the type STT_FUNC, with a name and a size that isn't 0; in a Mach-O file with a value that
+ * isn't 0; in a PE file an external one (docs/FORMATS.md of the sources). It holds an address if address <= a < address + size.
+ * Functions may overlap: of several that hold an address the command takes the one of greatest address. In a file for Arm bit 0 of
+ * a Thumb function's address is its instruction set.
+ */
 struct binfarce_function {
     const uint8_t *name; /* the name as it is stored, in the caller's file: its offset there is `name - file`. NULL if it is
                             empty */
@@ -244,8 +258,8 @@ struct binfarce_functions {
 
 /*
  * The function symbols of a file in the order of its listing, in the caller's array: of an ELF file those of the section
- * with this name, of a Mach-O or PE file those of the text. Refused as the file's reader refuses, and with
- * BINFARCE_NOT_UTF8 for the section's name or BINFARCE_OUT_OF_MEMORY. They allocate, more for more symbols.
+ * with this name, in the order of the symbol table; of a Mach-O or PE file those of the text, by address. Refused as the file's
+ * reader refuses, and with BINFARCE_NOT_UTF8 for the section's name or BINFARCE_OUT_OF_MEMORY. They allocate, more for more symbols.
  */
 struct binfarce_functions binfarce_elf32_functions(const uint8_t *file, size_t file_length, bool big_endian,
                                                    const uint8_t *section, size_t section_length,
@@ -264,10 +278,12 @@ struct binfarce_section {
     size_t name_length;     /* in bytes; the name is UTF-8, and what follows is no part of it */
     const uint8_t *segment; /* in a Mach-O file the name of its segment, there too; in other formats NULL */
     size_t segment_length;
-    uint64_t address;      /* of its first byte in memory; in a PE file counted from the image base */
+    uint64_t address;      /* of its first byte in memory; in a PE file counted from the image base. Sections that aren't in memory
+                              have one too, mostly 0 */
     uint32_t kind;         /* in ELF its type (sh_type), in other formats 0 */
     uint32_t range_status; /* BINFARCE_OK; BINFARCE_MALFORMED_INPUT where its end passes a size_t: start and end are 0 then */
-    size_t start;          /* where its bytes begin in the file; they may lie past its end */
+    size_t start;          /* where its bytes begin in the file; they may lie past its end. An ELF section of kind 8
+                              (SHT_NOBITS) has none: from start to end are bytes of others, as many as it has in memory */
     size_t end;            /* the offset after the last one */
     uint64_t entries;      /* in ELF how many entries of its entry size it has, 0 where that is 0; in other formats 0 */
     bool has_name;         /* false for an ELF section whose name isn't in the file, or isn't UTF-8; a name may be empty too */

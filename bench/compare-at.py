@@ -2,8 +2,8 @@
 """Compares what `binfarce at` answers of random addresses with GNU readelf and addr2line -f: 10,000 in each ELF file.
 
 The symbols are those of compare-elf.py, and their readable names those of the listing, which compare-elf.py compares. An
-address is shown by the symbol that begins last of those that hold it, and of several by the first in table order, with what
-follows its mangling, such as `.cold`, which the listing leaves out; a line without one is `??`. What addr2line says is counted:
+address is shown by the symbol that begins last of those that hold it, of several by the first in table order that isn't local,
+or else by the first, with what follows its mangling, such as `.cold`, which the listing leaves out; a line without one is `??`. What addr2line says is counted:
 the same symbol, another symbol at that address, a symbol where none holds the address (it names the one before a gap), or
 another one (with debug information that of an inlined function).
 """
@@ -25,9 +25,9 @@ LLVM = re.compile(rb"\.llvm\.[0-9A-F@]*$")
 SUFFIXED = re.compile(rb"_{0,2}(?:R[^.]*|ZN.*E)(\..*)", re.S)
 
 
-def finder(rows):
+def finder(rows, local):
     """The place of the row that an address is shown by, or None."""
-    order = sorted(range(len(rows)), key=lambda place: (rows[place][0], -place))
+    order = sorted(range(len(rows)), key=lambda place: (rows[place][0], rows[place] not in local, -place))
     starts = [rows[place][0] for place in order]
     longest = max(size for _, size, _ in rows)
 
@@ -76,7 +76,8 @@ def main():
         asked = b"".join(b"%x\n" % address for address in addresses)
         command = [PROGRAM, "at", f"--section={args.section}", file]
         got = subprocess.run(command, input=asked, stdout=subprocess.PIPE).stdout.split(b"\n")[:-1]
-        find = finder(rows)
+        local = {(address, size, name) for address, size, _, _, name, binding in elf.symbols(file, b".symtab") if binding == b"LOCAL"}
+        find = finder(rows, local)
         places = [find(address) for address in addresses]
         want = [shown(*it, rows, texts) for it in zip(addresses, places)]
         wrong = [pair for pair in zip(want, got) if pair[0] != pair[1]] + ([] if len(want) == len(got) else [("lines", len(got))])

@@ -35,7 +35,7 @@ def sections(file):
 
 
 def symbols(file, table):
-    """(address, size, type, section, name) of each row of the first symbol table with this name."""
+    """(address, size, type, section, name, binding) of each row of the first symbol table with this name."""
     rows, inside = [], False
     for line in listing.output(["readelf", "-sW", "--", file]).split(b"\n"):
         if line.startswith(b"Symbol table '"):
@@ -47,7 +47,7 @@ def symbols(file, table):
             if match:
                 size = match[2].decode()
                 rows.append((int(match[1], 16), int(size, 16 if size.startswith("0x") else 10), match[3].strip(),
-                             match[6], (match[7] or b"").replace(b"^\xbf", b"\x7f")))
+                             match[6], (match[7] or b"").replace(b"^\xbf", b"\x7f"), match[4].strip()))
     return rows
 
 
@@ -65,7 +65,7 @@ def expected(file, args):
     if table is None:
         return [], 0, "section .symtab is missing"
     rows = []
-    for address, size, kind, section, name in symbols(file, table[1]):
+    for address, size, kind, section, name, _ in symbols(file, table[1]):
         kept = kind == b"FUNC" and section == b"%d" % text[0] and size != 0
         if kept and name and not CORRUPT.fullmatch(name) and listing.is_text(name):
             rows.append((address, size, name))

@@ -113,6 +113,7 @@ answered = pathlib.Path("crates/test_formats/stdout").read_text()
 outputs = {command: pathlib.Path(f"crates/binfarce_{command}/stdout").read_text() for command in ("list", "size")}
 unknown, ended, unread, exhausted = "unknown file format", "unexpected end of file", "cannot read file", "out of memory"
 no_section = "no such section; binfarce section lists those of an ELF file; in others .text is the code"
+nameless = "have no crate, as those of C, C++ and assembly; --by=function shows whose they are"
 lacks, not_there, is_folder = "symbols section is missing", "No such file or directory", "Is a directory"
 is_text = "a text; `binfarce filter <FILE` shows it with readable names"
 for command, output in outputs.items():
@@ -238,7 +239,9 @@ pathlib.Path(maps).write_text(text)
 mapped, renamed = (*at, sample, "--maps", maps), (*at, sample, f"--maps={maps}", "--as=/lib/other")
 ends(0, f"{0x401005:016x} foo+0x5\n", "", *mapped, "401005")
 ends(0, f"{0x7f0000002005:016x} foo+0x5\n", "", *renamed, "7f0000002005")
-ends(2, "", f"binfarce: {maps} maps no file named as {sample}; --as=NAME takes another name", *mapped, "--as=sampl", "401005")
+unmapped = "no file named as {} in the maps; --as=NAME takes another name"
+for path, sought in (("sampl", "sampl"), ("a/sampl", "a/sampl or sampl")):
+    ends(1, "", f"binfarce: {sample}: {unmapped.format(sought)}", *mapped, f"--as={path}", "401005")
 ends(2, "", f"binfarce: no line of {sample} is one of /proc/PID/maps", *at, sample, "--maps", sample, "401005")
 ends(1, "", f"binfarce: {scratch}/none: No such file or directory", *at, sample, f"--maps={scratch}/none", "401005")
 ends(0, "00401005 <foo+0x5> other+0x1005 other(x+0x1005) libother+0x1005\n".replace("other+0x1005 ", "other+0x1005 <foo+0x5> ", 1), "",
@@ -256,6 +259,24 @@ ends(1, "", lost, *at, "--annotate", missing, given=both)
 others = "binfarce: standard input: no address in the text, and offsets ({}) only behind other names; --as=NAME takes one of these"
 ends(0, b"libother.so+0x1005 main+0x1f2e\n", others.format(2), *several, given=b"libother.so+0x1005 main+0x1f2e\n")
 ends(0, b"0x3\n0x3000\n", f"binfarce: {sample}, {other}: 0 of 1 addresses are in a function symbol; where the file was loaded, --base or --maps is needed", *several, given=b"0x3\n0x3000\n")
+# Of files of one name that one answers an offset whose path is before it; where only the name is, or a file is given twice, none does.
+twin, alike = f"{scratch}/twin.so", "binfarce: standard input: offsets ({}) behind a name that several files have; --as=PATH tells them apart"
+pathlib.Path(twin).write_bytes(data.replace(b"_ZN3foo3barE", b"_ZN3baz3barE"))
+twins = b"x/b/p.so(+0x1005) a/p.so+0x1005 c/p.so+0x1005 p.so+0x1005 q.so+0x1005\n"
+noted = twins.replace(b"(+0x1005", b"(+0x1005 <baz+0x5>").replace(b" a/p.so+0x1005", b" a/p.so+0x1005 <foo+0x5>")
+ends(0, noted, alike.format(2), *several[:-1], twin, "--as=a/p.so", "--as=b/p.so", given=twins)
+ends(0, noted.replace(b"x/b", b"/b"), alike.format(2), *several[:-1], twin, "--as=a/p.so", "--as=/b/p.so", given=twins.replace(b"x/b", b"/b"))
+ends(0, b"other.so+0x1005\n", alike.format(1), *several[:-2], other, other, given=b"other.so+0x1005\n")
+ends(0, b"p.so+0x1 0x3000\n", f"{alike.format(1)}\nbinfarce: {sample}, {twin}: 0 of 1 addresses are in a function symbol; where the file was loaded, --base or --maps is needed",
+    *several[:-1], twin, "--as=a/p.so", "--as=b/p.so", given=b"p.so+0x1 0x3000\n")
+# One that the maps don't place is refused, too, unless they are none; lines of a log have its own words before a mapping, as a date, and carriage returns.
+log = "".join(f"11-29 05:55:01.123 12345 12346 I app: \t{it}\r\n" for it in text.splitlines()) + f"pc 0x401005 {os.path.basename(sample)}+0x5\n"
+logged = log.replace("0x401005", "0x401005 <foo+0x5>")
+ends(1, logged, f"binfarce: {twin}: {unmapped.format(f'{twin} or twin.so')}", *several[:-1], twin, "--maps=-", given=log.encode())
+ends(0, logged, "", *several[:-1], "--maps=-", given=log.encode())
+ends(1, "", f"binfarce: {twin}: {unmapped.format(f'{twin} or twin.so')}", *several[:-2], twin, "--maps=-", given=log.encode())
+refusal = json.dumps({"file": sample, "error": unmapped.format("x")}, separators=(",", ":")) + "\n"
+ends(1, refusal, f"binfarce: {sample}: {unmapped.format('x')}", *mapped, "--json", "--as=x", "401005")
 # An offset may have fewer digits than an address.
 short = f"0x5 {os.path.basename(sample)}(+0x5)\n".encode()
 ends(0, short, f"binfarce: {sample}: 0 of 1 addresses are in a function symbol; is --base right?", *at, "--annotate", "--base=0", sample, given=short)
@@ -277,10 +298,10 @@ ends(0, "linked+0x1005 <foo+0x5> 0x1005 <foo+0x5>\n(linked+0x1005 <foo+0x5>)\n\t
 data[-52:-40], data[-24:-16] = b"\1" + bytes(3) + 0x10.to_bytes(8, "little"), 0x100.to_bytes(8, "little")
 pathlib.Path(linked).write_bytes(data)
 read, code, again = (f"{start}000-{start}fff {kind}p 00000000 fe:00 11  {path}\n" for start, kind, path in
-    (("300", "r-", "/x/linked"), ("400", "r-x", "/x/linked (deleted)"), ("500", "r-x", "/y/linked")))
+    (("300", "r--", "/x/linked"), ("400", "r-x", "/x/linked (deleted)"), ("500", "r-x", "/y/linked")))
 code_at = (*at, "--maps=/dev/stdin", linked)
 ends(0, f"{0x400005:016x} foo+0x5\n", "", *code_at, "400005", given=(read + code).encode())
-ends(2, "", f"binfarce: /dev/stdin has {linked} at several addresses; --base takes one of them, --as=PATH one of several paths", *code_at, "400005", given=(read + code + again).encode())
+ends(1, "", f"binfarce: {linked}: linked is at several addresses in the maps; give --base in place of --maps, or --as=PATH for one of several paths", *code_at, "--as=linked", "400005", given=(read + code + again).encode())
 ends(0, f"{0x500005:016x} foo+0x5\n", "", *code_at, "--as=y/linked", "500005", given=(read + code + again).encode())
 data[56] = 2
 pathlib.Path(linked).write_bytes(data)
@@ -330,7 +351,8 @@ rows = re.findall(r"(\w+) *\|(\w+)\| +T +\| +FUNC\|(\w+)\| +\|(\S+)", printed("n
 assert len(rows) == 3, "gcc made no 3 functions"
 lines = "".join(f"{address} {int(size, 16):10} {section} {name}\n" for name, address, size, section in rows)
 ends(0, lines, "", "binfarce", "list", "--all", file)
-ends(0, "{0:10} [unknown]\nsum {0}\n".format(sum(int(row[2], 16) for row in rows)), "", "binfarce", "size", "--all", file)
+bytes_of_all = sum(int(row[2], 16) for row in rows)
+ends(0, "{0:10} [unknown]\nsum {0}\n".format(bytes_of_all), f"binfarce: {file}: {bytes_of_all} of {bytes_of_all} bytes {nameless}", "binfarce", "size", "--all", file)
 ends(0, f"{2:016x} g+0x2\n", "", "binfarce", "at", "--section=.text.g", file, "2")
 shared = f"binfarce: {file}: its sections share addresses; --section=NAME takes one of them"
 for option in ((), ("--all",)):
@@ -402,6 +424,23 @@ nested = assembled("nested", 40, ("_RNvC1a1o", 0, 30), ("_RNvC1b1i", 10, 8), ("_
 for lines, *words in (("22 a|8 b|4 c|0 d",), ("22 a::o|8 b::i|4 c::z|0 d::z", "--by=function")):
     lines = "".join(f"{size:>10} {name}\n" for size, name in (it.split(" ", 1) for it in lines.split("|")))
     ends(0, lines + "sum 34\ntext 40\n", "", "binfarce", "size", *words, nested)
+# Two functions of 2^63 bytes at one address have 2^63; one behind the other they have 2^64, past every sum, and with one byte less 2^64 - 1.
+top = 1 << 63
+pair, apart, most = (assembled(name, 16, ("_RNvC1a1f", 0, top), ("_RNvC1b1f", at, size)) for name, at, size in (("pair", 0, top), ("apart", top, top), ("most", top, top - 1)))
+for file, size in ((pair, 0), (most, top - 1)):
+    ends(0, f"{top:10} a\n{size:10} b\nsum {top + size}\ntext 16\n", "", "binfarce", "size", file)
+    ends(0, f"{top + size:10} {top + size:10} {'+0':>11} [total]\n", "", "binfarce", "diff", file, file)
+ends(0, f"a;f {top}\n", "", "binfarce", "map", "--folded", pair)
+for call in (("size",), ("map",), ("map", "--folded")):
+    ends(1, "", f"binfarce: {apart}: sizes are too large", "binfarce", *call, apart)
+ends(1, "", f"binfarce: {apart}: sizes are too large", "binfarce", "diff", pair, apart)
+# Where half of the bytes or more have no crate, a line says how many, by crate alone.
+half, less = assembled("half", 20, ("_RNvC1a1f", 0, 10), ("c", 10, 10)), assembled("less", 21, ("_RNvC1a1f", 0, 11), ("c", 11, 10))
+for words, line in (((), f"binfarce: {half}: 10 of 20 bytes {nameless}"), (("--by=function",), "")):
+    ends(0, printed(folder / "binfarce", "size", *words, half), line, "binfarce", "size", *words, half)
+lines = "".join(f'{{"file":"{half}",{it}}}\n' for it in ('"name":"[unknown]","size":10,"copies":1', '"name":"a","size":10,"copies":1', '"sum":20,"text":20'))
+ends(0, lines, f"binfarce: {half}: 10 of 20 bytes {nameless}", "binfarce", "size", "--json", half)
+ends(0, f"{11:10} a\n{10:10} [unknown]\nsum 21\ntext 21\n", "", "binfarce", "size", less)
 # The same of a library by section, from readelf's rows.
 sums, end = {}, (0, 0)
 for section, address, size in sorted((int(section), int(address, 16), int(size, 0)) for address, size, section, _ in symbols):
@@ -481,6 +520,22 @@ assert objects("list", escaped)[0]["raw"] == 'a"\\\n\x01\x7f\xe9;:<>', "another 
 for *options, path in [("--all", "--dynamic", library), ("--all", old)] + [("--all", folder / "binfarce")] * (not is_static):
     lines = [f"{int(it['address'], 16):016x} {it['size']:10} {it['section']} {it['name']}\n" for it in objects("list", *options, path)]
     assert "".join(lines) == printed(folder / "binfarce", "list", *options, path), f"{path}: other objects than lines"
+# The binding and the type of each symbol, as readelf has them; null in a file that isn't ELF.
+kinds = [("local", "local", "function"), ("global", "globl", "function"), ("weak", "weak", "function"), ("chosen", "globl", "gnu_indirect_function")]
+lines = (f'.{bound} "{name}"\n.type "{name}",@{kind}\n.set "{name}", .text + {at}\n.size "{name}", 1\n' for at, (name, bound, kind) in enumerate(kinds))
+printed("gcc", "-c", "-o", f"{scratch}/bound.o", "-x", "assembler", "-", given=f".text\n.skip 4\n{''.join(lines)}")
+rows = [it.split() for it in printed("readelf", "-sW", f"{scratch}/bound.o").splitlines() if " FUNC " in it or " IFUNC " in it]
+wanted = [(it[7], it[4].lower(), {"FUNC": "function", "IFUNC": "indirect"}[it[3]]) for it in rows]
+assert len(wanted) == 4 and [(it["name"], it["binding"], it["kind"]) for it in objects("list", "--all", f"{scratch}/bound.o")] == wanted
+assert {(it["binding"], it["kind"], it["version"]) for it in objects("list", "rust/samples/pe-image.bin")} == {(None, None, None)}
+# The versions of dynamic symbols, of which an old one is hidden, and one has none.
+pathlib.Path(f"{scratch}/versions").write_text("V1 { global: f; local: hidden; };\nV2 { global: f; } V1;\n")
+lines = '.symver f_old,f@V1\n.symver f_new,f@@V2\n' + "".join(f'.globl {it}\n.type {it},@function\n{it}: nop\n.size {it}, 1\n' for it in ("f_old", "f_new", "g"))
+printed("gcc", "-shared", "-nostdlib", f"-Wl,--version-script={scratch}/versions", "-o", f"{scratch}/versioned.so", "-x", "assembler", "-", given=f".text\n{lines}")
+rows = [it.split()[7].replace("@@", "@").partition("@")[::2] for it in printed("readelf", "-W", "--dyn-syms", f"{scratch}/versioned.so").splitlines() if " FUNC " in it]
+versions = [(it["raw"], it["version"] or "") for it in objects("list", "--dynamic", f"{scratch}/versioned.so")]
+assert versions == rows and {("f", "V1"), ("f", "V2"), ("g", "")} <= set(versions), f"other versions: {versions}, {rows}"
+assert {it["version"] for it in objects("list", f"{scratch}/versioned.so")} == {None}
 # Real names of rustc's older mangling that begin with a type: each counts for the crate that comes first in it.
 inner = """
 core _ZN42_$LT$$RF$T$u20$as$u20$core..fmt..Debug$GT$3fmt17h0016b895af691adeE
@@ -515,6 +570,12 @@ assert objects("section", sample)[1] == {"file": sample, "segment": None, "secti
 file = assembled("cold", 1, ("_RNvC1a1b.cold", 0, 1))
 for line, *words in ((f"{0:016x} {1:10} a::b\ntext 1", "list"), (f"{0:016x} a::b.cold+0x0", "at"), ("0x0000 <a::b.cold+0x0>", "at", "--annotate")):
     ends(0, f"{line}\n", "", "binfarce", *words, "--section=.text", file, given=b"0x0000\n")
+
+# Of two symbols at one address the one that isn't local has it, though the local one comes first in the table.
+lines = "".join(f'.type "{it}",@function\n.set "{it}", .text\n.size "{it}", 4\n' for it in ("f.localalias", "f"))
+printed("gcc", "-c", "-o", f"{scratch}/alias.o", "-x", "assembler", "-", given=f".text\n.skip 4\n.globl f\n{lines}")
+assert [it["name"] for it in objects("list", f"{scratch}/alias.o")] == ["f.localalias", "f"]
+ends(0, f"{1:016x} f+0x1\n", "", "binfarce", "at", "--section=.text", f"{scratch}/alias.o", "1")
 
 # A PE image, of PE32+ at 0x140000000 with `.text` at 0x1000: an external and a static function, at their addresses in memory.
 image = "rust/samples/pe-image.bin"

@@ -270,7 +270,7 @@ ends(0, b"other.so+0x1005\n", alike.format(1), *several[:-2], other, other, give
 ends(0, b"p.so+0x1 0x3000\n", f"{alike.format(1)}\nbinfarce: {sample}, {twin}: 0 of 1 addresses are in a function symbol; where the file was loaded, --base or --maps is needed",
     *several[:-1], twin, "--as=a/p.so", "--as=b/p.so", given=b"p.so+0x1 0x3000\n")
 # One that the maps don't place is refused, too, unless they are none; lines of a log have its own words before a mapping, as a date, and carriage returns.
-log = "".join(f"11-29 05:55:01.123 12345 12346 I app: \t{it}\r\n" for it in text.splitlines()) + f"pc 0x401005 {os.path.basename(sample)}+0x5\n"
+log = "".join(f"11-29 05:55:01.123 12345 12346 I app: {it}\r\n" for it in text.splitlines()) + f"pc 0x401005 {os.path.basename(sample)}+0x5\n"
 logged = log.replace("0x401005", "0x401005 <foo+0x5>")
 ends(1, logged, f"binfarce: {twin}: {unmapped.format(f'{twin} or twin.so')}", *several[:-1], twin, "--maps=-", given=log.encode())
 ends(0, logged, "", *several[:-1], "--maps=-", given=log.encode())

@@ -1,7 +1,7 @@
 -- The lowest value, line by line.
 use Rattle.std.proofs.Common.{◌≡◌, ℕ, suc, ◌+◌, ◌<◌, ◌≤◌, ◌⊎◌, Bool, true, false, cond, List, [], ◌∷◌, length, take, drop, get_or, Option, Some, None, inl, inr, refl, sym, ap, subst, ◌∙◌, add-one, arith, drop-cons, length-drop}
 use Rattle.std.specs.Prelude.{◌&&◌, is_some, min, nat_eq, not, if◌then◌else◌}
-use Rattle.std.specs.Char.{is_ascii_hexdigit, is_ascii_whitespace}
+use Rattle.std.specs.Char.{is_ascii_hexdigit}
 use Rattle.std.specs.Int.{is_in_range}
 use Rattle.std.specs.Option.{option_and_then}
 use Rattle.std.specs.Str.Parse.{digits_value}
@@ -136,12 +136,12 @@ no_mapping_from (b ∷ text) other =
     sym (ap (λ (o : Option ℕ). option_and_then (λ (start : ℕ). option_and_then (λ (end : ℕ). option_and_then (mapping_at (before_blank (behind_blank line)) start end) (hexadecimal (before_blank (behind_blank (behind_blank line))))) (hexadecimal (after_first (nat_eq 45) (before_blank line)))) o) start)
 
 -- no mapping begins at this byte
-pub begun_step : (text : List ℕ) (at : ℕ) (may_begin : Bool) → at < length text → may_begin && is_some (mapping_of (drop at text)) ≡ false → begun_at may_begin (drop at text) ≡ begun_at (is_ascii_whitespace (get_or text at 0)) (drop (at + 1) text)
+pub begun_step : (text : List ℕ) (at : ℕ) (may_begin : Bool) → at < length text → may_begin && is_some (mapping_of (drop at text)) ≡ false → begun_at may_begin (drop at text) ≡ begun_at (nat_eq (get_or text at 0) 32) (drop (at + 1) text)
 begun_step text at may_begin lt none =
     let b = get_or text at 0 in
     let rest : List ℕ = drop (at + 1) text in
     let here : drop at text ≡ b ∷ rest = drop-cons text at 0 lt ∙ ap (λ (n : ℕ). b ∷ drop n text) (sym (add-one at)) in
-    let P : Bool → List ℕ = λ t. if t then b ∷ rest else begun_at (is_ascii_whitespace b) rest in
+    let P : Bool → List ℕ = λ t. if t then b ∷ rest else begun_at (nat_eq b 32) rest in
     ap (begun_at may_begin) here ∙ ap P (ap (λ (x : List ℕ). may_begin && is_some (mapping_of x)) (sym here) ∙ none)
 
 -- one does
@@ -150,7 +150,7 @@ begun_here text at may_begin lt some =
     let b = get_or text at 0 in
     let rest : List ℕ = drop (at + 1) text in
     let here : drop at text ≡ b ∷ rest = drop-cons text at 0 lt ∙ ap (λ (n : ℕ). b ∷ drop n text) (sym (add-one at)) in
-    let P : Bool → List ℕ = λ t. if t then b ∷ rest else begun_at (is_ascii_whitespace b) rest in
+    let P : Bool → List ℕ = λ t. if t then b ∷ rest else begun_at (nat_eq b 32) rest in
     ap (begun_at may_begin) here ∙ ap P (ap (λ (x : List ℕ). may_begin && is_some (mapping_of x)) (sym here) ∙ some) ∙ sym here
 
 -- none did

@@ -2,7 +2,6 @@
 -- A log may have words of its own before that in a line, and carriage returns behind it.
 use Rattle.std.specs.Prelude.{◌≡◌, ◌+◌, ◌-◌, ◌^◌, ◌%◌, ◌&&◌, ◌||◌, ℕ, List, [], ◌∷◌, codes, length, take, drop, reverse, min, nat_eq, nat_lt, Bool, true, false, Option, Some, None, unwrap_or, Result, Ok, Err, is_some, if◌then◌else◌}
 use Rattle.std.proofs.Common.{refl}
-use Rattle.std.specs.Char.{is_ascii_whitespace}
 use Rattle.std.specs.List.{after_first, before_first, ends_with, list_all, list_any, position_or_len, slice_split}
 use Rattle.std.specs.Option.{ok_or, option_and_then, option_map}
 use Rattle.binfarce_addresses.specs.Address.{hexadecimal}
@@ -45,10 +44,10 @@ mapping_with range permissions offset =
 abbrev pub mapping_of : (line : List ℕ) → Option Mapping
 mapping_of line = mapping_with (before_blank line) (before_blank (behind_blank line)) (before_blank (behind_blank (behind_blank line)))
 
--- a text from the first word on from which it has the form of a mapping; a word may begin at its first byte, or none does. Empty where there is none
+-- a text from the first word on from which it has the form of a mapping; words are behind blanks, and one may begin at its first byte, or none does. Empty where there is none
 abbrev pub begun_at : (may_begin : Bool) (text : List ℕ) → List ℕ
 begun_at may_begin [] = []
-begun_at may_begin (b ∷ text) = if may_begin && is_some (mapping_of (b ∷ text)) then b ∷ text else begun_at (is_ascii_whitespace b) text
+begun_at may_begin (b ∷ text) = if may_begin && is_some (mapping_of (b ∷ text)) then b ∷ text else begun_at (nat_eq b 32) text
 
 -- a line without the carriage return at its end
 abbrev pub without_return : (line : List ℕ) → List ℕ

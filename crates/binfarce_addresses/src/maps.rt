@@ -50,9 +50,10 @@ enum Wanted<'a> {
 
 /// Where a file is loaded that says that it is loaded there: where the mappings of its code have it, or without code at
 /// the lowest address of its mappings. A mapping is a line as in `/proc/PID/maps`, or such words at its end: it begins at
-/// the first word from which the line has this form. A mapping is one of the file if its path ends with the given one,
-/// after a `/` if there is one, or is the same; where none is, if it ends so with the name behind the last `/` of the given
-/// one. A ` (deleted)` after a path isn't part of it, nor is a carriage return. Nothing is allocated.
+/// the first word from which the line has this form, and words are behind blanks. A mapping is one of the file if its
+/// path ends with the given one, after a `/` if there is one, or is the same; where none is, if it ends so with the name
+/// behind the last `/` of the given one. A ` (deleted)` after a path isn't part of it, nor is a carriage return. Nothing
+/// is allocated.
 ///
 /// # Errors
 ///
@@ -155,7 +156,7 @@ fn begun_at(text: &[u8]) -> &[u8]
         if may_begin && mapping_of(&text[at..]).is_some() {
             return &text[at..];
         }
-        may_begin = text[at].is_ascii_whitespace();
+        may_begin = text[at] == b' ';
     }
     &[]
 }

@@ -1,5 +1,5 @@
 -- The function symbols of one section of an ELF file, or of all its sections, with their addresses and sizes in memory (System V gABI, "Symbol Table").
-use Rattle.std.specs.Prelude.{ℕ, ◌+◌, ◌-◌, ◌*◌, ◌/◌, ◌%◌, ◌^◌, Bool, true, false, ◌&&◌, ◌||◌, List, ◌++◌, length, map, filter, drop, codes, min, slice_get, Option, Some, None, is_none, is_some, Result, Ok, Err, nat_eq, nat_lt, not, if◌then◌else◌}
+use Rattle.std.specs.Prelude.{ℕ, ◌+◌, ◌-◌, ◌*◌, ◌/◌, ◌%◌, ◌^◌, Bool, true, false, ◌&&◌, ◌||◌, List, [], ◌∷◌, ◌++◌, length, map, filter, drop, codes, min, slice_get, Option, Some, None, is_none, is_some, Result, Ok, Err, nat_eq, nat_lt, not, if◌then◌else◌}
 use Rattle.std.specs.Option.{option_map, option_and_then, unwrap_or}
 use Rattle.std.specs.List.{range_with_len, filter_map, starts_with}
 use Rattle.std.specs.Str.{bytes_eq}
@@ -124,16 +124,22 @@ pub record End : Type 0 where
 abbrev pub section_end : FileKind → Section → End
 section_end kind s = record { section = s.index; address = min (2 ^ 64 - 1) (if nat_eq kind.elf_type 1 then s.size else s.address + s.size) }
 
--- a mapping symbol of Arm, AArch64 or RISC-V: local and of no type (STB_LOCAL, STT_NOTYPE), its name begins with $a, $d, $t or $x. It marks code or data
--- within a function (ELF for the Arm Architecture, "Mapping symbols")
-abbrev pub is_mapping : List ℕ → SymbolRow ℕ → Bool
-is_mapping strings row =
-    let name = drop row.name strings in
-    nat_eq row.info 0 && (starts_with nat_eq name (codes "$a") || starts_with nat_eq name (codes "$d") || starts_with nat_eq name (codes "$t") || starts_with nat_eq name (codes "$x"))
+-- what begins with the name of a mapping symbol, which marks code or data: $a, $d or $t, alone or before a dot (ELF for the Arm Architecture, "Mapping
+-- symbols"), and $x, in RISC-V also before an instruction set (its psABI, "Mapping Symbol")
+abbrev pub is_mapping : List ℕ → Bool
+is_mapping name =
+    starts_with nat_eq name (codes "$x")
+    || (starts_with nat_eq name (codes "$a.") || starts_with nat_eq name (0x24 ∷ 0x61 ∷ 0 ∷ []))
+    || (starts_with nat_eq name (codes "$d.") || starts_with nat_eq name (0x24 ∷ 0x64 ∷ 0 ∷ []))
+    || (starts_with nat_eq name (codes "$t.") || starts_with nat_eq name (0x24 ∷ 0x74 ∷ 0 ∷ []))
+
+-- a symbol that marks a place within a function: local and of no type (STB_LOCAL, STT_NOTYPE), a mapping symbol or a label of the assembler
+abbrev pub is_mark : List ℕ → SymbolRow ℕ → Bool
+is_mark strings row = nat_eq row.info 0 && (is_mapping (drop row.name strings) || starts_with nat_eq (drop row.name strings) (codes ".L"))
 
 -- the address of a symbol of whatever other kind
 abbrev pub symbol_end : List ℕ → Bool → SymbolRow ℕ → Option End
-symbol_end strings has_modes row = if is_mapping strings row then None else Some (record { section = row.section; address = address_of has_modes row })
+symbol_end strings has_modes row = if is_mark strings row then None else Some (record { section = row.section; address = address_of has_modes row })
 
 abbrev pub row_count : ElfClass → List ℕ → ℕ
 row_count class rows = length rows / class.symbol_length

@@ -6,7 +6,7 @@ ghost use Rattle.std.specs.List.Sorted.{IsNonDecreasingBy};
 ghost use Rattle.binfarce_bytes.specs.Sizes.{least_above};
 ghost use Rattle.binfarce_elf.specs.Classes.{class_of};
 ghost use Rattle.binfarce_elf.specs.Elf.{walk};
-ghost use Rattle.binfarce_elf.specs.ElfSymbols.{End, has_modes, address_of, addresses_in, ends_of, file_kind, is_mapping, row_count, row_of, section_end, size_of, symbol_ends};
+ghost use Rattle.binfarce_elf.specs.ElfSymbols.{End, has_modes, address_of, addresses_in, ends_of, file_kind, is_mapping, is_mark, row_count, row_of, section_end, size_of, symbol_ends};
 ghost use Rattle.binfarce_elf.specs.ElfViews.{header_view, section_view, kind_view};
 ghost use Rattle.binfarce_elf.specs.machine.RawElf.{symbol_view, table_view, rows_view, key_of, AreKeysOf};
 
@@ -66,20 +66,24 @@ pub fn address_of(has_modes: bool, row: SymbolRow) -> u64
     }
 }
 
-// Whether a row is a mapping symbol, which marks code or data within a function.
-fn is_mapping(strings: &[u8], row: SymbolRow) -> bool
-    ensures { result ≡ is_mapping strings.now (symbol_view row) }
+// Whether a row marks a place within a function: as a mapping symbol, or a label of the assembler.
+fn is_mark(strings: &[u8], row: SymbolRow) -> bool
+    ensures { result ≡ is_mark strings.now (symbol_view row) }
 {
     match strings.get(row.name as usize..) {
         None => false,
-        Some(name) => {
-            row.info == 0
-                && (name.starts_with(b"$a")
-                    || name.starts_with(b"$d")
-                    || name.starts_with(b"$t")
-                    || name.starts_with(b"$x"))
-        }
+        Some(name) => row.info == 0 && (is_mapping(name) || name.starts_with(b".L")),
     }
+}
+
+// Whether it begins with the name of a mapping symbol, which marks code or data.
+fn is_mapping(name: &[u8]) -> bool
+    ensures { result ≡ is_mapping name.now }
+{
+    name.starts_with(b"$x")
+        || (name.starts_with(b"$a.") || name.starts_with(b"$a\0"))
+        || (name.starts_with(b"$d.") || name.starts_with(b"$d\0"))
+        || (name.starts_with(b"$t.") || name.starts_with(b"$t\0"))
 }
 
 // The address where a section ends, at most the greatest one.
@@ -102,8 +106,8 @@ pub(crate) fn keys_of<C: Class>(
     kind: FileKind,
     found: Rows<'_>,
 ) -> Result<Vec<u128>, AllocError>
-    ensures { IfOk result (λ keys. AreKeysOf (ends_of C.table table.entry.byte_order (walk C.table (table_view table.entry))
-        (kind_view kind) (rows_view found.entry)) keys.items) }
+    ensures { IfOk result (λ keys. AreKeysOf (ends_of C.table table.entry.byte_order
+        (walk C.table (table_view table.entry)) (kind_view kind) (rows_view found.entry)) keys.items) }
 {
     let mut keys = Vec::new(alloc);
     push_sections::<C>(&mut keys, table, kind)?;
@@ -155,7 +159,7 @@ fn push_rows(
     let length = width.symbol_length();
     for k in 0..found.rows.len() / length {
         let row = row_at(width, found.rows, k * length, byte_order).unwrap();
-        if !is_mapping(found.strings, row) {
+        if !is_mark(found.strings, row) {
             keys.push(key_of(row.section, address_of(has_modes, row)))?;
         }
     }

@@ -51,18 +51,20 @@ pub fn address_of(has_modes: bool, row: SymbolRow) -> u64 {
     }
 }
 
-// Whether a row is a mapping symbol, which marks code or data within a function.
-fn is_mapping(strings: &[u8], row: SymbolRow) -> bool {
+// Whether a row marks a place within a function: as a mapping symbol, or a label of the assembler.
+fn is_mark(strings: &[u8], row: SymbolRow) -> bool {
     match strings.get(row.name as usize..) {
         None => false,
-        Some(name) => {
-            row.info == 0
-                && (name.starts_with(b"$a")
-                    || name.starts_with(b"$d")
-                    || name.starts_with(b"$t")
-                    || name.starts_with(b"$x"))
-        }
+        Some(name) => row.info == 0 && (is_mapping(name) || name.starts_with(b".L")),
     }
+}
+
+// Whether it begins with the name of a mapping symbol, which marks code or data.
+fn is_mapping(name: &[u8]) -> bool {
+    name.starts_with(b"$x")
+        || (name.starts_with(b"$a.") || name.starts_with(b"$a\0"))
+        || (name.starts_with(b"$d.") || name.starts_with(b"$d\0"))
+        || (name.starts_with(b"$t.") || name.starts_with(b"$t\0"))
 }
 
 // The address where a section ends, at most the greatest one.
@@ -125,7 +127,7 @@ fn push_rows(
     let length = width.symbol_length();
     for k in 0..found.rows.len() / length {
         let row = row_at(width, found.rows, k * length, byte_order).unwrap();
-        if !is_mapping(found.strings, row) {
+        if !is_mark(found.strings, row) {
             keys.push(key_of(row.section, address_of(has_modes, row)))?;
         }
     }

@@ -129,7 +129,8 @@ fn is_elf(format: &Format) -> bool
 pub fn places_of<'a>(alloc: Global, tables: &'a Tables<'_>) -> Result<Places<'a>, Fault>
     ensures has { (which : SymbolTable) (file : List ℕ) (section : Option (List ℕ))
         → AreTablesOf which file section tables.entry.now
-        → HasPlaces (addresses_are_shared (selected_answer which section file)) (MemoryIn file section) (selected_answer which section file) result }
+        → HasPlaces (addresses_are_shared (selected_answer which section file)) (MemoryIn file section)
+        (selected_answer which section file) result }
     ensures unwritten { IfErr result (λ e. failure e ≢ write_failed) }
 {
     let places = Places::of_tables(alloc, tables)?;

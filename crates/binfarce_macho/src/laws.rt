@@ -19,8 +19,8 @@ fn worked_commands()
 #[tactic(auto, unfolding(crate::specs::Macho::section_at, crate::specs::Macho::section_fields, crate::specs::Macho::flags_at, binfarce_bytes::proofs::Computing::computing))]
 fn worked_section()
     ensures { section_at (codes "__text" ++ (replicate 10 0 ++ (codes "__TEXT" ++ (replicate 10 0
-        ++ (0 ∷ 0x10 ∷ 0 ∷ 0 ∷ 0 ∷ 0 ∷ 0 ∷ 0 ∷ 0 ∷ 1 ∷ 0 ∷ 0 ∷ 0 ∷ 0 ∷ 0 ∷ 0 ∷ 0 ∷ 2 ∷ 0 ∷ 0 ∷ 4 ∷ 0 ∷ 0 ∷ 0 ∷ 0 ∷ 0 ∷ 0 ∷ 0 ∷ 0 ∷ 0 ∷ 0
-        ∷ 0 ∷ 0 ∷ 4 ∷ 0 ∷ 0x80 ∷ []))))) 0
+        ++ (0 ∷ 0x10 ∷ 0 ∷ 0 ∷ 0 ∷ 0 ∷ 0 ∷ 0 ∷ 0 ∷ 1 ∷ 0 ∷ 0 ∷ 0 ∷ 0 ∷ 0 ∷ 0 ∷ 0 ∷ 2 ∷ 0 ∷ 0 ∷ 4 ∷ 0 ∷ 0 ∷ 0 ∷ 0
+        ∷ 0 ∷ 0 ∷ 0 ∷ 0 ∷ 0 ∷ 0 ∷ 0 ∷ 0 ∷ 4 ∷ 0 ∷ 0x80 ∷ []))))) 0
         ≡ Some (record {
           segment_name = codes "__TEXT";
           section_name = codes "__text";

@@ -104,8 +104,8 @@ fn text_address(bytes: &[u8], command: Command) -> Option<u64>
 fn text_place(bytes: &[u8], command: Command) -> Result<Option<u64>, UnexpectedEof>
     ensures { let body = body_of (command_view command) in MatchResult result
         (λ address. (body + 24 ≤ length bytes.now)
-        × (address ≡ (if is_text_name (segment_name bytes.now body) then Some (segment_address bytes.now body) else None)))
-        (λ _. length bytes.now < body + 24) }
+        × (address ≡ (if is_text_name (segment_name bytes.now body) then Some (segment_address bytes.now body)
+        else None))) (λ _. length bytes.now < body + 24) }
 {
     let body = command.offset.checked_add(8).ok_or(UnexpectedEof {})?;
     let mut s = Stream::new_at(bytes, body, ByteOrder::LittleEndian)?;

@@ -344,7 +344,8 @@ fn read_if<S: Source>(
         (Ok (bytes_if file (option_map (section_view (λ n. n)) section))) result }
     ensures only { (file : List ℕ) → Known (S.bytes source.now) len file
         → ReadsOnly (S.is_sure source.now) (S.logs_only log.old) (S.logs_only log.new)
-        (parts_if (option_map (section_view (λ n. n)) section) (section_parts file)) (IfErr result (λ e. e ≢ Unreadable)) }
+        (parts_if (option_map (section_view (λ n. n)) section) (section_parts file))
+        (IfErr result (λ e. e ≢ Unreadable)) }
 {
     let Some(section) = section else {
         return Ok(Vec::new(alloc));

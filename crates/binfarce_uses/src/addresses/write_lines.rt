@@ -23,7 +23,14 @@ pub fn write_lines<S: Sink>(
 ) -> Result<Counts, ListError>
     ensures { (which : SymbolTable) (file : List ℕ) (section : Option (List ℕ))
         → AreTablesOf which file section tables.now
-        → Takes (AreLinesAt (record { base = Some 0x555555554000; linked = 0; origin = 0; is_return = true; form = Lines; path = program.entry }) frames.now)
+        → Takes (AreLinesAt (record {
+          base = Some 0x555555554000;
+          linked = 0;
+          origin = 0;
+          is_return = true;
+          form = Lines;
+          path = program.entry;
+        }) frames.now)
         (selected_answer which section file) (S.taken out.old) (S.taken out.new) (outcome_of result) }
 {
     let lookup = Lookup {

@@ -8,14 +8,14 @@ use Rattle.std.proofs.lemmas.List.{get_or_default, take-append-drop, take_all, t
 use Rattle.std.proofs.lemmas.List.Elements.{filter-append}
 use Rattle.binfarce.specs.Symbol.{Entry}
 use Rattle.binfarce_addresses.specs.Address.{address_of}
-use Rattle.binfarce_addresses.specs.Annotated.{File, at_offset, found_among, found_behind, found_by, found_in_one, longest_name, named_by}
+use Rattle.binfarce_addresses.specs.Annotated.{File, at_offset, found_among, found_behind, found_by, found_in_one, longest_name, name_before, named_by}
 use Rattle.binfarce_addresses.specs.Lookup.{found_at, found_in}
-use Rattle.binfarce_addresses.specs.Module.{ends_with_plus, name_len}
+use Rattle.binfarce_addresses.specs.Module.{ends_with_plus}
 use Rattle.binfarce_addresses.specs.declared.counts.Reply.{Reply}
 use Rattle.binfarce_addresses.specs.declared.counts.Reply.TheVariants.{Unasked, Unclear}
 use Rattle.binfarce_addresses.specs.machine.Annotating.{IsFoundBy, reach}
 use Rattle.binfarce_addresses.specs.machine.Places.{IsAtPlace, IsFoundIn}
-use Rattle.binfarce_addresses.proofs.Contexts.{name_len_more, plus_more}
+use Rattle.binfarce_addresses.proofs.Contexts.{name_before_more, plus_more}
 
 -- the files from a place on are the one there and those behind it
 left_at : (files : List File) (k : ℕ) (d : File) → k < length files → drop k files ≡ get_or files k d ∷ drop (k + 1) files
@@ -42,15 +42,15 @@ reach_step files k old own new item d lt so_far value is next =
     next ∙ ap (λ (n : ℕ). max n own) so_far ∙ ap (max (reach (take k files))) (is ∙ ap (λ (f : File). length f.1.path.now + 5) value) ∙ sym (reach_more (take k files) (get_or files k d)) ∙ ap (λ (fs : List File). reach fs) (sym (take_more files k d lt))
 
 -- one name more
-longest_more : (files : List File) (file : File) (before : List ℕ) → longest_name (files ++ file ∷ []) before ≡ max (longest_name files before) (name_len file.1.path.now before)
+longest_more : (files : List File) (file : File) (before : List ℕ) → longest_name (files ++ file ∷ []) before ≡ max (longest_name files before) (name_before file before)
 longest_more [] file before = omega arith
 longest_more (first ∷ files) file before = omega (arith, longest_more files file before)
 
 -- that of one file more
-pub longest_step : (files : List File) (before : List ℕ) (k old own new : ℕ) (item d : File) → k < length files → old ≡ longest_name (take k files) before → item ≡ get_or files k d → own ≡ name_len item.1.path.now before → new ≡ max old own
+pub longest_step : (files : List File) (before : List ℕ) (k old own new : ℕ) (item d : File) → k < length files → old ≡ longest_name (take k files) before → item ≡ get_or files k d → own ≡ name_before item before → new ≡ max old own
     → new ≡ longest_name (take (k + 1) files) before
 longest_step files before k old own new item d lt so_far value is next =
-    let here : own ≡ name_len (get_or files k d).1.path.now before = is ∙ ap (λ (f : File). name_len f.1.path.now before) value in
+    let here : own ≡ name_before (get_or files k d) before = is ∙ ap (λ (f : File). name_before f before) value in
     next ∙ ap (λ (n : ℕ). max n own) so_far ∙ ap (max (longest_name (take k files) before)) here ∙ sym (longest_more (take k files) (get_or files k d) before)
     ∙ ap (λ (fs : List File). longest_name fs before) (sym (take_more files k d lt))
 
@@ -62,10 +62,10 @@ IsOnly len files before up_to here =
 -- the files whose name has a length, among one more
 named_step : (len : ℕ) (files : List File) (before : List ℕ) (k : ℕ) (d : File) → k < length files → named_by len (take (k + 1) files) before ≡ named_by len (take k files) before ++ named_by len (get_or files k d ∷ []) before
 named_step len files before k d lt =
-    ap (λ (fs : List File). named_by len fs before) (take_more files k d lt) ∙ filter-append (λ (f : File). nat_eq (name_len f.1.path.now before) len) (take k files) (get_or files k d ∷ [])
+    ap (λ (fs : List File). named_by len fs before) (take_more files k d lt) ∙ filter-append (λ (f : File). nat_eq (name_before f before) len) (take k files) (get_or files k d ∷ [])
 
 -- whether the name of the file there has the length
-named_if : (len : ℕ) (file : File) (before : List ℕ) (is : Bool) → nat_eq (name_len file.1.path.now before) len ≡ is → named_by len (file ∷ []) before ≡ cond is (file ∷ []) []
+named_if : (len : ℕ) (file : File) (before : List ℕ) (is : Bool) → nat_eq (name_before file before) len ≡ is → named_by len (file ∷ []) before ≡ cond is (file ∷ []) []
 named_if len file before is same = ap (λ (b : Bool). cond b (file ∷ []) []) same
 
 is_len : (a b : ℕ) → a ≡ b → nat_eq a b ≡ true
@@ -74,11 +74,11 @@ is_len a b same = eq-eqb a b same
 is_not_len : (a b : ℕ) → a ≢ b → nat_eq a b ≡ false
 is_not_len a b other = grind (arith, nat_tests, other)
 
-has_len : (len own : ℕ) (item file : File) (before : List ℕ) (is : Bool) → item ≡ file → own ≡ name_len item.1.path.now before → nat_eq own len ≡ is → nat_eq (name_len file.1.path.now before) len ≡ is
-has_len len own item file before is value own_is same = ap (λ (n : ℕ). nat_eq n len) (sym (own_is ∙ ap (λ (f : File). name_len f.1.path.now before) value)) ∙ same
+has_len : (len own : ℕ) (item file : File) (before : List ℕ) (is : Bool) → item ≡ file → own ≡ name_before item before → nat_eq own len ≡ is → nat_eq (name_before file before) len ≡ is
+has_len len own item file before is value own_is same = ap (λ (n : ℕ). nat_eq n len) (sym (own_is ∙ ap (λ (f : File). name_before f before) value)) ∙ same
 
 -- a file with another name
-pub only_other : (len own : ℕ) (files : List File) (before : List ℕ) (k : ℕ) (here now : Option ℕ) (item d : File) → k < length files → item ≡ get_or files k d → own ≡ name_len item.1.path.now before → own ≢ len → now ≡ here → IsOnly len files before k here
+pub only_other : (len own : ℕ) (files : List File) (before : List ℕ) (k : ℕ) (here now : Option ℕ) (item d : File) → k < length files → item ≡ get_or files k d → own ≡ name_before item before → own ≢ len → now ≡ here → IsOnly len files before k here
     → IsOnly len files before (k + 1) now
 only_other len own files before k here now item d lt value own_is other stays only =
     let F : File = get_or files k d in
@@ -91,7 +91,7 @@ only_other len own files before k here now item d lt value own_is other stays on
     by (Some h) same (within, is) = (within, λ e. same ∙ is e)
 
 -- the first one with the name
-pub only_first : (len own : ℕ) (files : List File) (before : List ℕ) (k : ℕ) (here now : Option ℕ) (item d : File) → k < length files → item ≡ get_or files k d → own ≡ name_len item.1.path.now before → own ≡ len → is_some here ≡ false → now ≡ Some k → IsOnly len files before k here
+pub only_first : (len own : ℕ) (files : List File) (before : List ℕ) (k : ℕ) (here now : Option ℕ) (item d : File) → k < length files → item ≡ get_or files k d → own ≡ name_before item before → own ≡ len → is_some here ≡ false → now ≡ Some k → IsOnly len files before k here
     → IsOnly len files before (k + 1) now
 only_first len own files before k (Some h) now item d lt value own_is named none is only = absurd cc
 only_first len own files before k None now item d lt value own_is named none is only =
@@ -109,7 +109,7 @@ by_longest files before offset longest is some =
     ap (λ (n : ℕ). P n (nat_eq n 0)) (sym is) ∙ ap (P longest) (is_not_len longest 0 some)
 
 -- another one with the name
-pub only_second : (files : List File) (before : List ℕ) (offset longest own k : ℕ) (here : Option ℕ) (item d : File) → longest ≡ longest_name files before → longest ≢ 0 → k < length files → item ≡ get_or files k d → own ≡ name_len item.1.path.now before
+pub only_second : (files : List File) (before : List ℕ) (offset longest own k : ℕ) (here : Option ℕ) (item d : File) → longest ≡ longest_name files before → longest ≢ 0 → k < length files → item ≡ get_or files k d → own ≡ name_before item before
     → own ≡ longest → is_some here ≡ true → IsOnly longest files before k here → found_behind files before offset ≡ Err Unclear
 only_second files before offset longest own k None item d is some lt value own_is named another only = absurd cc
 only_second files before offset longest own k (Some h) item d is some lt value own_is named another (within, first) =
@@ -119,7 +119,7 @@ only_second files before offset longest own k (Some h) item d is some lt value o
     named_step longest files before k d lt ∙ ap (λ (x : List File). x ++ named_by longest (F ∷ []) before) (first d) ∙ ap (λ (x : List File). get_or files h d ∷ x) one in
     let rest : List File = named_by longest (drop (k + 1) files) before in
     let all : named_by longest files before ≡ get_or files h d ∷ F ∷ rest =
-    ap (λ (fs : List File). named_by longest fs before) (sym (take-append-drop (k + 1) files)) ∙ filter-append (λ (f : File). nat_eq (name_len f.1.path.now before) longest) (take (k + 1) files) (drop (k + 1) files)
+    ap (λ (fs : List File). named_by longest fs before) (sym (take-append-drop (k + 1) files)) ∙ filter-append (λ (f : File). nat_eq (name_before f before) longest) (take (k + 1) files) (drop (k + 1) files)
     ∙ ap (λ (x : List File). x ++ rest) two in
     by_longest files before offset longest is some ∙ ap (λ (x : List File). found_in_one x offset) all
 
@@ -157,15 +157,15 @@ by_word files names before word number here same is found =
 longest_front : (files : List File) (front before : List ℕ) → reach files ≤ length before → longest_name files (front ++ before) ≡ longest_name files before
 longest_front [] front before le = refl
 longest_front (file ∷ files) front before le =
-    ap (λ (n : ℕ). max n (longest_name files (front ++ before))) (name_len_more file.1.path.now front before (omega (arith, le)))
-    ∙ ap (max (name_len file.1.path.now before)) (longest_front files front before (omega (arith, le)))
+    ap (λ (n : ℕ). max n (longest_name files (front ++ before))) (name_before_more file front before (omega (arith, le)))
+    ∙ ap (max (name_before file before)) (longest_front files front before (omega (arith, le)))
 
 named_front : (len : ℕ) (files : List File) (front before : List ℕ) → reach files ≤ length before → named_by len files (front ++ before) ≡ named_by len files before
 named_front len [] front before le = refl
 named_front len (file ∷ files) front before le =
     let P : ℕ → List File → List File = λ n rest. cond (nat_eq n len) (file ∷ rest) rest in
-    ap (λ (n : ℕ). P n (named_by len files (front ++ before))) (name_len_more file.1.path.now front before (omega (arith, le)))
-    ∙ ap (P (name_len file.1.path.now before)) (named_front len files front before (omega (arith, le)))
+    ap (λ (n : ℕ). P n (named_by len files (front ++ before))) (name_before_more file front before (omega (arith, le)))
+    ∙ ap (P (name_before file before)) (named_front len files front before (omega (arith, le)))
 
 behind_more : (files : List File) (front before : List ℕ) (n : ℕ) → reach files ≤ length before → found_behind files (front ++ before) n ≡ found_behind files before n
 behind_more files front before n le =

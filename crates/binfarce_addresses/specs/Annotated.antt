@@ -1,13 +1,14 @@
 -- A text in which each address is followed by its symbol, by the function symbols of some files.
-use Rattle.std.specs.Prelude.{◌≡◌, ◌<◌, ℕ, ◌+◌, Bool, List, [], ◌∷◌, ◌++◌, codes, drop, take, flat_map, map, max, nat_eq, Option, Some, None, is_some, Result, Ok, Err, if◌then◌else◌}
+use Rattle.std.specs.Prelude.{◌≡◌, ◌<◌, ℕ, ◌+◌, Bool, ◌&&◌, List, [], ◌∷◌, ◌++◌, codes, drop, take, flat_map, map, max, nat_eq, Option, Some, None, is_some, Result, Ok, Err, if◌then◌else◌}
 use Rattle.std.specs.List.{filter}
 use Rattle.std.specs.Option.{option_or}
 use Rattle.binfarce.specs.Symbol.{Entry}
 use Rattle.binfarce_addresses.specs.Address.{address_of}
 use Rattle.binfarce_addresses.specs.Counts.{AreCountsOf}
 use Rattle.binfarce_addresses.specs.Lines.{IsPlaceOf}
-use Rattle.binfarce_addresses.specs.Lookup.{found_at, found_in, in_64_bits}
-use Rattle.binfarce_addresses.specs.Module.{ends_with_plus, name_len}
+use Rattle.binfarce_addresses.specs.Lookup.{found_at, found_in, has_symbol, in_64_bits}
+use Rattle.binfarce_addresses.specs.Maps.{name_of}
+use Rattle.binfarce_addresses.specs.Module.{ends_with_plus, name_len, names_symbol}
 use Rattle.binfarce_addresses.specs.Word.{address_len}
 use Rattle.binfarce_addresses.specs.declared.counts.Counts.{Counts}
 use Rattle.binfarce_addresses.specs.declared.counts.Reply.{Reply}
@@ -34,14 +35,23 @@ abbrev pub found_among : List File → ℕ → Option (Entry × ℕ)
 found_among [] address = None
 found_among (file ∷ files) address = option_or (found_at file.0 file.1 address) (found_among files address)
 
+-- a function symbol of the file has the name behind the last `/` of its path
+abbrev pub has_own_name : File → Bool
+has_own_name file = has_symbol file.0 (name_of file.1.path.now)
+
+-- how many bytes the name of this file has that comes before an offset, at the end of `before`. 0 where none is there, and where it may be that of a
+-- function of the file
+abbrev pub name_before : File → (before : List ℕ) → ℕ
+name_before file before = if has_own_name file && names_symbol (name_of file.1.path.now) before then 0 else name_len file.1.path.now before
+
 -- how many bytes the longest name of a file has that comes before an offset, at the end of `before`. 0 where no file's name is there
 abbrev pub longest_name : List File → (before : List ℕ) → ℕ
 longest_name [] before = 0
-longest_name (file ∷ files) before = max (name_len file.1.path.now before) (longest_name files before)
+longest_name (file ∷ files) before = max (name_before file before) (longest_name files before)
 
 -- the files whose name there is so long
 abbrev pub named_by : (len : ℕ) → List File → (before : List ℕ) → List File
-named_by len files before = filter (λ (file : File). nat_eq (name_len file.1.path.now before) len) files
+named_by len files before = filter (λ (file : File). nat_eq (name_before file before) len) files
 
 -- what is found at an offset in these files: one file answers, and none of several
 abbrev pub found_in_one : List File → (offset : ℕ) → Result (Option (Entry × ℕ)) Reply

@@ -1,7 +1,8 @@
 -- What an address symbolizes to.
 use Rattle.std.specs.Prelude.{ℕ, ◌+◌, ◌-◌, ◌^◌, Bool, true, false, ◌&&◌, List, ◌++◌, Option, Some, None, nat_lt, if◌then◌else◌}
-use Rattle.std.specs.List.{filter_map}
+use Rattle.std.specs.List.{filter_map, list_any}
 use Rattle.std.specs.Option.{option_map, option_or}
+use Rattle.std.specs.Str.{bytes_eq}
 use Rattle.binfarce.specs.Found.{entry_at}
 use Rattle.binfarce.specs.SectionEntries.{SectionEntry, SelectedSymbols}
 use Rattle.binfarce.specs.Symbol.{Entry}
@@ -24,6 +25,10 @@ with_local_last entries = filter_map other_entry entries ++ filter_map local_ent
 
 abbrev pub places_in : SelectedSymbols → List Entry
 places_in selected = with_local_last selected.entries
+
+-- a function symbol has this name, as it is stored
+abbrev pub has_symbol : List Entry → (name : List ℕ) → Bool
+has_symbol entries name = list_any (λ (entry : Entry). bytes_eq entry.name name) entries
 
 -- the number, if 64 bits hold it
 abbrev pub in_64_bits : ℕ → Option ℕ

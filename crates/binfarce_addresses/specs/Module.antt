@@ -4,10 +4,17 @@ use Rattle.std.proofs.Common.{refl}
 use Rattle.std.specs.List.{ends_with}
 use Rattle.binfarce_addresses.specs.Maps.{name_of}
 
--- a path may begin after this text, or go on: it is empty, or ends with `/`, `[`, a blank, a tab or a line feed
+-- a word may begin after this text: it is empty, or ends with a blank, a tab or a line feed
+abbrev pub may_begin_word : (text : List ℕ) → Bool
+may_begin_word text = nat_eq (length text) 0 || (ends_with nat_eq text (codes " ") || (ends_with nat_eq text (codes "\t") || ends_with nat_eq text (codes "\n")))
+
+-- a path may begin after this text, or go on: a word may, or it ends with `/` or `[`
 abbrev pub may_begin_path : (text : List ℕ) → Bool
-may_begin_path text =
-    nat_eq (length text) 0 || (ends_with nat_eq text (codes "/") || (ends_with nat_eq text (codes "[") || (ends_with nat_eq text (codes " ") || (ends_with nat_eq text (codes "\t") || ends_with nat_eq text (codes "\n")))))
+may_begin_path text = may_begin_word text || (ends_with nat_eq text (codes "/") || ends_with nat_eq text (codes "["))
+
+-- the text ends with this name, as a word by itself
+abbrev pub ends_with_word : (name text : List ℕ) → Bool
+ends_with_word name text = ends_with nat_eq text name && may_begin_word (take (length text - length name) text)
 
 -- the name of a module may begin after this text: a path may, or a parenthesis comes between
 abbrev pub may_begin_name : (text : List ℕ) → Bool
@@ -28,6 +35,10 @@ names_module name text = ends_with_mark name (codes "+") text || (ends_with_mark
 -- how many bytes the name of the file of this path has that is before an offset, which comes after the text: that of the path, or else that of the name behind its last `/`. 0 where neither is there
 abbrev pub name_len : (path text : List ℕ) → ℕ
 name_len path text = if names_module path text then length path else if names_module (name_of path) text then length (name_of path) else 0
+
+-- an offset after the text may be one into a function of this name: the text ends with the name, as a word by itself, and `+`
+abbrev pub names_symbol : (name text : List ℕ) → Bool
+names_symbol name text = ends_with nat_eq text (codes "+") && ends_with_word name (take (length text - 1) text)
 
 -- an offset comes after the text
 abbrev pub ends_with_plus : (text : List ℕ) → Bool
@@ -60,6 +71,26 @@ worked_java = refl
 -- another module, whose name ends alike
 worked_longer : names_module (codes "c.so") (codes "/lib/libc.so(+") ≡ false
 worked_longer = refl
+
+-- by perf, an offset into a function
+worked_perf : names_symbol (codes "main") (codes "            558bcaf8e298 main+") ≡ true
+worked_perf = refl
+
+-- by others, one into the file of that name
+worked_below : names_symbol (codes "main") (codes "./main+") ≡ false
+worked_below = refl
+
+worked_bracket : names_symbol (codes "main") (codes "C  [main+") ≡ false
+worked_bracket = refl
+
+worked_within : names_symbol (codes "main") (codes "(main+") ≡ false
+worked_within = refl
+
+worked_before : names_symbol (codes "main") (codes "main(+") ≡ false
+worked_before = refl
+
+worked_blanks : names_symbol (codes "main") (codes "n/a (main + ") ≡ false
+worked_blanks = refl
 
 -- a path is longer than the name in it
 worked_path : name_len (codes "b/plugin.so") (codes "/x/b/plugin.so(+") ≡ 11

@@ -1,18 +1,20 @@
 //! Annotates the addresses within a text.
 
 ghost use Rattle.std.specs.Prelude.{◌≡◌, ◌++◌, ◌+◌, ◌<◌, ◌≤◌, ℕ, [], List, true, length, IfOk, OnOk};
-ghost use Rattle.binfarce_addresses.specs.Annotated.{AnnotatesAll, IsCounted, IsPieceOf, Piece, files_of, found_among, found_behind, found_by, longest_name};
+ghost use Rattle.binfarce_addresses.specs.Annotated.{AnnotatesAll, IsCounted, IsPieceOf, Piece, at_offset, files_of, found_among, found_behind, found_by, longest_name, name_before};
 ghost use Rattle.binfarce_addresses.specs.Counts.{AreCountsOf};
 ghost use Rattle.binfarce_text.specs.Streams.{Fails};
 ghost use Rattle.binfarce_text.specs.machine.Passing.{WritesAll};
 ghost use Rattle.binfarce_addresses.specs.machine.Annotating.{Annotates, IsFoundBy, IsFoundHere, IsSame, ShowsFirst, ShowsTo, reach};
 ghost use Rattle.binfarce_addresses.specs.machine.Counting.{AddsUp};
+ghost use Rattle.binfarce_addresses.specs.machine.Places.{IsFoundIn, IsNamedAt, IsShownAt};
 
 use crate::address::parse_address;
 use crate::at::Found;
 use crate::counts::{Counts, Reply};
 use crate::digits::push_offset;
-use crate::module::ends_with_plus;
+use crate::maps::name_of;
+use crate::module::{ends_with_plus, name_len, names_symbol};
 use crate::modules::Module;
 use crate::names::Names;
 use crate::stream::CHUNK;
@@ -22,6 +24,7 @@ use binfarce_tools::list::Sink;
 use binfarce_tools::writing::write_whole;
 use std::alloc::{AllocError, Global};
 use std::io::Read;
+use std::marker::Model;
 
 /// Appends the text with ` <name+0x1f>` after each address that a function symbol of these files holds: its readable
 /// name, and the offset of the address into it. An address is `0x` or `0X` and 4 to 16 hexadecimal digits, in upper or
@@ -29,9 +32,11 @@ use std::io::Read;
 /// before or after. The first file with a function symbol that holds it answers. After `+` the number, of 1 to 16 digits,
 /// is an offset, which is looked up only behind a file's name: `NAME+0x1f`, `NAME(+0x1f)` or `NAME + 0x1f`, after `/`,
 /// `[`, a blank, a tab, a line feed or nothing, perhaps with a parenthesis between. NAME is the file's path or what comes
-/// behind its last `/`. The file with the longest name there answers, and none where several have it: also not one that
-/// is given twice. All other bytes stay as they are, and need not be UTF-8. Returns how many addresses there are, how many
-/// were found, and how many are offsets that no file answers for this reason.
+/// behind its last `/`. Where a function symbol of the file has the latter as its stored name, `NAME+0x1f` after a blank,
+/// a tab, a line feed or nothing is an offset into that function, and not behind this file's name. The file with the
+/// longest name there answers, and none where several have it: also not one that is given twice. All other bytes stay as
+/// they are, and need not be UTF-8. Returns how many addresses there are, how many were found, and how many are offsets
+/// that no file answers for this reason.
 ///
 /// # Errors
 ///
@@ -85,7 +90,7 @@ pub fn annotate_stream<R: Read, S: Sink>(
 // The files that addresses are looked up in, with the names that were needed, and what was counted.
 #[derive(Drop)]
 struct Files<'a> {
-    names: Vec<Names<'a, 'a>>,
+    names: Vec<File<'a>>,
     is_bare: bool,
     counts: Counts,
 }
@@ -118,8 +123,78 @@ impl Annotating<'_> {
     }
 }
 
+// A file that addresses are looked up in.
+#[derive(Drop)]
+struct File<'a> {
+    names: Names<'a, 'a>,
+    // Whether one of its functions has its name.
+    is_function: bool,
+}
+
+impl<'a> Model for File<'a> {
+    ghost use Rattle.std.specs.Prelude.{◌≡◌, List};
+    ghost use Rattle.binfarce.specs.Symbol.{Entry};
+    ghost use Rattle.binfarce_addresses.specs.Annotated.{has_own_name};
+    ghost use Rattle.binfarce_addresses.specs.declared.lookup.Lookup.{Lookup};
+
+    ghost Value = { List Entry × Lookup };
+
+    ghost view = { λ s. s.names };
+
+    ghost invariant = { λ s. s.is_function ≡ has_own_name s.names };
+}
+
+impl File<'_> {
+    // How many bytes before an address can matter: the path, and what may come before and after it.
+    fn reach(&self) -> usize
+        ensures { result ≡ length self.now.1.path.now + 5 }
+    {
+        self.names.lookup.path.len() + 5
+    }
+
+    // How many bytes the file's name has that is before an offset, which comes after this text. 0 where none is, and where
+    // it may be that of a function of the file.
+    fn name_before(&self, before: &[u8]) -> usize
+        ensures { result ≡ name_before self.now before.now }
+    {
+        let path = self.names.lookup.path;
+        if self.is_function && names_symbol(name_of(path), before) {
+            return 0;
+        }
+        name_len(path, before)
+    }
+
+    // What is found at an offset from the file's origin.
+    fn find_offset(&self, offset: u64) -> Option<Found>
+        ensures { IsFoundIn self.now.0 self.now.1.is_return (at_offset self.now.1 offset) result }
+    {
+        let lookup = self.names.lookup;
+        let address = offset.checked_add(lookup.origin);
+        self.names.places.find_in(lookup.is_return, address)
+    }
+
+    // What is found at an address.
+    fn find_address(&self, address: u64) -> Option<Found>
+        ensures { IsShownAt self.now.0 self.now.1 address result }
+    {
+        let lookup = self.names.lookup;
+        self.names.places.find_place(lookup, Some(address))
+    }
+
+    // Appends the readable name of the function symbol at a place to the text, and keeps it.
+    fn push_name(&mut self, text: &mut Vec<u8>, place: usize) -> Result<(), AllocError>
+        requires { place < length self.old.0 }
+        ensures name { OnOk result
+            ((name : List ℕ) × IsNamedAt self.old.0 place name
+            × (text.new.items ≡ text.old.items ++ name)) }
+        ensures same { self.new ≡ self.old }
+    {
+        self.names.push_name(text, place)
+    }
+}
+
 // How many bytes before an address can matter: the longest path, and what may come before and after it.
-fn reach_of(names: &[Names<'_, '_>]) -> usize
+fn reach_of(names: &[File<'_>]) -> usize
     ensures { result ≡ reach names.now }
 {
     let mut reach: usize = 5;
@@ -133,7 +208,7 @@ fn reach_of(names: &[Names<'_, '_>]) -> usize
 // What is found for a number that comes after `before`: the place of the file, and what is found there. An error where it
 // isn't asked for, or several files are named.
 fn find_by(
-    names: &[Names<'_, '_>],
+    names: &[File<'_>],
     before: &[u8],
     number: Option<u64>,
 ) -> Result<Option<(usize, Found)>, Reply>
@@ -150,7 +225,7 @@ fn find_by(
 
 // What is found at an offset that comes after `before`.
 fn find_behind(
-    names: &[Names<'_, '_>],
+    names: &[File<'_>],
     before: &[u8],
     offset: u64,
 ) -> Result<Option<(usize, Found)>, Reply>
@@ -162,7 +237,7 @@ fn find_behind(
     }
     let mut here = None;
     for at in 0..names.len() {
-        if names[at].name_len(before) == longest {
+        if names[at].name_before(before) == longest {
             if here.is_some() {
                 return Err(Reply::Unclear);
             }
@@ -179,19 +254,19 @@ fn find_behind(
 }
 
 // How many bytes the longest name of a file has that is before an offset, which comes after `before`. 0 where none is.
-fn longest_name(names: &[Names<'_, '_>], before: &[u8]) -> usize
+fn longest_name(names: &[File<'_>], before: &[u8]) -> usize
     ensures { result ≡ longest_name names.now before.now }
 {
     let mut longest: usize = 0;
     for file in names {
-        let own = file.name_len(before);
+        let own = file.name_before(before);
         longest = longest.max(own);
     }
     longest
 }
 
 // What is found at an address.
-fn find_among(names: &[Names<'_, '_>], address: u64) -> Option<(usize, Found)>
+fn find_among(names: &[File<'_>], address: u64) -> Option<(usize, Found)>
     ensures { IsFoundHere names.now (found_among names.now address) result }
 {
     for at in 0..names.len() {
@@ -213,7 +288,10 @@ fn new_files<'a>(
 {
     let mut names = Vec::new(alloc);
     for module in modules {
-        names.push(Names::with_room(alloc, module.places, module.lookup)?)?;
+        names.push(File {
+            names: Names::with_room(alloc, module.places, module.lookup)?,
+            is_function: module.places.has(name_of(module.lookup.path)),
+        })?;
     }
     let counts = Counts::new();
     Ok(Files {

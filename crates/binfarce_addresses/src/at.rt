@@ -12,7 +12,7 @@ ghost use Rattle.binfarce_tools.specs.declared.SymbolTable.{SymbolTable};
 ghost use Rattle.binfarce_tools.specs.declared.list.ListError.TheVariants.{Write};
 ghost use Rattle.binfarce_tools.specs.Writing.{EndsAs, Takes, Fails, Leaves};
 ghost use Rattle.binfarce.specs.Found.{entry_at};
-ghost use Rattle.binfarce_addresses.specs.Lookup.{entry_for, found_at, is_local, places_in, with_local_last};
+ghost use Rattle.binfarce_addresses.specs.Lookup.{entry_for, found_at, has_symbol, is_local, places_in, with_local_last};
 ghost use Rattle.binfarce_addresses.specs.Counts.{AreCountsOf, answers_at, is_held};
 ghost use Rattle.binfarce_addresses.specs.Lines.{IsLineAt, AreLinesAt, outcome_of};
 ghost use Rattle.binfarce_addresses.specs.PlacesViews.{IsMadeOf};
@@ -138,6 +138,15 @@ impl<'a> Places<'a> {
         ensures { IsAtPlace self.now place (function_view result) }
     {
         self.functions[place]
+    }
+
+    // Whether a function symbol has this name, as it is stored.
+    pub(crate) fn has(&self, name: &[u8]) -> bool
+        ensures { result ≡ has_symbol self.now name.now }
+    {
+        self.functions
+            .iter()
+            .any(|function| function.name.as_bytes() == name)
     }
 
     /// Appends the line of an address to the text: the address, the symbol that it symbolizes to by this lookup, and

@@ -1,7 +1,7 @@
 //! Offsets into modules in a text.
 
 ghost use Rattle.std.specs.Prelude.{◌≡◌, length};
-ghost use Rattle.binfarce_addresses.specs.Module.{ends_with_mark, ends_with_name, ends_with_plus, may_begin_name, may_begin_path, name_len, names_module};
+ghost use Rattle.binfarce_addresses.specs.Module.{ends_with_mark, ends_with_plus, may_begin_name, may_begin_path, may_begin_word, name_len, names_module, names_symbol};
 
 use crate::maps::name_of;
 
@@ -30,6 +30,17 @@ fn names_module(name: &[u8], text: &[u8]) -> bool
         || ends_with_mark(name, b" + ", text)
 }
 
+// Whether an offset after the text may be one into a function of this name.
+pub(crate) fn names_symbol(name: &[u8], text: &[u8]) -> bool
+    ensures { result ≡ names_symbol name.now text.now }
+{
+    if !text.ends_with(b"+") {
+        return false;
+    }
+    let named = &text[..text.len() - 1];
+    named.ends_with(name) && may_begin_word(&named[..named.len() - name.len()])
+}
+
 // Whether an offset comes after the text.
 pub(crate) fn ends_with_plus(text: &[u8]) -> bool
     ensures { result ≡ ends_with_plus text.now }
@@ -41,14 +52,11 @@ pub(crate) fn ends_with_plus(text: &[u8]) -> bool
 fn ends_with_mark(name: &[u8], mark: &[u8], text: &[u8]) -> bool
     ensures { result ≡ ends_with_mark name.now mark.now text.now }
 {
-    text.ends_with(mark) && ends_with_name(name, &text[..text.len() - mark.len()])
-}
-
-// Whether the text ends with the name of this module.
-fn ends_with_name(name: &[u8], text: &[u8]) -> bool
-    ensures { result ≡ ends_with_name name.now text.now }
-{
-    text.ends_with(name) && may_begin_name(&text[..text.len() - name.len()])
+    if !text.ends_with(mark) {
+        return false;
+    }
+    let named = &text[..text.len() - mark.len()];
+    named.ends_with(name) && may_begin_name(&named[..named.len() - name.len()])
 }
 
 // Whether the name of a module may begin after the text.
@@ -62,10 +70,12 @@ fn may_begin_name(text: &[u8]) -> bool
 fn may_begin_path(text: &[u8]) -> bool
     ensures { result ≡ may_begin_path text.now }
 {
-    text.is_empty()
-        || text.ends_with(b"/")
-        || text.ends_with(b"[")
-        || text.ends_with(b" ")
-        || text.ends_with(b"\t")
-        || text.ends_with(b"\n")
+    may_begin_word(text) || text.ends_with(b"/") || text.ends_with(b"[")
+}
+
+// Whether a word may begin after the text.
+fn may_begin_word(text: &[u8]) -> bool
+    ensures { result ≡ may_begin_word text.now }
+{
+    text.is_empty() || text.ends_with(b" ") || text.ends_with(b"\t") || text.ends_with(b"\n")
 }

@@ -4,20 +4,17 @@ ghost use Rattle.std.specs.Prelude.{◌≡◌, ◌<◌, ◌+◌, ◌++◌, [], �
 ghost use Rattle.std.specs.String.{string_bytes};
 ghost use Rattle.binfarce.specs.Symbol.{Entry};
 ghost use Rattle.binfarce_tools.specs.Json.{lines, objects, text_member};
-ghost use Rattle.binfarce_addresses.specs.Annotated.{at_offset};
 ghost use Rattle.binfarce_addresses.specs.Counts.{is_held};
 ghost use Rattle.binfarce_addresses.specs.Lines.{IsLineAt, address_value, symbol_members};
-ghost use Rattle.binfarce_addresses.specs.Module.{name_len};
 ghost use Rattle.binfarce_addresses.specs.Stream.{IsAnswerIn, IsAnswerOf};
 ghost use Rattle.binfarce_addresses.specs.declared.lookup.Lookup.{Lookup};
-ghost use Rattle.binfarce_addresses.specs.machine.Places.{AreKept, IsFoundIn, IsNamedAt, IsShownAt, IsSymbolAt};
+ghost use Rattle.binfarce_addresses.specs.machine.Places.{AreKept, IsNamedAt, IsSymbolAt};
 ghost use Rattle.binfarce_addresses.specs.machine.Answers.{AreAnswersTo, IsAnswerTo, reply_of};
 
 use crate::at::{Found, Places};
 use crate::counts::Reply;
 use crate::digits::{push_address, push_offset};
 use crate::lookup::Lookup;
-use crate::module::name_len;
 use binfarce::demangle::Demangler;
 use binfarce_tools::json::{
     Form, push_address_member, push_number_member, push_start, push_text_member,
@@ -96,36 +93,6 @@ impl<'b, 'a> Names<'b, 'a> {
         ensures { IfOk result (λ n. n ≡ (places.entry.now, lookup.entry)) }
     {
         Names::new(alloc, places, lookup, places.functions.len())
-    }
-
-    // How many bytes before an address can matter: the path, and what may come before and after it.
-    pub(crate) fn reach(&self) -> usize
-        ensures { result ≡ length self.now.1.path.now + 5 }
-    {
-        self.lookup.path.len() + 5
-    }
-
-    // How many bytes the file's name has that is before an offset, which comes after this text. 0 where none is.
-    pub(crate) fn name_len(&self, before: &[u8]) -> usize
-        ensures { result ≡ name_len self.now.1.path.now before.now }
-    {
-        name_len(self.lookup.path, before)
-    }
-
-    // What is found at an offset from the file's origin.
-    pub(crate) fn find_offset(&self, offset: u64) -> Option<Found>
-        ensures { IsFoundIn self.now.0 self.now.1.is_return (at_offset self.now.1 offset) result }
-    {
-        let address = self.lookup.at_offset(offset);
-        self.places.find_in(self.lookup.is_return, address)
-    }
-
-    // What is found at an address.
-    #[inline(always)]
-    pub(crate) fn find_address(&self, address: u64) -> Option<Found>
-        ensures { IsShownAt self.now.0 self.now.1 address result }
-    {
-        self.places.find_place(self.lookup, Some(address))
     }
 
     // The answer to a line with the address, or with none.

@@ -7,7 +7,8 @@ use crate::erased::binfarce_addresses::address::parse_address;
 use crate::erased::binfarce_addresses::at::Found;
 use crate::erased::binfarce_addresses::counts::{Counts, Reply};
 use crate::erased::binfarce_addresses::digits::push_offset;
-use crate::erased::binfarce_addresses::module::ends_with_plus;
+use crate::erased::binfarce_addresses::maps::name_of;
+use crate::erased::binfarce_addresses::module::{ends_with_plus, name_len, names_symbol};
 use crate::erased::binfarce_addresses::modules::Module;
 use crate::erased::binfarce_addresses::names::Names;
 use crate::erased::binfarce_addresses::stream::CHUNK;
@@ -24,9 +25,11 @@ use crate::shim::io::Read;
 /// before or after. The first file with a function symbol that holds it answers. After `+` the number, of 1 to 16 digits,
 /// is an offset, which is looked up only behind a file's name: `NAME+0x1f`, `NAME(+0x1f)` or `NAME + 0x1f`, after `/`,
 /// `[`, a blank, a tab, a line feed or nothing, perhaps with a parenthesis between. NAME is the file's path or what comes
-/// behind its last `/`. The file with the longest name there answers, and none where several have it: also not one that
-/// is given twice. All other bytes stay as they are, and need not be UTF-8. Returns how many addresses there are, how many
-/// were found, and how many are offsets that no file answers for this reason.
+/// behind its last `/`. Where a function symbol of the file has the latter as its stored name, `NAME+0x1f` after a blank,
+/// a tab, a line feed or nothing is an offset into that function, and not behind this file's name. The file with the
+/// longest name there answers, and none where several have it: also not one that is given twice. All other bytes stay as
+/// they are, and need not be UTF-8. Returns how many addresses there are, how many were found, and how many are offsets
+/// that no file answers for this reason.
 ///
 /// # Errors
 ///
@@ -70,7 +73,7 @@ pub fn annotate_stream<R: Read, S: Sink>(
 
 // The files that addresses are looked up in, with the names that were needed, and what was counted.
 struct Files<'a> {
-    names: Vec<Names<'a, 'a>>,
+    names: Vec<File<'a>>,
     is_bare: bool,
     counts: Counts,
 }
@@ -98,8 +101,50 @@ impl Annotating<'_> {
     }
 }
 
+// A file that addresses are looked up in.
+struct File<'a> {
+    names: Names<'a, 'a>,
+    // Whether one of its functions has its name.
+    is_function: bool,
+}
+
+impl File<'_> {
+    // How many bytes before an address can matter: the path, and what may come before and after it.
+    fn reach(&self) -> usize {
+        self.names.lookup.path.len() + 5
+    }
+
+    // How many bytes the file's name has that is before an offset, which comes after this text. 0 where none is, and where
+    // it may be that of a function of the file.
+    fn name_before(&self, before: &[u8]) -> usize {
+        let path = self.names.lookup.path;
+        if self.is_function && names_symbol(name_of(path), before) {
+            return 0;
+        }
+        name_len(path, before)
+    }
+
+    // What is found at an offset from the file's origin.
+    fn find_offset(&self, offset: u64) -> Option<Found> {
+        let lookup = self.names.lookup;
+        let address = offset.checked_add(lookup.origin);
+        self.names.places.find_in(lookup.is_return, address)
+    }
+
+    // What is found at an address.
+    fn find_address(&self, address: u64) -> Option<Found> {
+        let lookup = self.names.lookup;
+        self.names.places.find_place(lookup, Some(address))
+    }
+
+    // Appends the readable name of the function symbol at a place to the text, and keeps it.
+    fn push_name(&mut self, text: &mut Vec<u8>, place: usize) -> Result<(), AllocError> {
+        self.names.push_name(text, place)
+    }
+}
+
 // How many bytes before an address can matter: the longest path, and what may come before and after it.
-fn reach_of(names: &[Names<'_, '_>]) -> usize {
+fn reach_of(names: &[File<'_>]) -> usize {
     let mut reach: usize = 5;
     for file in names {
         let own = file.reach();
@@ -111,7 +156,7 @@ fn reach_of(names: &[Names<'_, '_>]) -> usize {
 // What is found for a number that comes after `before`: the place of the file, and what is found there. An error where it
 // isn't asked for, or several files are named.
 fn find_by(
-    names: &[Names<'_, '_>],
+    names: &[File<'_>],
     before: &[u8],
     number: Option<u64>,
 ) -> Result<Option<(usize, Found)>, Reply> {
@@ -126,7 +171,7 @@ fn find_by(
 
 // What is found at an offset that comes after `before`.
 fn find_behind(
-    names: &[Names<'_, '_>],
+    names: &[File<'_>],
     before: &[u8],
     offset: u64,
 ) -> Result<Option<(usize, Found)>, Reply> {
@@ -136,7 +181,7 @@ fn find_behind(
     }
     let mut here = None;
     for at in 0..names.len() {
-        if names[at].name_len(before) == longest {
+        if names[at].name_before(before) == longest {
             if here.is_some() {
                 return Err(Reply::Unclear);
             }
@@ -153,17 +198,17 @@ fn find_behind(
 }
 
 // How many bytes the longest name of a file has that is before an offset, which comes after `before`. 0 where none is.
-fn longest_name(names: &[Names<'_, '_>], before: &[u8]) -> usize {
+fn longest_name(names: &[File<'_>], before: &[u8]) -> usize {
     let mut longest: usize = 0;
     for file in names {
-        let own = file.name_len(before);
+        let own = file.name_before(before);
         longest = longest.max(own);
     }
     longest
 }
 
 // What is found at an address.
-fn find_among(names: &[Names<'_, '_>], address: u64) -> Option<(usize, Found)> {
+fn find_among(names: &[File<'_>], address: u64) -> Option<(usize, Found)> {
     for at in 0..names.len() {
         if let Some(found) = names[at].find_address(address) {
             return Some((at, found));
@@ -180,7 +225,10 @@ fn new_files<'a>(
 ) -> Result<Files<'a>, AllocError> {
     let mut names = Vec::new(alloc);
     for module in modules {
-        names.push(Names::with_room(alloc, module.places, module.lookup)?)?;
+        names.push(File {
+            names: Names::with_room(alloc, module.places, module.lookup)?,
+            is_function: module.places.has(name_of(module.lookup.path)),
+        })?;
     }
     let counts = Counts::new();
     Ok(Files {

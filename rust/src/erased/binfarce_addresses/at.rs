@@ -92,6 +92,13 @@ impl<'a> Places<'a> {
         self.functions[place]
     }
 
+    // Whether a function symbol has this name, as it is stored.
+    pub(crate) fn has(&self, name: &[u8]) -> bool {
+        self.functions
+            .iter()
+            .any(|function| function.name.as_bytes() == name)
+    }
+
     /// Appends the line of an address to the text: the address, the symbol that it symbolizes to by this lookup, and
     /// the offset of the address into it; or `??` where there is none. Returns whether there is one.
     ///

@@ -21,7 +21,7 @@ pub struct Lookup<'a> {
     /// How the answers are written. Objects don't have the section.
     pub form: Form<'a>,
     /// The file's path in a text. An offset after it, or after the name behind its last `/`, is one from the origin:
-    /// `path+0x1f`.
+    /// `path+0x1f`; but not where it may be one into a function of the file that has this name (`push_annotated`).
     pub path: &'a [u8],
 }
 
@@ -32,10 +32,5 @@ impl Lookup<'_> {
             Some(base) => address.checked_sub(base)?.checked_add(self.linked),
             None => Some(address),
         }
-    }
-
-    /// The address in the file of an offset from its origin. `None` past 64 bits.
-    pub(crate) fn at_offset(self, offset: u64) -> Option<u64> {
-        offset.checked_add(self.origin)
     }
 }

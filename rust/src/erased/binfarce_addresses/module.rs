@@ -25,6 +25,15 @@ fn names_module(name: &[u8], text: &[u8]) -> bool {
         || ends_with_mark(name, b" + ", text)
 }
 
+// Whether an offset after the text may be one into a function of this name.
+pub(crate) fn names_symbol(name: &[u8], text: &[u8]) -> bool {
+    if !text.ends_with(b"+") {
+        return false;
+    }
+    let named = &text[..text.len() - 1];
+    named.ends_with(name) && may_begin_word(&named[..named.len() - name.len()])
+}
+
 // Whether an offset comes after the text.
 pub(crate) fn ends_with_plus(text: &[u8]) -> bool {
     text.ends_with(b"+") || text.ends_with(b"+ ")
@@ -32,12 +41,11 @@ pub(crate) fn ends_with_plus(text: &[u8]) -> bool {
 
 // Whether the text ends with the name of this module, and a mark.
 fn ends_with_mark(name: &[u8], mark: &[u8], text: &[u8]) -> bool {
-    text.ends_with(mark) && ends_with_name(name, &text[..text.len() - mark.len()])
-}
-
-// Whether the text ends with the name of this module.
-fn ends_with_name(name: &[u8], text: &[u8]) -> bool {
-    text.ends_with(name) && may_begin_name(&text[..text.len() - name.len()])
+    if !text.ends_with(mark) {
+        return false;
+    }
+    let named = &text[..text.len() - mark.len()];
+    named.ends_with(name) && may_begin_name(&named[..named.len() - name.len()])
 }
 
 // Whether the name of a module may begin after the text.
@@ -47,10 +55,10 @@ fn may_begin_name(text: &[u8]) -> bool {
 
 // Whether a path may begin after the text, or go on.
 fn may_begin_path(text: &[u8]) -> bool {
-    text.is_empty()
-        || text.ends_with(b"/")
-        || text.ends_with(b"[")
-        || text.ends_with(b" ")
-        || text.ends_with(b"\t")
-        || text.ends_with(b"\n")
+    may_begin_word(text) || text.ends_with(b"/") || text.ends_with(b"[")
+}
+
+// Whether a word may begin after the text.
+fn may_begin_word(text: &[u8]) -> bool {
+    text.is_empty() || text.ends_with(b" ") || text.ends_with(b"\t") || text.ends_with(b"\n")
 }

@@ -7,7 +7,6 @@ use crate::erased::binfarce_addresses::at::{Found, Places};
 use crate::erased::binfarce_addresses::counts::Reply;
 use crate::erased::binfarce_addresses::digits::{push_address, push_offset};
 use crate::erased::binfarce_addresses::lookup::Lookup;
-use crate::erased::binfarce_addresses::module::name_len;
 use crate::erased::binfarce::demangle::Demangler;
 use crate::erased::binfarce_tools::json::{
     Form, push_address_member, push_number_member, push_start, push_text_member,
@@ -70,28 +69,6 @@ impl<'b, 'a> Names<'b, 'a> {
         lookup: Lookup<'b>,
     ) -> Result<Names<'b, 'a>, AllocError> {
         Names::new(alloc, places, lookup, places.functions.len())
-    }
-
-    // How many bytes before an address can matter: the path, and what may come before and after it.
-    pub(crate) fn reach(&self) -> usize {
-        self.lookup.path.len() + 5
-    }
-
-    // How many bytes the file's name has that is before an offset, which comes after this text. 0 where none is.
-    pub(crate) fn name_len(&self, before: &[u8]) -> usize {
-        name_len(self.lookup.path, before)
-    }
-
-    // What is found at an offset from the file's origin.
-    pub(crate) fn find_offset(&self, offset: u64) -> Option<Found> {
-        let address = self.lookup.at_offset(offset);
-        self.places.find_in(self.lookup.is_return, address)
-    }
-
-    // What is found at an address.
-    #[cfg_attr(not(debug_assertions), inline(always))]
-    pub(crate) fn find_address(&self, address: u64) -> Option<Found> {
-        self.places.find_place(self.lookup, Some(address))
     }
 
     // The answer to a line with the address, or with none.

@@ -3,11 +3,11 @@ use Rattle.binfarce_addresses.specs.Annotated.{at_offset}
 use Rattle.binfarce_addresses.specs.machine.Places.{IsFoundIn}
 use Rattle.binfarce_addresses.proofs.Among.{IsOnly, one_found, only_first, only_other, only_second}
 use Rattle.binfarce_addresses.proofs.annotate.find_behind.Goals as goal
-use Rattle.binfarce_addresses.proofs.annotate.find_behind.Goals.{then-name_len-longest+else-is_some, else-name_len-longest}
+use Rattle.binfarce_addresses.proofs.annotate.find_behind.Goals.{then-name_before-longest+else-is_some, else-name_before-longest}
 
 pub returns-then-is_some : goal.returns-then-is_some
 returns-then-is_some c =
-    only_second c.args.names.now c.args.before.now c.args.offset c.longest_name-longest.result c.name_len.result c.loop-at.at c.loop-at.here c.index-names-at.result _ c.longest_name-longest.ensures c.if-longest-eq0.false c.loop-at-test.true c.index-names-at.is c.name_len.ensures c.if-name_len-longest.true
+    only_second c.args.names.now c.args.before.now c.args.offset c.longest_name-longest.result c.name_before.result c.loop-at.at c.loop-at.here c.index-names-at.result _ c.longest_name-longest.ensures c.if-longest-eq0.false c.loop-at-test.true c.index-names-at.is c.name_before.ensures c.if-name_before-longest.true
     (sym c.is_some.ensures ∙ c.if-is_some.true) c.loop-at.invariant
 
 pub loop-at-preserved : goal.loop-at-preserved
@@ -15,11 +15,11 @@ loop-at-preserved c =
     let files = c.args.names.now in
     let before = c.args.before.now in
     let longest = c.longest_name-longest.result in
-    elim c.if-name_len-longest.branch [
-      | then-name_len-longest+else-is_some w ↦
-          only_first longest c.name_len.result files before c.loop-at.at c.loop-at.here c.if-name_len-longest.here c.index-names-at.result _ c.loop-at-test.true c.index-names-at.is c.name_len.ensures w.if-name_len-longest.true (sym w.is_some.ensures ∙ w.if-is_some.false) w.here-is c.loop-at.invariant
-      | else-name_len-longest w ↦
-          only_other longest c.name_len.result files before c.loop-at.at c.loop-at.here c.if-name_len-longest.here c.index-names-at.result _ c.loop-at-test.true c.index-names-at.is c.name_len.ensures w.if-name_len-longest.false w.here-is c.loop-at.invariant
+    elim c.if-name_before-longest.branch [
+      | then-name_before-longest+else-is_some w ↦
+          only_first longest c.name_before.result files before c.loop-at.at c.loop-at.here c.if-name_before-longest.here c.index-names-at.result _ c.loop-at-test.true c.index-names-at.is c.name_before.ensures w.if-name_before-longest.true (sym w.is_some.ensures ∙ w.if-is_some.false) w.here-is c.loop-at.invariant
+      | else-name_before-longest w ↦
+          only_other longest c.name_before.result files before c.loop-at.at c.loop-at.here c.if-name_before-longest.here c.index-names-at.result _ c.loop-at-test.true c.index-names-at.is c.name_before.ensures w.if-name_before-longest.false w.here-is c.loop-at.invariant
     ]
 
 pub returns-in-Some-find_offset : goal.returns-in-Some-find_offset

@@ -115,7 +115,7 @@ unknown, ended, unread, exhausted = "unknown file format", "unexpected end of fi
 no_section = "no such section; binfarce section lists those of an ELF file; in others .text is the code"
 nameless = "have no crate, as those of C, C++ and assembly; --by=function shows whose they are"
 lacks, not_there, is_folder = "symbols section is missing", "No such file or directory", "Is a directory"
-is_text = "a text; `binfarce filter <FILE` shows it with readable names"
+is_text, is_empty = "a text; `binfarce filter <FILE` shows it with readable names", "an empty file"
 for command, output in outputs.items():
     program = f"binfarce-{command}"
     fails(f"{program}: write failed", 1, f"{program}: write failed", program, sample)
@@ -144,7 +144,7 @@ for command, output in outputs.items():
     fails(full, 0, "", *call, sample)
     reads(output, *call)
     ends(0, output, "", *call, "--", "-", given=sample)
-    for path, line in ((scratch, is_folder), (missing, not_there), (of_sys, is_text), ("/dev/null", unknown), ("/dev/zero", unknown)):
+    for path, line in ((scratch, is_folder), (missing, not_there), (of_sys, is_text), ("/dev/null", is_empty), ("/dev/zero", unknown)):
         ends(1, "", f"binfarce: {path}: {line}", *call, path)
     usage = printed(folder / "binfarce", command, "--help")
     ends(0, usage, "", "binfarce", "help", command)
@@ -161,7 +161,7 @@ for command, output in outputs.items():
         ends(1, f"{shown}\n{blanks}:\n{output}", "binfarce: argument 3: not UTF-8", *call, sample, b"\xff" * 9_000, blanks)
         ends(1, '{"file":"argument 3","error":"not UTF-8"}\n', "binfarce: argument 3: not UTF-8", *call, "--json", b"\xff")
         for error, line in ((errno.EIO, "Input/output error"), (errno.ENOMEM, exhausted)):
-            lines, under = f"binfarce: /dev/null: {unknown}\nbinfarce: {sample}: {line}", broken(READ=4, PREADS=0, ERROR=error)
+            lines, under = f"binfarce: /dev/null: {is_empty}\nbinfarce: {sample}: {line}", broken(READ=4, PREADS=0, ERROR=error)
             ends(1, "", lines, *call, "/dev/null", sample, under=under)
 # Where so many bytes are taken of the output, and then none, it ends with those; of these lines it has written the first.
 shown, lines = f"\n{sample}:\n{outputs['list']}" * 2, f"{lost}\nbinfarce: {begun}: {ended}\n"
@@ -227,7 +227,7 @@ ends(0, b"at 0x1000\n", none, *base, "--annotate", given=b"at 0x1000\n")
 ends(0, f"{0x1000:016x} ??\n{0x1005:016x} ??\n", missed, *base, given=b"1000\n1005\n")
 none_found = f"{{\"file\":\"{sample}\",\"address\":\"0x{0x1000:016x}\",\"name\":null,\"offset\":null}}\n"
 ends(0, none_found, none, *base, "--json", "1000")
-ends(0, f"{0x2000:016x} ??\n", f"binfarce: {sample}: 0 of 1 addresses are in a function symbol; where the file was loaded, --base or --maps is needed", *at, sample, "2000")
+ends(0, f"{0x2000:016x} ??\n", f"binfarce: {sample}: 0 of 1 addresses are in a function symbol; --base or --maps is needed for addresses in memory", *at, sample, "2000")
 ends(0, b"at 1000\n", "binfarce: standard input: no address in the text; --bare takes those without 0x, too", *base, "--annotate", given=b"at 1000\n")
 ends(0, "", "", *base, "--annotate", given=b"")
 answers(f"{0x1000:016x} foo+0x0\n", b"1000\n", "at", "--section=.text", sample)
@@ -239,7 +239,7 @@ pathlib.Path(maps).write_text(text)
 mapped, renamed = (*at, sample, "--maps", maps), (*at, sample, f"--maps={maps}", "--as=/lib/other")
 ends(0, f"{0x401005:016x} foo+0x5\n", "", *mapped, "401005")
 ends(0, f"{0x7f0000002005:016x} foo+0x5\n", "", *renamed, "7f0000002005")
-unmapped = "no file named as {} in the maps; --as=NAME takes another name"
+unmapped = "the maps have no file {}; --as=NAME takes another name"
 for path, sought in (("sampl", "sampl"), ("a/sampl", "a/sampl or sampl")):
     ends(1, "", f"binfarce: {sample}: {unmapped.format(sought)}", *mapped, f"--as={path}", "401005")
 ends(2, "", f"binfarce: no line of {sample} is one of /proc/PID/maps", *at, sample, "--maps", sample, "401005")
@@ -256,9 +256,18 @@ ends(2, "", "binfarce: --as comes once for each file, in their order, or not at 
 # A file that is refused doesn't keep the others from answering; where each is, nothing is written.
 ends(1, "0x401005 0x7f0000001005 other.so+0x1005 <foo+0x5> x/other.so(+0x1005 <foo+0x5>) 0x1005 <foo+0x5> libother.so+0x1005\n", lost, *several, missing, given=both)
 ends(1, "", lost, *at, "--annotate", missing, given=both)
-others = "binfarce: standard input: no address in the text, and offsets ({}) only behind other names; --as=NAME takes one of these"
+others = "binfarce: standard input: offsets ({}) behind other names than the file's; --as=NAME takes those behind one of these"
 ends(0, b"libother.so+0x1005 main+0x1f2e\n", others.format(2), *several, given=b"libother.so+0x1005 main+0x1f2e\n")
-ends(0, b"0x3\n0x3000\n", f"binfarce: {sample}, {other}: 0 of 1 addresses are in a function symbol; where the file was loaded, --base or --maps is needed", *several, given=b"0x3\n0x3000\n")
+# Behind a name that a function of the file has, too, a word `main+0x12` is an offset into the function, as perf writes it; others are in the file.
+own = (*at, "--annotate", assembled("own", 32, ("main", 0, 16), ("big", 16, 16)), "--as=x/main")
+perf = b"main 12 1.5: 1 cycles:\n\t    558bcaf8e298 main+0x12 (/x/main)\nmain+0x12\tmain+0x12\n"
+ends(0, perf, others.format(3), *own, given=perf)
+ends(0, b"main+0x12", others.format(1), *own, given=b"main+0x12")
+in_file = "[main+0x12] ./main+0x12 (/tmp/main+0x12) main(+0x12) (main + 0x12) (main+0x12) x/main+0x12 main + 0x12 "
+ends(0, in_file.replace("0x12", "0x12 <big+0x2>") + "main+0x12\n", "", *own, given=f"{in_file}main+0x12\n".encode())
+ends(0, b"other+0x12 <big+0x2> main+0x12\n", "", *own[:-1], "--as=other", given=b"other+0x12 main+0x12\n")
+ends(0, b"main+0x1005 <foo+0x5> b/main+0x12 <big+0x2>\n", "", *own[:-1], sample, "--as=b/main", "--as=a/main", given=b"main+0x1005 b/main+0x12\n")
+ends(0, b"0x3\n0x3000\n", f"binfarce: {sample}, {other}: 0 of 1 addresses are in a function symbol; --base or --maps is needed for addresses in memory", *several, given=b"0x3\n0x3000\n")
 # Of files of one name that one answers an offset whose path is before it; where only the name is, or a file is given twice, none does.
 twin, alike = f"{scratch}/twin.so", "binfarce: standard input: offsets ({}) behind a name that several files have; --as=PATH tells them apart"
 pathlib.Path(twin).write_bytes(data.replace(b"_ZN3foo3barE", b"_ZN3baz3barE"))
@@ -267,7 +276,7 @@ noted = twins.replace(b"(+0x1005", b"(+0x1005 <baz+0x5>").replace(b" a/p.so+0x10
 ends(0, noted, alike.format(2), *several[:-1], twin, "--as=a/p.so", "--as=b/p.so", given=twins)
 ends(0, noted.replace(b"x/b", b"/b"), alike.format(2), *several[:-1], twin, "--as=a/p.so", "--as=/b/p.so", given=twins.replace(b"x/b", b"/b"))
 ends(0, b"other.so+0x1005\n", alike.format(1), *several[:-2], other, other, given=b"other.so+0x1005\n")
-ends(0, b"p.so+0x1 0x3000\n", f"{alike.format(1)}\nbinfarce: {sample}, {twin}: 0 of 1 addresses are in a function symbol; where the file was loaded, --base or --maps is needed",
+ends(0, b"p.so+0x1 0x3000\n", f"{alike.format(1)}\nbinfarce: {sample}, {twin}: 0 of 1 addresses are in a function symbol; --base or --maps is needed for addresses in memory",
     *several[:-1], twin, "--as=a/p.so", "--as=b/p.so", given=b"p.so+0x1 0x3000\n")
 # One that the maps don't place is refused, too, unless they are none; lines of a log have its own words before a mapping, as a date, and carriage returns.
 log = "".join(f"11-29 05:55:01.123 12345 12346 I app: {it}\r\n" for it in text.splitlines()) + f"pc 0x401005 {os.path.basename(sample)}+0x5\n"
@@ -360,7 +369,7 @@ for option in ((), ("--all",)):
     ends(1, "", shared, "binfarce", "at", *option, file, given=b"2\n")
 
 # Hints, beside a result and beside a refusal.
-hint = f"binfarce: {file}: no function symbols in the section; --all takes 3 of other sections"
+hint = f"binfarce: {file}: no function symbols in the section; --all takes 3"
 for command, output in (("list", "text 0\n"), ("size", "sum 0\ntext 0\n")):
     ends(0, output, hint, "binfarce", command, file)
 # Of files without a function symbol: an object file, a program by its dynamic symbols, a Mach-O and a PE file without symbols.
@@ -381,6 +390,7 @@ ends(0, f"{1:016x} ??\n", f"binfarce: {program}: no function symbols in .dynsym"
 # What no reader reads is refused by every command, by its first bytes, also from a pipe that doesn't end, and as a JSON object.
 thumb, wrapped = b"\xc4\1\1" + bytes(17), b"\xde\xc0\x17\x0b"
 universal, is_32, is_java = "a universal Mach-O file; `lipo -thin ARCHITECTURE FILE` extracts a part", "a Mach-O file of 32 bits; those of 64 are read", "a Java class file; `javap -v FILE` shows it"
+has_many = "an ELF file of 65,280 sections or more; `readelf -SW FILE` lists them"
 is_coff, is_bitcode = "a COFF object file; the PE file that it is linked into is read", "LLVM bitcode; the file that it is linked into is read"
 foreign = [(universal, b"\xca\xfe\xba\xbe\0\0\0\2"), (universal, b"\xca\xfe\xba\xbe\0\0\0\x2c"), (universal, b"\xca\xfe\xba\xbf\0\0\0\1"),
            (is_java, b"\xca\xfe\xba\xbe\0\0\0\x2d"), (is_java, b"\xca\xfe\xba\xbe\0\1\0\0"), (is_32, b"\xce\xfa\xed\xfe"), (is_32, b"\xfe\xed\xfa\xce"),
@@ -391,6 +401,7 @@ foreign = [(universal, b"\xca\xfe\xba\xbe\0\0\0\2"), (universal, b"\xca\xfe\xba\
            ("a PDB file; `llvm-pdbutil dump --publics FILE` shows its symbols", b"Microsoft C/C++ MSF 7.00\r\n\x1aDS"),
            ("a WebAssembly module; `wasm-objdump -x FILE` shows it", b"\0asm\1"), (is_bitcode, b"BC\xc0\xde"), (is_bitcode, wrapped),
            ("a script; its first line names the program that runs it", b"#!/bin/sh\n"),
+           (has_many, bytes(data[:60]) + bytes(4)), (has_many, b"\x7fELF\1\2\1" + bytes(25) + b"\0\0\0\x34"),
            (unknown, thumb[:16] + b"\1"), (unknown, b"a text that isn't one\n")]
 calls = [it.split() for it in ("list", "list --all", "list --dynamic --json", "size", "size --by=section", "size --all --json", "map", "map --folded --all",
                                "at --all {} 1", "section", "section {} .text", "section --json", f"diff {{}} {sample}", f"diff --json {sample}")]
@@ -455,7 +466,7 @@ for count, sums in ((None, "120 .symtab|33 .shstrtab|32 .text|18 .strtab"), ("2"
     lines = "".join(f"{size:>10} {0:10} {name}\n" for size, name in sums)
     ends(0, lines + "sum 587\n", "", "binfarce", "size", "--by=section", *(["-n", count] if count else []), sample)
 for word, *words in (("--std", "size", "--std", old), ("--all", "size", "--all", old), ("--percent", "size", "--percent", old), ("--dynamic", "diff", "--dynamic", old, new)):
-    ends(2, "", f"binfarce: {word} is for functions, as --by=function-section; --by=section is not", "binfarce", *words, "--by=section")
+    ends(2, "", f"binfarce: {word} goes with --by=function-section, and not with --by=section", "binfarce", *words, "--by=section")
 # How they change, from readelf's rows: the bytes of each section in the file and in memory, and what is left of the file.
 def sections_of(path):
     rows = re.findall(r"\[ *[1-9]\d*\] (\S+) +(\w+) +\w+ +\w+ +(\w+) +\w+ (.*)", printed("readelf", "-SW", path))
@@ -473,7 +484,7 @@ ends(0, changed([*differ, whole]), "", "binfarce", "diff", "--by=section", old, 
 others = (f"[{len(differ) - 1} others]", *(sum(it[k] for it in differ[1:]) for k in (1, 2, 3, 4)))
 ends(0, changed([differ[0], others, whole]), "", "binfarce", "diff", "--by=section", "-n", "1", old, new)
 for *paths, lines in ((missing, of_sys, f"{lost}\nbinfarce: {of_sys}: {is_text}"), (of_sys, missing, f"binfarce: {of_sys}: {is_text}\n{lost}"),
-                      (byte, "/dev/null", f"binfarce: {byte}: {unknown}\nbinfarce: /dev/null: {unknown}")):
+                      (byte, "/dev/zero", f"binfarce: {byte}: {unknown}\nbinfarce: /dev/zero: {unknown}")):
     ends(1, "", lines, "binfarce", "diff", "--by=section", *paths)
 
 # The changes of these sums, and a limit for their growth.
@@ -483,20 +494,25 @@ for words, percent in (((), "{0:.0}"), (("--percent",), "{0:>10} ")):
     ends(0, lines, "", "binfarce", "diff", *words, "--fail-above=0", old, new)
 lines = f"{0:10} {9:10} {'+9':>11} b\n{32:10} {26:10} {'-6':>11} [2 others]\n{36:10} {39:10} {'+3':>11} [total]\n"
 for limit, status in (("3", 0), ("2", 3), ("9%", 0), ("8%", 3)):
-    line = f"binfarce: {old}: the sum grew by 3 bytes, and --fail-above allows {limit}" if status else ""
+    line = f"binfarce: {old}: grew by 3 bytes, and --fail-above allows {limit}" if status else ""
     ends(status, lines, line, "binfarce", "diff", "-n", "1", "--fail-above", limit, new, old)
+# Without function symbols there is no growth, which a line says; and a reader that closes the output leaves the verdict unknown.
+line = f"binfarce: {old}: no function symbols in the section; --all takes 6"
+ends(0, f"{0:10} {0:10} {'+0':>11} [total]\n", f"{line}\n{line}", "binfarce", "diff", "--fail-above=0", "--section=.data", old, old)
+for words in (("size", "--fail-above=1000", old), ("diff", "--fail-above=0", old, new), ("diff", "--by=section", "--fail-above=0", old, new)):
+    fails(full, 1, "binfarce: standard output: Broken pipe", "binfarce", *words)
 # A limit for the sums themselves: of two files, one is above it.
-line = f"binfarce: {old}: the sum is 39 bytes, and --fail-above allows 38"
+line = f"binfarce: {old}: has 39 bytes, and --fail-above allows 38"
 ends(0, printed(folder / "binfarce", "size", old), "", "binfarce", "size", "--fail-above=39", old)
 ends(3, printed(folder / "binfarce", "size", old, new), line, "binfarce", "size", "--fail-above=38", old, new)
-ends(3, printed(folder / "binfarce", "size", "--by=section", sample), f"binfarce: {sample}: the sum is 587 bytes, and --fail-above allows 586",
+ends(3, printed(folder / "binfarce", "size", "--by=section", sample), f"binfarce: {sample}: has 587 bytes, and --fail-above allows 586",
      "binfarce", "size", "--by=section", "--fail-above=586", sample)
 for line, *words in (("--fail-above=2% is for diff; size takes a number of bytes", "size", "--fail-above=2%", old), ("--folded and --first exclude each other", "map", "--folded", "-n2", old),
                      ("--fail-above takes a number of bytes, or of per cent as 2%, and not 2.5%", "diff", "--fail-above=2.5%", old, new)):
     ends(2, "", f"binfarce: {line}", "binfarce", *words)
 # Both files that are refused are reported, in their order.
-for *paths, lines in ((missing, of_sys, f"{lost}\nbinfarce: {of_sys}: {is_text}"), ("/dev/null", missing, f"{lost}\nbinfarce: /dev/null: {unknown}"),
-                      ("/dev/null", byte, f"binfarce: /dev/null: {unknown}\nbinfarce: {byte}: {unknown}")):
+for *paths, lines in ((missing, of_sys, f"{lost}\nbinfarce: {of_sys}: {is_text}"), ("/dev/null", missing, f"binfarce: /dev/null: {is_empty}\n{lost}"),
+                      ("/dev/null", byte, f"binfarce: /dev/null: {is_empty}\nbinfarce: {byte}: {unknown}")):
     ends(1, "", lines, "binfarce", "diff", *paths)
 for line, path in ((lost, missing), (f"binfarce: {of_sys}: {is_text}", of_sys)):
     ends(1, "", line, "binfarce", "diff", old, path)

@@ -246,7 +246,7 @@ fn a_file_that_no_reader_reads_is_refused_with_what_it_is() {
         // Of a text only these bytes are looked at.
         ([&text[..], b"\0"].concat(), "a text;"),
         ([&text[1..], b"\0"].concat(), "unknown file format"),
-        (Vec::new(), "unknown file format"),
+        (Vec::new(), "an empty file"),
         (vec![0; 64], "unknown file format"),
     ];
     for (file, words) in files {

@@ -1,5 +1,5 @@
 -- The program's exit status.
-use Rattle.std.specs.Prelude.{ℕ, Bool, true, false, Option, Some, None, Result, Ok, Err, if◌then◌else◌}
+use Rattle.std.specs.Prelude.{ℕ, Bool, true, false, ◌&&◌, not, Option, Some, None, Result, Ok, Err, if◌then◌else◌}
 use Rattle.std.specs.declared.io.ErrorKind.{ErrorKind}
 use Rattle.std.specs.declared.io.ErrorKind.TheVariants.{BrokenPipe}
 use Rattle.binfarce_jobs.specs.declared.fault.Fault.{Fault}
@@ -19,9 +19,9 @@ is_broken_pipe None = false
 is_broken_pipe (Some BrokenPipe) = true
 is_broken_pipe (Some kind) = false
 
--- 0 where a write failed because the reader of the output has closed it, and 1 for another reason
-abbrev pub write_status : Option ErrorKind → ℕ
-write_status reason = if is_broken_pipe reason then 0 else 1
+-- 0 where a write failed because the reader of the output has closed it, and 1 for another reason, or where sums have a limit: they aren't all known then
+abbrev pub write_status : (has_limit : Bool) → Option ErrorKind → ℕ
+write_status has_limit reason = if is_broken_pipe reason && not has_limit then 0 else 1
 
 -- 2 for lines without an address, and 1 for any other fault
 abbrev pub fault_status : Fault → ℕ
@@ -29,7 +29,7 @@ fault_status (Missing count) = 2
 fault_status fault = 1
 
 -- the status of work that is done, or done except for files that were refused, or that ended early: 3 where all is done and a sum is above its limit; the reason is that of a failed write
-abbrev pub status_of : Result Bool Fault → (is_above : Bool) → Option ErrorKind → ℕ
-status_of (Ok true) is_above reason = if is_above then 3 else 0
-status_of (Ok false) is_above reason = 1
-status_of (Err fault) is_above reason = if is_write fault then write_status reason else fault_status fault
+abbrev pub status_of : Result Bool Fault → (is_above has_limit : Bool) → Option ErrorKind → ℕ
+status_of (Ok true) is_above has_limit reason = if is_above then 3 else 0
+status_of (Ok false) is_above has_limit reason = 1
+status_of (Err fault) is_above has_limit reason = if is_write fault then write_status has_limit reason else fault_status fault

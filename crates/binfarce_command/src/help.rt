@@ -26,7 +26,7 @@ usage: binfarce COMMAND [OPTION..] ..
 
 `--` ends the options, and `-` as a FILE is standard input. Status: 0; 1 if a file
 was refused, a read or a write failed, or memory ran out; 2 for a wrong call, or for
-lines without an address; 3 where a sum is above --fail-above.
+lines without an address; 3 where a sum or its growth is above --fail-above.
 ";
 
 const LIST: &str = "\
@@ -59,7 +59,8 @@ several function symbols have counts once, for the innermost.
   --std            the crates of Rust's standard library as one, [std]
   --percent        each sum's share of the section, or of the sum of all sections
   -n N, --first=N  the N largest sums, and one of all others
-  --fail-above=N   status 3 where the sum of all is more than N bytes
+  --fail-above=N   status 3 where the sum of all, by section the size of the file,
+                   is more than N bytes
   --json           each sum as a JSON object, and one of the sum of all
 ";
 
@@ -109,15 +110,17 @@ Writes a line for each address: the function symbol that holds it, and the offse
 it. Without an ADDRESS the addresses are the lines of standard input.
 
   --return         the addresses are return addresses, as RUST_BACKTRACE=full prints:
-                   the call before each is looked up
+                   the call before each is looked up; not for the instruction that
+                   crashed, nor for what a sanitizer prints
   --annotate       copies standard input, with <name+0x1f> after each address in it,
                    which is 0x and 4 to 16 digits, or an offset in FILE: FILE+0x1f2e;
                    of several files the first that has the address names it
   --bare           with --annotate: words of 8 to 16 digits without 0x, too
-  --base=ADDRESS   where the file is loaded; without it addresses are the file's own
-  --maps=MAPS      takes the base from a copy of /proc/PID/maps; - is standard input,
+  --base=ADDRESS   where the file is loaded: where its first mapping begins; without it
+                   addresses are the file's own
+  --maps=FILE      takes the base from a copy of /proc/PID/maps; - is standard input,
                    with --annotate the text itself, which is then read to its end
-  --as=NAME        the file's name or path in MAPS and in a text
+  --as=NAME        the file's name or path in the maps and in a text
                    (of several files --base and --as come once for each, in order)
   --dynamic        by the dynamic symbol table of an ELF file (.dynsym)
   --section=NAME   the symbols of a section of an ELF file; of Mach-O and PE files

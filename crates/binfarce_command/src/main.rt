@@ -148,7 +148,8 @@ fn run<'a>(rt: &HostRuntime, words: &'a [String]) -> Result<u8, Wrong<'a>> {
             return Err(Wrong::NotMaps(given.value(Maps).unwrap_or("")));
         }
     }
-    Ok(ended(rt, done, is_above, out.into_parts().1))
+    let has_limit = matches!(&call, Call::Run(_, given) if given.has(Flag::FailAbove));
+    Ok(ended(rt, done, is_above, has_limit, out.into_parts().1))
 }
 
 // The first operand.
@@ -293,8 +294,11 @@ impl<'a, W: Write> Work<'a, '_, W> {
             return Ok(false);
         };
         let form = form_of(given, paths.1);
-        match diff(alloc, old, new, &figures_of(given), form, self.out) {
+        let (before, after) = (&old.tables, &new.tables);
+        match diff(alloc, before, after, &figures_of(given), form, self.out) {
             Ok(growth) => {
+                self.hint_on_none(paths.0, old, growth.old);
+                self.hint_on_none(paths.1, new, growth.new);
                 self.host.warn(paths.1, grown(growth, given.limit()));
                 Ok(true)
             }
@@ -310,9 +314,18 @@ impl<'a, W: Write> Work<'a, '_, W> {
         }
     }
 
+    // Gives a hint where the file at this path, of this sum, has no function symbol.
+    fn hint_on_none(&mut self, path: &str, read: &ReadFile, sum: u64) {
+        if sum == 0 {
+            let alloc = self.host.rt.alloc();
+            let why = lack(alloc, &read.file, &symbols_of(self.given, false));
+            self.host.warn(path, why.unwrap_or(None));
+        }
+    }
+
     // Reports the file at this path if it can't be summed, where its tables could be read.
-    fn check_alone(&mut self, path: &str, tables: Option<&Tables<'_>>) {
-        let Some(tables) = tables else {
+    fn check_alone(&mut self, path: &str, read: Option<&ReadFile>) {
+        let Some(ReadFile { tables, .. }) = read else {
             return;
         };
         let alloc = self.host.rt.alloc();
@@ -591,23 +604,26 @@ impl<'a, W: Write> Work<'a, '_, W> {
         }
     }
 
-    // Gives a hint where several files have a name in a text; where it has no address, or only offsets behind other names;
-    // and where none of its other addresses is in a function symbol.
+    // Gives a hint where several files have a name in a text; and where nothing was found: on offsets behind other names,
+    // or that there is no address; and on addresses of which none is in a function symbol.
     fn hint_on_text(&mut self, counts: Counts) {
         let given = self.given;
         if counts.unclear > 0 {
             let hint = Hint::Unclear(counts.unclear);
             self.host.hint("standard input", hint);
         }
-        let clear = counts.asked.saturating_sub(counts.unclear);
-        if counts.asked == 0 {
-            let hint = match counts.missing {
-                0 => Hint::NoAddress(given.has(Bare)),
-                offsets => Hint::Offsets(offsets),
-            };
-            return self.host.hint("standard input", hint);
+        if counts.found > 0 {
+            return;
         }
-        if counts.found > 0 || clear == 0 {
+        if counts.missing > 0 {
+            self.host
+                .hint("standard input", Hint::Offsets(counts.missing));
+        } else if counts.asked == 0 {
+            self.host
+                .hint("standard input", Hint::NoAddress(given.has(Bare)));
+        }
+        let clear = counts.asked.saturating_sub(counts.unclear);
+        if clear == 0 {
             return;
         }
         let alloc = self.host.rt.alloc();
@@ -751,6 +767,13 @@ fn symbols_of<'a>(given: &Arguments<'a>, are_all: bool) -> Symbols<'a> {
     Symbols { which, selection }
 }
 
+// A file, and the tables that were read of it.
+#[derive(Drop)]
+struct ReadFile {
+    file: OpenFile<FileOrStdin>,
+    tables: Tables<'static>,
+}
+
 // The system around a command, the objects of the files that were refused, and whether a sum is above its limit.
 #[derive(Drop)]
 struct Host<'a> {
@@ -760,20 +783,16 @@ struct Host<'a> {
 }
 
 impl Host<'_> {
-    // The tables of the file at this path. `None` where it is refused, which is reported.
-    fn tables_at(
-        &mut self,
-        given: &Arguments<'_>,
-        path: &str,
-    ) -> Result<Option<Tables<'static>>, Fault> {
+    // The file at this path, and its tables. `None` where it is refused, which is reported.
+    fn tables_at(&mut self, given: &Arguments<'_>, path: &str) -> Result<Option<ReadFile>, Fault> {
         let alloc = self.rt.alloc();
-        let Some(input) = open_input(alloc, self, path) else {
+        let Some(file) = open_input(alloc, self, path) else {
             return Ok(None);
         };
-        match tables_of(alloc, &input, &symbols_of(given, false)) {
-            Ok(tables) => Ok(Some(tables)),
+        match tables_of(alloc, &file, &symbols_of(given, false)) {
+            Ok(tables) => Ok(Some(ReadFile { file, tables })),
             Err(e) => {
-                reported(alloc, self, path, &input, Err(Fault::from(e)))?;
+                reported(alloc, self, path, &file, Err(Fault::from(e)))?;
                 Ok(None)
             }
         }

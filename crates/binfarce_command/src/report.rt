@@ -22,14 +22,15 @@ pub fn refuse(rt: &HostRuntime, wrong: &Wrong<'_>) -> u8
 }
 
 /// Prints why the work failed, if it did, and returns the program's exit status. A reader that closes the output is no
-/// failure.
+/// failure, unless sums have a limit: whether they exceed it isn't known then.
 pub fn ended(
     rt: &HostRuntime,
     done: Result<bool, Fault>,
     is_above: bool,
+    has_limit: bool,
     reason: Option<Error>,
 ) -> u8
-    ensures { result ≡ status_of done is_above (option_map error_kind reason) }
+    ensures { result ≡ status_of done is_above has_limit (option_map error_kind reason) }
 {
     match done {
         Ok(true) if is_above => 3,
@@ -38,7 +39,7 @@ pub fn ended(
             let _ = eprintln!(rt; "binfarce: {fault}");
             status(&fault)
         }
-        Err(_) if is_broken_pipe(&reason) => 0,
+        Err(_) if is_broken_pipe(&reason) && !has_limit => 0,
         Err(fault) => {
             let message = message_of(rt.alloc(), fault, reason);
             report(rt, "standard output", &message);

@@ -43,8 +43,8 @@ fault_words (Missing count) = missing_words count
 
 -- of a file that maps don't place
 abbrev pub unplaced_words : Unplaced → List ℕ
-unplaced_words (NotMapped path None) = codes "no file named as " ++ (path.now ++ codes " in the maps; --as=NAME takes another name")
-unplaced_words (NotMapped path (Some name)) = codes "no file named as " ++ (path.now ++ (codes " or " ++ (name.now ++ codes " in the maps; --as=NAME takes another name")))
+unplaced_words (NotMapped path None) = codes "the maps have no file " ++ (path.now ++ codes "; --as=NAME takes another name")
+unplaced_words (NotMapped path (Some name)) = codes "the maps have no file " ++ (path.now ++ (codes " or " ++ (name.now ++ codes "; --as=NAME takes another name")))
 unplaced_words (Several path) = path.now ++ codes " is at several addresses in the maps; give --base in place of --maps, or --as=PATH for one of several paths"
 
 -- the refusal of a file as a JSON object: its file, and the printed text

@@ -1,11 +1,11 @@
 -- Files that no reader reads, by their first bytes.
-use Rattle.std.specs.Prelude.{ℕ, Bool, ◌&&◌, ◌||◌, List, [], ◌∷◌, take, length, slice_index, codes, nat_eq, nat_le, nat_lt, not, Option, Some, None, if◌then◌else◌}
+use Rattle.std.specs.Prelude.{ℕ, Bool, ◌&&◌, ◌||◌, List, [], ◌∷◌, take, drop, length, slice_index, codes, nat_eq, nat_le, nat_lt, not, Option, Some, None, if◌then◌else◌}
 use Rattle.std.specs.List.{list_all}
 use Rattle.binfarce_bytes.specs.Format.{begins, format_of}
 use Rattle.binfarce_bytes.specs.declared.format.Format.{Format}
-use Rattle.binfarce_bytes.specs.declared.format.Format.TheVariants.{Macho, Unknown}
+use Rattle.binfarce_bytes.specs.declared.format.Format.TheVariants.{Elf32, Elf64, Macho, Unknown}
 use Rattle.binfarce_jobs.specs.declared.foreign.Foreign.{Foreign}
-use Rattle.binfarce_jobs.specs.declared.foreign.Foreign.TheVariants.{Universal, JavaClass, Macho32, MachoBigEndian, Archive, ThinArchive, Coff, Pdb, Wasm, Bitcode, Script, Text}
+use Rattle.binfarce_jobs.specs.declared.foreign.Foreign.TheVariants.{Universal, JavaClass, Macho32, MachoBigEndian, Archive, ThinArchive, Coff, Pdb, Wasm, Bitcode, Script, Text, Empty, ManySections}
 
 -- the printed words: what it is, and what would help
 abbrev pub foreign_words : Foreign → List ℕ
@@ -21,6 +21,8 @@ foreign_words Wasm = codes "a WebAssembly module; `wasm-objdump -x FILE` shows i
 foreign_words Bitcode = codes "LLVM bitcode; the file that it is linked into is read"
 foreign_words Script = codes "a script; its first line names the program that runs it"
 foreign_words Text = codes "a text; `binfarce filter <FILE` shows it with readable names"
+foreign_words Empty = codes "an empty file"
+foreign_words ManySections = codes "an ELF file of 65,280 sections or more; `readelf -SW FILE` lists them"
 
 -- Mach-O (mach-o/loader.h, mach-o/fat.h): MH_MAGIC_64 of a little-endian file is read. MH_MAGIC_64 of a big-endian file isn't, nor MH_MAGIC in either order. After FAT_MAGIC the number of parts follows; a Java class file (JVM specification, 4.1) begins alike, and has its version there, which is at least 45
 abbrev pub macho_of : (first : List ℕ) → Option Foreign
@@ -49,12 +51,13 @@ abbrev pub is_text_byte : ℕ → Bool
 is_text_byte byte = nat_eq byte 9 || nat_eq byte 10 || nat_eq byte 12 || nat_eq byte 13 || (nat_le 32 byte && nat_le byte 126)
 
 abbrev pub is_text : (first : List ℕ) → Bool
-is_text first = nat_lt 0 (length first) && list_all is_text_byte first
+is_text first = list_all is_text_byte first
 
--- an archive or a thin one (ar(5)), a universal file by FAT_MAGIC_64, a PDB file (LLVM, "The MSF File Format"), a WebAssembly module (its specification, 5.5.16), bitcode, also in a wrapper (LLVM, "LLVM Bitcode File Format"), a COFF object, a script (execve(2)), a text
+-- an empty file; an archive or a thin one (ar(5)), a universal file by FAT_MAGIC_64, a PDB file (LLVM, "The MSF File Format"), a WebAssembly module (its specification, 5.5.16), bitcode, also in a wrapper (LLVM, "LLVM Bitcode File Format"), a COFF object, a script (execve(2)), a text
 abbrev pub other_of : (first : List ℕ) → Option Foreign
 other_of first =
-    if begins first (codes "!<arch>\n") then Some Archive
+    if nat_eq (length first) 0 then Some Empty
+    else if begins first (codes "!<arch>\n") then Some Archive
     else if begins first (codes "!<thin>\n") then Some ThinArchive
     else if begins first (0xCA ∷ 0xFE ∷ 0xBA ∷ 0xBF ∷ []) then Some Universal
     else if begins first (codes "Microsoft C/C++ MSF 7.00") then Some Pdb
@@ -65,10 +68,24 @@ other_of first =
     else if is_text first then Some Text
     else None
 
--- what the first bytes say: of Mach-O files only those of one form are read
+-- the number of these bytes, from a position on, is 0
+abbrev pub is_zero : (from len : ℕ) (first : List ℕ) → Bool
+is_zero from len first = list_all (nat_eq 0) (take len (drop from first))
+
+-- an ELF file of 32 bits that has a section header table (`e_shoff` isn't 0), but 0 for the number of its entries (`e_shnum`): from 65,280 (SHN_LORESERVE) on that is in the first of them (System V gABI, "ELF Header")
+abbrev pub elf32_of : (first : List ℕ) → Option Foreign
+elf32_of first = if nat_le 52 (length first) && (is_zero 48 2 first && not (is_zero 32 4 first)) then Some ManySections else None
+
+-- the same of one of 64 bits
+abbrev pub elf64_of : (first : List ℕ) → Option Foreign
+elf64_of first = if nat_le 64 (length first) && (is_zero 60 2 first && not (is_zero 40 8 first)) then Some ManySections else None
+
+-- what the first bytes say: of Mach-O files only those of one form are read, and of ELF files those that state their number of sections
 abbrev pub by_format : Format → (first : List ℕ) → Option Foreign
 by_format Macho first = macho_of first
 by_format Unknown first = other_of first
+by_format (Elf32 order) first = elf32_of first
+by_format (Elf64 order) first = elf64_of first
 by_format format first = None
 
 unfoldable pub named_by : (first : List ℕ) → Option Foreign

@@ -22,7 +22,7 @@ use Rattle.binfarce_jobs.specs.declared.hint.Loaded.TheVariants as loads
 
 -- what would help where no address was found, by what is known of where the file is loaded
 abbrev pub loaded_words : Loaded → List ℕ
-loaded_words loads.Unknown = codes "where the file was loaded, --base or --maps is needed"
+loaded_words loads.Unknown = codes "--base or --maps is needed for addresses in memory"
 loaded_words loads.Base = codes "is --base right?"
 loaded_words loads.Maps = codes "are --maps and the addresses of one process?"
 
@@ -32,16 +32,16 @@ hint_words hints.None = codes "no function symbols"
 hint_words hints.NoneDynamic = codes "no function symbols in .dynsym"
 hint_words hints.NoneOfPe = codes "no function symbols; those of an MSVC program are in its .pdb file"
 hint_words hints.NoneOfMacho = codes "no function symbols; those of a stripped program may be in its .dSYM bundle"
-hint_words (hints.Others count) = codes "no function symbols in the section; --all takes " ++ (decimal count ++ codes " of other sections")
+hint_words (hints.Others count) = codes "no function symbols in the section; --all takes " ++ decimal count
 hint_words (hints.Dynamic count) = codes "--dynamic --all takes " ++ (decimal count ++ codes " function symbols")
 hint_words (hints.Stripped places) = codes "its debug symbols may be in " ++ string_bytes places
 hint_words (hints.Missed count loaded) = codes "0 of " ++ (decimal count ++ (codes " addresses are in a function symbol; " ++ loaded_words loaded))
 hint_words (hints.Unknown bytes sum) = decimal bytes ++ (codes " of " ++ (decimal sum ++ codes " bytes have no crate, as those of C, C++ and assembly; --by=function shows whose they are"))
-hint_words (hints.Above sum most) = codes "the sum is " ++ (decimal sum ++ (codes " bytes, and --fail-above allows " ++ decimal most))
-hint_words (hints.Grown by limit) = codes "the sum grew by " ++ (decimal by ++ (codes " bytes, and --fail-above allows " ++ limit_words limit))
+hint_words (hints.Above sum most) = codes "has " ++ (decimal sum ++ (codes " bytes, and --fail-above allows " ++ decimal most))
+hint_words (hints.Grown by limit) = codes "grew by " ++ (decimal by ++ (codes " bytes, and --fail-above allows " ++ limit_words limit))
 hint_words (hints.NoAddress true) = codes "no address in the text"
 hint_words (hints.NoAddress false) = codes "no address in the text; --bare takes those without 0x, too"
-hint_words (hints.Offsets count) = codes "no address in the text, and offsets (" ++ (decimal count ++ codes ") only behind other names; --as=NAME takes one of these")
+hint_words (hints.Offsets count) = codes "offsets (" ++ (decimal count ++ codes ") behind other names than the file's; --as=NAME takes those behind one of these")
 hint_words (hints.Unclear count) = codes "offsets (" ++ (decimal count ++ codes ") behind a name that several files have; --as=PATH tells them apart")
 
 -- the hint on a section with so many function symbols: it has none

@@ -45,15 +45,15 @@ pub enum Hint {
     Missed(u64, Loaded),
     /// There is no address in a text, in which bare words may be some or are not.
     NoAddress(bool),
-    /// There is no address in a text, and so many offsets behind other names than those of the files.
+    /// No address in a text was found, and so many offsets are behind other names than those of the files.
     Offsets(u64),
     /// So many offsets in a text are behind a name that several files have.
     Unclear(u64),
     /// So many bytes of a sum of so many have no crate.
     Unknown(u64, u64),
-    /// The sum is so many bytes, more than so many that are allowed.
+    /// It has so many bytes, more than so many that are allowed.
     Above(u64, usize),
-    /// The sum grew by so many bytes, more than is allowed.
+    /// It grew by so many bytes, more than is allowed.
     Grown(u64, Limit),
 }
 
@@ -87,7 +87,7 @@ impl fmt::Display for Hint {
             ),
             Hint::Others(count) => write!(
                 f,
-                "no function symbols in the section; --all takes {count} of other sections"
+                "no function symbols in the section; --all takes {count}"
             ),
             Hint::Dynamic(count) => write!(f, "--dynamic --all takes {count} function symbols"),
             Hint::Stripped(places) => write!(f, "its debug symbols may be in {places}"),
@@ -99,13 +99,10 @@ impl fmt::Display for Hint {
                 f,
                 "{bytes} of {sum} bytes have no crate, as those of C, C++ and assembly; --by=function shows whose they are"
             ),
-            Hint::Above(sum, most) => write!(
-                f,
-                "the sum is {sum} bytes, and --fail-above allows {most}"
-            ),
+            Hint::Above(sum, most) => write!(f, "has {sum} bytes, and --fail-above allows {most}"),
             Hint::Grown(by, limit) => write!(
                 f,
-                "the sum grew by {by} bytes, and --fail-above allows {limit}"
+                "grew by {by} bytes, and --fail-above allows {limit}"
             ),
             Hint::NoAddress(true) => write!(f, "no address in the text"),
             Hint::NoAddress(false) => write!(
@@ -114,7 +111,7 @@ impl fmt::Display for Hint {
             ),
             Hint::Offsets(count) => write!(
                 f,
-                "no address in the text, and offsets ({count}) only behind other names; --as=NAME takes one of these"
+                "offsets ({count}) behind other names than the file's; --as=NAME takes those behind one of these"
             ),
             Hint::Unclear(count) => write!(
                 f,
@@ -130,7 +127,7 @@ impl Loaded {
         ensures { result.now ≡ loaded_words self }
     {
         match self {
-            Loaded::Unknown => "where the file was loaded, --base or --maps is needed",
+            Loaded::Unknown => "--base or --maps is needed for addresses in memory",
             Loaded::Base => "is --base right?",
             Loaded::Maps => "are --maps and the addresses of one process?",
         }

@@ -45,7 +45,7 @@ wrong_words (NotEach flag) = flag_name flag ++ codes " comes once for each file,
 wrong_words (NoAddress word) = codes "not an address: " ++ word.now
 wrong_words (NotMaps path) = codes "no line of " ++ (path.now ++ codes " is one of /proc/PID/maps")
 wrong_words (BadValue flag word) = flag_name flag ++ (codes " takes " ++ (words.values_of (words.form_of flag).2 ++ (codes ", and not " ++ word.now)))
-wrong_words (OnlyFunctions flag) = flag_name flag ++ codes " is for functions, as --by=function-section; --by=section is not"
+wrong_words (OnlyFunctions flag) = flag_name flag ++ codes " goes with --by=function-section, and not with --by=section"
 wrong_words (OnlyGrowth word) = codes "--fail-above=" ++ (word.now ++ codes " is for diff; size takes a number of bytes")
 wrong_words (NoFile command) = codes "no file; binfarce " ++ (command_name command ++ codes " --help shows how it is called")
 wrong_words NoSecondFile = codes "diff compares two files, and has one"

@@ -403,7 +403,7 @@ impl<'a> fmt::Display for Wrong<'a> {
                 let name = flag.name();
                 write!(
                     f,
-                    "{name} is for functions, as --by=function-section; --by=section is not"
+                    "{name} goes with --by=function-section, and not with --by=section"
                 )
             }
             Wrong::OnlyGrowth(word) => write!(

@@ -351,7 +351,8 @@ fn stored_runs() {
         let data = [format!("{folder}/data"), folder.clone()].into_iter().find(|path| Path::new(path).is_dir());
         std::env::set_current_dir(data.unwrap()).unwrap();
         let (code, output) = printed(&stored("stdin").unwrap_or_default(), main);
-        assert_eq!(output.lines().zip(want.lines()).find(|(line, wanted)| line != wanted), None, "{name}");
+        let other = (1..).zip(output.lines().zip(want.lines())).find(|(_, (line, wanted))| line != wanted);
+        assert_eq!(other, None, "{name}, by the number of the line in stdout");
         assert_eq!(output.len(), want.len(), "{name}");
         assert!(is(code, 0), "{name}");
         if name != "test_memory" {

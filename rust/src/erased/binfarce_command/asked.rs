@@ -2,23 +2,25 @@
 
 //! What `at` is asked for: addresses, and where its files are loaded.
 
-use crate::shim::{HostRuntime, Vec};
+use crate::shim::{HostRuntime, String, Vec};
 use crate::erased::binfarce_command::report::report;
 use crate::erased::binfarce_addresses::maps::{NoBase, base_of};
 use crate::erased::binfarce_addresses::parse_address;
 use crate::erased::binfarce_jobs::at::read_addresses;
 use crate::erased::binfarce_jobs::fault::Fault;
-use crate::erased::binfarce_jobs::message::{Unplaced, message_of};
+use crate::erased::binfarce_jobs::message::{Message, Unplaced, message_of};
 use crate::erased::binfarce_sections::error::SectionError;
 use crate::erased::binfarce_tables::loading::LoadAddress;
 use crate::erased::binfarce_words::words::Flag::{self, Annotate, As, Base, Maps};
 use crate::erased::binfarce_words::words::{Arguments, Wrong};
 use crate::shim::alloc::{AllocError, Global};
 use crate::shim::fs::File;
-use crate::shim::io::{self, Error, ErrorKind, Read};
+use crate::shim::io::{self, ErrorKind, Read};
 
 // The longest text that is read before it is annotated, for the maps in it: 256 MiB.
 const LONGEST_LOG: usize = 1 << 28;
+
+const TOO_LONG: &str = "the text is longer than 256 MiB; --maps=FILE takes a copy of its maps";
 
 /// What `at` is asked for, beside its files.
 pub struct Addresses {
@@ -110,10 +112,15 @@ pub fn asked_of<'a>(
     let read = if is_input {
         read_log(alloc, &mut rt.stdin())
     } else {
-        read_file(rt, path)
+        read_file(rt, path).map(Some)
     };
     let maps = match read {
-        Ok(maps) => maps,
+        Ok(Some(maps)) => maps,
+        Ok(None) => {
+            let words = String::from_str(alloc, TOO_LONG).map_err(|_| Wrong::OutOfMemory)?;
+            report(rt, "standard input", &Message::Reason(words));
+            return Ok(None);
+        }
         Err(e) => {
             let name = if is_input { "standard input" } else { path };
             let fault = Fault::Section(SectionError::Unreadable);
@@ -138,22 +145,22 @@ fn read_file(rt: &HostRuntime, path: &str) -> io::Result<Vec<u8>> {
     Ok(bytes)
 }
 
-// The bytes of a log, to its end.
-fn read_log<R: Read>(alloc: Global, input: &mut R) -> io::Result<Vec<u8>> {
+// The bytes of a log, to its end. `None` where it is longer than the longest one.
+fn read_log<R: Read>(alloc: Global, input: &mut R) -> io::Result<Option<Vec<u8>>> {
     let mut bytes = Vec::new(alloc);
     let mut chunk = Vec::filled(alloc, 0, 1 << 16)?;
     for _ in 0..u64::MAX {
         if bytes.len() > LONGEST_LOG {
-            return Err(Error::from(ErrorKind::OutOfMemory));
+            return Ok(None);
         }
         match input.read(chunk.as_mut_slice()) {
-            Ok(0) => return Ok(bytes),
+            Ok(0) => return Ok(Some(bytes)),
             Ok(count) => bytes.extend_from_slice(&chunk[..count])?,
             Err(e) if e.kind() == ErrorKind::Interrupted => {}
             Err(e) => return Err(e),
         }
     }
-    Ok(bytes)
+    Ok(Some(bytes))
 }
 
 // The files of `at`: all operands where a text is annotated, and else the first one.

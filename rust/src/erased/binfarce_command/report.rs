@@ -18,11 +18,12 @@ pub fn refuse(rt: &HostRuntime, wrong: &Wrong<'_>) -> u8 {
 }
 
 /// Prints why the work failed, if it did, and returns the program's exit status. A reader that closes the output is no
-/// failure.
+/// failure, unless sums have a limit: whether they exceed it isn't known then.
 pub fn ended(
     rt: &HostRuntime,
     done: Result<bool, Fault>,
     is_above: bool,
+    has_limit: bool,
     reason: Option<Error>,
 ) -> u8 {
     match done {
@@ -32,7 +33,7 @@ pub fn ended(
             let _ = rt.eprintln(format_args!("binfarce: {fault}"));
             status(&fault)
         }
-        Err(_) if is_broken_pipe(&reason) => 0,
+        Err(_) if is_broken_pipe(&reason) && !has_limit => 0,
         Err(fault) => {
             let message = message_of(rt.alloc(), fault, reason);
             report(rt, "standard output", &message);

@@ -32,6 +32,10 @@ pub enum Foreign {
     Script,
     /// A text.
     Text,
+    /// A file of no bytes.
+    Empty,
+    /// An ELF file whose number of sections isn't in its header.
+    ManySections,
 }
 
 impl fmt::Display for Foreign {
@@ -67,6 +71,11 @@ impl fmt::Display for Foreign {
                 f,
                 "a text; `binfarce filter <FILE` shows it with readable names"
             ),
+            Foreign::Empty => write!(f, "an empty file"),
+            Foreign::ManySections => write!(
+                f,
+                "an ELF file of 65,280 sections or more; `readelf -SW FILE` lists them"
+            ),
         }
     }
 }
@@ -79,8 +88,31 @@ pub fn named_by(first: &[u8]) -> Option<Foreign> {
     match detect_format(first) {
         Format::Macho => macho_of(first),
         Format::Unknown => other_of(first),
-        _ => None,
+        Format::Elf32 { .. } => elf32_of(first),
+        Format::Elf64 { .. } => elf64_of(first),
+        Format::PE => None,
     }
+}
+
+// The kind of an ELF file of 32 bits that has a section header table, but not the number of its sections in the header.
+fn elf32_of(first: &[u8]) -> Option<Foreign> {
+    if first.len() >= 52 && is_zero(&first[48..50]) && !is_zero(&first[32..36]) {
+        return Some(Foreign::ManySections);
+    }
+    None
+}
+
+// The same of one of 64 bits.
+fn elf64_of(first: &[u8]) -> Option<Foreign> {
+    if first.len() >= 64 && is_zero(&first[60..62]) && !is_zero(&first[40..48]) {
+        return Some(Foreign::ManySections);
+    }
+    None
+}
+
+// Whether these bytes are a number that is 0.
+fn is_zero(bytes: &[u8]) -> bool {
+    bytes.iter().all(|byte| *byte == 0)
 }
 
 // The kind of a Mach-O file that isn't of 64 bits and little-endian. With the magic number of a universal file a Java
@@ -103,6 +135,9 @@ fn macho_of(first: &[u8]) -> Option<Foreign> {
 
 // What a file of no known format is.
 fn other_of(first: &[u8]) -> Option<Foreign> {
+    if first.is_empty() {
+        return Some(Foreign::Empty);
+    }
     if first.starts_with(b"!<arch>\n") {
         return Some(Foreign::Archive);
     }
@@ -146,11 +181,7 @@ fn is_machine(first: &[u8]) -> bool {
         || first.starts_with(b"\xc4\x01")
 }
 
-fn is_text(first: &[u8]) -> bool {
-    !first.is_empty() && are_text_bytes(first)
-}
-
 // Whether all bytes are printable ASCII or white space.
-fn are_text_bytes(first: &[u8]) -> bool {
+fn is_text(first: &[u8]) -> bool {
     first.iter().all(|byte| matches!(*byte, b'\t' | b'\n' | b'\x0c' | b'\r' | b' '..=b'~'))
 }

@@ -42,11 +42,11 @@ impl<'a> fmt::Display for Unplaced<'a> {
         match self {
             Unplaced::NotMapped(path, None) => write!(
                 f,
-                "no file named as {path} in the maps; --as=NAME takes another name"
+                "the maps have no file {path}; --as=NAME takes another name"
             ),
             Unplaced::NotMapped(path, Some(name)) => write!(
                 f,
-                "no file named as {path} or {name} in the maps; --as=NAME takes another name"
+                "the maps have no file {path} or {name}; --as=NAME takes another name"
             ),
             Unplaced::Several(path) => write!(
                 f,

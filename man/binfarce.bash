@@ -24,7 +24,7 @@ _binfarce() {
             if [ "$command,$COMP_CWORD" = section,3 ]; then
                 # `compgen -W` would run a section's name as a command, and so would the line if the name weren't quoted.
                 while read -r name; do
-                    [[ $name != "$word"* ]] || COMPREPLY+=("$(printf %q "$name")")
+                    [[ -z $name || $name != "$word"* ]] || COMPREPLY+=("$(printf %q "$name")")
                 done < <(binfarce section "$before" 2>/dev/null | awk '{ print $4 }')
                 return
             fi

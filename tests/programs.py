@@ -484,7 +484,7 @@ ends(0, changed([*differ, whole]), "", "binfarce", "diff", "--by=section", old, 
 others = (f"[{len(differ) - 1} others]", *(sum(it[k] for it in differ[1:]) for k in (1, 2, 3, 4)))
 ends(0, changed([differ[0], others, whole]), "", "binfarce", "diff", "--by=section", "-n", "1", old, new)
 for *paths, lines in ((missing, of_sys, f"{lost}\nbinfarce: {of_sys}: {is_text}"), (of_sys, missing, f"binfarce: {of_sys}: {is_text}\n{lost}"),
-                      (byte, "/dev/zero", f"binfarce: {byte}: {unknown}\nbinfarce: /dev/zero: {unknown}")):
+                      (byte, "/dev/null", f"binfarce: {byte}: {unknown}\nbinfarce: /dev/null: {is_empty}")):
     ends(1, "", lines, "binfarce", "diff", "--by=section", *paths)
 
 # The changes of these sums, and a limit for their growth.

@@ -347,9 +347,9 @@ impl<'a, W: Write> Work<'a, '_, W> {
         let alloc = self.host.rt.alloc();
         let paths = (first(given), second(given).unwrap_or(""));
         let old = open_input(alloc, &mut self.host, paths.0);
+        let is_summed = self.check_sections(paths.0, old.as_ref())?;
         let new = open_input(alloc, &mut self.host, paths.1);
-        let (Some(old), Some(new)) = (&old, &new) else {
-            self.check_sections(paths.0, old.as_ref())?;
+        let (true, Some(old), Some(new)) = (is_summed, &old, &new) else {
             self.check_sections(paths.1, new.as_ref())?;
             return Ok(false);
         };
@@ -362,17 +362,13 @@ impl<'a, W: Write> Work<'a, '_, W> {
                 self.host.warn(paths.1, grown(growth, given.limit()));
                 Ok(true)
             }
-            Err(e) if e.is_of_old => {
-                reported(
-                    alloc,
-                    &mut self.host,
-                    paths.0,
-                    old,
-                    Err(Fault::from(e.error)),
-                )?;
-                self.check_sections(paths.1, Some(new))?;
-                Ok(false)
-            }
+            Err(e) if e.is_of_old => reported(
+                alloc,
+                &mut self.host,
+                paths.0,
+                old,
+                Err(Fault::from(e.error)),
+            ),
             Err(e) => reported(
                 alloc,
                 &mut self.host,
@@ -383,23 +379,21 @@ impl<'a, W: Write> Work<'a, '_, W> {
         }
     }
 
-    // Reports the file at this path if its sections can't be summed, where it could be opened.
+    // Whether the sections of the file at this path can be summed; the file is reported if they can't, unless it couldn't
+    // be opened and was reported before.
     fn check_sections(
         &mut self,
         path: &str,
         file: Option<&OpenFile<FileOrStdin>>,
-    ) -> Result<(), Fault> {
+    ) -> Result<bool, Fault> {
         let Some(file) = file else {
-            return Ok(());
+            return Ok(false);
         };
         let alloc = self.host.rt.alloc();
         let mut unseen = Out::new(Vec::new(alloc));
         match sum_sections(alloc, file, &mut (), None, Form::Lines, &mut unseen) {
-            Ok(_) => Ok(()),
-            Err(e) => {
-                reported(alloc, &mut self.host, path, file, Err(Fault::from(e)))?;
-                Ok(())
-            }
+            Ok(_) => Ok(true),
+            Err(e) => reported(alloc, &mut self.host, path, file, Err(Fault::from(e))),
         }
     }
 

@@ -162,8 +162,8 @@ pub fn sizes_in(
     strings: &[u8],
 ) -> Result<Vec<u64>, AllocError>
     ensures { (versions : List ℕ) → let found : TableRows = record { strings = strings.now; rows = rows.now } in
-        IfOk result (λ v. sized_from (class_of width) place.byte_order (taken_view taken) (has_modes (kind_view place.kind)) found
-        versions v.items 0 ≡ taken_from (class_of width) place.byte_order
+        IfOk result (λ v. sized_from (class_of width) place.byte_order (taken_view taken)
+        (has_modes (kind_view place.kind)) found versions v.items 0 ≡ taken_from (class_of width) place.byte_order
         (walk (class_of width) (headers_alone place.byte_order headers.now place.shnum)) (kind_view place.kind)
         (taken_view taken) found versions) }
 {

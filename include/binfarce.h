@@ -2,9 +2,9 @@
  * binfarce: readable names of Rust symbols, and the function symbols of ELF, Mach-O and PE files.
  *
  * `cargo build --release` makes libbinfarce.a and libbinfarce.so from plain Rust, erased from proved sources;
- * bindings/archive.sh makes a libbinfarce.a by the Rattle kit, proved down to these functions: given memory and stack, for
- * every name and every file a call returns what the written definitions say. Both assume, without a check, that the caller
- * keeps these rules:
+ * bindings/archive.sh makes a libbinfarce.a by the Rattle kit, proved down to these functions: given stack, for every name
+ * and every file a call returns what the written definitions say, or that an allocation failed. Both assume, without a
+ * check, that the caller keeps these rules:
  *
  * - Pointers. Each pointer points to as many bytes as the length after it says, for the whole call. They are readable, and
  *   writable where the pointer isn't const. Where the length is 0, it may be NULL; a pointer without a length may not. No

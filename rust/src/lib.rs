@@ -2,8 +2,8 @@
 //! Rust symbols.
 //!
 //! The public paths and signatures of the Rust crate `binfarce` are here, but for its module `ar`, and more. The code below
-//! them is plain Rust made from sources in Rattle by erasing their contracts: those sources are proved for every byte string,
-//! and this crate is safe Rust without dependencies.
+//! them is plain Rust made from sources in Rattle by erasing their contracts. Those sources are proved, for all bytes; that
+//! erasing keeps what they do is tested. This crate is safe Rust without dependencies.
 //!
 //! - Names: [`demangle`], and [`filter()`] and [`filter_stream`](crate#functions) for those in a text.
 //! - A file in memory, of any format: [`functions`], [`sections`], [`section_bytes`]; of one format: [`elf32`], [`elf64`],
@@ -152,7 +152,7 @@ pub use any::{
 pub use erased::binfarce_bytes::ByteOrder;
 pub use erased::binfarce_bytes::format::Format;
 pub use erased::binfarce_bytes::functions::{FunctionSymbol, SectionFunction};
-pub use erased::binfarce_elf::segments::{CodeSegment, LoadAddress};
+pub use erased::binfarce_elf_memory::segments::{CodeSegment, LoadAddress};
 pub use error::{Error, ErrorKind, Foreign, OutOfMemory, ParseError, UnexpectedEof};
 #[cfg(feature = "std")]
 pub use filter::filter_stream;

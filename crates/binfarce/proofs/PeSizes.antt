@@ -7,42 +7,48 @@ use Rattle.std.proofs.lemmas.List.Elements.{All-nil, All-cons, All-contains}
 use Rattle.binfarce_names.specs.declared.demangle.SymbolData.{SymbolData}
 use Rattle.binfarce_bytes.specs.Refusal.{◌>>=◌, Refusal}
 use Rattle.binfarce_bytes.specs.Sizes.{RowAddress, arranged, addresses_of}
-use Rattle.binfarce_bytes.specs.Entries.{Answers, ListsSome}
+use Rattle.binfarce_bytes.specs.Entries.{Listed, Answers, ListsSome}
 use Rattle.binfarce.specs.Symbol.{AreSymbolsOf, HoldsSymbols}
-use Rattle.binfarce_pe.specs.PeSymbols.{CoffTable, SectionRules, text_rules, symbol_of, function_name, ending_rows, entry_of, entries_of, Located, located, pe_answer}
+use Rattle.binfarce_pe.specs.Pe.{Section}
+use Rattle.binfarce_pe.specs.PeSymbols.{CoffTable, function_name, kept_rows, size_among, entry_of, entries_of, text_section, symbol_table, pe_answer}
 use Rattle.binfarce.specs.PeSizes.{EqualAddressesEqualSizes}
 
 -- each symbol's size is what its own address gives
-sizes_are : (table : CoffTable) (rules : SectionRules) (addresses : List ℕ) (rows : List RowAddress) (symbols : List SymbolData) → AreSymbolsOf (filter_map (entry_of table rules addresses) rows) symbols
-    → All (λ s. s.size ≡ rules.size addresses s.address) symbols
-sizes_are table rules addresses [] [] all = All-nil (λ s. s.size ≡ rules.size addresses s.address)
-sizes_are table rules addresses [] (y ∷ ys) all = absurd all
-sizes_are table rules addresses (r ∷ rows) symbols all = by_name (function_name table rules.accepts r.row (symbol_of table r.row)) symbols (λ ys rest. sizes_are table rules addresses rows ys rest) all
+sizes_are : (table : CoffTable) (index : ℕ) (members : List ℕ) (rows : List RowAddress) (symbols : List SymbolData) → AreSymbolsOf (filter_map (entry_of table index members) rows) symbols
+    → All (λ s. s.size ≡ size_among members s.address) symbols
+sizes_are table index members [] [] all = All-nil (λ s. s.size ≡ size_among members s.address)
+sizes_are table index members [] (y ∷ ys) all = absurd all
+sizes_are table index members (r ∷ rows) symbols all = by_name (function_name table index r.row) symbols (λ ys rest. sizes_are table index members rows ys rest) all
   where
     by_name : (o : Option (List ℕ)) (ys : List SymbolData)
-        → ((zs : List SymbolData) → AreSymbolsOf (filter_map (entry_of table rules addresses) rows) zs → All (λ s. s.size ≡ rules.size addresses s.address) zs)
-        → AreSymbolsOf (cons_option (option_map (λ (name : List ℕ). record { name = name; address = r.address; size = rules.size addresses r.address }) o) (filter_map (entry_of table rules addresses) rows)) ys
-        → All (λ s. s.size ≡ rules.size addresses s.address) ys
+        → ((zs : List SymbolData) → AreSymbolsOf (filter_map (entry_of table index members) rows) zs → All (λ s. s.size ≡ size_among members s.address) zs)
+        → AreSymbolsOf (cons_option (option_map (λ (name : List ℕ). record { name = name; address = r.address; size = size_among members r.address }) o) (filter_map (entry_of table index members) rows)) ys
+        → All (λ s. s.size ≡ size_among members s.address) ys
     by_name None ys rest all = rest ys all
     by_name (Some name) [] rest all = absurd all
     by_name (Some name) (y ∷ ys) rest all =
-        All-cons (λ s. s.size ≡ rules.size addresses s.address) y ys (all.0.size ∙ ap (rules.size addresses) (sym all.0.address)) (rest ys all.1)
+        All-cons (λ s. s.size ≡ size_among members s.address) y ys (all.0.size ∙ ap (size_among members) (sym all.0.address)) (rest ys all.1)
 
 -- symbols of equal address have equal sizes
-equal_sizes : (table : CoffTable) (rules : SectionRules) (symbols : List SymbolData) → AreSymbolsOf (entries_of table rules) symbols → EqualAddressesEqualSizes symbols
+equal_sizes : (table : CoffTable) (index text_size : ℕ) (symbols : List SymbolData) → AreSymbolsOf (entries_of table index text_size) symbols → EqualAddressesEqualSizes symbols
 unfolding entries_of
-equal_sizes table rules symbols all a b has_a has_b same =
-    let addresses = addresses_of (ending_rows table rules) in
-    let sizes = sizes_are table rules addresses (arranged (ending_rows table rules)) symbols all in
-    All-contains (λ s. s.size ≡ rules.size addresses s.address) symbols a sizes has_a ∙ ap (rules.size addresses) same ∙ sym (All-contains (λ s. s.size ≡ rules.size addresses s.address) symbols b sizes has_b)
+equal_sizes table index text_size symbols all a b has_a has_b same =
+    let members = text_size ∷ addresses_of (kept_rows table index) in
+    let sizes = sizes_are table index members (arranged (kept_rows table index)) symbols all in
+    All-contains (λ s. s.size ≡ size_among members s.address) symbols a sizes has_a ∙ ap (size_among members) same ∙ sym (All-contains (λ s. s.size ≡ size_among members s.address) symbols b sizes has_b)
 
 -- at equal addresses the symbols of an answer have equal sizes
 pub sizes_agree : (file : List ℕ) (symbols : Vec SymbolData) (size : ℕ) → Answers HoldsSymbols ListsSome (pe_answer file) (Ok (symbols, size)) → EqualAddressesEqualSizes symbols.items
 unfolding pe_answer
-sizes_agree file symbols size holds = by_case (located file) holds
+sizes_agree file symbols size holds = by_text (text_section file) holds
   where
-    by_case : (r : Result Located Refusal)
-        → Answers HoldsSymbols ListsSome (r >>= λ f. Ok (record { entries = entries_of f.table (text_rules f.text.index f.text.size_of_raw_data); section_size = f.text.size_of_raw_data })) (Ok (symbols, size))
-        → EqualAddressesEqualSizes symbols.items
-    by_case (Ok f) h = equal_sizes f.table (text_rules f.text.index f.text.size_of_raw_data) symbols.items h.0
-    by_case (Err e) h = absurd h
+    listed : Section → CoffTable → Listed
+    listed text table = record { entries = entries_of table text.index text.size_of_raw_data; section_size = text.size_of_raw_data }
+
+    by_table : (text : Section) (table : Result CoffTable Refusal) → Answers HoldsSymbols ListsSome (table >>= λ table. Ok (listed text table)) (Ok (symbols, size)) → EqualAddressesEqualSizes symbols.items
+    by_table text (Ok table) h = equal_sizes table text.index text.size_of_raw_data symbols.items h.0
+    by_table text (Err e) h = absurd h
+
+    by_text : (text : Result Section Refusal) → Answers HoldsSymbols ListsSome (text >>= λ text. symbol_table file >>= λ table. Ok (listed text table)) (Ok (symbols, size)) → EqualAddressesEqualSizes symbols.items
+    by_text (Ok text) h = by_table text (symbol_table file) h
+    by_text (Err e) h = absurd h

@@ -1,7 +1,7 @@
 -- The views of the function symbols of a section of an ELF file that clauses use.
 use Rattle.std.specs.Prelude.{ℕ, List, map}
 use Rattle.binfarce_bytes.specs.Entries.{Entry, Listed}
-use Rattle.binfarce_elf.specs.ElfViews as all
+use Rattle.binfarce_elf_memory.specs.SelectionViews as all
 use Rattle.binfarce.specs.declared.elf.Functions.{Functions}
 
 -- the entries that an iterator of function symbols has left

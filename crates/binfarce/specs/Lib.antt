@@ -14,10 +14,13 @@ pub use Rattle.binfarce_bytes.specs.Found
 pub use Rattle.binfarce_bytes.specs.Sizes
 pub use Rattle.binfarce_elf.specs.Elf
 pub use Rattle.binfarce_elf.specs.Classes
-pub use Rattle.binfarce_elf.specs.SymbolTables
-pub use Rattle.binfarce_elf.specs.Versions
 pub use Rattle.binfarce_elf.specs.ElfSymbols
+pub use Rattle.binfarce_elf.specs.SymbolTables
 pub use Rattle.binfarce_elf.specs.ElfViews
+pub use Rattle.binfarce_elf_memory.specs.ElfEnds
+pub use Rattle.binfarce_elf_memory.specs.ElfSelection
+pub use Rattle.binfarce_elf_memory.specs.SelectionViews
+pub use Rattle.binfarce_elf_memory.specs.Versions
 pub use Rattle.binfarce_macho.specs.Macho
 pub use Rattle.binfarce_macho.specs.MachoSymbols
 pub use Rattle.binfarce_macho.specs.MachoViews
@@ -26,6 +29,7 @@ pub use Rattle.binfarce_macho.specs.MachoSections
 pub use Rattle.binfarce_macho.specs.MachoSelection
 pub use Rattle.binfarce_pe.specs.Pe
 pub use Rattle.binfarce_pe.specs.PeSymbols
+pub use Rattle.binfarce_pe.specs.PeRules
 pub use Rattle.binfarce_pe.specs.PeViews
 pub use Rattle.binfarce_pe.specs.PeSelection
 pub use Rattle.binfarce_bytes.specs.Format

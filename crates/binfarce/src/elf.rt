@@ -11,19 +11,22 @@ ghost use Rattle.binfarce_bytes.specs.SymbolViews.{function_view};
 ghost use Rattle.binfarce.specs.ElfFunctions.{functions_left, functions_view};
 ghost use Rattle.binfarce.specs.Symbol.{HoldsSymbols};
 ghost use Rattle.binfarce_elf.specs.Elf.{header_of, section_table, walk, name_of};
-ghost use Rattle.binfarce_elf.specs.ElfSymbols.{is_named, section_data, listed_of, elf_selected, elf_answer};
-ghost use Rattle.binfarce_elf.specs.ElfViews.{header_view, section_view, selected_view, HoldsAllFunctions};
-ghost use Rattle.binfarce_elf.specs.declared.symbol_table.SymbolTable.TheVariants.{Symtab, Dynsym};
+ghost use Rattle.binfarce_elf.specs.ElfSymbols.{is_named, section_data, elf_answer};
+ghost use Rattle.binfarce_elf_memory.specs.ElfSelection.{listed_of, elf_selected, section_answer};
+ghost use Rattle.binfarce_elf.specs.ElfViews.{header_view, section_view};
+ghost use Rattle.binfarce_elf_memory.specs.SelectionViews.{selected_view, HoldsAllFunctions};
+ghost use Rattle.binfarce_elf.specs.declared.symbol_table.SymbolTable.TheVariants.{Dynsym};
 
 use crate::symbols::symbols_of_elf;
 use binfarce_bytes::functions::{FunctionSymbol, SectionFunction};
 use binfarce_bytes::{ByteOrder, ParseError};
 use binfarce_elf::class::Class;
-use binfarce_elf::ends::kind_of;
 use binfarce_elf::header::{Header, parse_header};
 use binfarce_elf::sections::{self, HasSections, Section, Sections, Table};
 use binfarce_elf::symbol_table::SymbolTable;
-use binfarce_elf::symbols::{self, Functions as AllFunctions};
+use binfarce_elf::symbols;
+use binfarce_elf_memory::ends::kind_of;
+use binfarce_elf_memory::selection::{self, Functions as AllFunctions};
 use binfarce_names::demangle::SymbolData;
 use std::alloc::Global;
 use std::marker::Model;
@@ -149,13 +152,11 @@ impl<'a, C: Class> Elf<'a, C> {
     /// section of type 2, `SHT_SYMTAB`) and of `.strtab` (the section that it links to); `UnexpectedSectionType` where
     /// that isn't of type 3 (`SHT_STRTAB`); `MalformedInput` where the string table's bytes end past `usize`, and
     /// `UnexpectedEof` past the file; the same for the symbol table's bytes; `UnexpectedEof` for a truncated last row.
-    #[tactic(auto, unfolding(binfarce_elf::specs::ElfSymbols::elf_answer))]
     pub fn functions(&self, section_name: &str) -> Result<(Functions<'a>, u64), ParseError>
         ensures { Gives refusal_of functions_view
-            (elf_answer Symtab C.table (section_table C.table self.now) section_name.now) result }
+            (elf_answer C.table (section_table C.table self.now) section_name.now) result }
     {
-        let functions = self.section_functions(SymbolTable::Symtab, section_name)?;
-        Ok(of_section(functions))
+        self.functions_by(SymbolTable::Symtab, section_name)
     }
 
     /// The same functions from the dynamic symbol table, which a stripped file still has; and indirect functions
@@ -165,12 +166,24 @@ impl<'a, C: Class> Elf<'a, C> {
     ///
     /// Those of `functions`, but `SectionIsMissing` is of `.dynsym` (the first section of type 11, `SHT_DYNSYM`) and of
     /// `.dynstr` (the section that it links to).
-    #[tactic(auto, unfolding(binfarce_elf::specs::ElfSymbols::elf_answer))]
     pub fn dynamic_functions(&self, section_name: &str) -> Result<(Functions<'a>, u64), ParseError>
         ensures { Gives refusal_of functions_view
-            (elf_answer Dynsym C.table (section_table C.table self.now) section_name.now) result }
+            (section_answer Dynsym C.table (section_table C.table self.now) section_name.now) result }
     {
-        let functions = self.section_functions(SymbolTable::Dynsym, section_name)?;
+        self.functions_by(SymbolTable::Dynsym, section_name)
+    }
+
+    // The function symbols of the section with this name by this symbol table, and the section's size.
+    #[tactic(auto, unfolding(binfarce_elf_memory::specs::ElfSelection::section_answer))]
+    fn functions_by(
+        &self,
+        which: SymbolTable,
+        name: &str,
+    ) -> Result<(Functions<'a>, u64), ParseError>
+        ensures { Gives refusal_of functions_view
+            (section_answer which C.table (section_table C.table self.now) name.now) result }
+    {
+        let functions = self.section_functions(which, name)?;
         Ok(of_section(functions))
     }
 
@@ -196,7 +209,7 @@ impl<'a, C: Class> Elf<'a, C> {
         ensures { Answers HoldsAllFunctions IsOk
             (elf_selected which C.table (section_table C.table self.now) None) result }
     {
-        symbols::all_functions::<C>(alloc, self.section_table(), kind_of(&self.header), which)
+        selection::all_functions::<C>(alloc, self.section_table(), kind_of(&self.header), which)
     }
 
     /// The function symbols of a section as `functions` or `dynamic_functions` gives them, each with the section's
@@ -213,7 +226,7 @@ impl<'a, C: Class> Elf<'a, C> {
         ensures { Gives refusal_of selected_view
             (elf_selected which C.table (section_table C.table self.now) (Some name.now)) result }
     {
-        symbols::section_functions::<C>(self.section_table(), which, name)
+        selection::section_functions::<C>(self.section_table(), which, name)
     }
 
     /// The functions of the symbol table as symbols with readable names, and the section's size in bytes.
@@ -227,7 +240,7 @@ impl<'a, C: Class> Elf<'a, C> {
         section_name: &str,
     ) -> Result<(Vec<SymbolData>, u64), ParseError>
         ensures { Answers HoldsSymbols ListsSome
-            (elf_answer Symtab C.table (section_table C.table self.now) section_name.now) result }
+            (elf_answer C.table (section_table C.table self.now) section_name.now) result }
     {
         let (functions, size) = self.functions(section_name)?;
         Ok((symbols_of_elf(alloc, functions.all)?, size))
@@ -244,7 +257,7 @@ impl<'a, C: Class> Elf<'a, C> {
         section_name: &str,
     ) -> Result<(Vec<SymbolData>, u64), ParseError>
         ensures { Answers HoldsSymbols ListsSome
-            (elf_answer Dynsym C.table (section_table C.table self.now) section_name.now) result }
+            (section_answer Dynsym C.table (section_table C.table self.now) section_name.now) result }
     {
         let (functions, size) = self.dynamic_functions(section_name)?;
         let symbols = symbols_of_elf(alloc, functions.all)?;

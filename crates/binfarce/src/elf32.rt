@@ -5,7 +5,8 @@ ghost use Rattle.binfarce_bytes.specs.Refusal.{refusal_of, unexpected_eof};
 
 use crate::elf;
 use binfarce_bytes::{ByteOrder, ParseError};
-use binfarce_elf::{header, sections, symbols};
+use binfarce_elf::{header, sections};
+use binfarce_elf_memory::selection;
 
 // The word of this class (gABI, "Data Representation"), which names the class.
 type Address = u32;
@@ -29,7 +30,7 @@ pub type Functions<'a> = elf::Functions<'a>;
 
 /// An iterator over the function symbols of all sections: the result of
 /// [`Elf32::all_functions`](elf::Elf::all_functions).
-pub type AllFunctions<'a> = symbols::Functions<'a>;
+pub type AllFunctions<'a> = selection::Functions<'a>;
 
 /// Reads the file header in the given order. The magic number isn't checked. Nothing is copied.
 ///

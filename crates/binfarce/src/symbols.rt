@@ -4,12 +4,12 @@ ghost use Rattle.std.specs.Prelude.{◌≡◌, ◌≢◌, List, [], Some, map, I
 ghost use Rattle.std.specs.Iterator.{IsFinite, Drains};
 ghost use Rattle.binfarce_bytes.specs.SymbolViews.{function_view, section_function_view};
 ghost use Rattle.binfarce_bytes.specs.declared.functions.FunctionSymbol.{FunctionSymbol};
-ghost use Rattle.binfarce_elf.specs.ElfViews.{functions_left};
+ghost use Rattle.binfarce_elf_memory.specs.SelectionViews.{functions_left};
 ghost use Rattle.binfarce.specs.Symbol.{IsSymbolOf, AreSymbolsOf};
 
 use crate::elf::Functions;
 use binfarce_bytes::functions::{FunctionSymbol, SectionFunction};
-use binfarce_elf::symbols::Functions as AllFunctions;
+use binfarce_elf_memory::selection::Functions as AllFunctions;
 use binfarce_names::demangle::{Demangler, SymbolData};
 use std::alloc::{AllocError, Global};
 

@@ -9,8 +9,8 @@ use Rattle.binfarce_addresses.specs.Stream.{trim_start}
 use Rattle.binfarce_addresses.specs.declared.maps.Mapping.{Mapping}
 use Rattle.binfarce_addresses.specs.declared.maps.NoBase.{NoBase}
 use Rattle.binfarce_addresses.specs.declared.maps.NoBase.TheVariants.{NotMaps, NotMapped, Several}
-use Rattle.binfarce_elf.specs.declared.segments.CodeSegment.{CodeSegment}
-use Rattle.binfarce_elf.specs.declared.segments.LoadAddress.{LoadAddress}
+use Rattle.binfarce_elf_memory.specs.declared.segments.CodeSegment.{CodeSegment}
+use Rattle.binfarce_elf_memory.specs.declared.segments.LoadAddress.{LoadAddress}
 
 -- the text before its first blank, and behind it
 abbrev pub before_blank : (text : List ℕ) → List ℕ

@@ -6,7 +6,7 @@ ghost use Rattle.binfarce_addresses.specs.Maps.{are_permissions, base_at, base_b
 ghost use Rattle.binfarce_addresses.specs.machine.Wanted.{value_for};
 
 use crate::address::hex_number;
-use binfarce_elf::segments::{CodeSegment, LoadAddress};
+use binfarce_elf_memory::segments::{CodeSegment, LoadAddress};
 
 /// Why a text doesn't say where a file is loaded.
 #[derive(Debug, Clone, Copy, PartialEq)]

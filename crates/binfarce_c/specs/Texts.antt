@@ -2,7 +2,7 @@
 use Rattle.std.specs.Prelude.{◌≡◌, ◌⊎◌, ℕ, List, Option, Result}
 use Rattle.std.specs.Str.{IsUtf8}
 use Rattle.binfarce.specs.Refusal.{Refusal}
-use Rattle.binfarce.specs.SectionEntries.{SelectedSymbols}
+use Rattle.binfarce.specs.Symbol.{Listed}
 use Rattle.binfarce_tools.specs.Writing.{Outcome, EndsAs, IsDue, written, write_failed, unknown_format, refused, no_memory, too_large, unreadable, wrong_usage}
 use Rattle.binfarce_c.specs.declared.buffer.Text.{Text}
 use Rattle.binfarce_c.specs.Names.{Holds, HoldsNone}
@@ -29,12 +29,12 @@ abbrev pub no_text : Outcome → Text
 no_text outcome = record { status = status_of outcome; detail = detail_of outcome; length = 0 }
 
 -- the content of the buffer and the result, by the outcome: the text that is due, or why there is none
-abbrev pub Ends : (IsTextOf : SelectedSymbols → List ℕ → Type 0) (answer : Option (Result SelectedSymbols Refusal)) (old : List ℕ) (new : List ℕ) (given : Text) → Outcome → Type 0
+abbrev pub Ends : (IsTextOf : Listed → List ℕ → Type 0) (answer : Option (Result Listed Refusal)) (old : List ℕ) (new : List ℕ) (given : Text) → Outcome → Type 0
 Ends IsTextOf answer old new given written = (text : List ℕ) × IsDue IsTextOf answer text × Holds old new text given
 Ends IsTextOf answer old new given outcome = (given ≡ no_text outcome) × (new ≡ old)
 
 -- a section's name that isn't UTF-8 is refused; of any other the call ends as `list` and `report` do
-unfoldable pub GivesText : (Fits : SelectedSymbols → Type 0) (NeedsMemory : Result SelectedSymbols Refusal → Type 0) (IsTextOf : SelectedSymbols → List ℕ → Type 0) (section : List ℕ) (answer : Option (Result SelectedSymbols Refusal)) (old : List ℕ) (new : List ℕ) (given : Text) → Type 0
+unfoldable pub GivesText : (Fits : Listed → Type 0) (NeedsMemory : Result Listed Refusal → Type 0) (IsTextOf : Listed → List ℕ → Type 0) (section : List ℕ) (answer : Option (Result Listed Refusal)) (old : List ℕ) (new : List ℕ) (given : Text) → Type 0
 GivesText Fits NeedsMemory IsTextOf section answer old new given =
     ((¬ (IsUtf8 section)) × HoldsNone status.not_utf8 old new given)
     ⊎ (IsUtf8 section × ((outcome : Outcome) × EndsAs Fits NeedsMemory answer outcome × Ends IsTextOf answer old new given outcome))

@@ -8,7 +8,7 @@ use crate::status::OK;
 
 /// What a call that gives a text returns: `struct binfarce_text`.
 #[repr(C)]
-#[derive(Default, Drop)]
+#[derive(Drop)]
 pub struct Text {
     /// How the call ended.
     pub status: u32,

@@ -11,7 +11,6 @@ ghost use Rattle.binfarce.specs.SymbolViews.{function_view};
 ghost use Rattle.binfarce.specs.declared.FunctionSymbol.{FunctionSymbol};
 ghost use Rattle.binfarce.specs.ElfSymbols.{elf_file_answer};
 ghost use Rattle.binfarce.specs.PeSymbols.{pe_file_answer};
-ghost use Rattle.binfarce.specs.declared.SymbolTable.TheVariants.{Symtab};
 ghost use Rattle.binfarce_elf.specs.Classes.{class_of};
 ghost use Rattle.binfarce_c.specs.Buffer.{PointsTo};
 ghost use Rattle.binfarce_c.specs.Functions.{AreFunctionsOf, GivesAnswer, GivesFunctions, IsFunctionOf};
@@ -45,7 +44,7 @@ pub struct Function {
 
 /// What a call that gives function symbols returns: `struct binfarce_functions`.
 #[repr(C)]
-#[derive(Default, Drop)]
+#[derive(Drop)]
 pub struct Functions {
     /// How the call ended.
     pub status: u32,
@@ -66,7 +65,7 @@ pub extern "C" fn binfarce_elf32_functions(
     section: &[u8],
     out: &mut [Function],
 ) -> Functions
-    ensures { GivesFunctions section.now (elf_file_answer Symtab elf32 (order_of big_endian) file.now section.now)
+    ensures { GivesFunctions section.now (elf_file_answer elf32 (order_of big_endian) file.now section.now)
         out.old out.new result }
 {
     match str::from_utf8(section) {
@@ -84,7 +83,7 @@ pub extern "C" fn binfarce_elf64_functions(
     section: &[u8],
     out: &mut [Function],
 ) -> Functions
-    ensures { GivesFunctions section.now (elf_file_answer Symtab elf64 (order_of big_endian) file.now section.now)
+    ensures { GivesFunctions section.now (elf_file_answer elf64 (order_of big_endian) file.now section.now)
         out.old out.new result }
 {
     match str::from_utf8(section) {
@@ -119,7 +118,7 @@ pub extern "C" fn binfarce_pe_functions(
 
 fn of_elf(alloc: Global, file: &[u8], width: Width, big_endian: bool, section: &str) -> Found
     ensures { Answers HoldsFound Lists
-        (elf_file_answer Symtab (class_of width) (order_of big_endian) file.now section.now) result }
+        (elf_file_answer (class_of width) (order_of big_endian) file.now section.now) result }
 {
     let (functions, size) = stored_in_elf(file, width, order_of(big_endian), section)?;
     Ok((all_of(alloc, functions)?, size))
@@ -134,7 +133,7 @@ fn stored_in_elf<'a>(
     section: &str,
 ) -> Result<(elf32::Functions<'a>, u64), ParseError>
     ensures { Gives refusal_of functions_view
-        (elf_file_answer Symtab (class_of width) byte_order file.entry.now section.now) result }
+        (elf_file_answer (class_of width) byte_order file.entry.now section.now) result }
 {
     match width {
         Width::Bits32 => elf32::parse(file, byte_order)?.functions(section),
@@ -229,6 +228,7 @@ fn nothing(status: u32, detail: u32) -> Functions
     Functions {
         status,
         detail,
-        ..Functions::default()
+        count: 0,
+        section_size: 0,
     }
 }

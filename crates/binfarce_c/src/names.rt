@@ -13,7 +13,7 @@ use std::str;
 
 /// What `binfarce_demangle` returns: `struct binfarce_name`.
 #[repr(C)]
-#[derive(Default, Drop)]
+#[derive(Drop)]
 pub struct SymbolName {
     /// How the call ended.
     pub status: u32,
@@ -143,7 +143,11 @@ fn no_name(status: u32) -> SymbolName
 {
     SymbolName {
         status,
-        ..SymbolName::default()
+        kind: 0,
+        complete_length: 0,
+        trimmed_length: 0,
+        crate_length: 0,
+        has_crate: false,
     }
 }
 
@@ -153,6 +157,7 @@ pub(crate) fn none(status: u32) -> Text
 {
     Text {
         status,
-        ..Text::default()
+        detail: 0,
+        length: 0,
     }
 }

@@ -1,10 +1,9 @@
 //! Listings and reports of files.
 
 ghost use Rattle.std.specs.Prelude.{◌≡◌, Err};
-ghost use Rattle.binfarce_tools.specs.Answer.{file_answer, MemoryIn};
-ghost use Rattle.binfarce_tools.specs.Listing.{IsListingOf, ListingFits};
-ghost use Rattle.binfarce_tools.specs.Report.{IsReportOf, ReportFits};
+ghost use Rattle.binfarce_tools.specs.Listing.{ListingFits};
 ghost use Rattle.binfarce_tools.specs.ReportWords as reporting;
+ghost use Rattle.binfarce_tools.specs.SectionAnswer.{readers_answer, NeedsMemory, IsListingOf, IsReportOf, ReportFits};
 ghost use Rattle.binfarce_c.specs.Texts.{GivesText, no_text};
 
 use crate::buffer::{Text, give};
@@ -19,8 +18,8 @@ use std::str;
 #[unsafe(no_mangle)]
 #[tactic(auto, unfolding(crate::specs::Texts::GivesText))]
 pub extern "C" fn binfarce_list(alloc: Global, file: &[u8], section: &[u8], out: &mut [u8]) -> Text
-    ensures { GivesText ListingFits (MemoryIn file.now (Some section.now)) IsListingOf section.now
-        (file_answer file.now section.now) out.old out.new result }
+    ensures { GivesText ListingFits (NeedsMemory file.now) IsListingOf section.now
+        (readers_answer file.now section.now) out.old out.new result }
 {
     let Ok(section) = str::from_utf8(section) else {
         return none(NOT_UTF8);
@@ -41,8 +40,8 @@ pub extern "C" fn binfarce_report(
     section: &[u8],
     out: &mut [u8],
 ) -> Text
-    ensures { GivesText ReportFits (MemoryIn file.now (Some section.now)) IsReportOf section.now
-        (file_answer file.now section.now) out.old out.new result }
+    ensures { GivesText ReportFits (NeedsMemory file.now) IsReportOf section.now
+        (readers_answer file.now section.now) out.old out.new result }
 {
     let Ok(section) = str::from_utf8(section) else {
         return none(NOT_UTF8);

@@ -1,14 +1,5 @@
-pub mod Defined
 pub mod Headers
 pub mod Walks
 pub mod Names
-pub mod RowsLeft
 pub mod RowParts
 pub mod SectionsLeft
-pub mod Steps
-pub mod Numbered
-pub mod Keys
-pub mod Pushed
-pub mod Sized
-pub mod Selecting
-pub mod Firsts

@@ -1,9 +1,6 @@
 pub mod Elf
 pub mod Classes
-pub mod SymbolTables
-pub mod Versions
 pub mod ElfSymbols
+pub mod SymbolTables
 pub mod ElfViews
-pub mod ElfParts
-pub mod ElfSegments
 pub mod machine

@@ -103,11 +103,12 @@ impl<C: Class> Section<C> {
 /// The section header table of a file, as its header states it.
 #[derive(Clone, Copy)]
 pub struct Table<'a> {
-    pub(crate) data: &'a [u8],
-    pub(crate) byte_order: ByteOrder,
-    pub(crate) shoff: usize,
-    pub(crate) shnum: Half,
-    pub(crate) shstrndx: Half,
+    /// The file's bytes.
+    pub data: &'a [u8],
+    pub byte_order: ByteOrder,
+    pub shoff: usize,
+    pub shnum: Half,
+    pub shstrndx: Half,
 }
 
 /// A file of this class with a section header table, in which a section looks up its name.
@@ -304,8 +305,8 @@ pub fn section_with_name<C: Class>(
     section_named::<C>(table, names_bytes::<C>(table), name)
 }
 
-// The first section with this name among the section names.
-pub(crate) fn section_named<C: Class>(
+/// The first section with this name among the section names.
+pub fn section_named<C: Class>(
     table: Table<'_>,
     names: Option<&[u8]>,
     name: &str,
@@ -353,15 +354,16 @@ pub(crate) fn section_name<'a, C: Class>(table: Table<'a>, section: Section<C>) 
     name_at(names_bytes::<C>(table), section.name_offset)
 }
 
+// The name among the section names at this offset.
 pub(crate) fn name_at(names: Option<&[u8]>, offset: Word) -> Option<&str>
     ensures { option_map (λ t. t.now) result ≡ name_among (option_map (λ b. b.now) names.entry) offset }
 {
     parse_null_string(names?, offset as usize)
 }
 
-// The bytes of the section of the section names.
+/// The bytes of the section of the section names, where the file has them.
 #[tactic(auto, using(crate::proofs::Names::contents_read))]
-pub(crate) fn names_bytes<'a, C: Class>(table: Table<'a>) -> Option<&'a [u8]>
+pub fn names_bytes<'a, C: Class>(table: Table<'a>) -> Option<&'a [u8]>
     ensures { option_map (λ b. b.now) result ≡ names_bytes C.table (table_view table.entry) }
 {
     section_data(table.data, names_section::<C>(table)?).ok()
@@ -374,6 +376,30 @@ fn names_section<C: Class>(table: Table<'_>) -> Option<Section<C>>
     let before = C::SECTION_LENGTH.checked_mul(table.shstrndx as usize)?;
     let start = table.shoff.checked_add(before)?;
     section_at(table.data, start, table.byte_order, table.shstrndx).ok()
+}
+
+/// The section's name in these section names.
+pub fn name_in<'a>(names: Option<&'a [u8]>, section: &Section<u64>) -> Option<&'a str>
+    ensures { option_map
+        (λ t. t.now) result ≡ name_among (option_map (λ b. b.now) names.entry)
+        (section_view (λ n. n) section.now).name_offset }
+{
+    name_at(names, section.name_offset)
+}
+
+/// Whether this is the section's name in these section names.
+pub fn is_named_in(names: Option<&[u8]>, section: &Section<u64>, name: &str) -> bool
+    ensures { result ≡ is_named name.now (name_among (option_map (λ b. b.now) names.entry)
+        (section_view (λ n. n) section.now).name_offset) }
+{
+    is_named(names, section.name_offset, name)
+}
+
+/// The section's index in the section header table.
+pub fn index_of<C: Class>(section: Section<C>) -> Half
+    ensures { result ≡ (section_view C.number_of section).index }
+{
+    section.index
 }
 
 /// The section's bytes, a slice of the file. `MalformedInput` where their end exceeds 64 bits, `UnexpectedEof` where

@@ -1,7 +1,7 @@
 //! The symbol tables that a file may have (gABI, "Symbol Table").
 
 ghost use Rattle.std.specs.Prelude.{◌≡◌};
-ghost use Rattle.binfarce_elf.specs.SymbolTables.{section_type, table_name, strings_name, has_indirect};
+ghost use Rattle.binfarce_elf.specs.SymbolTables.{section_type, table_name, strings_name};
 
 use crate::class::Word;
 
@@ -50,12 +50,5 @@ impl SymbolTable {
             SymbolTable::Symtab => ".strtab",
             SymbolTable::Dynsym => ".dynstr",
         }
-    }
-
-    // Whether indirect functions (`STT_GNU_IFUNC`) count among the functions of one section.
-    pub(crate) fn has_indirect(self) -> bool
-        ensures { result ≡ has_indirect self }
-    {
-        self == SymbolTable::Dynsym
     }
 }

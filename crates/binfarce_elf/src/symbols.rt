@@ -1,39 +1,21 @@
-//! The function symbols of one section, or of all sections with their addresses and sizes in memory.
+//! A symbol table, its strings and its rows: where they are in a file.
 
-ghost use Rattle.std.specs.Prelude.{◌≡◌, List, [], ◌∷◌, map, Some, None, IfOk, MatchOption, MatchResult, nat_eq, slice_index_or};
-ghost use Rattle.std.specs.Result.{IsOk};
-ghost use Rattle.binfarce_bytes.specs.Entries.{Answers};
+ghost use Rattle.std.specs.Prelude.{◌≡◌, nat_eq};
 ghost use Rattle.std.specs.Option.{option_map};
-ghost use Rattle.std.specs.List.{range_with_len, filter_map};
-ghost use Rattle.std.specs.List.Sorted.{IsNonDecreasingBy};
 ghost use Rattle.binfarce_bytes.specs.Refusal.{Gives, refusal_of, unexpected_eof, symbols_section_is_missing, section_is_missing};
 ghost use Rattle.binfarce_bytes.specs.Walk.{first};
-ghost use Rattle.binfarce_bytes.specs.Selection.{section_of};
-ghost use Rattle.binfarce_bytes.specs.SymbolViews.{function_view, section_function_view};
-ghost use Rattle.binfarce_bytes.specs.Found.{entry_at};
 ghost use Rattle.binfarce_elf.specs.Classes.{class_of};
 ghost use Rattle.binfarce_elf.specs.Elf.{walk, name_among};
-ghost use Rattle.binfarce_elf.specs.ElfParts.{needed_view, table_sections_view};
-ghost use Rattle.binfarce_elf.specs.ElfSymbols.{is_named, sought, string_table_kind, whole_rows, table_sections, taken, needed, rows_at, elf_selected, End, entry_sized, entry_taken, entry_with, is_function, function_name, kind_of, row_count, row_of};
-ghost use Rattle.binfarce_elf.specs.SymbolTables.{section_type, table_name, strings_name};
-ghost use Rattle.binfarce_elf.specs.Versions.{version_of};
-ghost use Rattle.binfarce_elf.specs.ElfViews.{section_view, accepts, taken_view, kind_view, sized_from, functions_left, selected_view, HoldsAllFunctions};
-ghost use Rattle.binfarce_elf.specs.machine.RawElf.{symbol_view, table_view, rows_view, AreKeysOf};
+ghost use Rattle.binfarce_elf.specs.ElfSymbols.{is_named, sought, string_table_kind, whole_rows};
+ghost use Rattle.binfarce_elf.specs.ElfViews.{section_view, table_sections_view};
+ghost use Rattle.binfarce_elf.specs.SymbolTables.{section_type, table_name, strings_name, table_sections, rows_at};
+ghost use Rattle.binfarce_elf.specs.machine.RawElf.{table_view, rows_view};
 
-use crate::class::{Class, Half, SymbolRow, Width, Word, row_at};
-use crate::ends::{FileKind, address_of, keys_of, row_size};
-use crate::sections::{Section, Table, first_section, names_bytes, section_data, section_named};
+use crate::class::{Class, Width, Word};
+use crate::sections::{Section, Table, first_section, section_data, section_named};
 use crate::symbol_table::{STRING_TABLE, SymbolTable};
-use crate::versions::{row_versions, version_at};
-use binfarce_bytes::functions::{FunctionSymbol, SectionFunction, Selection, found_with};
-use binfarce_bytes::parser::{UnexpectedEof, parse_null_string};
-use binfarce_bytes::{ByteOrder, ParseError};
-use std::alloc::{AllocError, Global};
-
-// The index of no section, and the first of the reserved indices.
-const SHN_UNDEF: Half = 0;
-
-const SHN_LORESERVE: Half = 0xff00;
+use binfarce_bytes::ParseError;
+use binfarce_bytes::parser::UnexpectedEof;
 
 /// A symbol table's section, and that of its strings.
 #[derive(Clone, Copy)]
@@ -42,222 +24,16 @@ pub struct TableSections {
     pub strings: Section<u64>,
 }
 
-/// A selection of a symbol table: the functions of the sections whose indices are in a range.
+/// The strings and the rows of a symbol table.
 #[derive(Clone, Copy)]
-pub struct Taken {
-    /// The first index.
-    pub first: Half,
-    /// The last index; below the first one where there is none.
-    pub last: Half,
-    /// Whether indirect functions (`STT_GNU_IFUNC`) count.
-    pub indirect: bool,
-    /// The size of the selected section; `None` for all sections.
-    pub size: Option<u64>,
+pub struct Rows<'a> {
+    pub strings: &'a [u8],
+    pub rows: &'a [u8],
 }
 
-/// A selection of a symbol table, and the sections of the table and its strings.
-#[derive(Clone, Copy)]
-pub struct Needed {
-    pub taken: Taken,
-    pub table: TableSections,
-}
-
-// The strings and the rows of a symbol table.
-#[derive(Clone, Copy)]
-pub(crate) struct Rows<'a> {
-    pub(crate) strings: &'a [u8],
-    pub(crate) rows: &'a [u8],
-}
-
-/// The function symbols of the section with this name, by this symbol table. Nothing is allocated.
-#[tactic(auto, unfolding(crate::specs::ElfSymbols::elf_selected))]
-pub fn section_functions<'a, C: Class>(
-    table: Table<'a>,
-    which: SymbolTable,
-    name: &str,
-) -> Result<Functions<'a>, ParseError>
-    ensures { Gives refusal_of selected_view
-        (elf_selected which C.table (table_view table.entry) (Some name.now)) result }
-{
-    let selection = Selection::Section(name);
-    let needed = needed_of::<C>(table, names_bytes::<C>(table), which, selection)?;
-    let Rows { strings, rows } = rows_at(table.data, C::width(), needed.table)?;
-    Ok(functions_in(
-        rows,
-        strings,
-        row_versions::<C>(table, which),
-        C::width(),
-        table.byte_order,
-        needed.taken,
-        false,
-        &[],
-    ))
-}
-
-/// The function symbols of all sections of a file of this kind, by this symbol table: a list in table order. Every
-/// refusal comes before the first allocation.
-#[tactic(auto, unfolding(crate::specs::ElfSymbols::elf_selected))]
-pub fn all_functions<'a, C: Class>(
-    alloc: Global,
-    table: Table<'a>,
-    kind: FileKind,
-    which: SymbolTable,
-) -> Result<Vec<SectionFunction<'a>>, ParseError>
-    requires { kind_view kind ≡ kind_of C.table (table_view table) }
-    ensures { Answers HoldsAllFunctions IsOk (elf_selected which C.table (table_view table.entry) None) result }
-{
-    let needed = needed_of::<C>(table, names_bytes::<C>(table), which, Selection::All)?;
-    let found = rows_at(table.data, C::width(), needed.table)?;
-    let has_modes = kind.has_modes();
-    let keys = keys_of::<C>(alloc, table, kind, found)?;
-    let width = C::width();
-    let functions = list_in(
-        alloc,
-        &keys,
-        width,
-        table.byte_order,
-        has_modes,
-        needed.taken,
-        found,
-        row_versions::<C>(table, which),
-    )?;
-    Ok(functions)
-}
-
-// The function symbols that a selection takes of these rows with their versions, by the keys of the ends of their
-// sections.
-fn list_in<'a>(
-    alloc: Global,
-    keys: &[u128],
-    width: Width,
-    byte_order: ByteOrder,
-    has_modes: bool,
-    taken: Taken,
-    found: Rows<'a>,
-    versions: &[u8],
-) -> Result<Vec<SectionFunction<'a>>, AllocError>
-    requires { IsNonDecreasingBy (λ k. k) keys.now }
-    ensures { (ends : List End) → AreKeysOf ends keys.now → let rows = found.entry.rows.now in IfOk result
-        (λ v. map section_function_view v.items ≡ filter_map
-        (λ k. entry_sized found.entry.strings.now (taken_view taken) has_modes ends
-        (row_of (class_of width) byte_order rows k) (version_of byte_order versions.now k))
-        (range_with_len 0 (row_count (class_of width) rows))) }
-{
-    let length = width.symbol_length();
-    let mut functions = Vec::new(alloc);
-    for k in 0..found.rows.len() / length {
-        let row = row_at(width, found.rows, k * length, byte_order).unwrap();
-        let version = version_at(versions, k, byte_order);
-        let size = row_size(keys, has_modes, row);
-        match function_of(found.strings, taken, has_modes, row, version, size) {
-            None => {}
-            Some(function) => functions.push(function)?,
-        }
-    }
-    Ok(functions)
-}
-
-/// The function symbols that a selection takes of the rows of a symbol table of this class, whose names are in these
-/// strings, and whose versions these are. For all sections, `sizes` has the sizes of all rows in memory, and `has_modes`
-/// says whether bit 0 of a function's value is its instruction set.
-pub fn functions_in<'a>(
-    rows: &'a [u8],
-    strings: &'a [u8],
-    versions: &'a [u8],
-    width: Width,
-    byte_order: ByteOrder,
-    taken: Taken,
-    has_modes: bool,
-    sizes: &'a [u64],
-) -> Functions<'a>
-    ensures entries { functions_left result ≡ sized_from (class_of width) byte_order (taken_view taken) has_modes
-        (record { strings = strings.entry.now; rows = rows.entry.now }) versions.entry.now sizes.entry.now 0 }
-    ensures size { (selected_view result).size ≡ taken.size }
-    ensures strings { (selected_view result).strings ≡ strings.entry.now }
-{
-    Functions {
-        rows,
-        strings,
-        versions,
-        width,
-        byte_order,
-        taken,
-        has_modes,
-        sizes,
-        next: 0,
-    }
-}
-
-// A selection and the sections that its symbols need; `names` holds the section names.
-#[tactic(auto, unfolding(crate::specs::ElfSymbols::needed))]
-pub(crate) fn needed_of<C: Class>(
-    table: Table<'_>,
-    names: Option<&[u8]>,
-    which: SymbolTable,
-    selection: Selection<'_>,
-) -> Result<Needed, ParseError>
-    ensures { Gives refusal_of needed_view
-        (needed which (walk C.table (table_view table.entry)) (option_map (λ b. b.now) names.entry) table.entry.shnum
-        (section_of selection.entry)) result }
-{
-    let taken = taken_by::<C>(table, names, which, selection)?;
-    let sections = table_sections::<C>(table, which)?;
-    Ok(Needed {
-        taken,
-        table: sections,
-    })
-}
-
-#[tactic(auto, unfolding(crate::specs::ElfSymbols::taken))]
-fn taken_by<C: Class>(
-    table: Table<'_>,
-    names: Option<&[u8]>,
-    which: SymbolTable,
-    selection: Selection<'_>,
-) -> Result<Taken, ParseError>
-    ensures { Gives refusal_of taken_view
-        (taken which (walk C.table (table_view table.entry)) (option_map (λ b. b.now) names.entry) table.entry.shnum
-        (section_of selection.entry)) result }
-{
-    match selection {
-        Selection::Section(name) => {
-            let section = named_section::<C>(table, names, name)?;
-            Ok(Taken {
-                first: section.index,
-                last: section.index,
-                indirect: which.has_indirect(),
-                size: Some(section.size.widened()),
-            })
-        }
-        Selection::All => {
-            whole_sections::<C>(table)?;
-            Ok(Taken {
-                first: SHN_UNDEF + 1,
-                last: table.shnum.min(SHN_LORESERVE).saturating_sub(1),
-                indirect: true,
-                size: None,
-            })
-        }
-    }
-}
-
-// Refused where a section header is truncated.
-#[tactic(auto, unfolding(crate::specs::Elf::walk))]
-fn whole_sections<C: Class>(table: Table<'_>) -> Result<(), UnexpectedEof>
-    ensures { let end = (walk C.table (table_view table.entry)).refusal in MatchResult result
-        (λ _. end ≡ None) (λ _. end ≡ Some unexpected_eof) }
-{
-    let room = table.data.len().saturating_sub(table.shoff) / C::SECTION_LENGTH;
-    if table.shoff < table.data.len() && usize::from(table.shnum) <= room {
-        Ok(())
-    } else {
-        Err(UnexpectedEof {})
-    }
-}
-
-// The sections of this symbol table.
-#[tactic(auto, unfolding(crate::specs::ElfSymbols::table_sections))]
-fn table_sections<C: Class>(
+/// The sections of this symbol table, or the first refusal of its search.
+#[tactic(auto, unfolding(crate::specs::SymbolTables::table_sections))]
+pub fn table_sections<C: Class>(
     table: Table<'_>,
     which: SymbolTable,
 ) -> Result<TableSections, ParseError>
@@ -273,9 +49,9 @@ fn table_sections<C: Class>(
     })
 }
 
-// The rows and the strings of these sections.
-#[tactic(auto, unfolding(crate::specs::ElfSymbols::rows_at))]
-fn rows_at(file: &[u8], width: Width, sections: TableSections) -> Result<Rows<'_>, ParseError>
+/// The rows and the strings of these sections.
+#[tactic(auto, unfolding(crate::specs::SymbolTables::rows_at))]
+pub fn rows_at(file: &[u8], width: Width, sections: TableSections) -> Result<Rows<'_>, ParseError>
     ensures { Gives refusal_of rows_view
         (rows_at (class_of width) file.now (table_sections_view sections)) result }
 {
@@ -285,7 +61,8 @@ fn rows_at(file: &[u8], width: Width, sections: TableSections) -> Result<Rows<'_
     Ok(Rows { strings, rows })
 }
 
-fn named_section<C: Class>(
+/// The first section with this name among the section names.
+pub fn named_section<C: Class>(
     table: Table<'_>,
     names: Option<&[u8]>,
     name: &str,
@@ -308,7 +85,8 @@ fn symbol_table<C: Class>(table: Table<'_>, which: SymbolTable) -> Result<Sectio
     ))
 }
 
-pub(crate) fn section_of_kind<C: Class>(
+/// The first section of this type.
+pub fn section_of_kind<C: Class>(
     table: Table<'_>,
     kind: Word,
 ) -> Result<Option<Section<C>>, UnexpectedEof>
@@ -364,192 +142,4 @@ pub fn whole_rows(width: Width, rows: &[u8]) -> Result<&[u8], ParseError>
     } else {
         Err(ParseError::UnexpectedEof)
     }
-}
-
-/// An iterator over the function symbols of a selection, each with the index of its section, in the order of the symbol
-/// table.
-///
-/// Rows are read on demand, and names stay in the file: nothing is allocated or copied.
-#[must_use = "iterators are lazy and do nothing unless consumed"]
-#[derive(Clone, Drop)]
-pub struct Functions<'a> {
-    rows: &'a [u8],
-    strings: &'a [u8],
-    versions: &'a [u8],
-    width: Width,
-    byte_order: ByteOrder,
-    taken: Taken,
-    has_modes: bool,
-    sizes: &'a [u64],
-    next: usize,
-}
-
-impl<'a> Functions<'a> {
-    /// The size of the selected section in bytes (`sh_size`); `None` for all sections.
-    pub fn section_size(&self) -> Option<u64>
-        ensures { result ≡ (selected_view self.now).size }
-    {
-        self.taken.size
-    }
-
-    /// The function symbol that an address symbolizes to, among those that are left: of those whose range holds it the
-    /// one of greatest address, and of several the first. `None` where no range holds it.
-    ///
-    /// A range begins at the symbol's address (`st_value`) and has its size in bytes. Each row that is left is read
-    /// once; nothing is allocated or copied.
-    #[tactic(auto, using(crate::proofs::RowsLeft::none_at_first))]
-    pub fn symbol_at(self, address: u64) -> Option<FunctionSymbol<'a>>
-        ensures { option_map function_view result
-            ≡ entry_at (map (λ e. e.entry) (functions_left self.entry)) address }
-    {
-        let mut found = None;
-        for function in self {
-            found = found_with(found, function.function, address);
-        }
-        found
-    }
-
-    // The first function that is left, and the number of the row after it.
-    #[inline(always)]
-    fn first_left(&self) -> Option<(SectionFunction<'a>, usize)>
-        ensures { MatchOption result (functions_left self.now ≡ [])
-            (λ r. functions_left self.now ≡ section_function_view r.0 ∷ functions_left
-            (record self.now { next = r.1 })) }
-    {
-        match self.width {
-            Width::Bits32 => self.first_of(Width::Bits32),
-            Width::Bits64 => self.first_of(Width::Bits64),
-        }
-    }
-
-    // So by this class, whose size of a row the compiler knows.
-    #[inline(always)]
-    #[tactic(auto, using(crate::proofs::RowsLeft::ended))]
-    fn first_of(&self, width: Width) -> Option<(SectionFunction<'a>, usize)>
-        ensures { MatchOption result (functions_left (record self.now { width = width }) ≡ [])
-            (λ r. functions_left (record self.now { width = width }) ≡ section_function_view r.0 ∷ functions_left
-            (record self.now { width = width; next = r.1 })) }
-    {
-        let length = width.symbol_length();
-        for k in self.next..self.rows.len() / length {
-            let row = row_at(width, self.rows, k * length, self.byte_order).unwrap();
-            let version = version_at(self.versions, k, self.byte_order);
-            let size = size_at(self.sizes, k);
-            match function_of(self.strings, self.taken, self.has_modes, row, version, size) {
-                None => continue,
-                Some(function) => return Some((function, k + 1)),
-            }
-        }
-        None
-    }
-}
-
-impl<'a> Iterator for Functions<'a> {
-    ghost use Rattle.std.specs.Iterator.{YieldsFirstBy, item_count};
-    ghost use Rattle.binfarce_bytes.specs.SymbolViews.{section_function_view};
-    ghost use Rattle.binfarce_elf.specs.Versions.{version_of};
-    ghost use Rattle.binfarce_elf.specs.ElfViews.{functions_left};
-
-    type Item = SectionFunction<'a>;
-
-    ghost next_gives = { YieldsFirstBy section_function_view functions_left };
-
-    ghost remaining = { item_count functions_left };
-
-    #[inline(always)]
-    fn next(&mut self) -> Option<SectionFunction<'a>> {
-        let (function, next) = self.first_left()?;
-        self.next = next;
-        Some(function)
-    }
-}
-
-// The size of row k among these; 0 where they have none.
-#[inline(always)]
-fn size_at(sizes: &[u64], k: usize) -> u64
-    ensures { result ≡ slice_index_or sizes.now k 0 }
-{
-    if k < sizes.len() { sizes[k] } else { 0 }
-}
-
-// The function of a row of this version, and of this size in memory, with its section, where it is taken.
-#[inline(always)]
-fn function_of(
-    strings: &[u8],
-    taken: Taken,
-    has_modes: bool,
-    row: SymbolRow,
-    version: Half,
-    size: u64,
-) -> Option<SectionFunction<'_>>
-    ensures { option_map section_function_view result
-        ≡ entry_taken strings.entry.now (taken_view taken) has_modes (symbol_view row) version size }
-{
-    match taken.size {
-        None => {
-            let address = address_of(has_modes, row);
-            function_with(strings, taken, row, version, address, size)
-        }
-        Some(_) if row.size == 0 => None,
-        Some(_) => function_with(strings, taken, row, version, row.value, row.size),
-    }
-}
-
-// The function of a row with its section, of this version, address and size.
-#[inline(always)]
-fn function_with(
-    strings: &[u8],
-    taken: Taken,
-    row: SymbolRow,
-    version: Half,
-    address: u64,
-    size: u64,
-) -> Option<SectionFunction<'_>>
-    ensures { option_map section_function_view result
-        ≡ entry_with strings.entry.now taken.indirect (accepts taken) (symbol_view row) version address size }
-{
-    let name = function_name(strings, taken, row)?;
-    Some(SectionFunction {
-        section: u32::from(row.section),
-        info: row.info,
-        version,
-        function: FunctionSymbol {
-            name,
-            address,
-            size,
-        },
-    })
-}
-
-// The name of a row's function, where it is taken.
-#[inline(always)]
-#[tactic(auto, unfolding(crate::specs::ElfSymbols::function_name))]
-fn function_name(strings: &[u8], taken: Taken, row: SymbolRow) -> Option<&str>
-    ensures { option_map (λ t. t.now) result
-        ≡ function_name strings.entry.now taken.indirect (accepts taken) (symbol_view row) }
-{
-    if accepts(taken, row.section) && row.name != 0 && is_function(taken.indirect, row) {
-        parse_null_string(strings, row.name as usize)
-    } else {
-        None
-    }
-}
-
-// Whether the functions of the section of this index are taken.
-#[inline(always)]
-fn accepts(taken: Taken, index: Half) -> bool
-    ensures { result ≡ accepts taken index }
-{
-    taken.first <= index && index <= taken.last
-}
-
-// Whether a row's type is that of a function; of an indirect one where these count.
-#[inline]
-pub(crate) fn is_function(indirect: bool, row: SymbolRow) -> bool
-    ensures { result ≡ is_function indirect (symbol_view row) }
-{
-    const STT_FUNC: u8 = 2;
-    const STT_GNU_IFUNC: u8 = 10;
-    let kind = row.info & 0xf;
-    kind == STT_FUNC || indirect && kind == STT_GNU_IFUNC
 }

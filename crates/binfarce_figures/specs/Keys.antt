@@ -8,7 +8,7 @@ use Rattle.binfarce_names.specs.Name.{Name}
 use Rattle.binfarce_names.specs.Named.{IsNamed}
 use Rattle.binfarce_names.specs.declared.demangle.Kind.{Kind}
 use Rattle.binfarce_names.specs.declared.demangle.Kind.TheVariants.{Legacy}
-use Rattle.binfarce_tools.specs.Listing.{section_text}
+use Rattle.binfarce_tools.specs.SelectedTexts.{section_text}
 use Rattle.binfarce_tools.specs.Report.{unknown_crate}
 use Rattle.binfarce_figures.specs.declared.key.Grouping.{Grouping}
 use Rattle.binfarce_figures.specs.declared.key.Key.{Key}

@@ -4,7 +4,8 @@ use Rattle.std.specs.List.{AllZip, concat}
 use Rattle.std.specs.Option.{option_and_then}
 use Rattle.binfarce.specs.SectionEntries.{SectionEntry, SelectedSymbols}
 use Rattle.binfarce_tools.specs.Json.{Style, lines, objects, address_member, number_member, object_start, text_member}
-use Rattle.binfarce_tools.specs.Listing.{line_head, section_part, size_line}
+use Rattle.binfarce_tools.specs.Listing.{line_head, size_line}
+use Rattle.binfarce_tools.specs.SelectedTexts.{section_part}
 use Rattle.binfarce_figures.specs.declared.rows.Shown.{Shown}
 use Rattle.binfarce_figures.specs.declared.rows.Naming.{Naming}
 use Rattle.binfarce_figures.specs.Keys.{IsCrateOf}

@@ -7,9 +7,8 @@ use Rattle.std.proofs.lemmas.Nat.{div-mul-add, mod-mul-add}
 use Rattle.binfarce.specs.Refusal.{Refusal, ◌>>=◌, unexpected_section_type, unexpected_eof}
 use Rattle.binfarce.specs.Elf.{ElfClass, Section, SectionTable}
 use Rattle.binfarce.specs.declared.ByteOrder.{ByteOrder}
-use Rattle.binfarce.specs.ElfSymbols.{section_data, string_table_kind, whole_rows, TableRows, symbol_at, entry_of, listed_of}
-use Rattle.binfarce.specs.SectionEntries.{SectionEntry}
-use Rattle.binfarce.specs.Versions.{version_of}
+use Rattle.binfarce.specs.ElfSymbols.{section_data, string_table_kind, whole_rows, symbol_at, entries_of, entry_of}
+use Rattle.binfarce.specs.SymbolTables.{TableRows}
 use Rattle.binfarce.specs.Symbol.{Entry, Listed}
 use Rattle.binfarce_image.specs.declared.image.ElfLayout.{ElfLayout}
 use Rattle.binfarce_image.specs.declared.image.Image.{Image}
@@ -25,13 +24,9 @@ use Rattle.binfarce_image.proofs.RowsBack.{rows_back}
 use Rattle.binfarce_image.proofs.WalkBack.{table_of}
 use Rattle.binfarce_image.proofs.PartsBack.{Holds, part_back}
 
--- the entries of these rows of a section
-abbrev pub entries_in : ElfClass → ByteOrder → List ℕ → (ℕ → Bool) → List ℕ → List SectionEntry
-entries_in class order strings accepts rows = filter_map (λ k. entry_of strings false accepts (symbol_at class order rows (k * class.symbol_length)) (version_of order [] k)) (range_with_len 0 (length rows / class.symbol_length))
-
--- the entries of a section by the symbol table, and its size
+-- the entries of a section, and its size
 abbrev pub list_of : ElfClass → ByteOrder → Section → TableRows → Listed
-list_of class order text found = listed_of (record { entries = entries_in class order found.strings (λ section. eqb section text.index) found.rows; size = Some text.size; strings = found.strings })
+list_of class order text found = record { entries = entries_of class order found.strings found.rows text.index; section_size = text.size }
 
 -- the answer with these sections
 abbrev pub listed_with : ElfClass → SectionTable → Section → Section → Section → Result Listed Refusal
@@ -64,13 +59,13 @@ count_is len n size some long =
 -- the entries of the written rows
 entries_back : (layout : ElfLayout) (strings : List ℕ) (index : ℕ) (rows : List Row) (written : List ℕ) → written ≡ flat_map (symbol_bytes (class_of layout) (order_of layout)) rows
     → length written ≡ length rows * (class_of layout).symbol_length → AllByRecursion RowFits rows
-    → map (λ (e : SectionEntry). e.entry) (entries_in (class_of layout) (order_of layout) strings (λ section. eqb section index) written) ≡ image_entries strings index rows
+    → entries_of (class_of layout) (order_of layout) strings written index ≡ image_entries strings index rows
+unfolding entries_of
 entries_back layout strings index rows written are long fits =
     let class = class_of layout in
     let order = order_of layout in
-    let accepts : ℕ → Bool = λ section. eqb section index in
-    ap (λ (n : ℕ). map (λ (e : SectionEntry). e.entry) (filter_map (λ row. entry_of strings false accepts (symbol_at class order written (row * class.symbol_length)) (version_of order [] row)) (range_with_len 0 n))) (count_is (length written) (length rows) class.symbol_length (is_class layout).symbol_some long)
-    ∙ ap (map (λ (e : SectionEntry). e.entry)) (rows_back layout strings accepts written [] 0 rows are (omega arith) fits)
+    ap (λ (n : ℕ). filter_map (λ row. entry_of strings index (symbol_at class order written (row * class.symbol_length))) (range_with_len 0 n)) (count_is (length written) (length rows) class.symbol_length (is_class layout).symbol_some long)
+    ∙ rows_back layout strings index written [] 0 rows are (omega arith) fits
 
 -- the size of the section that was asked for
 size_back : (class : ElfClass) (part : Part) → is_table part ≡ false → body_length class part ≡ part_size part
@@ -114,7 +109,7 @@ module _ (image : Image) (layout : ElfLayout) (small : length (bytes image layou
       let listed = listed_is class table text symbols linked strings.items written (kind_passes linked kind (ap (λ (x : Section). x.kind) r.is) is) first second whole in
       let index : text.index ≡ found.0 = ap (λ (x : Section). x.index) t.is in
       let size : text.size ≡ part_size found.1 = ap (λ (x : Section). x.size) t.is ∙ size_back class found.1 other in
-      let all = map (λ (e : SectionEntry). e.entry) (entries_in class order strings.items (λ section. eqb section text.index) written) in
+      let all = entries_of class order strings.items written text.index in
       let entries : all ≡ image_entries strings.items found.0 rows.items = entries_back layout strings.items text.index rows.items written refl long s.fits.2 ∙ ap (λ (i : ℕ). image_entries strings.items i rows.items) index in
       listed
       ∙ same_listed all (image_entries strings.items found.0 rows.items) text.size (part_size found.1) entries size

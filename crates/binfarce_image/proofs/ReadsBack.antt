@@ -8,8 +8,6 @@ use Rattle.binfarce.specs.Refusal.{Refusal, ◌>>=◌, required, symbols_section
 use Rattle.binfarce.specs.Walk.{Walk, found_or_end}
 use Rattle.binfarce.specs.Elf.{ElfClass, Section, SectionTable, walk, name_of}
 use Rattle.binfarce.specs.ElfSymbols.{sought, is_named, elf_answer}
-use Rattle.binfarce_elf.proofs.Steps.{answer_steps}
-use Rattle.binfarce_elf.specs.declared.symbol_table.SymbolTable.TheVariants.{Symtab}
 use Rattle.binfarce.specs.Symbol.{Listed}
 use Rattle.binfarce_image.specs.declared.image.ElfLayout.{ElfLayout}
 use Rattle.binfarce_image.specs.declared.image.Image.{Image}
@@ -145,14 +143,13 @@ module _ (image : Image) (layout : ElfLayout) (due : LaysOut image layout) (fits
   named_by name (Some text) (Some found) r other = from_text text found r other
 
   -- the readers' answer
-  read_back : (name : List ℕ) → IsNotTable (part_named image name) → elf_answer Symtab class table name ≡ symbols_of image name
-  unfolding symbols_of
+  read_back : (name : List ℕ) → IsNotTable (part_named image name) → elf_answer class table name ≡ symbols_of image name
+  unfolding symbols_of elf_answer
   read_back name other =
       let f : Section → Bool = λ s. is_named name (name_of class table s) in
       let g : ℕ × Part → Bool = λ q. is_named name (part_name_of image q.1) in
       let agree : (s : Section) (q : ℕ × Part) → Holds image layout s q → f s ≡ g q = λ s q h. ap (is_named name) (name_back image layout due fits s q h) in
-      answer_steps Symtab class table name
-      ∙ ap (λ (x : Result Section Refusal). x >>= λ (text : Section). listed_for text) (sought_in_file symbols_section_is_missing f (find f sections) refl)
+      ap (λ (x : Result Section Refusal). x >>= λ (text : Section). listed_for text) (sought_in_file symbols_section_is_missing f (find f sections) refl)
       ∙ named_by name (find f sections) (find g numbered) (both f g agree) other
 
 -- in each layout, an image's file reads back to what the image holds
@@ -161,4 +158,4 @@ reads_back image layout fits due name other =
     let d = lays_out image layout due in
     let n = names_at image layout d in
     let named = n.2 in
-    ap (λ (t : SectionTable). elf_answer Symtab (class_of layout) t name) (table_back image layout d named.there) ∙ read_back image layout d fits name other
+    ap (λ (t : SectionTable). elf_answer (class_of layout) t name) (table_back image layout d named.there) ∙ read_back image layout d fits name other

@@ -7,8 +7,7 @@ use Rattle.binfarce.specs.declared.ByteOrder.{ByteOrder}
 use Rattle.binfarce.specs.Field.{Field, value_at}
 use Rattle.binfarce.specs.Elf.{ElfClass, SymbolRow}
 use Rattle.binfarce.specs.ElfSymbols.{symbol_at, entry_of}
-use Rattle.binfarce.specs.SectionEntries.{SectionEntry}
-use Rattle.binfarce.specs.Versions.{version_of}
+use Rattle.binfarce.specs.Symbol.{Entry}
 use Rattle.binfarce_image.specs.declared.image.ElfLayout.{ElfLayout}
 use Rattle.binfarce_image.specs.declared.image.Row.{Row}
 use Rattle.binfarce_image.specs.Image.{class_of, order_of, symbol_numbers, symbol_bytes}
@@ -52,23 +51,18 @@ module _ (layout : ElfLayout) where
           → Path (SymbolRow ℕ) (record { name = a; value = b; size = c; info = d; other = e; section = f }) (record { name = a'; value = b'; size = c'; info = d'; other = e'; section = f' })
       same_row p q r s t u = cc
 
-  -- none of which has a version
-  no_version : (i : ℕ) → version_of order [] i ≡ 0
-  unfolding version_of
-  no_version i = rw (lt-leb (i * 2 + 2) 0 (omega arith)) refl
-
   -- the entries of the rows that are found from this index on are those of the rows that were written
-  pub rows_back : (strings : List ℕ) (accepts : ℕ → Bool) (bytes front : List ℕ) (i : ℕ) (rows : List Row) → bytes ≡ front ++ flat_map (symbol_bytes class order) rows → length front ≡ i * class.symbol_length
+  pub rows_back : (strings : List ℕ) (index : ℕ) (bytes front : List ℕ) (i : ℕ) (rows : List Row) → bytes ≡ front ++ flat_map (symbol_bytes class order) rows → length front ≡ i * class.symbol_length
       → AllByRecursion RowFits rows
-      → filter_map (λ k. entry_of strings false accepts (symbol_at class order bytes (k * class.symbol_length)) (version_of order [] k)) (range_with_len i (length rows)) ≡ filter_map (λ row. entry_of strings false accepts (symbol_of row) 0) rows
-  rows_back strings accepts bytes front i [] split_is at fits = refl
-  rows_back strings accepts bytes front i (row ∷ rows) split_is at fits =
+      → filter_map (λ k. entry_of strings index (symbol_at class order bytes (k * class.symbol_length))) (range_with_len i (length rows)) ≡ filter_map (λ row. entry_of strings index (symbol_of row)) rows
+  rows_back strings index bytes front i [] split_is at fits = refl
+  rows_back strings index bytes front i (row ∷ rows) split_is at fits =
       let start = i * class.symbol_length in
       let written = symbol_bytes class order row in
       let rest = flat_map (symbol_bytes class order) rows in
       let here : symbol_at class order bytes start ≡ symbol_of row = ap (λ (xs : List ℕ). symbol_at class order xs start) split_is ∙ symbol_back front rest start row fits.0 at in
       let further : length (front ++ written) ≡ (i + 1) * class.symbol_length =
       length-append front written ∙ ap (λ (n : ℕ). n + length written) at ∙ ap (λ (n : ℕ). start + n) (length-symbol_bytes layout order row) ∙ next_row i class.symbol_length in
-      let others = rows_back strings accepts bytes (front ++ written) (i + 1) rows (split_is ∙ sym (append_assoc front written rest)) further fits.1 in
-      ap₂ (λ (s : SymbolRow ℕ) (version : ℕ). cons_option (entry_of strings false accepts s version) (filter_map (λ k. entry_of strings false accepts (symbol_at class order bytes (k * class.symbol_length)) (version_of order [] k)) (range_with_len (i + 1) (length rows)))) here (no_version i)
-      ∙ ap (λ (xs : List SectionEntry). cons_option (entry_of strings false accepts (symbol_of row) 0) xs) others
+      let others = rows_back strings index bytes (front ++ written) (i + 1) rows (split_is ∙ sym (append_assoc front written rest)) further fits.1 in
+      ap (λ (s : SymbolRow ℕ). cons_option (entry_of strings index s) (filter_map (λ k. entry_of strings index (symbol_at class order bytes (k * class.symbol_length))) (range_with_len (i + 1) (length rows)))) here
+      ∙ ap (λ (xs : List Entry). cons_option (entry_of strings index (symbol_of row)) xs) others

@@ -1,5 +1,5 @@
 -- The function symbols of an image, read from its parts and rows directly, and the law: its file in any layout reads back to them.
-use Rattle.std.specs.Prelude.{◌≡◌, ◌^◌, ◌<◌, ℕ, false, List, [], length, map, codes, Option, Some, None, Result, Ok, Err, find, nat_eq, if◌then◌else◌}
+use Rattle.std.specs.Prelude.{◌≡◌, ◌^◌, ◌<◌, ℕ, false, List, [], length, codes, Option, Some, None, Result, Ok, Err, find, nat_eq, if◌then◌else◌}
 use Rattle.std.specs.List.{AllByRecursion, enumerate_from, filter_map, slice_get}
 use Rattle.std.specs.Option.{option_and_then}
 use Rattle.binfarce.specs.Text.{text_at}
@@ -7,8 +7,6 @@ use Rattle.binfarce.specs.Refusal.{◌>>=◌, Refusal, required, symbols_section
 use Rattle.binfarce.specs.Elf.{SymbolRow, section_table}
 use Rattle.binfarce.specs.ElfSymbols.{entry_of, is_named, elf_answer}
 use Rattle.binfarce.specs.Symbol.{Entry, Listed}
-use Rattle.binfarce.specs.declared.SymbolTable.TheVariants.{Symtab}
-use Rattle.binfarce.specs.SymbolTables.{has_indirect}
 use Rattle.binfarce_image.specs.declared.image.ElfLayout.{ElfLayout}
 use Rattle.binfarce_image.specs.declared.image.Image.{Image}
 use Rattle.binfarce_image.specs.declared.image.Part.{Part}
@@ -44,9 +42,9 @@ part_size (Table name link rows) = length rows.items
 abbrev pub symbol_of : Row → SymbolRow ℕ
 symbol_of row = record { name = row.name; value = row.address; size = row.size; info = row.info; other = row.other; section = row.section }
 
--- the entries of the rows, in table order; they have no versions
+-- the entries of the rows, in table order
 abbrev pub entries_of : List ℕ → ℕ → List Row → List Entry
-entries_of strings index rows = map (λ e. e.entry) (filter_map (λ row. entry_of strings (has_indirect Symtab) (λ section. nat_eq section index) (symbol_of row) 0) rows)
+entries_of strings index rows = filter_map (λ row. entry_of strings index (symbol_of row)) rows
 
 -- the refusals in order; else the entries of the table's rows, and the size of the requested part
 unfoldable pub symbols_of : Image → List ℕ → Result Listed Refusal
@@ -66,7 +64,7 @@ IsNotTable (Some found) = is_table found.1 ≡ false
 abbrev pub ReadsBack : ElfLayout → Image → List ℕ → Type 0
 ReadsBack layout image file =
     (name : List ℕ) → IsNotTable (part_named image name)
-    → elf_answer Symtab (class_of layout) (section_table (class_of layout) (record { order = order_of layout; bytes = file })) name ≡ symbols_of image name
+    → elf_answer (class_of layout) (section_table (class_of layout) (record { order = order_of layout; bytes = file })) name ≡ symbols_of image name
 
 -- the numbers of a row fit their types
 pub record RowFits (row : Row) : Type 0 where

@@ -3,12 +3,12 @@ use Rattle.std.proofs.Common.{◌≡◌, ◌≢◌, ◌∙◌, inl, inr, ℕ, Bo
 use Rattle.std.specs.Prelude.{IfOk}
 use Rattle.std.proofs.lemmas.List.{length-map}
 use Rattle.std.specs.Global.{Vec}
-use Rattle.binfarce.specs.ElfViews.{version_names}
+use Rattle.binfarce.specs.SelectionViews.{version_names}
 use Rattle.binfarce.specs.Refusal.{Refusal}
 use Rattle.binfarce.specs.SectionEntries.{SelectedSymbols}
 use Rattle.binfarce.specs.SymbolViews.{section_function_view}
 use Rattle.binfarce.specs.declared.SectionFunction.{SectionFunction}
-use Rattle.binfarce_elf.specs.declared.versions.VersionNames.{VersionNames}
+use Rattle.binfarce_elf_memory.specs.declared.versions.VersionNames.{VersionNames}
 use Rattle.binfarce_tools.specs.declared.SymbolTable.{SymbolTable}
 use Rattle.binfarce_tools.specs.declared.functions.AllFunctions.{AllFunctions}
 use Rattle.binfarce_tools.specs.declared.functions.Selected.{Selected}

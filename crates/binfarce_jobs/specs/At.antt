@@ -14,7 +14,7 @@ use Rattle.binfarce_addresses.specs.Stream.{Streams}
 use Rattle.binfarce_addresses.specs.declared.counts.Counts.{Counts}
 use Rattle.binfarce_addresses.specs.declared.lookup.Lookup.{Lookup}
 use Rattle.binfarce_addresses.specs.declared.stream.StreamError.{StreamError}
-use Rattle.binfarce_elf.specs.declared.segments.LoadAddress.{LoadAddress}
+use Rattle.binfarce_elf_memory.specs.declared.segments.LoadAddress.{LoadAddress}
 use Rattle.binfarce_tables.specs.Loading.{load_address}
 use Rattle.binfarce_tools.specs.ListWords as list
 use Rattle.binfarce_tools.specs.declared.list.ListError.{ListError}

@@ -11,7 +11,8 @@ use Rattle.binfarce_figures.specs.Figures.{AreFiguresBy, AreStacksIn, AreSumsBy,
 use Rattle.binfarce_figures.specs.RowListing.{IsListingBy}
 use Rattle.binfarce_figures.specs.declared.sums.Sums.{Sums}
 use Rattle.binfarce_tools.specs.Json.{Style, lines, objects}
-use Rattle.binfarce_tools.specs.Listing.{IsListingOf, ListingFits}
+use Rattle.binfarce_tools.specs.Listing.{ListingFits}
+use Rattle.binfarce_tools.specs.SelectedTexts.{IsListingOfSelected}
 use Rattle.binfarce_bytes.specs.Selection.{section_of}
 use Rattle.binfarce_tools.specs.Answer.{selected_answer, MemoryIn}
 use Rattle.binfarce_tools.specs.Tables.{AreTablesOf}
@@ -25,7 +26,7 @@ use Rattle.binfarce_jobs.specs.declared.show.Symbols.{Symbols}
 
 -- text shows the answer of the file at a path for a section, or for all sections
 abbrev pub IsTextOf : Kind → (path : List ℕ) → Style → SelectedSymbols → List ℕ → Type 0
-IsTextOf Listing path style = IsListingOf
+IsTextOf Listing path style = IsListingOfSelected
 IsTextOf (Rows shown) path style = IsListingBy shown style
 IsTextOf (Figures figures) path style = AreFiguresBy figures style
 IsTextOf (Picture grouping first) path style = IsPictureBy path grouping first

@@ -2,9 +2,9 @@
 
 ghost use Rattle.std.specs.Prelude.{◌≡◌, ◌⊎◌, ℕ, List, [], true, map, Some, None, MatchResult, IfSome};
 ghost use Rattle.std.specs.String.{string_bytes};
-ghost use Rattle.binfarce_tools.specs.Answer.{file_answer, MemoryIn};
-ghost use Rattle.binfarce_tools.specs.Listing.{IsListingOf, ListingFits};
+ghost use Rattle.binfarce_tools.specs.Listing.{ListingFits};
 ghost use Rattle.binfarce_tools.specs.Given.{words_of};
+ghost use Rattle.binfarce_tools.specs.SectionAnswer.{readers_answer, NeedsMemory, IsListingOf};
 ghost use Rattle.binfarce_tools.specs.Sink.{writer_of, has_failed};
 ghost use Rattle.binfarce_tools.specs.Status.{status_of};
 ghost use Rattle.binfarce_tools.specs.Writing.{ProgramEndsAs, Takes, Fails, Leaves};
@@ -80,8 +80,8 @@ pub fn run<R: Read, W: Write>(
     out: &mut Out<W>,
 ) -> Result<(), Fault>
     ensures outcome { IfSome (R.remaining file.old) (λ bytes. ProgramEndsAs (Unit {0}) ListingFits
-        (MemoryIn bytes (Some section.now)) (file_answer bytes section.now) (outcome_of result)) }
-    ensures takes { IfSome (R.remaining file.old) (λ bytes. Takes IsListingOf (file_answer bytes section.now)
+        (NeedsMemory bytes) (readers_answer bytes section.now) (outcome_of result)) }
+    ensures takes { IfSome (R.remaining file.old) (λ bytes. Takes IsListingOf (readers_answer bytes section.now)
         (W.contents (writer_of out.old)) (W.contents (writer_of out.new)) (outcome_of result)) }
     ensures fails { Fails (has_failed out.old) (has_failed out.new) (outcome_of result) }
     ensures leaves { Leaves out.old out.new (outcome_of result) }
@@ -98,10 +98,10 @@ pub fn run_file<F: Read + Source<Log = ()>, W: Write>(
     out: &mut Out<W>,
 ) -> Result<(), Fault>
     ensures outcome { (bytes : List ℕ) → F.bytes file.old ≡ Some bytes → F.remaining file.old ≡ Some bytes
-        → ProgramEndsAs ((F.may_fail file.old ≡ true) ⊎ (bytes ≡ [])) ListingFits (MemoryIn bytes (Some section.now))
-        (file_answer bytes section.now) (outcome_of result) }
+        → ProgramEndsAs ((F.may_fail file.old ≡ true) ⊎ (bytes ≡ [])) ListingFits (NeedsMemory bytes)
+        (readers_answer bytes section.now) (outcome_of result) }
     ensures takes { (bytes : List ℕ) → F.bytes file.old ≡ Some bytes → F.remaining file.old ≡ Some bytes
-        → Takes IsListingOf (file_answer bytes section.now)
+        → Takes IsListingOf (readers_answer bytes section.now)
         (W.contents (writer_of out.old)) (W.contents (writer_of out.new)) (outcome_of result) }
     ensures fails { Fails (has_failed out.old) (has_failed out.new) (outcome_of result) }
     ensures leaves { Leaves out.old out.new (outcome_of result) }

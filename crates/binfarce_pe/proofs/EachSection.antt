@@ -17,7 +17,8 @@ use Rattle.binfarce_bytes.specs.RowViews.{row_view, rows_view}
 use Rattle.binfarce_bytes.proofs.Rows.{range_more}
 use Rattle.binfarce_pe.specs.declared.functions.Held.{Held}
 use Rattle.binfarce_pe.specs.PeSelection.{Rules, moved, section_entries, entries_by}
-use Rattle.binfarce_pe.specs.PeSymbols.{CoffTable, SectionRules, record_count, symbol_of, row_numbers, function_name, ending_rows, entries_of}
+use Rattle.binfarce_pe.specs.PeSymbols.{CoffTable, record_count, symbol_of, row_numbers}
+use Rattle.binfarce_pe.specs.PeRules.{SectionRules, accepted_name, ending_rows, entries_under}
 use Rattle.binfarce_pe.specs.machine.RawPe.{numbered, names_view, rows_at, names_at, IsNameOf, HoldsThese, HoldsRows, HoldsSections, ending_name}
 use Rattle.binfarce_pe.proofs.Rows.{AreBefore, HoldsOf, IsLeftOut, holds_none, goes_on, one_more_held, holds_all, no_entries, some_entry}
 
@@ -182,15 +183,15 @@ none_selected table rules before all none =
     (no_entries table (rules.section (rules.first + i)) (subst (λ (ks : List ℕ). All (IsLeftOut table (rules.section (rules.first + i))) ks) (sym all) (none i lt))))
 
 -- where one is kept there is an entry
-pub some_selected : (table : CoffTable) (rules : Rules) (before : List ℕ) (k at : ℕ) → k < record_count table → AreBefore table k before → at < rules.count → is_some (function_name table (rules.section (rules.first + at)).accepts k (symbol_of table k)) ≡ true → entries_by rules table ≢ []
-some_selected table rules before k at within are lt kept = by_name (function_name table section.accepts k (symbol_of table k)) refl kept
+pub some_selected : (table : CoffTable) (rules : Rules) (before : List ℕ) (k at : ℕ) → k < record_count table → AreBefore table k before → at < rules.count → is_some (accepted_name table (rules.section (rules.first + at)).accepts k (symbol_of table k)) ≡ true → entries_by rules table ≢ []
+some_selected table rules before k at within are lt kept = by_name (accepted_name table section.accepts k (symbol_of table k)) refl kept
   where
     section : SectionRules
     section = rules.section (rules.first + at)
 
-    by_name : (o : Option (List ℕ)) → function_name table section.accepts k (symbol_of table k) ≡ o → is_some o ≡ true → entries_by rules table ≢ []
+    by_name : (o : Option (List ℕ)) → accepted_name table section.accepts k (symbol_of table k) ≡ o → is_some o ≡ true → entries_by rules table ≢ []
     by_name None is kept = absurd cc
     by_name (Some name) is kept =
         some_listed (section_entries rules table) rules.first rules.count at lt
-        (mapped_some (λ (e : Entry). record { section = rules.first + at + 1; info = 0; version = 0; entry = e }) (map (moved (rules.address (rules.first + at))) (entries_of table section))
-        (mapped_some (moved (rules.address (rules.first + at))) (entries_of table section) (some_entry table section before k name within are is)))
+        (mapped_some (λ (e : Entry). record { section = rules.first + at + 1; info = 0; version = 0; entry = e }) (map (moved (rules.address (rules.first + at))) (entries_under table section))
+        (mapped_some (moved (rules.address (rules.first + at))) (entries_under table section) (some_entry table section before k name within are is)))

@@ -1,8 +1,8 @@
 -- In which of the selected sections a row is kept, or ends sizes.
-use Rattle.std.proofs.Common.{◌≡◌, ℕ, ◌+◌, Bool, true, false, ◌&&◌, ◌||◌, List, Option, Some, None, refl, ap, nat_eq, if◌then◌else◌}
-use Rattle.std.specs.Option.{option_map}
+use Rattle.std.proofs.Common.{◌≡◌, ℕ, ◌+◌, Bool, true, false, ◌&&◌, ◌||◌, None, refl, nat_eq}
 use Rattle.binfarce_pe.specs.PeSelection.{SelectedSections, the_text, all_sections, rules_of}
-use Rattle.binfarce_pe.specs.PeSymbols.{CoffTable, SymbolRow, SectionRules, function_name, is_function}
+use Rattle.binfarce_pe.specs.PeSymbols.{CoffTable, SymbolRow, is_function}
+use Rattle.binfarce_pe.specs.PeRules.{accepted_name}
 use Rattle.binfarce_pe.specs.machine.RawPe.{ending_name}
 
 not_all : (a b c : Bool) → c ≡ false → (a && (b && c)) ≡ false
@@ -23,8 +23,8 @@ not_ending : (chosen : SelectedSections) (index : ℕ) (row : SymbolRow ℕ) →
 not_ending (the_text text) index row e = refl
 not_ending (all_sections base sections) index row e = not_both (nat_eq row.storage_class 2 || nat_eq row.storage_class 3) _ e
 
-pub no_name : (table : CoffTable) (chosen : SelectedSections) (index k : ℕ) (row : SymbolRow ℕ) → nat_eq row.section_number (index + 1) ≡ false → function_name table ((rules_of chosen).section index).accepts k row ≡ None
-unfolding function_name
+pub no_name : (table : CoffTable) (chosen : SelectedSections) (index k : ℕ) (row : SymbolRow ℕ) → nat_eq row.section_number (index + 1) ≡ false → accepted_name table ((rules_of chosen).section index).accepts k row ≡ None
+unfolding accepted_name
 no_name table chosen index k row e = rw (not_accepted chosen index row e) refl
 
 pub no_ending_name : (table : CoffTable) (chosen : SelectedSections) (index k : ℕ) (row : SymbolRow ℕ) → nat_eq row.section_number (index + 1) ≡ false → ending_name table ((rules_of chosen).section index) k row ≡ None

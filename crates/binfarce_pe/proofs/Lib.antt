@@ -6,3 +6,4 @@ pub mod SectionsLeft
 pub mod EachSection
 pub mod Selected
 pub mod Elsewhere
+pub mod TextRules

@@ -13,7 +13,8 @@ use Rattle.binfarce_bytes.specs.Entries.{Entry}
 use Rattle.binfarce_bytes.specs.SectionEntries.{SectionEntry, in_section}
 use Rattle.binfarce_pe.specs.PeSelection.{SelectedSections, the_text, all_sections, Rules, rules_of, memory_size, moved, section_entries}
 use Rattle.binfarce_bytes.specs.RowViews.{row_view, rows_view}
-use Rattle.binfarce_pe.specs.PeSymbols.{CoffTable, SymbolRow, SectionRules, symbol_of, function_name, ending_rows, size_among, entry_of, entries_of}
+use Rattle.binfarce_pe.specs.PeSymbols.{CoffTable, SymbolRow, symbol_of, size_among}
+use Rattle.binfarce_pe.specs.PeRules.{SectionRules, accepted_name, ending_rows, entry_under, entries_under}
 use Rattle.binfarce_pe.specs.machine.RawPe.{numbered, names_view, IsNameOf, HoldsThese, function_in}
 use Rattle.binfarce_bytes.proofs.Above.{LeastAbove, arranged_above, least_above_is}
 use Rattle.binfarce_bytes.proofs.Arrangement.{Rising}
@@ -108,20 +109,20 @@ name_at table accepts (r ∷ these) (n ∷ names) zero all lt = all.0
 name_at table accepts (r ∷ these) (n ∷ names) (suc k) all lt = name_at table accepts these names k all.1 (omega arith)
 
 one_entry : (table : CoffTable) (rules : SectionRules) (addresses : List ℕ) (names : List (Option (List ℕ))) (r q : RowAddress) → IsNameOf table rules.accepts q (get_or names r.row None) → r.address ≡ q.address
-    → entry_of table rules addresses q ≡ function_at rules.size names addresses r
+    → entry_under table rules addresses q ≡ function_at rules.size names addresses r
 one_entry table rules addresses names r q is same =
     ap (option_map (λ (name : List ℕ). record { name = name; address = q.address; size = rules.size addresses q.address })) is
     ∙ ap (λ (a : ℕ). option_map (λ (name : List ℕ). record { name = name; address = a; size = rules.size addresses a }) (get_or names r.row None)) (sym same)
 
 entries_listed : (table : CoffTable) (rules : SectionRules) (addresses : List ℕ) (these : List RowAddress) (names : List (Option (List ℕ))) → AllZip (IsNameOf table rules.accepts) these names
-    → (xs ys : List RowAddress) → AllZip (IsNumbered these) xs ys → filter_map (function_at rules.size names addresses) xs ≡ filter_map (entry_of table rules addresses) ys
+    → (xs ys : List RowAddress) → AllZip (IsNumbered these) xs ys → filter_map (function_at rules.size names addresses) xs ≡ filter_map (entry_under table rules addresses) ys
 entries_listed table rules addresses these names named [] [] all = refl
 entries_listed table rules addresses these names named [] (q ∷ ys) all = absurd all
 entries_listed table rules addresses these names named (x ∷ xs) [] all = absurd all
 entries_listed table rules addresses these names named (x ∷ xs) (q ∷ ys) all =
     let is : IsNameOf table rules.accepts q (get_or names x.row None) = subst (λ (r : RowAddress). IsNameOf table rules.accepts r (get_or names x.row None)) all.0.1 (name_at table rules.accepts these names x.row named all.0.0) in
     ap (cons_option (function_at rules.size names addresses x)) (entries_listed table rules addresses these names named xs ys all.1)
-    ∙ ap (λ (o : Option Entry). cons_option o (filter_map (entry_of table rules addresses) ys)) (sym (one_entry table rules addresses names x q is all.0.2))
+    ∙ ap (λ (o : Option Entry). cons_option o (filter_map (entry_under table rules addresses) ys)) (sym (one_entry table rules addresses names x q is all.0.2))
 
 -- with the text's size among the members
 with_text : (t a : ℕ) (xs : List ℕ) → least_above (t ∷ xs) a ≡ (if nat_lt a t then Some (least_of t (least_above xs a)) else least_above xs a)
@@ -158,17 +159,17 @@ goes_by_above (the_text text) index a xs ys same =
 goes_by_above (all_sections base sections) index a xs ys same = ap (λ (o : Option ℕ). least_of (memory_size sections index) o - a) same
 
 entries_same : (table : CoffTable) (rules : SectionRules) (xs ys : List ℕ) → GoesByAbove rules.size → ((a : ℕ) → least_above xs a ≡ least_above ys a) → (rows : List RowAddress)
-    → filter_map (entry_of table rules xs) rows ≡ filter_map (entry_of table rules ys) rows
+    → filter_map (entry_under table rules xs) rows ≡ filter_map (entry_under table rules ys) rows
 entries_same table rules xs ys goes same [] = refl
 entries_same table rules xs ys goes same (r ∷ rows) =
-    let first : entry_of table rules xs r ≡ entry_of table rules ys r =
-    ap (λ (n : ℕ). option_map (λ (name : List ℕ). record { name = name; address = r.address; size = n }) (function_name table rules.accepts r.row (symbol_of table r.row))) (goes r.address xs ys (same r.address)) in
-    ap (λ (o : Option Entry). cons_option o (filter_map (entry_of table rules xs) rows)) first ∙ ap (cons_option (entry_of table rules ys r)) (entries_same table rules xs ys goes same rows)
+    let first : entry_under table rules xs r ≡ entry_under table rules ys r =
+    ap (λ (n : ℕ). option_map (λ (name : List ℕ). record { name = name; address = r.address; size = n }) (accepted_name table rules.accepts r.row (symbol_of table r.row))) (goes r.address xs ys (same r.address)) in
+    ap (λ (o : Option Entry). cons_option o (filter_map (entry_under table rules xs) rows)) first ∙ ap (cons_option (entry_under table rules ys r)) (entries_same table rules xs ys goes same rows)
 
 -- what is listed of the arranged rows is the entries
 entries_are : (table : CoffTable) (rules : SectionRules) (held in_order : List RowAddress) (names : List (Option (List ℕ))) → GoesByAbove rules.size → HoldsThese table rules.accepts (ending_rows table rules) held names → in_order ≡ arranged held
-    → filter_map (function_at rules.size names (addresses_of in_order)) in_order ≡ entries_of table rules
-unfolding entries_of
+    → filter_map (function_at rules.size names (addresses_of in_order)) in_order ≡ entries_under table rules
+unfolding entries_under
 entries_are table rules held in_order names goes h are =
     let these = ending_rows table rules in
     ap (λ (rs : List RowAddress). filter_map (function_at rules.size names (addresses_of rs)) rs) (are ∙ ap arranged h.rows_are)

@@ -9,7 +9,8 @@ use Rattle.std.proofs.lemmas.List.Elements.{All-nil, All-cons, All-head, All-tai
 use Rattle.std.proofs.lemmas.List.Sorted.{All-permutation, IsPermutation-sym}
 use Rattle.std.proofs.lemmas.Slice.Zip.{AllZip-long}
 use Rattle.binfarce_bytes.specs.Sizes.{RowAddress, arranged, addresses_of}
-use Rattle.binfarce_pe.specs.PeSymbols.{CoffTable, SectionRules, record_count, symbol_of, rows_from, row_numbers, function_name, ending_row, ending_rows, entry_of, entries_of}
+use Rattle.binfarce_pe.specs.PeSymbols.{CoffTable, record_count, symbol_of, rows_from, row_numbers}
+use Rattle.binfarce_pe.specs.PeRules.{SectionRules, accepted_name, ending_row, ending_rows, entry_under, entries_under}
 use Rattle.binfarce_pe.specs.machine.RawPe.{numbered, IsNameOf, HoldsThese, ending_name}
 use Rattle.binfarce_bytes.proofs.Arranging.{arranged_same}
 
@@ -76,8 +77,8 @@ abbrev pub row_at : CoffTable → ℕ → RowAddress
 row_at table k = record { address = (symbol_of table k).value; row = k }
 
 -- a row that ends no size
-pub not_ending : (table : CoffTable) (rules : SectionRules) (k : ℕ) → ending_name table rules k (symbol_of table k) ≡ None → (ending_row table rules k ≡ None) × (function_name table rules.accepts k (symbol_of table k) ≡ None)
-not_ending table rules k e = by_test (rules.ends (symbol_of table k)) (function_name table rules.accepts k (symbol_of table k)) e
+pub not_ending : (table : CoffTable) (rules : SectionRules) (k : ℕ) → ending_name table rules k (symbol_of table k) ≡ None → (ending_row table rules k ≡ None) × (accepted_name table rules.accepts k (symbol_of table k) ≡ None)
+not_ending table rules k e = by_test (rules.ends (symbol_of table k)) (accepted_name table rules.accepts k (symbol_of table k)) e
   where
     by_test : (b : Bool) (o : Option (List ℕ)) → (if b then Some o else option_map (λ (name : List ℕ). Some name) o) ≡ None → ((if b then Some (row_at table k) else option_map (λ _. row_at table k) o) ≡ None) × (o ≡ None)
     by_test true o e = absurd cc
@@ -85,8 +86,8 @@ not_ending table rules k e = by_test (rules.ends (symbol_of table k)) (function_
     by_test false (Some name) e = absurd cc
 
 -- one that ends sizes, with its name where it is kept
-pub ending : (table : CoffTable) (rules : SectionRules) (k : ℕ) (name : Option (List ℕ)) → ending_name table rules k (symbol_of table k) ≡ Some name → (ending_row table rules k ≡ Some (row_at table k)) × (function_name table rules.accepts k (symbol_of table k) ≡ name)
-ending table rules k name e = by_test (rules.ends (symbol_of table k)) (function_name table rules.accepts k (symbol_of table k)) e
+pub ending : (table : CoffTable) (rules : SectionRules) (k : ℕ) (name : Option (List ℕ)) → ending_name table rules k (symbol_of table k) ≡ Some name → (ending_row table rules k ≡ Some (row_at table k)) × (accepted_name table rules.accepts k (symbol_of table k) ≡ name)
+ending table rules k name e = by_test (rules.ends (symbol_of table k)) (accepted_name table rules.accepts k (symbol_of table k)) e
   where
     by_test : (b : Bool) (o : Option (List ℕ)) → (if b then Some o else option_map (λ (name : List ℕ). Some name) o) ≡ Some name → ((if b then Some (row_at table k) else option_map (λ _. row_at table k) o) ≡ Some (row_at table k)) × (o ≡ name)
     by_test true o e = (refl, cc)
@@ -94,8 +95,8 @@ ending table rules k name e = by_test (rules.ends (symbol_of table k)) (function
     by_test false (Some n) e = (refl, cc)
 
 -- a row that is kept ends sizes
-pub kept_ends : (table : CoffTable) (rules : SectionRules) (k : ℕ) (name : List ℕ) → function_name table rules.accepts k (symbol_of table k) ≡ Some name → ending_row table rules k ≡ Some (row_at table k)
-kept_ends table rules k name e = by_test (rules.ends (symbol_of table k)) (function_name table rules.accepts k (symbol_of table k)) e
+pub kept_ends : (table : CoffTable) (rules : SectionRules) (k : ℕ) (name : List ℕ) → accepted_name table rules.accepts k (symbol_of table k) ≡ Some name → ending_row table rules k ≡ Some (row_at table k)
+kept_ends table rules k name e = by_test (rules.ends (symbol_of table k)) (accepted_name table rules.accepts k (symbol_of table k)) e
   where
     by_test : (b : Bool) (o : Option (List ℕ)) → o ≡ Some name → (if b then Some (row_at table k) else option_map (λ _. row_at table k) o) ≡ Some (row_at table k)
     by_test true o e = refl
@@ -104,7 +105,7 @@ kept_ends table rules k name e = by_test (rules.ends (symbol_of table k)) (funct
 
 -- a row that ends sizes has its number
 pub row_number : (table : CoffTable) (rules : SectionRules) (k : ℕ) (r : RowAddress) → ending_row table rules k ≡ Some r → r.row ≡ k
-row_number table rules k r e = by_test (rules.ends (symbol_of table k)) (function_name table rules.accepts k (symbol_of table k)) e
+row_number table rules k r e = by_test (rules.ends (symbol_of table k)) (accepted_name table rules.accepts k (symbol_of table k)) e
   where
     by_test : (b : Bool) (o : Option (List ℕ)) → (if b then Some (row_at table k) else option_map (λ _. row_at table k) o) ≡ Some r → r.row ≡ k
     by_test true o e = let same : row_at table k ≡ r = cc in sym (ap (λ (s : RowAddress). s.row) same)
@@ -165,7 +166,7 @@ holds_all table rules before rows names all h = subst (λ (ks : List ℕ). Holds
 
 -- the row isn't kept
 abbrev pub IsLeftOut : CoffTable → SectionRules → ℕ → Type 0
-IsLeftOut table rules k = function_name table rules.accepts k (symbol_of table k) ≡ None
+IsLeftOut table rules k = accepted_name table rules.accepts k (symbol_of table k) ≡ None
 
 left_out : (table : CoffTable) (rules : SectionRules) (ks : List ℕ) → All (IsLeftOut table rules) ks → All (λ r. IsLeftOut table rules r.row) (filter_map (ending_row table rules) ks)
 left_out table rules [] all = All-nil (λ r. IsLeftOut table rules r.row)
@@ -177,25 +178,25 @@ left_out table rules (k ∷ ks) all = by_row (ending_row table rules k) refl (le
         All-cons (λ r. IsLeftOut table rules r.row) r (filter_map (ending_row table rules) ks)
         (subst (IsLeftOut table rules) (sym (row_number table rules k r is)) (All-head (IsLeftOut table rules) k ks all)) rest
 
-no_entry : (table : CoffTable) (rules : SectionRules) (addresses : List ℕ) (rows : List RowAddress) → All (λ r. IsLeftOut table rules r.row) rows → filter_map (entry_of table rules addresses) rows ≡ []
+no_entry : (table : CoffTable) (rules : SectionRules) (addresses : List ℕ) (rows : List RowAddress) → All (λ r. IsLeftOut table rules r.row) rows → filter_map (entry_under table rules addresses) rows ≡ []
 no_entry table rules addresses [] all = refl
 no_entry table rules addresses (r ∷ rows) all =
     rw (All-head (λ r. IsLeftOut table rules r.row) r rows all) (no_entry table rules addresses rows (All-tail (λ r. IsLeftOut table rules r.row) r rows all))
 
 -- where no row is kept there is no entry
-pub no_entries : (table : CoffTable) (rules : SectionRules) → All (IsLeftOut table rules) (row_numbers table) → entries_of table rules ≡ []
-unfolding entries_of ending_rows
+pub no_entries : (table : CoffTable) (rules : SectionRules) → All (IsLeftOut table rules) (row_numbers table) → entries_under table rules ≡ []
+unfolding entries_under ending_rows
 no_entries table rules all =
     no_entry table rules (addresses_of (ending_rows table rules)) (arranged (ending_rows table rules))
     (All-permutation (λ r. IsLeftOut table rules r.row) (ending_rows table rules) (arranged (ending_rows table rules)) (arranged_same (ending_rows table rules)) (left_out table rules (row_numbers table) all))
 
-no_entry_of : (table : CoffTable) (rules : SectionRules) (addresses : List ℕ) (rows : List RowAddress) → filter_map (entry_of table rules addresses) rows ≡ [] → All (λ r. IsLeftOut table rules r.row) rows
+no_entry_of : (table : CoffTable) (rules : SectionRules) (addresses : List ℕ) (rows : List RowAddress) → filter_map (entry_under table rules addresses) rows ≡ [] → All (λ r. IsLeftOut table rules r.row) rows
 no_entry_of table rules addresses [] none = All-nil (λ r. IsLeftOut table rules r.row)
-no_entry_of table rules addresses (r ∷ rows) none = by_name (function_name table rules.accepts r.row (symbol_of table r.row)) refl none (no_entry_of table rules addresses rows)
+no_entry_of table rules addresses (r ∷ rows) none = by_name (accepted_name table rules.accepts r.row (symbol_of table r.row)) refl none (no_entry_of table rules addresses rows)
   where
-    by_name : (o : Option (List ℕ)) → function_name table rules.accepts r.row (symbol_of table r.row) ≡ o
-        → cons_option (option_map (λ name. record { name = name; address = r.address; size = rules.size addresses r.address }) o) (filter_map (entry_of table rules addresses) rows) ≡ []
-        → (filter_map (entry_of table rules addresses) rows ≡ [] → All (λ r. IsLeftOut table rules r.row) rows)
+    by_name : (o : Option (List ℕ)) → accepted_name table rules.accepts r.row (symbol_of table r.row) ≡ o
+        → cons_option (option_map (λ name. record { name = name; address = r.address; size = rules.size addresses r.address }) o) (filter_map (entry_under table rules addresses) rows) ≡ []
+        → (filter_map (entry_under table rules addresses) rows ≡ [] → All (λ r. IsLeftOut table rules r.row) rows)
         → All (λ r. IsLeftOut table rules r.row) (r ∷ rows)
     by_name None is none others = All-cons (λ r. IsLeftOut table rules r.row) r rows is (others none)
     by_name (Some name) is none others = absurd cc
@@ -205,8 +206,8 @@ last_of P [] x ys all = All-head P x ys all
 last_of P (y ∷ xs) x ys all = last_of P xs x ys (All-tail P y (xs ++ x ∷ ys) all)
 
 -- where one is kept there is an entry
-pub some_entry : (table : CoffTable) (rules : SectionRules) (before : List ℕ) (k : ℕ) (name : List ℕ) → k < record_count table → AreBefore table k before → function_name table rules.accepts k (symbol_of table k) ≡ Some name → entries_of table rules ≢ []
-unfolding entries_of ending_rows
+pub some_entry : (table : CoffTable) (rules : SectionRules) (before : List ℕ) (k : ℕ) (name : List ℕ) → k < record_count table → AreBefore table k before → accepted_name table rules.accepts k (symbol_of table k) ≡ Some name → entries_under table rules ≢ []
+unfolding entries_under ending_rows
 some_entry table rules before k name within are some none =
     let these = ending_rows table rules in
     let split : these ≡ filter_map (ending_row table rules) before ++ row_at table k ∷ filter_map (ending_row table rules) (rows_left table (after table k)) =
@@ -215,7 +216,7 @@ some_entry table rules before k name within are some none =
     ∙ rw (kept_ends table rules k name some) refl in
     let all : All (λ r. IsLeftOut table rules r.row) these =
     All-permutation (λ r. IsLeftOut table rules r.row) (arranged these) these (IsPermutation-sym these (arranged these) (arranged_same these)) (no_entry_of table rules (addresses_of these) (arranged these) none) in
-    let out : function_name table rules.accepts k (symbol_of table k) ≡ None =
+    let out : accepted_name table rules.accepts k (symbol_of table k) ≡ None =
     last_of (λ r. IsLeftOut table rules r.row) (filter_map (ending_row table rules) before) (row_at table k) (filter_map (ending_row table rules) (rows_left table (after table k))) (subst (λ (rs : List RowAddress). All (λ r. IsLeftOut table rules r.row) rs) split all) in
     cc (sym some ∙ out)
 

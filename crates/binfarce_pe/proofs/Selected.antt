@@ -8,20 +8,22 @@ use Rattle.binfarce_bytes.specs.SectionEntries.{SelectedSymbols, in_section, unl
 use Rattle.binfarce_pe.specs.Pe.{Section}
 use Rattle.binfarce_pe.specs.PeParts.{TextPlace, SectionTable, places_of, section_table, table_walk, text_among}
 use Rattle.binfarce_pe.specs.PeSelection.{Rules, HasSection, the_text, all_sections, base_at, rules_of, moved, section_entries, entries_by, symbols_of, selected_answer}
-use Rattle.binfarce_pe.specs.PeSymbols.{CoffTable, Located, text_section, symbol_table, located, text_rules, entries_of, pe_answer}
+use Rattle.binfarce_pe.specs.PeSymbols.{CoffTable, text_section, symbol_table, entries_of, pe_answer}
+use Rattle.binfarce_pe.specs.PeRules.{text_rules, entries_under}
+use Rattle.binfarce_pe.proofs.TextRules.{text_entries_are}
 use Rattle.binfarce_pe.proofs.Walks.{text_of}
 
 without_section : (n : ℕ) (es : List Entry) → map (λ e. e.entry) (in_section n (map (moved (λ value. value)) es) ++ []) ≡ es
 without_section n [] = refl
 without_section n (e ∷ es) = ap (λ (rest : List Entry). e ∷ rest) (without_section n es)
 
-text_entries : (text : TextPlace) (symbols : CoffTable) → map (λ e. e.entry) (entries_by (rules_of (the_text text)) symbols) ≡ entries_of symbols (text_rules text.index text.size)
-text_entries text symbols = without_section (text.index + 1) (entries_of symbols (text_rules text.index text.size))
+text_entries : (text : TextPlace) (symbols : CoffTable) → map (λ e. e.entry) (entries_by (rules_of (the_text text)) symbols) ≡ entries_of symbols text.index text.size
+text_entries text symbols =
+    without_section (text.index + 1) (entries_under symbols (text_rules text.index text.size)) ∙ text_entries_are symbols text.index text.size
 
-by_located : Result Section Refusal → Result CoffTable Refusal → Result Listed Refusal
-by_located text table =
-    (text >>= λ text. table >>= λ table. Ok (record { text = text; table = table }))
-    >>= λ (found : Located). Ok (record { entries = entries_of found.table (text_rules found.text.index found.text.size_of_raw_data); section_size = found.text.size_of_raw_data })
+by_text : Result Section Refusal → Result CoffTable Refusal → Result Listed Refusal
+by_text text table =
+    text >>= λ text. table >>= λ table. Ok (record { entries = entries_of table text.index text.size_of_raw_data; section_size = text.size_of_raw_data })
 
 -- the entries without their sections, and the section's size, or another
 abbrev pub listed_with : (SelectedSymbols → ℕ) → SelectedSymbols → Listed
@@ -32,17 +34,17 @@ by_selected other text table =
     (((text >>= λ text. Ok (record { index = text.index; size = text.size_of_raw_data })) >>= λ text. Ok (the_text text)) >>= λ chosen. table >>= λ symbols. Ok (symbols_of chosen symbols))
     >>= λ selected. Ok (listed_with other selected)
 
-same_listed : (other : SelectedSymbols → ℕ) (text : Result Section Refusal) (table : Result CoffTable Refusal) → by_located text table ≡ by_selected other text table
-unfolding by_located by_selected
+same_listed : (other : SelectedSymbols → ℕ) (text : Result Section Refusal) (table : Result CoffTable Refusal) → by_text text table ≡ by_selected other text table
+unfolding by_text by_selected
 same_listed other (Ok text) (Ok table) =
     let place : TextPlace = record { index = text.index; size = text.size_of_raw_data } in
     ap (λ (es : List Entry). Ok (record { entries = es; section_size = text.size_of_raw_data })) (sym (text_entries place table))
 same_listed other (Ok text) (Err e) = refl
 same_listed other (Err e) table = refl
 
-located_is : (file : List ℕ) → pe_answer file ≡ by_located (text_section file) (symbol_table file)
-unfolding pe_answer located by_located
-located_is file = refl
+answer_is : (file : List ℕ) → pe_answer file ≡ by_text (text_section file) (symbol_table file)
+unfolding pe_answer by_text
+answer_is file = refl
 
 selected_is : (other : SelectedSymbols → ℕ) (name file : List ℕ) → by_selected other (text_among (section_table file)) (symbol_table file) ≡ (selected_answer (Some name) file >>= λ selected. Ok (listed_with other selected))
 unfolding selected_answer by_selected
@@ -51,7 +53,7 @@ selected_is other name file = refl
 -- the answer of the text is that of a selection by any name
 pub listed_is : (other : SelectedSymbols → ℕ) (name file : List ℕ) → pe_answer file ≡ (selected_answer (Some name) file >>= λ selected. Ok (listed_with other selected))
 listed_is other name file =
-    located_is file ∙ same_listed other (text_section file) (symbol_table file)
+    answer_is file ∙ same_listed other (text_section file) (symbol_table file)
     ∙ ap (λ (text : Result Section Refusal). by_selected other text (symbol_table file)) (sym (text_of file (section_table file) refl)) ∙ selected_is other name file
 
 -- where there is an entry, there is a section

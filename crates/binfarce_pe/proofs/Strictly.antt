@@ -1,13 +1,16 @@
 -- The numbers of the rows that end sizes rise, so their arrangement rises strictly.
-use Rattle.std.proofs.Common.{◌≡◌, ℕ, zero, suc, ◌<◌, ◌≤◌, Bool, true, false, cond, List, [], ◌∷◌, All, Option, Some, None, Result, Ok, refl, sym, ap, ◌∙◌, arith, nat_lt}
+use Rattle.std.proofs.Common.{◌≡◌, ℕ, zero, suc, ◌<◌, ◌≤◌, Bool, true, false, cond, List, [], ◌∷◌, All, Option, Some, None, Result, Ok, refl, sym, ap, subst, ◌∙◌, arith, nat_lt}
 use Rattle.std.specs.List.{filter_map, cons_option}
 use Rattle.std.proofs.lemmas.List.Elements.{All-nil, All-cons, All-weaker}
 use Rattle.binfarce_bytes.specs.Refusal.{◌>>=◌, Refusal}
 use Rattle.binfarce_bytes.specs.Sizes.{RowAddress, arranged}
 use Rattle.binfarce_bytes.specs.Entries.{Listed}
-use Rattle.binfarce_pe.specs.PeSymbols.{CoffTable, SectionRules, Located, text_rules, record_count, rows_from, ending_row, ending_rows, entries_of, pe_answer, ArrangesRows}
+use Rattle.binfarce_pe.specs.Pe.{Section}
+use Rattle.binfarce_pe.specs.PeSymbols.{CoffTable, record_count, rows_from, symbol_table, kept_rows, entries_of, pe_answer, ArrangesRows}
+use Rattle.binfarce_pe.specs.PeRules.{SectionRules, text_rules, ending_row, ending_rows}
 use Rattle.binfarce_bytes.proofs.Arrangement.{Rising, arrangement_of}
 use Rattle.binfarce_pe.proofs.Rows.{after, row_number}
+use Rattle.binfarce_pe.proofs.TextRules.{kept_rows_are}
 
 -- those that end sizes from row k on, by n steps
 abbrev ending_by : CoffTable → SectionRules → ℕ → ℕ → List RowAddress
@@ -38,13 +41,18 @@ pub ending_rise : (table : CoffTable) (rules : SectionRules) → Rising (ending_
 unfolding ending_rows
 ending_rise table rules = (from_on table rules (record_count table) 0).1
 
+-- so do those of the kept rows
+kept_rise : (table : CoffTable) (index text_size : ℕ) → Rising (kept_rows table index)
+kept_rise table index text_size = subst Rising (kept_rows_are table index text_size) (ending_rise table (text_rules index text_size))
+
 -- the law of the order
 pub rows_arranged : (file : List ℕ) → ArrangesRows file
 unfolding pe_answer entries_of
-rows_arranged file found listed is answer =
-    let rules = text_rules found.text.index found.text.size_of_raw_data in
-    let rows = ending_rows found.table rules in
-    let listing : Listed = record { entries = entries_of found.table rules; section_size = found.text.size_of_raw_data } in
-    let same : Ok listing ≡ Ok listed = ap (λ (r : Result Located Refusal). r >>= λ f. Ok (record { entries = entries_of f.table (text_rules f.text.index f.text.size_of_raw_data); section_size = f.text.size_of_raw_data })) (sym is) ∙ answer in
-    let listed_is : listing ≡ listed = cc in
-    record { in_order = arranged rows; arrangement = arrangement_of rows (ending_rise found.table rules); given = ap (λ (l : Listed). l.entries) (sym listed_is) }
+rows_arranged file text table listed found read answer =
+    let rows = kept_rows table text.index in
+    let listing : Section → CoffTable → Listed = λ text table. record { entries = entries_of table text.index text.size_of_raw_data; section_size = text.size_of_raw_data } in
+    let same : Ok (listing text table) ≡ Ok listed =
+    sym (ap (λ (r : Result Section Refusal). r >>= λ text. symbol_table file >>= λ table. Ok (listing text table)) found
+    ∙ ap (λ (r : Result CoffTable Refusal). r >>= λ table. Ok (listing text table)) read) ∙ answer in
+    let listed_is : listing text table ≡ listed = cc in
+    record { in_order = arranged rows; arrangement = arrangement_of rows (kept_rise table text.index text.size_of_raw_data); given = ap (λ (l : Listed). l.entries) (sym listed_is) }

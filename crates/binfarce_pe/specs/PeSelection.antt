@@ -12,7 +12,8 @@ use Rattle.binfarce_pe.specs.declared.functions.SelectedSections as code
 use Rattle.binfarce_pe.specs.declared.functions.SelectedSections.TheVariants.{Text, All}
 use Rattle.binfarce_pe.specs.Pe.{header_of, image_base, least_length, section_fields, section_length}
 use Rattle.binfarce_pe.specs.PeParts.{TablePlaces, TextPlace, SectionTable, headers_view, places_of, section_table, section_in, table_walk, text_place, text_view, whole_in}
-use Rattle.binfarce_pe.specs.PeSymbols.{SymbolRow, CoffTable, SectionRules, symbol_table, is_function, text_rules, entries_of}
+use Rattle.binfarce_pe.specs.PeSymbols.{SymbolRow, CoffTable, symbol_table, is_function}
+use Rattle.binfarce_pe.specs.PeRules.{SectionRules, text_rules, entries_under}
 
 -- the image base of a file with tables at these places
 abbrev pub base_at : List ℕ → TablePlaces → Option ℕ
@@ -96,7 +97,7 @@ moved address entry = record { name = entry.name; address = address entry.addres
 -- the entries of the section of this index, whose number is one more
 abbrev pub section_entries : Rules → CoffTable → ℕ → List SectionEntry
 section_entries rules symbols index =
-    in_section (index + 1) (map (moved (rules.address index)) (entries_of symbols (rules.section index)))
+    in_section (index + 1) (map (moved (rules.address index)) (entries_under symbols (rules.section index)))
 
 -- the entries of the chosen sections, in the order of their numbers; also of a section whose name isn't UTF-8
 abbrev pub entries_by : Rules → CoffTable → List SectionEntry

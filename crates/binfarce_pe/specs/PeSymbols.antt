@@ -1,5 +1,5 @@
 -- The function symbols of a PE file (Microsoft PE Format, "COFF Symbol Table"), with sizes that their addresses give.
-use Rattle.std.specs.Prelude.{◌≡◌, ℕ, zero, suc, ◌+◌, ◌-◌, ◌*◌, ◌/◌, Bool, false, ◌&&◌, List, [], ◌∷◌, length, drop, codes, Option, Some, None, Result, Ok, Err, nat_eq, nat_lt, nat_le, unwrap_or, if◌then◌else◌}
+use Rattle.std.specs.Prelude.{◌≡◌, ℕ, zero, suc, ◌+◌, ◌-◌, ◌*◌, ◌/◌, Bool, ◌&&◌, List, [], ◌∷◌, length, drop, codes, Option, None, Result, Ok, Err, nat_eq, nat_lt, nat_le, unwrap_or, if◌then◌else◌}
 use Rattle.std.specs.Option.{option_map}
 use Rattle.std.specs.List.{filter_map}
 use Rattle.binfarce_bytes.specs.Number.{bytes_at}
@@ -84,50 +84,34 @@ is_function row = nat_eq (row.kind / 16) 2
 abbrev pub is_function_of : ℕ → SymbolRow ℕ → Bool
 is_function_of index row = is_function row && nat_eq row.storage_class 2 && nat_eq row.section_number (index + 1)
 
--- the name of a row that is accepted
-unfoldable pub function_name : CoffTable → (SymbolRow ℕ → Bool) → ℕ → SymbolRow ℕ → Option (List ℕ)
-function_name table accepts k row = if accepts row then name_of table k row else None
+-- the name of row k, if the row is kept: it is an external function of the section, and its name can be read
+unfoldable pub function_name : CoffTable → ℕ → ℕ → Option (List ℕ)
+function_name table index k = if is_function_of index (symbol_of table k) then name_of table k (symbol_of table k) else None
 
--- the address and the number of a row that is kept: one that is accepted, and whose name can be read
-abbrev pub kept_row : CoffTable → (SymbolRow ℕ → Bool) → ℕ → Option RowAddress
-kept_row table accepts k = option_map (λ _. record { address = (symbol_of table k).value; row = k }) (function_name table accepts k (symbol_of table k))
+-- the address and the number of row k, if it is kept
+abbrev pub kept_row : CoffTable → ℕ → ℕ → Option RowAddress
+kept_row table index k = option_map (λ _. record { address = (symbol_of table k).value; row = k }) (function_name table index k)
 
--- how the rows of a section are listed: which are accepted; which end sizes even where they aren't kept; and the size at an address, given the addresses of
--- all rows that end sizes
-pub record SectionRules : Type 0 where
-  pub accepts : SymbolRow ℕ → Bool
-  pub ends : SymbolRow ℕ → Bool
-  pub size : List ℕ → ℕ → ℕ
+-- the kept rows, in table order
+unfoldable pub kept_rows : CoffTable → ℕ → List RowAddress
+kept_rows table index = filter_map (kept_row table index) (row_numbers table)
 
--- the address and the number of a row that ends sizes: one that is kept, or another
-abbrev pub ending_row : CoffTable → SectionRules → ℕ → Option RowAddress
-ending_row table rules k =
-    if rules.ends (symbol_of table k) then Some (record { address = (symbol_of table k).value; row = k }) else kept_row table rules.accepts k
-
--- the rows that end sizes, in table order
-unfoldable pub ending_rows : CoffTable → SectionRules → List RowAddress
-ending_rows table rules = filter_map (ending_row table rules) (row_numbers table)
-
--- the entry of such a row, where it is kept, by the addresses of all of them
-abbrev pub entry_of : CoffTable → SectionRules → List ℕ → RowAddress → Option Entry
-entry_of table rules addresses at =
-    option_map (λ name. record { name = name; address = at.address; size = rules.size addresses at.address }) (function_name table rules.accepts at.row (symbol_of table at.row))
-
--- the entries of such rows in this order
-abbrev pub entries_in : CoffTable → SectionRules → List RowAddress → List Entry
-entries_in table rules in_order = filter_map (entry_of table rules (addresses_of (ending_rows table rules))) in_order
-
--- the entries of the kept rows, in the order of (address, row number)
-unfoldable pub entries_of : CoffTable → SectionRules → List Entry
-entries_of table rules = entries_in table rules (arranged (ending_rows table rules))
-
--- the size at an address: up to the least member above it, and 0 where there is none
+-- the size at an address: up to the least member above it, and 0 if there is none
 abbrev pub size_among : List ℕ → ℕ → ℕ
 size_among members address = unwrap_or (option_map (λ above. above - address) (least_above members address)) 0
 
--- the rules of a text of this index and size in the file: functions are kept, and no other rows end sizes. A size ends at their addresses and at the text's size
-abbrev pub text_rules : ℕ → ℕ → SectionRules
-text_rules index section_size = record { accepts = is_function_of index; ends = λ row. false; size = λ addresses. size_among (section_size ∷ addresses) }
+-- the entry of a kept row: its name, its address, and the size at that address
+abbrev pub entry_of : CoffTable → ℕ → List ℕ → RowAddress → Option Entry
+entry_of table index members kept =
+    option_map (λ name. record { name = name; address = kept.address; size = size_among members kept.address }) (function_name table index kept.row)
+
+-- the entries of kept rows in this order. A size ends at the addresses of all kept rows and at the text's size in the file
+abbrev pub entries_in : CoffTable → (index text_size : ℕ) → List RowAddress → List Entry
+entries_in table index text_size in_order = filter_map (entry_of table index (text_size ∷ addresses_of (kept_rows table index))) in_order
+
+-- the entries of the kept rows, in the order of (address, row number)
+unfoldable pub entries_of : CoffTable → (index text_size : ℕ) → List Entry
+entries_of table index text_size = entries_in table index text_size (arranged (kept_rows table index))
 
 -- the text: the first section `.text`
 abbrev pub text_section : List ℕ → Result Section Refusal
@@ -146,23 +130,12 @@ symbol_table file =
     if nat_le (length file) (table_offset file) then Err unexpected_eof
     else if_as_long_as (table_offset file + table_size file) file (Ok (record { rows = bytes_at file (table_offset file) (table_size file); strings = drop (table_offset file + table_size file) file }))
 
--- the text, and the symbol table
-pub record Located : Type 0 where
-  pub text : Section
-  pub table : CoffTable
-
--- the refusals in order; else where the symbols are
-unfoldable pub located : List ℕ → Result Located Refusal
-located file = do
-  text ← text_section file
-  table ← symbol_table file
-  Ok (record { text = text; table = table })
-
--- the entries, and the size of the text in the file
+-- the refusals in order; else the entries, and the size of the text in the file
 unfoldable pub pe_answer : List ℕ → Result Listed Refusal
 pe_answer file = do
-  found ← located file
-  Ok (record { entries = entries_of found.table (text_rules found.text.index found.text.size_of_raw_data); section_size = found.text.size_of_raw_data })
+  text ← text_section file
+  table ← symbol_table file
+  Ok (record { entries = entries_of table text.index text.size_of_raw_data; section_size = text.size_of_raw_data })
 
 -- that of a file that has a header
 abbrev pub pe_file_answer : List ℕ → Result Listed Refusal
@@ -170,6 +143,5 @@ pe_file_answer file = if_as_long_as (least_length file) file (pe_answer file)
 
 -- a law of `pe_answer`: its entries are those of the kept rows, arranged so that (address, row number) rises strictly
 abbrev pub ArrangesRows : List ℕ → Type 0
-ArrangesRows file = (found : Located) (listed : Listed) → located file ≡ Ok found → pe_answer file ≡ Ok listed
-    → let rules = text_rules found.text.index found.text.size_of_raw_data in
-    ListsArranged (ending_rows found.table rules) (λ in_order entries. entries ≡ entries_in found.table rules in_order) listed.entries
+ArrangesRows file = (text : Section) (table : CoffTable) (listed : Listed) → text_section file ≡ Ok text → symbol_table file ≡ Ok table → pe_answer file ≡ Ok listed
+    → ListsArranged (kept_rows table text.index) (λ in_order entries. entries ≡ entries_in table text.index text.size_of_raw_data in_order) listed.entries

@@ -12,6 +12,7 @@ ghost use Rattle.binfarce_bytes.specs.Sizes.{addresses_of, least_above, least_of
 ghost use Rattle.binfarce_bytes.specs.SymbolViews.{section_function_view, HoldsSized};
 ghost use Rattle.binfarce_pe.specs.Pe.{section_at};
 ghost use Rattle.binfarce_pe.specs.PeParts.{places_of, places_view, headers_view, section_table, table_view, whole_in};
+ghost use Rattle.binfarce_pe.specs.PeRules.{accepted_name};
 ghost use Rattle.binfarce_pe.specs.PeSelection.{is_external_or_static, memory_size, memory_address, rules_of, name_of, section_entries, entries_by, section_size, whole_sections, sections_in, selected_answer, sections_view, IsWhole};
 ghost use Rattle.binfarce_pe.specs.PeSymbols as pe_symbols;
 ghost use Rattle.binfarce_pe.specs.PeSymbols.{record_count};
@@ -262,7 +263,7 @@ fn kept_in(
 ) -> Option<u32>
     requires { number < record_count (table_view symbols) }
     ensures { let rules = rules_of (sections_view sections.entry) in
-        let name = λ (i : ℕ). pe_symbols.function_name (table_view symbols.entry)
+        let name = λ (i : ℕ). accepted_name (table_view symbols.entry)
         (rules.section (rules.first + i)).accepts number (symbol_view row) in MatchOption result
         ((i : ℕ) → i < rules.count → name i ≡ None)
         (λ at. (at < rules.count) × (is_some (name at) ≡ true)) }
@@ -278,7 +279,7 @@ fn kept_in(
 }
 
 // The name of a row that is kept of the section that it names, if that is selected.
-#[tactic(auto, unfolding(crate::specs::PeSymbols::function_name))]
+#[tactic(auto, unfolding(crate::specs::PeRules::accepted_name))]
 fn function_name<'a>(
     sections: SelectedSections<'_>,
     symbols: CoffTable<'a>,
@@ -286,7 +287,7 @@ fn function_name<'a>(
     row: SymbolRow,
 ) -> Option<&'a str>
     requires { number < record_count (table_view symbols) }
-    ensures { (index : ℕ) → pe_symbols.function_name (table_view symbols.entry)
+    ensures { (index : ℕ) → accepted_name (table_view symbols.entry)
         ((rules_of (sections_view sections.entry)).section index).accepts number (symbol_view row)
         ≡ (if nat_eq (symbol_view row).section_number (index + 1) then option_map (λ t. t.now) result else None) }
 {

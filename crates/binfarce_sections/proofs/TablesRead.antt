@@ -5,7 +5,7 @@ use Rattle.binfarce.specs.declared.ByteOrder.{ByteOrder}
 use Rattle.binfarce.specs.declared.Format.{Format}
 use Rattle.binfarce.specs.declared.Format.TheVariants as formats
 use Rattle.binfarce.specs.Elf as elf
-use Rattle.binfarce.specs.ElfSymbols.{file_kind}
+use Rattle.binfarce.specs.ElfEnds.{file_kind}
 use Rattle.binfarce.specs.Format.{format_of}
 use Rattle.binfarce.specs.Macho as macho
 use Rattle.binfarce.specs.Pe as pe

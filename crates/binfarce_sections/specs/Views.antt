@@ -6,7 +6,7 @@ use Rattle.binfarce.specs.Refusal.{refusal_of}
 use Rattle.binfarce.specs.Walk.{Walk, ended}
 use Rattle.binfarce.specs.Elf as elf
 use Rattle.binfarce.specs.Elf.{name_among}
-use Rattle.binfarce_elf.specs.ElfParts as elf_parts
+use Rattle.binfarce_elf_memory.specs.ElfParts as elf_parts
 use Rattle.binfarce_sections.specs.declared.sections.Section as code
 use Rattle.binfarce_sections.specs.declared.sections.ElfSections.{ElfSections}
 use Rattle.binfarce_sections.specs.declared.sections.Sections.{Sections}

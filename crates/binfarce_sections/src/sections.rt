@@ -20,8 +20,8 @@ ghost use Rattle.binfarce_sections.specs.machine.Opened.{OpensWalk};
 use crate::error::SectionError;
 use crate::kinds::SectionType;
 use binfarce::{ByteOrder, Format, ParseError, detect_format, macho, pe};
-use binfarce_elf::parts::{AnySections, is_named_in, name_in, sections_of_file};
-use binfarce_elf::sections as elf_sections;
+use binfarce_elf::sections::{self as elf_sections, is_named_in, name_in};
+use binfarce_elf_memory::parts::{AnySections, sections_of_file};
 use binfarce_tables::Width;
 use binfarce_tables::elf::SectionParts;
 

@@ -11,12 +11,15 @@ use Rattle.binfarce_bytes.specs.Refusal.{◌>>=◌, Refusal, unexpected_eof, byt
 use Rattle.binfarce_bytes.specs.SectionEntries.{SelectedSymbols}
 use Rattle.binfarce_elf.specs.Classes.{class_of}
 use Rattle.binfarce_elf.specs.Elf.{ElfClass, Header, SectionTable, Section, header_of, section_at, walk, whole_headers, names_bytes, names_section, contents}
-use Rattle.binfarce_elf.specs.ElfParts.{headers_alone}
-use Rattle.binfarce_elf.specs.ElfSymbols.{FileKind, TableSections, NeededSections, TableRows, Selected, file_kind, section_data, rows_at, elf_selected, symbols_of, listed_of, elf_answer, elf_file_answer, selected_file_answer}
+use Rattle.binfarce_elf_memory.specs.ElfParts.{headers_alone}
+use Rattle.binfarce_elf_memory.specs.ElfEnds.{FileKind, file_kind}
+use Rattle.binfarce_elf.specs.SymbolTables.{TableSections, TableRows, rows_at}
+use Rattle.binfarce_elf_memory.specs.ElfSelection.{NeededSections, Selected, elf_selected, symbols_of, listed_of, selected_file_answer, section_answer, section_file_answer}
+use Rattle.binfarce_elf.specs.ElfSymbols.{section_data}
 use Rattle.binfarce_elf.specs.declared.class.Width.{Width}
 use Rattle.binfarce_elf.specs.declared.symbol_table.SymbolTable.{SymbolTable}
-use Rattle.binfarce_elf.specs.Versions.{bytes_if, definitions_section, version_name, versions_section}
-use Rattle.binfarce_elf.proofs.Steps.{assoc}
+use Rattle.binfarce_elf_memory.specs.Versions.{bytes_if, definitions_section, version_name, versions_section}
+use Rattle.binfarce_elf_memory.proofs.Steps.{assoc}
 use Rattle.binfarce_tables.specs.ElfReading.{symbols_in}
 use Rattle.binfarce_tables.specs.ElfReads.{table_of, section_parts, names_parts, headers_parts, table_parts, rows_parts, version_parts, elf_section_parts, elf_parts}
 use Rattle.binfarce_tables.specs.SectionReading.{FileSections, file_sections}
@@ -129,8 +132,8 @@ sections_by class within order file header same =
 abbrev list_of : SelectedSymbols → Listed
 list_of s = record { entries = map (λ e. e.entry) s.entries; section_size = unwrap_or s.section_size 0 }
 
-listed_by : (which : SymbolTable) (class : ElfClass) (order : ByteOrder) (file name : List ℕ) → elf_file_answer which class order file name ≡ (selected_file_answer which class order file (Some name) >>= λ s. Ok (list_of s))
-unfolding elf_answer selected_file_answer
+listed_by : (which : SymbolTable) (class : ElfClass) (order : ByteOrder) (file name : List ℕ) → section_file_answer which class order file name ≡ (selected_file_answer which class order file (Some name) >>= λ s. Ok (list_of s))
+unfolding section_answer selected_file_answer
 listed_by which class order file name = by_test (ltb (length file) class.header_length)
   where
     table : SectionTable
@@ -178,7 +181,7 @@ module _ (width : Width) (order : ByteOrder) (file other : List ℕ) where
         ∙ sym (from_file which class order file section)
 
     -- the answer for the section of a name
-    pub section_parts_decide : (name : List ℕ) → elf_file_answer which class order other name ≡ elf_file_answer which class order file name
+    pub section_parts_decide : (name : List ℕ) → section_file_answer which class order other name ≡ section_file_answer which class order file name
     section_parts_decide name =
         listed_by which class order other name
         ∙ ap (λ (a : Result SelectedSymbols Refusal). a >>= λ s. Ok (list_of s)) (elf_parts_decide (Some name))

@@ -9,9 +9,10 @@ use Rattle.binfarce_bytes.specs.Refusal.{◌>>=◌, Refusal, unexpected_eof}
 use Rattle.binfarce_bytes.specs.Walk.{Walk}
 use Rattle.binfarce_elf.specs.Classes.{class_of}
 use Rattle.binfarce_elf.specs.Elf.{ElfClass, SectionTable, Section, header_of, walk, whole_headers, names_section}
-use Rattle.binfarce_elf.specs.ElfSegments.{program_length, programs_size}
-use Rattle.binfarce_elf.specs.ElfSymbols.{TableSections, Taken, NeededSections, taken, needed, table_sections}
-use Rattle.binfarce_elf.specs.Versions.{definitions_section, versions_section}
+use Rattle.binfarce_elf_memory.specs.ElfSegments.{program_length, programs_size}
+use Rattle.binfarce_elf.specs.SymbolTables.{TableSections, table_sections}
+use Rattle.binfarce_elf_memory.specs.ElfSelection.{Taken, NeededSections, taken, needed}
+use Rattle.binfarce_elf_memory.specs.Versions.{definitions_section, versions_section}
 use Rattle.binfarce_elf.specs.declared.class.Width.{Width}
 use Rattle.binfarce_elf.specs.declared.symbol_table.SymbolTable.{SymbolTable}
 use Rattle.binfarce_tables.specs.ElfReads.{table_of, section_parts, names_header, names_parts, headers_size, headers_parts, table_parts, rows_parts, found_parts, version_parts, elf_section_parts, elf_parts, elf_load_parts}

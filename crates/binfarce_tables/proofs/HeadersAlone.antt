@@ -12,11 +12,11 @@ use Rattle.binfarce_bytes.specs.Number.{bytes_at, number}
 use Rattle.binfarce_bytes.specs.Refusal.{unexpected_eof}
 use Rattle.binfarce_elf.specs.Elf.{ElfClass, elf32, elf64, SectionTable, Header, header_of, section_table, section_at, section_of, walk, whole_headers}
 use Rattle.binfarce_elf.specs.Classes.{class_of}
-use Rattle.binfarce_elf.specs.ElfParts.{IsPlaceOf, headers_alone}
-use Rattle.binfarce_elf.specs.ElfSymbols.{file_kind}
+use Rattle.binfarce_elf_memory.specs.ElfParts.{IsPlaceOf, headers_alone}
+use Rattle.binfarce_elf_memory.specs.ElfEnds.{file_kind}
 use Rattle.binfarce_elf.specs.declared.class.Width.{Width}
 use Rattle.binfarce_elf.specs.declared.class.Width.TheVariants.{Bits32, Bits64}
-use Rattle.binfarce_elf.specs.declared.parts.HeaderTable.{HeaderTable}
+use Rattle.binfarce_elf_memory.specs.declared.parts.HeaderTable.{HeaderTable}
 use Rattle.binfarce_elf.specs.machine.RawElf.{fields_of_header, fields_of_section}
 use Rattle.binfarce_tables.specs.machine.Places.{headers_of}
 

@@ -8,10 +8,13 @@ use Rattle.binfarce_bytes.specs.Refusal.{◌>>=◌, Refusal, unexpected_eof}
 use Rattle.binfarce_bytes.specs.SectionEntries.{SelectedSymbols}
 use Rattle.binfarce_bytes.specs.Walk.{ended}
 use Rattle.binfarce_elf.specs.Elf.{ElfClass, SectionTable, header_of, section_table, walk, whole_headers, names_bytes}
-use Rattle.binfarce_elf.specs.ElfSymbols.{TableSections, NeededSections, TableRows, Selected, table_sections, needed, section_data, whole_rows, rows_at, file_kind, selected_from, elf_selected, symbols_of, selected_file_answer}
-use Rattle.binfarce_elf.specs.Versions.{bytes_if, definitions_section, version_name, versions_section}
+use Rattle.binfarce_elf.specs.SymbolTables.{TableSections, TableRows, table_sections, rows_at}
+use Rattle.binfarce_elf_memory.specs.ElfSelection.{NeededSections, Selected, needed, selected_from, elf_selected, symbols_of, selected_file_answer}
+use Rattle.binfarce_elf.specs.ElfSymbols.{section_data, whole_rows}
+use Rattle.binfarce_elf_memory.specs.ElfEnds.{file_kind}
+use Rattle.binfarce_elf_memory.specs.Versions.{bytes_if, definitions_section, version_name, versions_section}
 use Rattle.binfarce_elf.specs.declared.symbol_table.SymbolTable.{SymbolTable}
-use Rattle.binfarce_elf.proofs.Steps.{assoc}
+use Rattle.binfarce_elf_memory.proofs.Steps.{assoc}
 use Rattle.binfarce_tables.specs.ElfReading.{symbols_in}
 use Rattle.binfarce_tables.specs.ElfReads.{table_of}
 use Rattle.binfarce_tables.specs.SectionReading.{FileSections, file_sections}

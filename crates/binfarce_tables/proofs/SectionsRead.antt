@@ -3,7 +3,7 @@ use Rattle.std.proofs.Common.{◌≡◌, ℕ, Bool, ltb, List, length, Option, R
 use Rattle.binfarce_bytes.specs.declared.ByteOrder.{ByteOrder}
 use Rattle.binfarce_bytes.specs.Refusal.{◌>>=◌, Refusal, refusal_of, unexpected_eof}
 use Rattle.binfarce_bytes.specs.Walk.{Walk}
-use Rattle.binfarce_elf.specs.ElfSymbols.{FileKind, file_kind}
+use Rattle.binfarce_elf_memory.specs.ElfEnds.{FileKind, file_kind}
 use Rattle.binfarce_elf.specs.Elf.{ElfClass, SectionTable, Section, header_of, section_table, walk, names_bytes}
 use Rattle.binfarce_tables.specs.Reading.{Reads}
 use Rattle.binfarce_tables.specs.SectionReading.{FileSections, file_sections}

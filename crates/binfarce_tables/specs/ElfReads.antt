@@ -6,9 +6,9 @@ use Rattle.binfarce_bytes.specs.Refusal.{Refusal}
 use Rattle.binfarce_bytes.specs.Walk.{Walk}
 use Rattle.binfarce_elf.specs.Classes.{class_of}
 use Rattle.binfarce_elf.specs.Elf.{ElfClass, SectionTable, Section, header_of, section_table, walk, whole_headers, names_section}
-use Rattle.binfarce_elf.specs.ElfSegments.{programs_size}
-use Rattle.binfarce_elf.specs.ElfSymbols.{TableSections, table_sections}
-use Rattle.binfarce_elf.specs.Versions.{definitions_section, versions_section}
+use Rattle.binfarce_elf_memory.specs.ElfSegments.{programs_size}
+use Rattle.binfarce_elf.specs.SymbolTables.{TableSections, table_sections}
+use Rattle.binfarce_elf_memory.specs.Versions.{definitions_section, versions_section}
 use Rattle.binfarce_elf.specs.declared.class.Width.{Width}
 use Rattle.binfarce_elf.specs.declared.symbol_table.SymbolTable.{SymbolTable}
 

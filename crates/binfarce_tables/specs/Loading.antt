@@ -5,9 +5,9 @@ use Rattle.binfarce_bytes.specs.declared.format.Format.{Format}
 use Rattle.binfarce_bytes.specs.declared.format.Format.TheVariants.{Elf32, Elf64, Macho, PE, Unknown}
 use Rattle.binfarce_bytes.specs.Part.{Part}
 use Rattle.binfarce_bytes.specs.Refusal.{◌>>=◌, Refusal}
-use Rattle.binfarce_elf.specs.ElfSegments as elf
+use Rattle.binfarce_elf_memory.specs.ElfSegments as elf
 use Rattle.binfarce_elf.specs.declared.class.Width.TheVariants.{Bits32, Bits64}
-use Rattle.binfarce_elf.specs.declared.segments.LoadAddress.{LoadAddress}
+use Rattle.binfarce_elf_memory.specs.declared.segments.LoadAddress.{LoadAddress}
 use Rattle.binfarce_macho.specs.MachoParts as macho
 use Rattle.binfarce_pe.specs.PeSelection as pe
 use Rattle.binfarce_tables.specs.ElfReads.{elf_load_parts}

@@ -6,9 +6,9 @@ use Rattle.binfarce_bytes.specs.Refusal.{Refusal, if_as_long_as}
 use Rattle.binfarce_bytes.specs.Walk.{Walk}
 use Rattle.binfarce_elf.specs.Classes.{class_of}
 use Rattle.binfarce_elf.specs.Elf.{ElfClass, Section, header_of, section_table, walk, names_bytes}
-use Rattle.binfarce_elf.specs.ElfParts.{headers_alone}
-use Rattle.binfarce_elf.specs.ElfSymbols.{FileKind, file_kind}
-use Rattle.binfarce_elf.specs.ElfViews.{kind_view}
+use Rattle.binfarce_elf_memory.specs.ElfParts.{headers_alone}
+use Rattle.binfarce_elf_memory.specs.ElfEnds.{FileKind, file_kind}
+use Rattle.binfarce_elf_memory.specs.SelectionViews.{kind_view}
 use Rattle.binfarce_tables.specs.declared.sections.SectionParts.{SectionParts}
 
 -- a file's class, byte order, type and machine, and how many section headers its header states; its sections and the section names; and its length

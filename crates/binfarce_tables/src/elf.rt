@@ -1,6 +1,8 @@
 //! The parts of an ELF file that have the function symbols of a selection.
 
-ghost use Rattle.std.specs.Prelude.{[], ◌∷◌, ◌≡◌, ◌≢◌, ◌⊎◌, ◌+◌, ◌<◌, ◌≤◌, List, ℕ, true, Ok, Option, Some, None, length, IfOk, IfErr, slice_index_or};
+ghost use Rattle.std.specs.Prelude.{[], ◌∷◌, ◌≡◌, ◌≢◌, ◌⊎◌, ◌+◌, ◌<◌, ◌≤◌, List, ℕ, true, Ok, Option, Some, None, length, IfOk, IfErr};
+ghost use Rattle.std.specs.BTreeMap.{get};
+ghost use Rattle.std.specs.Ordering.{nat_cmp};
 ghost use Rattle.std.specs.Result.{IsErr};
 ghost use Rattle.std.specs.Option.{option_map};
 ghost use Rattle.binfarce_bytes.specs.Number.{bytes_at};
@@ -10,10 +12,13 @@ ghost use Rattle.binfarce_bytes.specs.Refusal.{Gives, refusal_of};
 ghost use Rattle.binfarce_bytes.specs.Selection.{section_of};
 ghost use Rattle.binfarce_elf.specs.Classes.{class_of};
 ghost use Rattle.binfarce_elf.specs.Elf.{contents, header_of, names_bytes};
-ghost use Rattle.binfarce_elf.specs.ElfParts.{needed_view, table_sections_view};
-ghost use Rattle.binfarce_elf.specs.ElfSymbols.{file_kind, selected_file_answer, needed, rows_at, section_data};
-ghost use Rattle.binfarce_elf.specs.ElfViews.{kind_view, section_view, functions_left, selected_view, taken_view, version_names};
-ghost use Rattle.binfarce_elf.specs.Versions.{bytes_if, definitions, definitions_section, name_offset, versions_section};
+ghost use Rattle.binfarce_elf_memory.specs.SelectionViews.{needed_view, kind_view, functions_left, selected_view, taken_view, version_names};
+ghost use Rattle.binfarce_elf.specs.ElfViews.{table_sections_view, section_view};
+ghost use Rattle.binfarce_elf_memory.specs.ElfEnds.{file_kind};
+ghost use Rattle.binfarce_elf_memory.specs.ElfSelection.{selected_file_answer, needed, size_taken};
+ghost use Rattle.binfarce_elf.specs.SymbolTables.{rows_at};
+ghost use Rattle.binfarce_elf.specs.ElfSymbols.{section_data};
+ghost use Rattle.binfarce_elf_memory.specs.Versions.{bytes_if, definitions, definitions_section, name_offset, versions_section};
 ghost use Rattle.binfarce_tables.specs.ElfReading.{parts_view, symbols_by, symbols_in};
 ghost use Rattle.binfarce_tables.specs.ElfReads.{elf_parts, headers_size, names_parts, rows_parts, section_parts, version_parts};
 ghost use Rattle.binfarce_tables.specs.Reading.{Reads, Known};
@@ -28,12 +33,14 @@ use binfarce_bytes::parser::to_index;
 use binfarce_bytes::source::{Source, read_part};
 use binfarce_bytes::{ByteOrder, ParseError};
 use binfarce_elf::class::{Half, Width, Word};
-use binfarce_elf::parts::{self, HeaderTable, needed_in, place_in, section_at, sizes_in};
 use binfarce_elf::sections::Section;
 use binfarce_elf::symbol_table::SymbolTable;
-use binfarce_elf::symbols::{Functions, Needed, TableSections, Taken, functions_in, whole_rows};
-use binfarce_elf::versions::{VersionNames, name_offsets};
+use binfarce_elf::symbols::{TableSections, whole_rows};
+use binfarce_elf_memory::parts::{self, HeaderTable, needed_in, place_in, section_at, sizes_in};
+use binfarce_elf_memory::selection::{Functions, Needed, Taken, functions_in};
+use binfarce_elf_memory::versions::{VersionNames, name_offsets};
 use std::alloc::{AllocError, Global};
+use std::collections::BTreeMap;
 
 /// `ET_REL`, the type of an object file.
 const RELOCATABLE: Half = 1;
@@ -55,7 +62,7 @@ impl Parts {
     /// of the symbol table. Nothing is read or allocated: names are slices of the parts.
     pub fn functions(&self) -> Functions<'_>
         ensures entries { functions_left result ≡ (parts_view self.entry.now).entries }
-        ensures size { (selected_view result).size ≡ (parts_view self.entry.now).section_size }
+        ensures size { size_taken (selected_view result).taken ≡ (parts_view self.entry.now).section_size }
     {
         functions_in(
             &self.rows,
@@ -83,7 +90,7 @@ impl Parts {
         ensures { (version : ℕ) → version_names result version ≡ (parts_view self.entry.now).version_name version }
     {
         VersionNames {
-            offsets: &self.versions.names,
+            offsets: Some(&self.versions.names),
             strings: &self.strings,
         }
     }
@@ -92,7 +99,7 @@ impl Parts {
     pub fn shares_addresses(&self) -> bool
         ensures { result ≡ (parts_view self.now).shares_addresses }
     {
-        self.taken.size.is_none() && self.sections.place.kind.elf_type == RELOCATABLE
+        self.taken.size().is_none() && self.sections.place.kind.elf_type == RELOCATABLE
     }
 }
 
@@ -100,7 +107,7 @@ impl Parts {
 /// section names, numbers in the given order. These are the file header of 52 or 64 bytes, the header of the section
 /// names' own section, the section names, all section headers, the symbol table and its strings; for the dynamic symbol
 /// table also its versions and their definitions. Each is read once, into memory of its size, which is never more than
-/// the file has of it; of the definitions the offsets of names are kept, at most 32,768. No other byte is read, except
+/// the file has of it; of the definitions the offsets of names are kept. No other byte is read, except
 /// the first byte of a section header table without headers. The magic number isn't checked.
 ///
 /// # Errors
@@ -300,7 +307,7 @@ fn read_rows<S: Source>(
 #[derive(Drop)]
 struct VersionParts {
     rows: Vec<u8>,
-    names: Vec<Option<Word>>,
+    names: BTreeMap<Half, Word>,
 }
 
 // Those of this symbol table, of a file with these sections.
@@ -316,7 +323,7 @@ fn read_versions<S: Source>(
         (Ok (bytes_if file (versions_section which (sections_view sections.now).sections))) result }
     ensures names { (file : List ℕ) → Known (S.bytes source.now) sections.now.file_length file
         → let seen = sections_view sections.now in IfOk result (λ v. (index : ℕ) → index < 32768
-        → slice_index_or v.names.items index None
+        → get nat_cmp v.names index
         ≡ name_offset (definitions seen.order (bytes_if file (definitions_section which seen.sections))) index) }
     ensures only { (file : List ℕ) → Known (S.bytes source.now) sections.now.file_length file
         → ReadsOnly (S.is_sure source.now) (S.logs_only log.old) (S.logs_only log.new)

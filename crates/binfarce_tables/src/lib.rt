@@ -15,4 +15,4 @@ pub use crate::beginning::Beginning;
 pub use crate::elf::part;
 pub use crate::error::ReadError;
 pub use binfarce_elf::class::Width;
-pub use binfarce_elf::versions::VersionNames;
+pub use binfarce_elf_memory::versions::VersionNames;

@@ -11,7 +11,7 @@ use crate::{macho, pe, segments};
 use binfarce_bytes::format::Format;
 use binfarce_bytes::source::Source;
 use binfarce_elf::class::Width;
-pub use binfarce_elf::segments::{CodeSegment, LoadAddress};
+pub use binfarce_elf_memory::segments::{CodeSegment, LoadAddress};
 use std::alloc::Global;
 
 /// Where a file of this format says that it is loaded, unless the loader chooses another address: of ELF the page of

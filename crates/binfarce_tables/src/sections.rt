@@ -5,8 +5,8 @@ ghost use Rattle.std.specs.Option.{option_map};
 ghost use Rattle.binfarce_bytes.specs.Source.{ReadsOnly};
 ghost use Rattle.binfarce_elf.specs.Classes.{class_of};
 ghost use Rattle.binfarce_elf.specs.Elf.{walk, name_among};
-ghost use Rattle.binfarce_elf.specs.ElfParts.{headers_alone, sections_left};
-ghost use Rattle.binfarce_elf.specs.ElfSymbols.{name_of_index};
+ghost use Rattle.binfarce_elf_memory.specs.ElfParts.{headers_alone, sections_left};
+ghost use Rattle.binfarce_elf_memory.specs.ElfSelection.{name_of_index};
 ghost use Rattle.binfarce_elf.specs.ElfViews.{section_view};
 ghost use Rattle.binfarce_tables.specs.ElfReads.{elf_section_parts, headers_parts};
 ghost use Rattle.binfarce_tables.specs.Reading.{Reads, Known};
@@ -19,7 +19,7 @@ use crate::error::ReadError;
 use binfarce_bytes::ByteOrder;
 use binfarce_bytes::source::Source;
 use binfarce_elf::class::Width;
-use binfarce_elf::parts::{AnySections, HeaderTable, name_of_index, sections_in};
+use binfarce_elf_memory::parts::{AnySections, HeaderTable, name_of_index, sections_in};
 use std::alloc::Global;
 
 /// The section headers of a file and the section names, in memory, and the file's length.

@@ -3,7 +3,7 @@
 ghost use Rattle.std.specs.Prelude.{◌≡◌, ◌≢◌, ◌*◌, List, ℕ, Some, IfErr};
 ghost use Rattle.binfarce_bytes.specs.Part.{whole_part};
 ghost use Rattle.binfarce_bytes.specs.Source.{ReadsOnly};
-ghost use Rattle.binfarce_elf.specs.ElfSegments.{file_load_address, load_address_at, program_length};
+ghost use Rattle.binfarce_elf_memory.specs.ElfSegments.{file_load_address, load_address_at, program_length};
 ghost use Rattle.binfarce_tables.specs.ElfReads.{elf_load_parts};
 ghost use Rattle.binfarce_tables.specs.Reading.{Reads, Known};
 ghost use Rattle.binfarce_tables.specs.declared.error.ReadError.TheVariants.{Unreadable};
@@ -13,8 +13,8 @@ use crate::error::ReadError;
 use binfarce_bytes::source::Source;
 use binfarce_bytes::{ByteOrder, ParseError};
 use binfarce_elf::class::Width;
-use binfarce_elf::parts::HeaderTable;
-use binfarce_elf::segments::{LoadAddress, load_address};
+use binfarce_elf_memory::parts::HeaderTable;
+use binfarce_elf_memory::segments::{self, LoadAddress, load_address};
 use std::alloc::Global;
 
 /// Where a file of this class is loaded unless the loader chooses another address, numbers in the given order: the page
@@ -27,7 +27,7 @@ use std::alloc::Global;
 /// `Refused` with `UnexpectedEof` where the file is too short for its header, or its program headers end past it;
 /// `Unreadable` where the source can't be read at offsets, or a read of it fails, and never for a source that can't
 /// fail, such as bytes in memory; `OutOfMemory` where an allocation fails.
-#[tactic(auto, unfolding(binfarce_elf::specs::ElfSegments::file_load_address, crate::specs::ElfReads::elf_load_parts))]
+#[tactic(auto, unfolding(binfarce_elf_memory::specs::ElfSegments::file_load_address, crate::specs::ElfReads::elf_load_parts))]
 pub fn read_load_address<S: Source>(
     alloc: Global,
     source: &S,
@@ -47,7 +47,7 @@ pub fn read_load_address<S: Source>(
 }
 
 // Where it is loaded, by the program headers at this place.
-#[tactic(auto, unfolding(binfarce_elf::specs::ElfSegments::load_address_at))]
+#[tactic(auto, unfolding(binfarce_elf_memory::specs::ElfSegments::load_address_at))]
 fn read_segments<S: Source>(
     alloc: Global,
     source: &S,
@@ -63,7 +63,7 @@ fn read_segments<S: Source>(
         → ReadsOnly (S.is_sure source.now) (S.logs_only log.old) (S.logs_only log.new)
         (whole_part file place.phoff (place.phnum * program_length width)) (IfErr result (λ e. e ≢ Unreadable)) }
 {
-    let size = u64::from(place.phnum) * width.program_length() as u64;
+    let size = u64::from(place.phnum) * segments::program_length(width) as u64;
     if place.phoff > len || size > len - place.phoff {
         return Err(ReadError::Refused(ParseError::UnexpectedEof));
     }

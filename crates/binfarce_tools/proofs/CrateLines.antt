@@ -1,5 +1,5 @@
 -- The lines of sums by crate are those of the report.
-use Rattle.std.proofs.Common.{◌≡◌, ℕ, Bool, true, false, cond, List, [], ◌∷◌, ◌++◌, ◌||◌, Option, Some, String, string_bytes, refl, sym, ◌∙◌, ap, map, append_assoc, unwrap_or}
+use Rattle.std.proofs.Common.{◌≡◌, ℕ, Bool, true, false, cond, List, [], ◌∷◌, ◌++◌, ◌||◌, Some, String, string_bytes, refl, sym, ◌∙◌, ap, map, append_assoc, unwrap_or}
 use Rattle.std.specs.Global.{Global}
 use Rattle.std.specs.BTreeMap.{IsOrdered, is_at}
 use Rattle.std.proofs.lemmas.Cmp.{eq_by_cmp_equiv}
@@ -16,7 +16,6 @@ use Rattle.std.proofs.lemmas.List.Elements.{All-contains_itself, All-weaker, rec
 use Rattle.std.proofs.lemmas.Map.Keys.{IsDistinct-from_sorted}
 use Rattle.std.proofs.lemmas.Map.Text.{is_eq-slice_cmp}
 use Rattle.std.proofs.lemmas.Map.Views.{Contains-from_any, list_any-from_Contains, lookup-from_Contains}
-use Rattle.binfarce_tools.specs.Listing.{last_line}
 use Rattle.binfarce_tools.specs.Report.{Share, AreCratesOf, IsReportOfShares, crate_line, crate_lines, sum_of, total, total_line}
 use Rattle.binfarce_tools.specs.declared.report.CrateSums.{CrateSums}
 use Rattle.binfarce_tools.specs.Sums.{AreSumsOf, occurs}
@@ -94,12 +93,12 @@ module _ (shares : List Share) (sums : CrateSums) (are : AreSumsOf shares sums) 
       (All-weaker (Contains entries) (λ (e : String Global × ℕ). sum_of shares (string_bytes e.0) ≡ e.1) sum_is entries (All-contains_itself entries))
 
   -- the report of shares is their lines, that of the sum of all, and the last line
-  pub is_report : (size : Option ℕ) (mid text : List ℕ) → mid ≡ entry_lines sums.crates.entries ++ total_line sums.total → text ≡ mid ++ last_line size → IsReportOfShares shares size text
-  is_report size mid text lines is =
+  pub is_report : (last mid text : List ℕ) → mid ≡ entry_lines sums.crates.entries ++ total_line sums.total → text ≡ mid ++ last → IsReportOfShares shares last text
+  is_report last mid text lines is =
       let names = texts_of sums.crates.entries in (
         names,
         are_crates,
-        is ∙ ap (λ (x : List ℕ). x ++ last_line size) (lines ∙ ap (λ (x : List ℕ). x ++ total_line sums.total) (sym (lines_are shares sums.crates.entries have_sums))
+        is ∙ ap (λ (x : List ℕ). x ++ last) (lines ∙ ap (λ (x : List ℕ). x ++ total_line sums.total) (sym (lines_are shares sums.crates.entries have_sums))
             ∙ ap (λ (n : ℕ). crate_lines shares names ++ total_line n) (sym are.total_is))
-            ∙ append_assoc (crate_lines shares names) (total_line (total shares)) (last_line size),
+            ∙ append_assoc (crate_lines shares names) (total_line (total shares)) last,
       )

@@ -4,10 +4,8 @@ use Rattle.std.specs.Prelude.{if◌then◌else◌, find, nat_eq, codes, ◌+◌,
 use Rattle.binfarce.specs.declared.ByteOrder.{ByteOrder}
 use Rattle.binfarce.specs.Refusal.{Refusal, ◌>>=◌, required, symbols_section_is_missing, section_is_missing, unexpected_section_type, malformed_input, unexpected_eof, out_of_memory, bytes_in_file}
 use Rattle.binfarce.specs.Walk.{Walk, found_or_end, first, ended, ahead_of, and_then}
-use Rattle.binfarce.specs.Elf.{ElfClass, SectionTable, Section, walk, names_bytes, name_among, section_table, whole_headers}
-use Rattle.binfarce.specs.ElfSymbols.{TableSections, sought, is_named, section_data, table_sections, taken, needed, rows_at, elf_selected, elf_answer, elf_file_answer}
-use Rattle.binfarce.specs.SymbolTables.{section_type, table_name, strings_name}
-use Rattle.binfarce.specs.declared.SymbolTable.{SymbolTable}
+use Rattle.binfarce.specs.Elf.{ElfClass, SectionTable, Section, walk, name_of, section_table, whole_headers}
+use Rattle.binfarce.specs.ElfSymbols.{sought, is_named, section_data, elf_answer, elf_file_answer}
 use Rattle.std.specs.Str.{bytes_eq}
 use Rattle.binfarce.specs.Number.{bytes_at}
 use Rattle.binfarce.specs.Sizes.{arranged, least_above}
@@ -62,36 +60,18 @@ reported_section_data : (file : List ℕ) (section : Section) → Reported (sect
 unfolding section_data bytes_in_file
 reported_section_data file section = reported_if (leb (2 ^ 64) (section.offset + section.size)) _ _ refl (reported_if (ltb (length file) (section.offset + section.size)) _ _ refl tt)
 
-reported_table_sections : (which : SymbolTable) (class : ElfClass) (table : SectionTable) → Reported (table_sections which (walk class table))
-unfolding table_sections
-reported_table_sections which class table =
-    reported_step _ _ (reported_sought class table (section_is_missing (table_name which)) (λ section. nat_eq section.kind (section_type which)) refl) (λ symbols.
-    reported_step _ _ (reported_sought class table (section_is_missing (strings_name which)) (λ section. nat_eq section.index symbols.link) refl) (λ linked.
-    reported_step _ _ (reported_if (nat_eq linked.kind 3) (Ok linked) (Err (unexpected_section_type 3 linked.kind)) tt refl) (λ strings. tt)))
-
-reported_needed : (which : SymbolTable) (class : ElfClass) (table : SectionTable) (names : Option (List ℕ)) (count : ℕ) (name : List ℕ) → Reported (needed which (walk class table) names count (Some name))
-unfolding needed taken
-reported_needed which class table names count name =
-    reported_step (taken which (walk class table) names count (Some name)) _
-    (reported_step _ _ (reported_sought class table symbols_section_is_missing (λ section. is_named name (name_among names section.name_offset)) refl) (λ section. tt))
-    (λ selected. reported_step (table_sections which (walk class table)) _ (reported_table_sections which class table) (λ sections. tt))
-
-reported_rows : (class : ElfClass) (file : List ℕ) (sections : TableSections) → Reported (rows_at class file sections)
-unfolding rows_at
-reported_rows class file sections =
-    reported_step _ _ (reported_section_data file sections.strings) (λ strings.
-    reported_step _ _ (reported_section_data file sections.symbols) (λ part.
-    reported_step _ _ (reported_if (nat_eq (length part % class.symbol_length) 0) (Ok part) (Err unexpected_eof) tt refl) (λ rows. tt)))
-
-pub reported_elf : (which : SymbolTable) (class : ElfClass) (order : ByteOrder) (file section : List ℕ) → Reported (elf_file_answer which class order file section)
-unfolding elf_answer elf_selected
-reported_elf which class order file section =
+pub reported_elf : (class : ElfClass) (order : ByteOrder) (file section : List ℕ) → Reported (elf_file_answer class order file section)
+unfolding elf_answer
+reported_elf class order file section =
     let table = section_table class (record { order = order; bytes = file }) in
     reported_if (ltb (length file) class.header_length) (Err unexpected_eof) _ refl
-    (reported_step (elf_selected which class table (Some section)) _
-    (reported_step (needed which (walk class table) (names_bytes class table) table.shnum (Some section)) _ (reported_needed which class table (names_bytes class table) table.shnum section) (λ sections.
-    reported_step (rows_at class table.file sections.table) _ (reported_rows class table.file sections.table) (λ found. tt)))
-    (λ selected. tt))
+    (reported_step _ _ (reported_sought class table symbols_section_is_missing (λ s. is_named section (name_of class table s)) refl) (λ found.
+    reported_step _ _ (reported_sought class table (section_is_missing (codes ".symtab")) (λ s. nat_eq s.kind 2) refl) (λ symbols.
+    reported_step _ _ (reported_sought class table (section_is_missing (codes ".strtab")) (λ s. nat_eq s.index symbols.link) refl) (λ linked.
+    reported_step _ _ (reported_if (nat_eq linked.kind 3) (Ok linked) (Err (unexpected_section_type 3 linked.kind)) tt refl) (λ names.
+    reported_step _ _ (reported_section_data table.file names) (λ strings.
+    reported_step _ _ (reported_section_data table.file symbols) (λ bytes.
+    reported_step _ _ (reported_if (nat_eq (length bytes % class.symbol_length) 0) (Ok bytes) (Err unexpected_eof) tt refl) (λ rows. tt))))))))
 
 -- a walk doesn't end with a failed allocation
 abbrev ReportedEnd : Option Refusal → Type 0
@@ -120,17 +100,15 @@ reported_symbol_table file =
     reported_if (leb (length file) (pe.table_offset file)) (Err unexpected_eof) _ refl (reported_if (ltb (length file) end) (Err unexpected_eof) whole refl tt)
 
 pub reported_pe : (file : List ℕ) → Reported (pe_file_answer file)
-unfolding pe_answer pe.located pe_walk
+unfolding pe_answer pe_walk
 reported_pe file =
     let accepts : pe_file.Section → Bool = λ section. bytes_eq section.name (codes ".text") in
     reported_if (ltb (length file) (least_length file)) (Err unexpected_eof) _ refl
-    (reported_step (pe.located file) _
     (reported_step (pe.text_section file) _
     (reported_step (first accepts (pe_walk file)) (required symbols_section_is_missing)
     (reported_found (find accepts (pe_walk file).items) (pe_walk file).refusal (reported_end_if _ None (Some unexpected_eof) tt refl))
     (λ o. reported_required symbols_section_is_missing o refl))
     (λ text. reported_step (pe.symbol_table file) _ (reported_symbol_table file) (λ table. tt)))
-    (λ found. tt))
 
 -- Mach-O
 reported_commands : (file : List ℕ) (n place : ℕ) → ReportedEnd (commands_from file n place).refusal

@@ -5,15 +5,16 @@ use Rattle.std.specs.List.{AllZip, sum_by}
 use Rattle.std.specs.Result.{IsErrAnd}
 use Rattle.std.specs.Option.{unwrap_or}
 use Rattle.binfarce.specs.Refusal.{Refusal}
-use Rattle.binfarce.specs.SectionEntries.{SectionEntry, SelectedSymbols}
+use Rattle.binfarce.specs.SectionEntries.{SectionEntry, SelectedSymbols, as_listed}
 use Rattle.binfarce.specs.Symbol.{Entry}
 use Rattle.binfarce_tools.specs.declared.functions.Selected.{Selected}
 use Rattle.binfarce_tools.specs.declared.report.CrateSums.{CrateSums}
 use Rattle.binfarce_tools.specs.declared.report.ReportError.{ReportError}
 use Rattle.binfarce_tools.specs.declared.report.ReportError.TheVariants.{OutOfMemory, TooLarge}
-use Rattle.binfarce_tools.specs.Report.{Share, IsShareOf, IsReportOf, IsReportOfShares, ReportFits}
+use Rattle.binfarce_tools.specs.Report.{Share, IsShareOf, IsReportOfShares}
 use Rattle.binfarce_tools.specs.ReportWords.{outcome_of}
-use Rattle.binfarce_tools.specs.Sums.{AreSumsOf, AreSumsOfFile, GetsSums}
+use Rattle.binfarce_tools.specs.SelectedTexts.{IsReportOfSelected, SelectedReportFits, last_line}
+use Rattle.binfarce_tools.specs.Sums.{AreSumsOf, AreSumsOfFile, GetsSelectedSums}
 use Rattle.binfarce_tools.specs.Writing.{Outcome, EndsAs, Takes, written, write_failed, no_memory, WritesMade}
 use Rattle.binfarce_tools.specs.Answer.{entries_of}
 use Rattle.binfarce_tools.specs.Entries.{GetsAs, HoldsLeft, all_left}
@@ -39,19 +40,19 @@ list_of memory (Some (Ok seen)) selected entries size left is gets = (ap (map (�
 
 -- where the sums of what was got weren't made
 none_summed : (memory : Result SelectedSymbols Refusal → Type 0) (answer : Option (Result SelectedSymbols Refusal)) (entries : List Entry) (size : Option ℕ) (e : ReportError)
-    → GetsAs HoldsList memory answer (Ok (entries, size)) → (e ≡ OutOfMemory) ⊎ ((e ≡ TooLarge) × (2 ^ 64 ≤ size_of_all entries)) → GetsSums memory answer (Err e)
+    → GetsAs HoldsList memory answer (Ok (entries, size)) → (e ≡ OutOfMemory) ⊎ ((e ≡ TooLarge) × (2 ^ 64 ≤ size_of_all entries)) → GetsSelectedSums memory answer (Err e)
 none_summed memory None entries size e gets is = absurd gets
 none_summed memory (Some (Err refusal)) entries size e gets is = absurd gets
-none_summed memory (Some (Ok listed)) entries size e gets (inl is) = let P : ReportError → Type 0 = λ e. GetsSums memory (Some (Ok listed)) (Err e) in
+none_summed memory (Some (Ok listed)) entries size e gets (inl is) = let P : ReportError → Type 0 = λ e. GetsSelectedSums memory (Some (Ok listed)) (Err e) in
     subst P (sym is) ((λ no. absurd cc), inl refl)
 none_summed memory (Some (Ok listed)) entries size e gets (inr is) =
-    let P : ReportError → Type 0 = λ e. GetsSums memory (Some (Ok listed)) (Err e) in
+    let P : ReportError → Type 0 = λ e. GetsSelectedSums memory (Some (Ok listed)) (Err e) in
     let Q : List Entry → Type 0 = λ es. 2 ^ 64 ≤ size_of_all es in
     subst P (sym is.0) ((λ no. absurd cc), inr (inr (too_large (size_of_all (entries_of listed)) (subst Q gets.0 is.1), refl)))
 
 -- where they were made
 summed : (memory : Result SelectedSymbols Refusal → Type 0) (answer : Option (Result SelectedSymbols Refusal)) (entries : List Entry) (size : Option ℕ) (sums : CrateSums)
-    → GetsAs HoldsList memory answer (Ok (entries, size)) → sums.section_size ≡ unwrap_or size sums.total → (shares : List Share) × AllZip IsShareOf entries shares × AreSumsOf shares sums → GetsSums memory answer (Ok sums)
+    → GetsAs HoldsList memory answer (Ok (entries, size)) → sums.section_size ≡ unwrap_or size sums.total → (shares : List Share) × AllZip IsShareOf entries shares × AreSumsOf shares sums → GetsSelectedSums memory answer (Ok sums)
 summed memory None entries size sums gets same are = absurd gets
 summed memory (Some (Err refusal)) entries size sums gets same are = absurd gets
 summed memory (Some (Ok listed)) entries size sums gets same are =
@@ -63,16 +64,16 @@ summed memory (Some (Ok listed)) entries size sums gets same are =
 pub summed_or_not : (memory : Result SelectedSymbols Refusal → Type 0) (answer : Option (Result SelectedSymbols Refusal)) (entries : List Entry) (size : Option ℕ) (result : Result CrateSums ReportError)
     → GetsAs HoldsList memory answer (Ok (entries, size))
     → MatchResult result (λ s. (s.section_size ≡ unwrap_or size s.total) × ((shares : List Share) × AllZip IsShareOf entries shares × AreSumsOf shares s)) (λ e. (e ≡ OutOfMemory) ⊎ ((e ≡ TooLarge) × (2 ^ 64 ≤ size_of_all entries)))
-    → GetsSums memory answer result
+    → GetsSelectedSums memory answer result
 summed_or_not memory answer entries size (Ok sums) gets is = summed memory answer entries size sums gets is.0 is.1
 summed_or_not memory answer entries size (Err e) gets is = none_summed memory answer entries size e gets is
 
 -- then nothing was reported
 pub none_reported : (memory : Result SelectedSymbols Refusal → Type 0) (answer : Option (Result SelectedSymbols Refusal)) (entries : List Entry) (size : Option ℕ) (e : ReportError) (result : Result (Unit {0}) ReportError)
-    → GetsAs HoldsList memory answer (Ok (entries, size)) → (e ≡ OutOfMemory) ⊎ ((e ≡ TooLarge) × (2 ^ 64 ≤ size_of_all entries)) → IsErrAnd result (λ f. f ≡ e) → EndsAs ReportFits memory answer (outcome_of result)
+    → GetsAs HoldsList memory answer (Ok (entries, size)) → (e ≡ OutOfMemory) ⊎ ((e ≡ TooLarge) × (2 ^ 64 ≤ size_of_all entries)) → IsErrAnd result (λ f. f ≡ e) → EndsAs SelectedReportFits memory answer (outcome_of result)
 none_reported memory answer entries size e (Ok x) gets why is = absurd is
 none_reported memory answer entries size e (Err f) gets why is =
-    subst (λ (f : ReportError). EndsAs ReportFits memory answer (outcome_of (Err f))) (sym is) (none_summed memory answer entries size e gets why).1
+    subst (λ (f : ReportError). EndsAs SelectedReportFits memory answer (outcome_of (Err f))) (sym is) (none_summed memory answer entries size e gets why).1
 
 pub none_taken : (IsText : SelectedSymbols → List ℕ → Type 0) (answer : Option (Result SelectedSymbols Refusal)) (n : ℕ) (e : ReportError) (old : Option (List ℕ)) (result : Result (Unit {0}) ReportError)
     → (e ≡ OutOfMemory) ⊎ ((e ≡ TooLarge) × (2 ^ 64 ≤ n)) → IsErrAnd result (λ f. f ≡ e) → Takes IsText answer old old (outcome_of result)
@@ -81,7 +82,7 @@ none_taken IsText answer n e old (Err f) (inl why) is = subst (λ (f : ReportErr
 none_taken IsText answer n e old (Err f) (inr why) is = subst (λ (f : ReportError). Takes IsText answer old old (outcome_of (Err f))) (sym (is ∙ why.0)) (nothing old)
 
 -- the sum of all sizes fits
-pub fits : (listed : SelectedSymbols) (sums : CrateSums) → AreSumsOfFile listed sums → ReportFits listed
+pub fits : (listed : SelectedSymbols) (sums : CrateSums) → AreSumsOfFile (as_listed listed) sums → SelectedReportFits listed
 fits listed sums are =
     let shares = are.1 in
     let P : ℕ → Type 0 = λ n. n < 2 ^ 64 in subst P (sym shares.2.total_is ∙ total_is (entries_of listed) shares.0 shares.1) shares.2.fits
@@ -121,7 +122,7 @@ due IsText seen entries sums (Ok t) same are is = (are.0, subst (λ (es : List E
 
 -- the report of what was got
 pub of_report : {Y E : Type 0} (seen : SelectedSymbols) (entries : List Entry) (size : Option ℕ) (sums : CrateSums) (made : Result (String Y) E) → HoldsList seen (entries, size) → (shares : List Share) × AllZip IsShareOf entries shares × AreSumsOf shares sums
-    → IfOk made (λ t. (shares : List Share) → AreSumsOf shares sums → IsReportOfShares shares size (string_bytes t)) → IfOk made (λ t. IsReportOf seen (string_bytes t))
+    → IfOk made (λ t. (shares : List Share) → AreSumsOf shares sums → IsReportOfShares shares (last_line size) (string_bytes t)) → IfOk made (λ t. IsReportOfSelected seen (string_bytes t))
 of_report seen entries size sums made held are is =
-    due (λ shares text. IsReportOfShares shares seen.section_size text) seen entries sums made held.0 are
-    (subst (λ (n : Option ℕ). IfOk made (λ t. (shares : List Share) → AreSumsOf shares sums → IsReportOfShares shares n (string_bytes t))) held.1 is)
+    due (λ shares text. IsReportOfShares shares (last_line seen.section_size) text) seen entries sums made held.0 are
+    (subst (λ (n : Option ℕ). IfOk made (λ t. (shares : List Share) → AreSumsOf shares sums → IsReportOfShares shares (last_line n) (string_bytes t))) held.1 is)

@@ -2,7 +2,7 @@
 use Rattle.std.proofs.Common.{◌≡◌, ℕ, Bool, true, false, cond, ltb, List, [], ◌∷◌, map, length, Option, Some, None, is_some, unwrap_or, Result, Ok, Err, refl, sym, ap, subst, ◌∙◌}
 use Rattle.std.proofs.Math.Path.{fun_ext}
 use Rattle.std.specs.Option.{option_and_then}
-use Rattle.std.specs.Prelude.{nat_eq, nat_le}
+use Rattle.std.specs.Prelude.{nat_le}
 use Rattle.std.specs.List.{sum_by}
 use Rattle.binfarce.specs.declared.ByteOrder.{ByteOrder}
 use Rattle.binfarce.specs.declared.Format.{Format}
@@ -14,9 +14,11 @@ use Rattle.binfarce.specs.Refusal.{◌>>=◌, Refusal, unexpected_eof, symbols_s
 use Rattle.binfarce.specs.SectionEntries.{SectionEntry, SelectedSymbols, in_section, unless}
 use Rattle.binfarce.specs.Symbol.{Entry, Listed}
 use Rattle.binfarce.specs.Elf.{ElfClass, SectionTable, Section, elf32, elf64, header_of, section_table, walk, names_bytes, name_among}
-use Rattle.binfarce.specs.ElfSymbols as elf
-use Rattle.binfarce.specs.ElfSymbols.{TableSections, TableRows, NeededSections, Taken, sought, is_named, table_sections, taken, needed, rows_at, is_of_section, elf_selected, elf_answer, elf_file_answer}
-use Rattle.binfarce.specs.SymbolTables.{has_indirect}
+use Rattle.binfarce.specs.ElfEnds.{kind_of}
+use Rattle.binfarce.specs.ElfSelection as elf
+use Rattle.binfarce.specs.SymbolTables.{TableSections, TableRows, table_sections, rows_at}
+use Rattle.binfarce.specs.ElfSelection.{NeededSections, Taken, one_section, all_sections, size_taken, taken, needed, elf_selected, has_indirect, section_answer, section_file_answer}
+use Rattle.binfarce.specs.ElfSymbols.{sought, is_named, elf_file_answer}
 use Rattle.binfarce.specs.Text.{text_at}
 use Rattle.binfarce.specs.Versions.{bytes_if, definitions_from, definitions_section, index_of, version_name, versions_section}
 use Rattle.binfarce.specs.Macho.{least_length}
@@ -26,6 +28,7 @@ use Rattle.binfarce.specs.MachoSymbols.{SymtabCommand, Symbols, table_of, symbol
 use Rattle.binfarce.specs.Pe as pe_file
 use Rattle.binfarce.specs.PeSelection as pe
 use Rattle.binfarce.specs.PeSymbols.{pe_answer, pe_file_answer}
+use Rattle.binfarce_elf_memory.proofs.Answered.{section_is_answered}
 use Rattle.binfarce_macho.proofs.Selected.{as_selected, text_selected, needs}
 use Rattle.binfarce_pe.specs.PeParts.{TextPlace, SectionTable as PeSections, places_of, section_table as pe_sections, text_place}
 use Rattle.binfarce_pe.specs.PeSymbols as pe_symbols
@@ -50,50 +53,50 @@ module _ (which : SymbolTable) (class : ElfClass) (order : ByteOrder) (file : Li
   abbrev sections_of : Option (List ℕ) → Result Taken Refusal
   sections_of section = taken which (walk class table) (names_bytes class table) table.shnum section
 
-  taken_size : (section : Option (List ℕ)) (t : Taken) → sections_of section ≡ Ok t → is_some t.size ≡ is_some section
+  taken_size : (section : Option (List ℕ)) (t : Taken) → sections_of section ≡ Ok t → is_some (size_taken t) ≡ is_some section
   unfolding taken
   taken_size (Some name) t is = by_found (sought symbols_section_is_missing (λ s. is_named name (name_among (names_bytes class table) s.name_offset)) (walk class table)) is
     where
-      by_found : (r : Result Section Refusal) → (r >>= λ section. Ok (record { accepts = λ index. nat_eq index section.index; indirect = has_indirect which; size = Some section.size })) ≡ Ok t → is_some t.size ≡ true
+      by_found : (r : Result Section Refusal) → (r >>= λ section. Ok (one_section section.index section.size (has_indirect which))) ≡ Ok t → is_some (size_taken t) ≡ true
       by_found (Err why) e = absurd cc
-      by_found (Ok s) e = ap (λ (t : Taken). is_some t.size) (sym (ok_is e))
+      by_found (Ok s) e = ap (λ (t : Taken). is_some (size_taken t)) (sym (ok_is e))
   taken_size None t is = by_end (walk class table).refusal is
     where
-      by_end : (end : Option Refusal) → unless end (record { accepts = is_of_section table.shnum; indirect = true; size = None }) ≡ Ok t → is_some t.size ≡ false
+      by_end : (end : Option Refusal) → unless end (all_sections table.shnum) ≡ Ok t → is_some (size_taken t) ≡ false
       by_end (Some why) e = absurd cc
-      by_end None e = ap (λ (t : Taken). is_some t.size) (sym (ok_is e))
+      by_end None e = ap (λ (t : Taken). is_some (size_taken t)) (sym (ok_is e))
 
   with_table : Taken → TableSections → Result NeededSections Refusal
   with_table t sections = Ok (record { taken = t; table = sections })
 
   with_rows : Taken → TableRows → Result elf.Selected Refusal
-  with_rows t found = Ok (elf.selected_from class table.order (walk class table) (elf.kind_of class table) t found (bytes_if table.file (versions_section which (walk class table))))
+  with_rows t found = Ok (elf.selected_from class table.order (walk class table) (kind_of class table) t found (bytes_if table.file (versions_section which (walk class table))))
 
   of_needed : NeededSections → Result elf.Selected Refusal
   of_needed sections = rows_at class table.file sections.table >>= with_rows sections.taken
 
-  elf_size : (section : Option (List ℕ)) (s : elf.Selected) → elf_selected which class table section ≡ Ok s → is_some s.size ≡ is_some section
+  elf_size : (section : Option (List ℕ)) (s : elf.Selected) → elf_selected which class table section ≡ Ok s → is_some (size_taken s.taken) ≡ is_some section
   unfolding elf_selected needed with_table with_rows of_needed
   elf_size section s is = by_taken (sections_of section) refl is
     where
-      by_rows : (t : Taken) (r : Result TableRows Refusal) → (r >>= with_rows t) ≡ Ok s → s.size ≡ t.size
+      by_rows : (t : Taken) (r : Result TableRows Refusal) → (r >>= with_rows t) ≡ Ok s → size_taken s.taken ≡ size_taken t
       by_rows t (Err why) e = absurd cc
-      by_rows t (Ok found) e = ap (λ (s : elf.Selected). s.size) (sym (ok_is e))
+      by_rows t (Ok found) e = ap (λ (s : elf.Selected). size_taken s.taken) (sym (ok_is e))
 
-      by_table : (t : Taken) (r : Result TableSections Refusal) → ((r >>= with_table t) >>= of_needed) ≡ Ok s → s.size ≡ t.size
+      by_table : (t : Taken) (r : Result TableSections Refusal) → ((r >>= with_table t) >>= of_needed) ≡ Ok s → size_taken s.taken ≡ size_taken t
       by_table t (Err why) e = absurd cc
       by_table t (Ok sections) e = by_rows t (rows_at class table.file sections) e
 
-      by_taken : (r : Result Taken Refusal) → sections_of section ≡ r → ((r >>= λ t. table_sections which (walk class table) >>= with_table t) >>= of_needed) ≡ Ok s → is_some s.size ≡ is_some section
+      by_taken : (r : Result Taken Refusal) → sections_of section ≡ r → ((r >>= λ t. table_sections which (walk class table) >>= with_table t) >>= of_needed) ≡ Ok s → is_some (size_taken s.taken) ≡ is_some section
       by_taken (Err why) at e = absurd cc
       by_taken (Ok t) at e = ap is_some (by_table t (table_sections which (walk class table)) e) ∙ taken_size section t at
 
   shown : elf.Selected → SelectedSymbols
   shown s = elf.symbols_of s (names_bytes class table) (walk class table) (header_of class order file).elf_type (version_name order s.strings (bytes_if file (definitions_section which (walk class table))))
 
-  shares_none : (size : Option ℕ) (elf_type : ℕ) → is_some size ≡ true → elf.share_addresses size elf_type ≡ false
-  shares_none (Some n) elf_type is = refl
-  shares_none None elf_type is = absurd cc
+  shares_none : (t : Taken) (elf_type : ℕ) → is_some (size_taken t) ≡ true → elf.share_addresses t elf_type ≡ false
+  shares_none (one_section index size indirect) elf_type is = refl
+  shares_none (all_sections count) elf_type is = absurd cc
 
   elf_sized : (section : Option (List ℕ)) (seen : SelectedSymbols) → elf.selected_file_answer which class order file section ≡ Ok seen → IsSized section seen
   unfolding elf.selected_file_answer shown
@@ -103,7 +106,7 @@ module _ (which : SymbolTable) (class : ElfClass) (order : ByteOrder) (file : Li
       by_selected (Err why) at e = absurd cc
       by_selected (Ok s) at e =
           let size = elf_size section s at in
-          subst (IsSized section) (ok_is e) (size, λ one. shares_none s.size (header_of class order file).elf_type (size ∙ one))
+          subst (IsSized section) (ok_is e) (size, λ one. shares_none s.taken (header_of class order file).elf_type (size ∙ one))
 
       by_test : (short : Bool) → cond short (Err unexpected_eof) (elf_selected which class table section >>= λ s. Ok (shown s)) ≡ Ok seen → IsSized section seen
       by_test true e = absurd cc
@@ -133,9 +136,9 @@ module _ (which : SymbolTable) (class : ElfClass) (order : ByteOrder) (file : Li
       by_test true e = absurd cc
       by_test false e = by_selected (elf_selected which class table section) e
 
-  pub elf_listed : (name : List ℕ) → elf_file_answer which class order file name ≡ one_list (elf.selected_file_answer which class order file (Some name))
-  unfolding elf_answer elf.selected_file_answer shown
-  elf_listed name = by_test (ltb (length file) class.header_length)
+  pub section_listed : (name : List ℕ) → section_file_answer which class order file name ≡ one_list (elf.selected_file_answer which class order file (Some name))
+  unfolding section_answer elf.selected_file_answer shown
+  section_listed name = by_test (ltb (length file) class.header_length)
     where
       by_size : (s : elf.Selected) (size : Option ℕ) → is_some size ≡ true
           → Path (Result Listed Refusal) (Ok (record { entries = map (λ e. e.entry) s.entries; section_size = unwrap_or size 0 })) (Ok (record { entries = map (λ e. e.entry) s.entries; section_size = unwrap_or size (sizes (shown s)) }))
@@ -144,11 +147,16 @@ module _ (which : SymbolTable) (class : ElfClass) (order : ByteOrder) (file : Li
 
       by_selected : (r : Result elf.Selected Refusal) → elf_selected which class table (Some name) ≡ r → (r >>= λ s. Ok (elf.listed_of s)) ≡ one_list (r >>= λ s. Ok (shown s))
       by_selected (Err why) at = refl
-      by_selected (Ok s) at = by_size s s.size (elf_size (Some name) s at)
+      by_selected (Ok s) at = by_size s (size_taken s.taken) (elf_size (Some name) s at)
 
       by_test : (short : Bool) → cond short (Err unexpected_eof) (elf_selected which class table (Some name) >>= λ s. Ok (elf.listed_of s)) ≡ one_list (cond short (Err unexpected_eof) (elf_selected which class table (Some name) >>= λ s. Ok (shown s)))
       by_test true = refl
       by_test false = by_selected (elf_selected which class table (Some name)) refl
+
+pub elf_listed : (class : ElfClass) (order : ByteOrder) (file name : List ℕ) → elf_file_answer class order file name ≡ one_list (elf.selected_file_answer Symtab class order file (Some name))
+elf_listed class order file name =
+    ap (λ (answer : Result Listed Refusal). cond (ltb (length file) class.header_length) (Err unexpected_eof) answer) (section_is_answered class (section_table class (record { order = order; bytes = file })) name)
+    ∙ section_listed Symtab class order file name
 
 -- Mach-O
 module _ (file : List ℕ) where

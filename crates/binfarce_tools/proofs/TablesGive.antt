@@ -15,7 +15,7 @@ use Rattle.binfarce.specs.Refusal.{Refusal}
 use Rattle.binfarce.specs.SectionEntries.{SectionEntry, SelectedSymbols, SelectsSome}
 use Rattle.binfarce.specs.Symbol.{Answers}
 use Rattle.binfarce.specs.SymbolViews.{HoldsSelected, section_function_view}
-use Rattle.binfarce_elf.specs.declared.versions.VersionNames.{VersionNames}
+use Rattle.binfarce_elf_memory.specs.declared.versions.VersionNames.{VersionNames}
 use Rattle.binfarce_tables.specs.ElfReading as elf_reading
 use Rattle.binfarce_tables.specs.MachoReading as macho_reading
 use Rattle.binfarce_tables.specs.PeReading as pe_reading

@@ -7,7 +7,7 @@ use Rattle.binfarce.specs.Refusal.{◌>>=◌, Refusal, section_is_missing}
 use Rattle.binfarce.specs.SectionEntries.{SelectedSymbols, SelectsSome, as_listed}
 use Rattle.binfarce.specs.Symbol.{Entry, Listed}
 use Rattle.binfarce.specs.Elf.{elf32, elf64}
-use Rattle.binfarce.specs.ElfSymbols.{selected_file_answer}
+use Rattle.binfarce.specs.ElfSelection.{selected_file_answer}
 use Rattle.binfarce.specs.MachoSelection as macho
 use Rattle.binfarce.specs.PeSelection as pe
 use Rattle.binfarce.specs.declared.SymbolTable.{SymbolTable}

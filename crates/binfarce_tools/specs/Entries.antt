@@ -1,7 +1,7 @@
 -- The entries of a file of any format: iterators over them, and the result of a call that reads them.
 use Rattle.std.specs.Prelude.{◌≡◌, ◌⊎◌, ℕ, List, map, drop, Option, Some, None, Result, Ok, Err}
 use Rattle.binfarce.specs.declared.ParseError.{ParseError}
-use Rattle.binfarce.specs.ElfViews as elf
+use Rattle.binfarce.specs.SelectionViews as elf
 use Rattle.binfarce.specs.Refusal.{Refusal, refusal_of}
 use Rattle.binfarce.specs.Symbol.{Entry}
 use Rattle.binfarce.specs.SectionEntries.{SectionEntry, SelectedSymbols}

@@ -6,7 +6,7 @@ use Rattle.binfarce_tables.specs.declared.error.ReadError.{ReadError}
 use Rattle.binfarce_tables.specs.declared.error.ReadError.TheVariants as reading
 use Rattle.binfarce.specs.Refusal.{refusal_of}
 use Rattle.binfarce.specs.declared.SymbolTable.TheVariants.{Symtab}
-use Rattle.binfarce_tools.specs.Answer.{file_answer}
+use Rattle.binfarce_tools.specs.SectionAnswer.{readers_answer}
 use Rattle.binfarce_tools.specs.Tables.{AreTablesOf}
 use Rattle.binfarce_tools.specs.declared.program.Failure.{Failure}
 use Rattle.binfarce_tools.specs.declared.program.Failure.TheVariants.{Usage, File, Refused, OutOfMemory, Write}
@@ -35,6 +35,6 @@ abbrev pub GetsTables : Type 0 → (file section : List ℕ) → Result Tables F
 GetsTables MayFail file section (Ok tables) = AreTablesOf Symtab file (Some section) tables
 GetsTables MayFail file section (Err Usage) = ⊥
 GetsTables MayFail file section (Err File) = MayFail
-GetsTables MayFail file section (Err (Refused e)) = file_answer file section ≡ Some (Err (refusal_of e))
+GetsTables MayFail file section (Err (Refused e)) = readers_answer file section ≡ Some (Err (refusal_of e))
 GetsTables MayFail file section (Err OutOfMemory) = Unit {0}
 GetsTables MayFail file section (Err Write) = ⊥

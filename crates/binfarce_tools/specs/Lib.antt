@@ -5,6 +5,8 @@ pub mod Sink
 pub mod Listing
 pub mod ListWords
 pub mod Report
+pub mod SectionAnswer
+pub mod SelectedTexts
 pub mod ReportWords
 pub mod Sums
 pub mod Tables

@@ -1,18 +1,16 @@
--- The text of a report: a line for each crate, one for the whole, and where a section is selected one for its size.
-use Rattle.std.specs.Prelude.{◌≡◌, ◌<◌, ◌^◌, ℕ, List, [], ◌∷◌, ◌++◌, map, filter, All, Contains, Option, unwrap_or, codes}
+-- The pieces of a report: a line for each crate, one for the whole, and a last line.
+use Rattle.std.specs.Prelude.{◌≡◌, ℕ, List, [], ◌∷◌, ◌++◌, map, filter, All, Contains, unwrap_or, codes}
 use Rattle.std.specs.Cmp.Lexicographic.{slice_cmp}
 use Rattle.std.specs.Fmt.{decimal}
-use Rattle.std.specs.List.{AllZip, flat_map, sum_by}
+use Rattle.std.specs.List.{flat_map, sum_by}
 use Rattle.std.specs.List.Sorted.{IsStrictlySortedBy}
 use Rattle.std.specs.Ordering.{nat_cmp}
 use Rattle.std.specs.Str.{bytes_eq}
 use Rattle.binfarce_names.specs.Crates.{crate_of}
 use Rattle.binfarce_names.specs.Name.{Name}
 use Rattle.binfarce_names.specs.Named.{IsNamed}
-use Rattle.binfarce.specs.SectionEntries.{SelectedSymbols}
 use Rattle.binfarce.specs.Symbol.{Entry}
-use Rattle.binfarce_tools.specs.Answer.{entries_of}
-use Rattle.binfarce_tools.specs.Listing.{size_text, last_line}
+use Rattle.binfarce_tools.specs.Listing.{size_text}
 
 -- the label for symbols without a crate
 abbrev pub unknown_crate : List ℕ
@@ -56,18 +54,7 @@ total_line total = codes "sum " ++ (decimal total ++ 10 ∷ [])
 abbrev pub crate_lines : List Share → List (List ℕ) → List ℕ
 crate_lines shares names = flat_map (λ name. crate_line name (sum_of shares name)) names
 
--- the lines of the crates, then that of the sum of all sizes, and the last line
-abbrev pub report : List Share → List (List ℕ) → (size : Option ℕ) → List ℕ
-report shares names size = crate_lines shares names ++ (total_line (total shares) ++ last_line size)
-
--- text is the report of these shares, where the selected section has this size
-abbrev pub IsReportOfShares : List Share → (size : Option ℕ) → List ℕ → Type 0
-IsReportOfShares shares size text = (names : List (List ℕ)) × AreCratesOf shares names × (text ≡ report shares names size)
-
--- text is the report of a file's answer: each entry adds its share
-abbrev pub IsReportOf : SelectedSymbols → List ℕ → Type 0
-IsReportOf selected text = (shares : List Share) × AllZip IsShareOf (entries_of selected) shares × IsReportOfShares shares selected.section_size text
-
--- a report can be made where the sum of all sizes is a number of 64 bits
-abbrev pub ReportFits : SelectedSymbols → Type 0
-ReportFits selected = sum_by (λ entry. entry.size) (entries_of selected) < 2 ^ 64
+-- text is the report of these shares: the lines of the crates, then that of the sum of all sizes, and this last line
+abbrev pub IsReportOfShares : List Share → (last : List ℕ) → List ℕ → Type 0
+IsReportOfShares shares last text =
+    (names : List (List ℕ)) × AreCratesOf shares names × (text ≡ crate_lines shares names ++ (total_line (total shares) ++ last))

@@ -7,11 +7,14 @@ use Rattle.std.specs.Option.{is_some, unwrap_or}
 use Rattle.std.specs.Str.{bytes_eq}
 use Rattle.binfarce.specs.Refusal.{Refusal}
 use Rattle.binfarce.specs.SectionEntries.{SelectedSymbols, as_listed}
+use Rattle.binfarce.specs.Symbol.{Listed}
 use Rattle.binfarce_tools.specs.declared.report.CrateSums.{CrateSums}
 use Rattle.binfarce_tools.specs.declared.report.ReportError.{ReportError}
 use Rattle.binfarce_tools.specs.declared.report.ReportError.TheVariants.{Write}
-use Rattle.binfarce_tools.specs.Report.{Share, IsShareOf, ReportFits, total, sum_of}
+use Rattle.binfarce_tools.specs.Report.{Share, IsShareOf, total, sum_of}
 use Rattle.binfarce_tools.specs.ReportWords.{outcome_of}
+use Rattle.binfarce_tools.specs.SectionAnswer.{ReportFits}
+use Rattle.binfarce_tools.specs.SelectedTexts.{SelectedReportFits}
 use Rattle.binfarce_tools.specs.Writing.{EndsAs}
 
 -- the sum at a crate's name, 0 where it has none
@@ -29,16 +32,20 @@ pub record AreSumsOf (shares : List Share) (sums : CrateSums) : Type 0 where
   pub total_is : total shares ≡ sums.total
   pub fits : sums.total < 2 ^ 64
 
--- they are the sums of a file's answer, as one list with a size
-abbrev pub AreSumsOfFile : SelectedSymbols → CrateSums → Type 0
-AreSumsOfFile selected sums =
-    let listed = as_listed selected in
+-- they are the sums of an answer
+abbrev pub AreSumsOfFile : Listed → CrateSums → Type 0
+AreSumsOfFile listed sums =
     (sums.section_size ≡ listed.section_size) × ((shares : List Share) × AllZip IsShareOf listed.entries shares × AreSumsOf shares sums)
 
 -- the result of summing by crate for a file with this answer: its sums, or the error of a report
-abbrev pub GetsSums : (Result SelectedSymbols Refusal → Type 0) → Option (Result SelectedSymbols Refusal) → Result CrateSums ReportError → Type 0
-GetsSums NeedsMemory answer (Ok sums) = (selected : SelectedSymbols) × (answer ≡ Some (Ok selected)) × AreSumsOfFile selected sums
+abbrev pub GetsSums : (Result Listed Refusal → Type 0) → Option (Result Listed Refusal) → Result CrateSums ReportError → Type 0
+GetsSums NeedsMemory answer (Ok sums) = (listed : Listed) × (answer ≡ Some (Ok listed)) × AreSumsOfFile listed sums
 GetsSums NeedsMemory answer (Err e) = (e ≢ Write) × EndsAs ReportFits NeedsMemory answer (outcome_of (Err e))
+
+-- the same for a selection, whose sums are those of its entries as one list
+abbrev pub GetsSelectedSums : (Result SelectedSymbols Refusal → Type 0) → Option (Result SelectedSymbols Refusal) → Result CrateSums ReportError → Type 0
+GetsSelectedSums NeedsMemory answer (Ok sums) = (selected : SelectedSymbols) × (answer ≡ Some (Ok selected)) × AreSumsOfFile (as_listed selected) sums
+GetsSelectedSums NeedsMemory answer (Err e) = (e ≢ Write) × EndsAs SelectedReportFits NeedsMemory answer (outcome_of (Err e))
 
 -- the share was added at its crate's name
 abbrev pub Adds : {Y : Type 0} → BTreeMap (String Y) ℕ → Share → BTreeMap (String Y) ℕ → Type 0

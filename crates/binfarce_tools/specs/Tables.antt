@@ -1,7 +1,7 @@
 -- The tables of a file's function symbols, and the result of reading them.
 use Rattle.std.specs.Prelude.{◌≡◌, ℕ, Bool, true, false, List, map, Option, Some, None, Result, Ok, Err}
 use Rattle.binfarce.specs.declared.Format.TheVariants as formats
-use Rattle.binfarce.specs.ElfViews.{version_names}
+use Rattle.binfarce.specs.SelectionViews.{version_names}
 use Rattle.binfarce.specs.Format.{format_of}
 use Rattle.binfarce.specs.MachoSelection as macho_file
 use Rattle.binfarce.specs.Refusal.{Refusal, refusal_of}

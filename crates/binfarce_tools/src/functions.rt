@@ -2,8 +2,8 @@
 
 ghost use Rattle.std.specs.Prelude.{◌≡◌, map, Some};
 ghost use Rattle.std.specs.Iterator.{YieldsFirstBy};
-ghost use Rattle.binfarce.specs.ElfSymbols.{selected_file_answer};
-ghost use Rattle.binfarce.specs.ElfViews.{selected_view};
+ghost use Rattle.binfarce.specs.ElfSelection.{selected_file_answer, size_taken};
+ghost use Rattle.binfarce.specs.SelectionViews.{selected_view};
 ghost use Rattle.binfarce.specs.MachoSelection as macho_selection;
 ghost use Rattle.binfarce.specs.PeSelection as pe_selection;
 ghost use Rattle.binfarce.specs.SectionEntries.{SelectsSome};
@@ -22,7 +22,7 @@ use binfarce_bytes::functions::Selection;
 use binfarce_elf::class::Class;
 use binfarce_elf::header::parse_header;
 use binfarce_elf::sections::section_table;
-use binfarce_elf::symbols;
+use binfarce_elf_memory::selection;
 use std::alloc::Global;
 
 /// An iterator over the function symbols of a file, in the order of its listing.
@@ -51,7 +51,7 @@ impl<'a> Iterator for Functions<'a> {
 /// An iterator over the function symbols of a selection with their sections, in the order of the listing.
 #[derive(Drop)]
 pub enum AllFunctions<'a> {
-    Elf(symbols::Functions<'a>),
+    Elf(selection::Functions<'a>),
     Arranged(Arranged<'a>),
     Lent(Lent<'a>),
 }
@@ -169,7 +169,7 @@ pub(crate) fn section_functions<'a>(
 }
 
 // Those of a section of an ELF file of this class.
-#[tactic(auto, unfolding(binfarce_elf::specs::ElfSymbols::selected_file_answer))]
+#[tactic(auto, unfolding(binfarce_elf_memory::specs::ElfSelection::selected_file_answer))]
 fn functions_of_elf<'a, C: Class>(
     file: &'a [u8],
     byte_order: ByteOrder,
@@ -180,14 +180,14 @@ fn functions_of_elf<'a, C: Class>(
 {
     let header = parse_header::<C>(file, byte_order)?;
     let table = section_table(file, byte_order, &header);
-    let functions = symbols::section_functions::<C>(table, SymbolTable::Symtab, section)?;
+    let functions = selection::section_functions::<C>(table, SymbolTable::Symtab, section)?;
     Ok(of_elf(functions))
 }
 
 // The function symbols of a selection of an ELF file.
-pub(crate) fn of_elf(functions: symbols::Functions<'_>) -> Selected<'_>
+pub(crate) fn of_elf(functions: selection::Functions<'_>) -> Selected<'_>
     ensures functions { all_left result.functions ≡ (selected_view functions.entry).entries }
-    ensures size { result.size ≡ (selected_view functions.entry).size }
+    ensures size { result.size ≡ size_taken (selected_view functions.entry).taken }
 {
     let size = functions.section_size();
     Selected {

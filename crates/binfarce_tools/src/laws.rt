@@ -5,7 +5,8 @@ ghost use Rattle.binfarce.specs.declared.ByteOrder.TheVariants.{LittleEndian};
 ghost use Rattle.binfarce.specs.Refusal.{symbols_section_is_missing, malformed_input, unexpected_eof};
 ghost use Rattle.binfarce.specs.SectionEntries.{SelectedSymbols};
 ghost use Rattle.binfarce.specs.Elf.{elf32, elf64};
-ghost use Rattle.binfarce.specs.ElfSymbols as elf;
+ghost use Rattle.binfarce.specs.ElfSelection as elf;
+ghost use Rattle.binfarce.specs.ElfSelection.{section_file_answer};
 ghost use Rattle.binfarce.specs.ElfSymbols.{elf_file_answer};
 ghost use Rattle.binfarce.specs.MachoSelection as macho;
 ghost use Rattle.binfarce.specs.MachoSymbols.{macho_file_answer};
@@ -18,10 +19,9 @@ ghost use Rattle.binfarce_tables.specs.ElfReads.{elf_parts, headers_size};
 ghost use Rattle.binfarce_tables.specs.MachoReads.{macho_parts};
 ghost use Rattle.binfarce_tables.specs.PeReads.{pe_parts};
 ghost use Rattle.binfarce_tools.specs.Parts.{PartsDecide};
-ghost use Rattle.binfarce.specs.Symbol.{AreSymbolsOf};
-ghost use Rattle.binfarce_tools.specs.Answer.{entries_of, one_list, selected_answer};
-ghost use Rattle.binfarce_tools.specs.Listing.{IsListingOf};
-ghost use Rattle.binfarce_tools.specs.Report.{IsReportOf};
+ghost use Rattle.binfarce.specs.Symbol.{AreSymbolsOf, Listed};
+ghost use Rattle.binfarce_tools.specs.Answer.{one_list, selected_answer};
+ghost use Rattle.binfarce_tools.specs.SectionAnswer.{IsListingOf, IsReportOf};
 ghost use Rattle.binfarce_tools.specs.machine.Symbols.{IsReportOfSymbols, symbols_listing};
 
 use binfarce::ByteOrder;
@@ -30,9 +30,13 @@ use binfarce::demangle::SymbolData;
 /// The answer for a section, as one list with the section's size, is the one of the format's reader. It has a size, and
 /// its sections share no addresses; that for all sections has no size.
 pub fn sections_are_selected(file: &[u8], byte_order: ByteOrder, section: &str)
-    ensures of_elf32 { (which : SymbolTable) → elf_file_answer which elf32 byte_order file.now section.now
+    ensures of_elf32 { elf_file_answer elf32 byte_order file.now section.now
+        ≡ one_list (elf.selected_file_answer Symtab elf32 byte_order file.now (Some section.now)) }
+    ensures of_elf64 { elf_file_answer elf64 byte_order file.now section.now
+        ≡ one_list (elf.selected_file_answer Symtab elf64 byte_order file.now (Some section.now)) }
+    ensures of_either_32 { (which : SymbolTable) → section_file_answer which elf32 byte_order file.now section.now
         ≡ one_list (elf.selected_file_answer which elf32 byte_order file.now (Some section.now)) }
-    ensures of_elf64 { (which : SymbolTable) → elf_file_answer which elf64 byte_order file.now section.now
+    ensures of_either_64 { (which : SymbolTable) → section_file_answer which elf64 byte_order file.now section.now
         ≡ one_list (elf.selected_file_answer which elf64 byte_order file.now (Some section.now)) }
     ensures of_macho { macho_file_answer file.now ≡ one_list (macho.selected_file_answer (Some section.now) file.now) }
     ensures of_pe { pe_file_answer file.now ≡ one_list (pe.selected_file_answer (Some section.now) file.now) }
@@ -65,14 +69,14 @@ pub fn parts_decide(file: &[u8], other: &[u8])
 pub fn elf_parts_decide(file: &[u8], other: &[u8], byte_order: ByteOrder, section: &str)
     ensures of_32_bits { (which : SymbolTable)
         → SameParts (elf_parts which elf32 byte_order file.now) file.now other.now
-        → (elf_file_answer which elf32 byte_order other.now section.now
-        ≡ elf_file_answer which elf32 byte_order file.now section.now)
+        → (section_file_answer which elf32 byte_order other.now section.now
+        ≡ section_file_answer which elf32 byte_order file.now section.now)
         × ((selected : Option (List ℕ)) → elf.selected_file_answer which elf32 byte_order other.now selected
         ≡ elf.selected_file_answer which elf32 byte_order file.now selected) }
     ensures of_64_bits { (which : SymbolTable)
         → SameParts (elf_parts which elf64 byte_order file.now) file.now other.now
-        → (elf_file_answer which elf64 byte_order other.now section.now
-        ≡ elf_file_answer which elf64 byte_order file.now section.now)
+        → (section_file_answer which elf64 byte_order other.now section.now
+        ≡ section_file_answer which elf64 byte_order file.now section.now)
         × ((selected : Option (List ℕ)) → elf.selected_file_answer which elf64 byte_order other.now selected
         ≡ elf.selected_file_answer which elf64 byte_order file.now selected) }
 {
@@ -115,18 +119,18 @@ fn worked_sizes()
 {}
 
 /// Every byte of a part counts: two headers that differ in the last byte of `shoff` alone.
-#[tactic(auto, unfolding(binfarce_elf::specs::Elf::elf32, binfarce_elf::specs::Elf::section_table, binfarce_elf::specs::Elf::header_of, binfarce_elf::specs::Elf::walk, binfarce_elf::specs::ElfSymbols::elf_answer, binfarce_elf::specs::ElfSymbols::elf_selected, binfarce_elf::specs::ElfSymbols::needed, binfarce_elf::specs::ElfSymbols::taken, binfarce_bytes::proofs::Computing::computing))]
+#[tactic(auto, unfolding(binfarce_elf::specs::Elf::elf32, binfarce_elf::specs::Elf::section_table, binfarce_elf::specs::Elf::header_of, binfarce_elf::specs::Elf::walk, binfarce_elf::specs::ElfSymbols::elf_answer, binfarce_bytes::proofs::Computing::computing))]
 fn worked_answers()
-    ensures no_sections { elf_file_answer Symtab elf32 LittleEndian (replicate 52 0) (0x66 ∷ [])
+    ensures no_sections { elf_file_answer elf32 LittleEndian (replicate 52 0) (0x66 ∷ [])
         ≡ Err symbols_section_is_missing }
-    ensures past_the_end { elf_file_answer Symtab elf32 LittleEndian (replicate 35 0 ++ 1 ∷ replicate 16 0)
+    ensures past_the_end { elf_file_answer elf32 LittleEndian (replicate 35 0 ++ 1 ∷ replicate 16 0)
         (0x66 ∷ [])
         ≡ Err unexpected_eof }
 {}
 
 /// As `worked_answers`, for Mach-O and PE: two counts of load commands, and two headers that differ in the last byte of
 /// the size of the optional header.
-#[tactic(auto, unfolding(binfarce_macho::specs::Macho::header_fields, binfarce_macho::specs::Macho::header_of, binfarce_macho::specs::Macho::commands_from, binfarce_macho::specs::Macho::sections_of, binfarce_macho::specs::Macho::walk, binfarce_macho::specs::MachoSymbols::macho_answer, binfarce_macho::specs::MachoSymbols::located, binfarce_pe::specs::Pe::header_fields, binfarce_pe::specs::Pe::header_after, binfarce_pe::specs::Pe::walk, binfarce_pe::specs::PeSymbols::pe_answer, binfarce_pe::specs::PeSymbols::located, binfarce_bytes::proofs::Computing::computing))]
+#[tactic(auto, unfolding(binfarce_macho::specs::Macho::header_fields, binfarce_macho::specs::Macho::header_of, binfarce_macho::specs::Macho::commands_from, binfarce_macho::specs::Macho::sections_of, binfarce_macho::specs::Macho::walk, binfarce_macho::specs::MachoSymbols::macho_answer, binfarce_macho::specs::MachoSymbols::located, binfarce_pe::specs::Pe::header_fields, binfarce_pe::specs::Pe::header_after, binfarce_pe::specs::Pe::walk, binfarce_pe::specs::PeSymbols::pe_answer, binfarce_bytes::proofs::Computing::computing))]
 fn worked_other_answers()
     ensures no_command { macho_file_answer (replicate 40 0) ≡ Err symbols_section_is_missing }
     ensures refused_command { macho_file_answer (replicate 16 0 ++ 1 ∷ replicate 23 0) ≡ Err malformed_input }
@@ -137,7 +141,7 @@ fn worked_other_answers()
 /// The parts of a file of 52 bytes that states a section header table without headers at its beginning: the file
 /// header, the section header of the section names, which is whole there, the section names, which are empty, and the
 /// table's first byte.
-#[tactic(auto, unfolding(binfarce_tables::specs::ElfReads::elf_parts, binfarce_tables::specs::ElfReads::elf_section_parts, binfarce_tables::specs::ElfReads::names_parts, binfarce_tables::specs::ElfReads::headers_parts, binfarce_tables::specs::ElfReads::found_parts, binfarce_elf::specs::Elf::elf32, binfarce_elf::specs::Elf::section_table, binfarce_elf::specs::Elf::header_of, binfarce_elf::specs::Elf::section_at, binfarce_elf::specs::Elf::walk, binfarce_elf::specs::ElfSymbols::table_sections, binfarce_bytes::proofs::Computing::computing))]
+#[tactic(auto, unfolding(binfarce_tables::specs::ElfReads::elf_parts, binfarce_tables::specs::ElfReads::elf_section_parts, binfarce_tables::specs::ElfReads::names_parts, binfarce_tables::specs::ElfReads::headers_parts, binfarce_tables::specs::ElfReads::found_parts, binfarce_elf::specs::Elf::elf32, binfarce_elf::specs::Elf::section_table, binfarce_elf::specs::Elf::header_of, binfarce_elf::specs::Elf::section_at, binfarce_elf::specs::Elf::walk, binfarce_elf::specs::SymbolTables::table_sections, binfarce_bytes::proofs::Computing::computing))]
 fn worked_elf_parts()
     ensures { elf_parts Symtab elf32 LittleEndian (replicate 52 0)
         ≡ part 0 52 ∷ part 0 40 ∷ part 0 0 ∷ part 0 1 ∷ [] }
@@ -177,14 +181,13 @@ fn worked_pe_parts()
         ≡ part 60 4 ∷ part 64 24 ∷ part 128 0 ∷ part 88 32 ∷ part 0 0 ∷ part 0 135 ∷ [] }
 {}
 
-/// The lines of the symbols of a section's entries are the section's listing, and the report of their shares is its
-/// report.
+/// The lines of the symbols of an answer are its listing, and the report of their shares is its report.
 #[tactic(auto, using(crate::proofs::SymbolLaws::listing_of_symbols))]
 fn symbols_list_and_report(symbols: &[SymbolData], size: u64)
-    ensures listing { (selected : SelectedSymbols) → AreSymbolsOf (entries_of selected) symbols.now
-        → selected.section_size ≡ Some size → IsListingOf selected (symbols_listing symbols.now size) }
-    ensures report { (selected : SelectedSymbols) (text : List ℕ) → AreSymbolsOf (entries_of selected) symbols.now
-        → selected.section_size ≡ Some size → IsReportOfSymbols symbols.now size text → IsReportOf selected text }
+    ensures listing { (listed : Listed) → AreSymbolsOf listed.entries symbols.now → listed.section_size ≡ size
+        → IsListingOf listed (symbols_listing symbols.now size) }
+    ensures report { (listed : Listed) (text : List ℕ) → AreSymbolsOf listed.entries symbols.now
+        → listed.section_size ≡ size → IsReportOfSymbols symbols.now size text → IsReportOf listed text }
 {
     let _ = symbols;
     let _ = size;

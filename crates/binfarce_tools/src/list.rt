@@ -5,9 +5,11 @@ ghost use Rattle.std.specs.String.{string_bytes};
 ghost use Rattle.std.specs.Io.KnownBytes.{Keeps, Appends};
 ghost use Rattle.binfarce.specs.SymbolViews.{section_function_view};
 ghost use Rattle.binfarce.specs.declared.SymbolTable.{SymbolTable};
-ghost use Rattle.binfarce_tools.specs.Answer.{file_answer, selected_answer, MemoryIn};
-ghost use Rattle.binfarce_tools.specs.Listing.{IsLineOf, IsListingOf, ListingFits, last_line, section_part, section_text};
+ghost use Rattle.binfarce_tools.specs.Answer.{selected_answer, MemoryIn};
+ghost use Rattle.binfarce_tools.specs.Listing.{ListingFits};
 ghost use Rattle.binfarce_tools.specs.ListWords.{outcome_of};
+ghost use Rattle.binfarce_tools.specs.SectionAnswer.{readers_answer, NeedsMemory, IsListingOf};
+ghost use Rattle.binfarce_tools.specs.SelectedTexts.{IsLineOfSelected, IsListingOfSelected, last_line, section_part, section_text};
 ghost use Rattle.binfarce_tools.specs.Writing.{EndsAs, Takes, Fails, Leaves};
 ghost use Rattle.binfarce_tools.specs.Tables.{AreTablesOf, given_by, section_names};
 
@@ -170,9 +172,9 @@ pub fn list<S: Sink>(
     section: &str,
     out: &mut S,
 ) -> Result<(), ListError>
-    ensures outcome { EndsAs ListingFits (MemoryIn file.now (Some section.now))
-        (file_answer file.now section.now) (outcome_of result) }
-    ensures takes { Takes IsListingOf (file_answer file.now section.now) (S.taken out.old)
+    ensures outcome { EndsAs ListingFits (NeedsMemory file.now) (readers_answer file.now section.now)
+        (outcome_of result) }
+    ensures takes { Takes IsListingOf (readers_answer file.now section.now) (S.taken out.old)
         (S.taken out.new) (outcome_of result) }
     ensures fails { Fails (S.has_failed out.old) (S.has_failed out.new) (outcome_of result) }
     ensures leaves { Leaves out.old out.new (outcome_of result) }
@@ -196,7 +198,7 @@ pub fn list_tables<S: Sink>(
         → AreTablesOf which file section tables.now
         → EndsAs ListingFits (MemoryIn file section) (selected_answer which section file) (outcome_of result) }
     ensures takes { (which : SymbolTable) (file : List ℕ) (section : Option (List ℕ))
-        → AreTablesOf which file section tables.now → Takes IsListingOf
+        → AreTablesOf which file section tables.now → Takes IsListingOfSelected
         (selected_answer which section file) (S.taken out.old) (S.taken out.new) (outcome_of result) }
     ensures fails { Fails (S.has_failed out.old) (S.has_failed out.new) (outcome_of result) }
     ensures leaves { Leaves out.old out.new (outcome_of result) }
@@ -208,7 +210,7 @@ pub fn list_tables<S: Sink>(
 
 // The whole listing of a selection.
 fn listing(alloc: Global, tables: &Tables<'_>, selected: Selected<'_>) -> Result<String, AllocError>
-    ensures { IfOk result (λ t. IsListingOf (given_by tables.now selected.entry) (string_bytes t)) }
+    ensures { IfOk result (λ t. IsListingOfSelected (given_by tables.now selected.entry) (string_bytes t)) }
 {
     let Selected { functions, size } = selected;
     let mut text = String::new(alloc);
@@ -229,7 +231,7 @@ fn push_line(
     function: SectionFunction<'_>,
 ) -> Result<(), AllocError>
     ensures { OnOk result
-        ((line : List ℕ) × IsLineOf (section_names tables.now) size (section_function_view function.entry) line
+        ((line : List ℕ) × IsLineOfSelected (section_names tables.now) size (section_function_view function.entry) line
         × (string_bytes text.new ≡ string_bytes text.old ++ line)) }
 {
     push_head(text, function.function.address, function.function.size)?;

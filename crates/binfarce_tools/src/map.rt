@@ -4,8 +4,9 @@ ghost use Rattle.std.specs.Prelude.{◌≡◌, ℕ, List, Option, Some, map, IfO
 ghost use Rattle.std.specs.String.{string_bytes};
 ghost use Rattle.binfarce_chart.specs.Views.{bar_view};
 ghost use Rattle.binfarce_tools.specs.Answer.{file_answer, selected_answer, MemoryIn};
-ghost use Rattle.binfarce_tools.specs.Report.{Share, AreCratesOf, ReportFits};
+ghost use Rattle.binfarce_tools.specs.Report.{Share, AreCratesOf};
 ghost use Rattle.binfarce_tools.specs.ReportWords.{outcome_of};
+ghost use Rattle.binfarce_tools.specs.SelectedTexts.{SelectedReportFits};
 ghost use Rattle.binfarce_tools.specs.Sums.{AreSumsOf};
 ghost use Rattle.binfarce_tools.specs.Tables.{AreTablesOf};
 ghost use Rattle.binfarce.specs.declared.SymbolTable.{SymbolTable};
@@ -36,7 +37,7 @@ pub fn map<S: Sink>(
     section: &str,
     out: &mut S,
 ) -> Result<(), ReportError>
-    ensures outcome { EndsAs ReportFits (MemoryIn file.now (Some section.now))
+    ensures outcome { EndsAs SelectedReportFits (MemoryIn file.now (Some section.now))
         (file_answer file.now section.now) (outcome_of result) }
     ensures takes { Takes (IsMapOf title.now) (file_answer file.now section.now) (S.taken out.old)
         (S.taken out.new) (outcome_of result) }
@@ -60,7 +61,7 @@ pub fn map_tables<S: Sink>(
 ) -> Result<(), ReportError>
     ensures outcome { (which : SymbolTable) (file : List ℕ) (section : Option (List ℕ))
         → AreTablesOf which file section tables.now
-        → EndsAs ReportFits (MemoryIn file section) (selected_answer which section file) (outcome_of result) }
+        → EndsAs SelectedReportFits (MemoryIn file section) (selected_answer which section file) (outcome_of result) }
     ensures takes { (which : SymbolTable) (file : List ℕ) (section : Option (List ℕ))
         → AreTablesOf which file section tables.now → Takes (IsMapOf title.now)
         (selected_answer which section file) (S.taken out.old) (S.taken out.new) (outcome_of result) }

@@ -7,14 +7,16 @@ ghost use Rattle.binfarce_names.specs.Name.{Name};
 ghost use Rattle.binfarce_names.specs.Named.{IsNamed};
 ghost use Rattle.binfarce.specs.SymbolViews.{function_view};
 ghost use Rattle.binfarce.specs.declared.SymbolTable.{SymbolTable};
-ghost use Rattle.binfarce_tools.specs.Answer.{file_answer, selected_answer, MemoryIn};
-ghost use Rattle.binfarce_tools.specs.Report.{Share, IsShareOf, IsReportOf, IsReportOfShares, ReportFits, crate_text, crate_line};
+ghost use Rattle.binfarce_tools.specs.Answer.{selected_answer, MemoryIn};
+ghost use Rattle.binfarce_tools.specs.Report.{Share, IsShareOf, IsReportOfShares, crate_text, crate_line};
 ghost use Rattle.binfarce_tools.specs.ReportWords.{outcome_of};
+ghost use Rattle.binfarce_tools.specs.SectionAnswer.{readers_answer, NeedsMemory, IsReportOf, ReportFits};
+ghost use Rattle.binfarce_tools.specs.SelectedTexts.{IsReportOfSelected, SelectedReportFits, last_line};
 ghost use Rattle.binfarce_tools.specs.Writing.{EndsAs, Takes, Fails, Leaves, WritesMade};
 ghost use Rattle.binfarce_tools.specs.declared.report.ReportError.TheVariants.{OutOfMemory, TooLarge, Write};
 ghost use Rattle.binfarce_tools.specs.Entries.{functions_left};
 ghost use Rattle.binfarce_tools.specs.Tables.{AreTablesOf};
-ghost use Rattle.binfarce_tools.specs.Sums.{AreSumsOf, GetsSums, sum_at, Adds};
+ghost use Rattle.binfarce_tools.specs.Sums.{AreSumsOf, GetsSums, GetsSelectedSums, sum_at, Adds};
 
 use crate::functions::Functions;
 use crate::list::{ListError, Sink, push_last_line};
@@ -108,9 +110,9 @@ pub fn report<S: Sink>(
     section: &str,
     out: &mut S,
 ) -> Result<(), ReportError>
-    ensures outcome { EndsAs ReportFits (MemoryIn file.now (Some section.now))
-        (file_answer file.now section.now) (outcome_of result) }
-    ensures takes { Takes IsReportOf (file_answer file.now section.now) (S.taken out.old)
+    ensures outcome { EndsAs ReportFits (NeedsMemory file.now) (readers_answer file.now section.now)
+        (outcome_of result) }
+    ensures takes { Takes IsReportOf (readers_answer file.now section.now) (S.taken out.old)
         (S.taken out.new) (outcome_of result) }
     ensures fails { Fails (S.has_failed out.old) (S.has_failed out.new) (outcome_of result) }
     ensures leaves { Leaves out.old out.new (outcome_of result) }
@@ -131,9 +133,9 @@ pub fn report_tables<S: Sink>(
 ) -> Result<(), ReportError>
     ensures outcome { (which : SymbolTable) (file : List ℕ) (section : Option (List ℕ))
         → AreTablesOf which file section tables.now
-        → EndsAs ReportFits (MemoryIn file section) (selected_answer which section file) (outcome_of result) }
+        → EndsAs SelectedReportFits (MemoryIn file section) (selected_answer which section file) (outcome_of result) }
     ensures takes { (which : SymbolTable) (file : List ℕ) (section : Option (List ℕ))
-        → AreTablesOf which file section tables.now → Takes IsReportOf
+        → AreTablesOf which file section tables.now → Takes IsReportOfSelected
         (selected_answer which section file) (S.taken out.old) (S.taken out.new) (outcome_of result) }
     ensures fails { Fails (S.has_failed out.old) (S.has_failed out.new) (outcome_of result) }
     ensures leaves { Leaves out.old out.new (outcome_of result) }
@@ -160,8 +162,7 @@ pub struct CrateSums {
 ///
 /// As `report`, but for `Write`.
 pub fn sums_of_file(alloc: Global, file: &[u8], section: &str) -> Result<CrateSums, ReportError>
-    ensures { GetsSums (MemoryIn file.now (Some section.now))
-        (file_answer file.now section.now) result }
+    ensures { GetsSums (NeedsMemory file.now) (readers_answer file.now section.now) result }
 {
     sums_of_tables(alloc, &Tables::whole(file, section))
 }
@@ -174,7 +175,7 @@ pub fn sums_of_file(alloc: Global, file: &[u8], section: &str) -> Result<CrateSu
 pub fn sums_of_tables(alloc: Global, tables: &Tables<'_>) -> Result<CrateSums, ReportError>
     ensures sums { (which : SymbolTable) (file : List ℕ) (section : Option (List ℕ))
         → AreTablesOf which file section tables.now
-        → GetsSums (MemoryIn file section) (selected_answer which section file) result }
+        → GetsSelectedSums (MemoryIn file section) (selected_answer which section file) result }
     ensures made { IfOk result (λ s. (shares : List Share) × AreSumsOf shares s) }
     ensures unwritten { IfErr result (λ e. e ≢ Write) }
 {
@@ -283,7 +284,7 @@ pub fn write_made<S: Sink>(out: &mut S, made: Result<String, AllocError>) -> Res
 // The whole report, where the selected section has this size.
 fn report_text(alloc: Global, sums: &CrateSums, size: Option<u64>) -> Result<String, AllocError>
     ensures { IfOk result
-        (λ t. (shares : List Share) → AreSumsOf shares sums.now → IsReportOfShares shares size (string_bytes t)) }
+        (λ t. (shares : List Share) → AreSumsOf shares sums.now → IsReportOfShares shares (last_line size) (string_bytes t)) }
 {
     let mut text = String::new(alloc);
     for (name, sum) in sums.crates.iter() {

@@ -2,7 +2,7 @@
 
 ghost use Rattle.std.specs.Prelude.{◌≡◌, ◌≢◌, ℕ, List, true, Option, Ok, Some, None, IfErr, MatchResult, codes};
 ghost use Rattle.std.specs.Option.{option_map};
-ghost use Rattle.binfarce.specs.ElfViews.{version_names};
+ghost use Rattle.binfarce.specs.SelectionViews.{version_names};
 ghost use Rattle.binfarce.specs.Refusal.{refusal_of, section_is_missing};
 ghost use Rattle.binfarce.specs.SectionEntries.{SelectedSymbols};
 ghost use Rattle.binfarce.specs.declared.SymbolTable.{SymbolTable};
@@ -155,7 +155,7 @@ impl<'a> Tables<'a> {
             Tables::Elf(parts) => parts.version_names(),
             Tables::Made { versions, .. } => *versions,
             _ => VersionNames {
-                offsets: &[],
+                offsets: None,
                 strings: &[],
             },
         }

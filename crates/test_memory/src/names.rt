@@ -4,8 +4,8 @@ use binfarce::demangle::{Demangler, Kind, SymbolName, crate_of};
 use std::alloc::{AllocError, Global};
 use test_image_samples::tally::{Row, Tally};
 
-pub(crate) struct Name {
-    pub(crate) name: &'static str,
+struct Name {
+    name: &'static str,
     kind: Kind,
     complete: &'static str,
     trimmed: &'static str,
@@ -15,7 +15,7 @@ pub(crate) struct Name {
 }
 
 #[rattlefmt::skip]
-pub(crate) const NAMES: [Name; 9] = [
+const NAMES: [Name; 9] = [
     Name { kind: Kind::Legacy, crate_name: None, crate_of: Some("foo"),
         name: "_ZN3foo3barE",
         complete: "foo::bar",

@@ -4,11 +4,7 @@
 
 pub(crate) mod accessors;
 pub mod class;
-pub mod ends;
 pub mod header;
-pub mod parts;
 pub mod sections;
-pub mod segments;
 pub mod symbol_table;
 pub mod symbols;
-pub mod versions;

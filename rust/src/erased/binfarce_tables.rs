@@ -16,4 +16,4 @@ pub use crate::erased::binfarce_tables::beginning::Beginning;
 pub use crate::erased::binfarce_tables::elf::part;
 pub use crate::erased::binfarce_tables::error::ReadError;
 pub use crate::erased::binfarce_elf::class::Width;
-pub use crate::erased::binfarce_elf::versions::VersionNames;
+pub use crate::erased::binfarce_elf_memory::versions::VersionNames;

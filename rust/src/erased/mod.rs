@@ -14,6 +14,7 @@ pub mod binfarce_names;
 pub mod binfarce_filtering;
 pub mod binfarce_bytes;
 pub mod binfarce_elf;
+pub mod binfarce_elf_memory;
 pub mod binfarce_macho;
 pub mod binfarce_pe;
 pub mod binfarce_tables;

@@ -6,7 +6,7 @@ use std::fmt;
 use std::io::{self, Write};
 
 /// A program's way to what lies outside of it.
-#[derive(Debug, Default)]
+#[derive(Debug)]
 pub struct HostRuntime {}
 
 impl HostRuntime {

@@ -289,7 +289,6 @@ fn files() {
 }
 
 // Takes what it is given only when it is flushed, as std's standard output may.
-#[derive(Default)]
 struct Held(std::vec::Vec<u8>, std::vec::Vec<u8>);
 
 impl Write for Held {
@@ -308,7 +307,7 @@ impl Write for Held {
 
 #[test]
 fn streams() {
-    let mut out = io::Unbuffered(Held::default());
+    let mut out = io::Unbuffered(Held(std::vec::Vec::new(), std::vec::Vec::new()));
     assert_eq!(out.write(b"ab").unwrap(), 2);
     assert_eq!(out.0.1, b"ab");
     assert_eq!(out.write(b"c!").unwrap_err().kind(), ErrorKind::StorageFull);

@@ -1,18 +1,14 @@
 -- Views of the values that files of both classes are read into, for private clauses, and the layouts by the width of a word.
-use Rattle.std.specs.Prelude.{ℕ, ◌+◌, ◌-◌, ◌*◌, ◌^◌, ◌<◌, List, map, min, All, Option, Some, None, IsPermutation}
+use Rattle.std.specs.Prelude.{ℕ, ◌+◌, ◌-◌, ◌*◌, map, min, Option, Some, None}
 use Rattle.std.specs.List.{range_with_len}
-use Rattle.std.specs.List.Sorted.{IsNonDecreasingBy}
 use Rattle.binfarce_bytes.specs.Walk.{Walk, ended}
 use Rattle.binfarce_bytes.specs.Field.{Field, field}
 use Rattle.binfarce_elf.specs.declared.class.SymbolRow.{SymbolRow}
 use Rattle.binfarce_elf.specs.declared.sections.Table.{Table}
 use Rattle.binfarce_elf.specs.declared.symbols.Rows.{Rows}
-use Rattle.binfarce_elf.specs.declared.versions.Definition as code
-use Rattle.binfarce_elf.specs.Versions.{Definition}
 use Rattle.binfarce_elf.specs.Elf as elf
 use Rattle.binfarce_elf.specs.Elf.{ElfClass, Header, SectionHeader, SectionTable, section_of, whole_headers, walk}
-use Rattle.binfarce_elf.specs.ElfSymbols as symbols
-use Rattle.binfarce_elf.specs.ElfSymbols.{End}
+use Rattle.binfarce_elf.specs.SymbolTables as symbols
 
 -- the file header's fields, where a word has w bytes
 abbrev pub fields_of_header : ℕ → Header Field
@@ -53,10 +49,6 @@ symbol_view r = record { name = r.name; value = r.value; size = r.size; info = r
 abbrev pub table_view : Table → SectionTable
 table_view t = record { order = t.byte_order; file = t.data.now; shoff = t.shoff; shnum = t.shnum; shstrndx = t.shstrndx }
 
--- a `Definition`
-abbrev pub definition_view : code.Definition → Definition
-definition_view d = record { index = d.index; name = d.name; next = d.next }
-
 -- how many sections there are
 abbrev pub section_count : ElfClass → SectionTable → ℕ
 section_count class table = min table.shnum (whole_headers class table)
@@ -72,13 +64,3 @@ walk_from class table (Some k) = record {
 -- the strings and the rows of a symbol table
 abbrev pub rows_view : Rows → symbols.TableRows
 rows_view r = record { strings = r.strings.now; rows = r.rows.now }
-
--- the number that an end is kept as: in the order of sections, and in each of addresses
-abbrev pub key_of : End → ℕ
-key_of e = e.section * 2 ^ 64 + e.address
-
--- the numbers of these ends, in order
-pub record AreKeysOf (ends : List End) (keys : List ℕ) : Type 0 where
-  pub same : IsPermutation (map key_of ends) keys
-  pub rises : IsNonDecreasingBy (λ k. k) keys
-  pub small : All (λ e. e.address < 2 ^ 64) ends

@@ -9,6 +9,7 @@ use Rattle.binfarce_pe.specs.declared.functions.Held.{Held}
 use Rattle.binfarce_pe.specs.Pe as pe
 use Rattle.binfarce_pe.specs.PeParts.{SectionTable, whole_in, section_in, table_walk}
 use Rattle.binfarce_pe.specs.PeSymbols as symbols
+use Rattle.binfarce_pe.specs.PeRules.{SectionRules, accepted_name, ending_rows}
 use Rattle.binfarce_pe.specs.PeSelection.{SelectedSections, the_text, all_sections, Rules, memory_size}
 use Rattle.binfarce_bytes.specs.Sizes.{RowAddress, addresses_of}
 use Rattle.binfarce_bytes.specs.SectionEntries.{SectionEntry}
@@ -36,7 +37,7 @@ numbered n (address ∷ addresses) = record { address = address; row = n } ∷ n
 
 -- this is the name of a row that is kept, and none for another row
 abbrev pub IsNameOf : symbols.CoffTable → (symbols.SymbolRow ℕ → Bool) → RowAddress → Option (List ℕ) → Type 0
-IsNameOf table accepts r name = symbols.function_name table accepts r.row (symbols.symbol_of table r.row) ≡ name
+IsNameOf table accepts r name = accepted_name table accepts r.row (symbols.symbol_of table r.row) ≡ name
 
 -- the rows that are held have the addresses of these and are numbered in their order, and the names are theirs
 pub record HoldsThese (table : symbols.CoffTable) (accepts : symbols.SymbolRow ℕ → Bool) (these rows : List RowAddress) (names : List (Option (List ℕ))) : Type 0 where
@@ -48,8 +49,8 @@ abbrev pub names_view : List (Option (Bor (List ℕ))) → List (Option (List �
 names_view names = map (option_map (λ t. t.now)) names
 
 -- the rows that end sizes are held
-abbrev pub HoldsRows : symbols.CoffTable → symbols.SectionRules → Held → Type 0
-HoldsRows table rules h = HoldsThese table rules.accepts (symbols.ending_rows table rules) (rows_view h.rows.items) (names_view h.names.items)
+abbrev pub HoldsRows : symbols.CoffTable → SectionRules → Held → Type 0
+HoldsRows table rules h = HoldsThese table rules.accepts (ending_rows table rules) (rows_view h.rows.items) (names_view h.names.items)
 
 -- the rows that are held of the section at this position, and their names; none past the end
 abbrev pub rows_at : List Held → ℕ → List RowAddress
@@ -61,12 +62,12 @@ names_at held i = get_or (map (λ h. names_view h.names.items) held) i []
 -- of each selected section from this position on the rows that end sizes are held
 abbrev pub HoldsSections : symbols.CoffTable → Rules → ℕ → List Held → Type 0
 HoldsSections table rules from held =
-    (i : ℕ) → from ≤ i → i < rules.count → HoldsThese table (rules.section (rules.first + i)).accepts (symbols.ending_rows table (rules.section (rules.first + i))) (rows_at held i) (names_at held i)
+    (i : ℕ) → from ≤ i → i < rules.count → HoldsThese table (rules.section (rules.first + i)).accepts (ending_rows table (rules.section (rules.first + i))) (rows_at held i) (names_at held i)
 
 -- the name of a row that ends sizes, and none of it where it isn't kept
-abbrev pub ending_name : symbols.CoffTable → symbols.SectionRules → ℕ → symbols.SymbolRow ℕ → Option (Option (List ℕ))
+abbrev pub ending_name : symbols.CoffTable → SectionRules → ℕ → symbols.SymbolRow ℕ → Option (Option (List ℕ))
 ending_name table rules k row =
-    if rules.ends row then Some (symbols.function_name table rules.accepts k row) else option_map (λ name. Some name) (symbols.function_name table rules.accepts k row)
+    if rules.ends row then Some (accepted_name table rules.accepts k row) else option_map (λ name. Some name) (accepted_name table rules.accepts k row)
 
 -- the size that sizes end at in the section of this index
 abbrev pub bound_of : SelectedSections → ℕ → ℕ

@@ -4,10 +4,10 @@ use Rattle.binfarce_bytes.specs.declared.ByteOrder.{ByteOrder}
 use Rattle.binfarce_bytes.specs.Number.{bytes_at}
 use Rattle.binfarce_bytes.specs.Refusal.{Refusal, if_as_long_as}
 use Rattle.binfarce_elf.specs.Elf.{ElfClass, SectionTable}
-use Rattle.binfarce_elf.specs.ElfSymbols.{TableRows}
+use Rattle.binfarce_elf.specs.SymbolTables.{TableRows}
 use Rattle.binfarce_tables.specs.ElfReads.{table_of, headers_size}
 use Rattle.binfarce_tables.specs.declared.elf.TableParts.{TableParts}
-use Rattle.binfarce_elf.specs.declared.parts.HeaderTable.{HeaderTable}
+use Rattle.binfarce_elf_memory.specs.declared.parts.HeaderTable.{HeaderTable}
 
 -- the table at this place of a file
 abbrev pub table_at : List ℕ → HeaderTable → SectionTable

@@ -1,5 +1,5 @@
 -- Listings and reports of symbols, for the laws.
-use Rattle.std.specs.Prelude.{ℕ, List, [], ◌∷◌, ◌++◌, map, Some}
+use Rattle.std.specs.Prelude.{ℕ, List, [], ◌∷◌, ◌++◌, map}
 use Rattle.std.specs.List.{concat}
 use Rattle.std.specs.String.{string_bytes}
 use Rattle.binfarce.specs.declared.demangle.SymbolData.{SymbolData}
@@ -21,4 +21,4 @@ share_of symbol = record { name = crate_text (name_view symbol.name); size = sym
 
 -- text is the report of the shares of symbols
 abbrev pub IsReportOfSymbols : List SymbolData → ℕ → List ℕ → Type 0
-IsReportOfSymbols symbols size text = IsReportOfShares (map share_of symbols) (Some size) text
+IsReportOfSymbols symbols size text = IsReportOfShares (map share_of symbols) (size_line size) text

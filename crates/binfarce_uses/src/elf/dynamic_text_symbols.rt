@@ -1,6 +1,6 @@
 ghost use Rattle.std.specs.Prelude.{◌≡◌, IfOk, Ok, codes};
 ghost use Rattle.binfarce.specs.Elf.{elf64, section_table};
-ghost use Rattle.binfarce.specs.ElfSymbols.{elf_answer};
+ghost use Rattle.binfarce.specs.ElfSelection.{section_answer};
 ghost use Rattle.binfarce.specs.Symbol.{Listed, AreSymbolsOf};
 ghost use Rattle.binfarce.specs.declared.ByteOrder.TheVariants.{LittleEndian};
 ghost use Rattle.binfarce.specs.declared.SymbolTable.TheVariants.{Dynsym};
@@ -12,7 +12,7 @@ use std::alloc::Global;
 /// The function symbols of `.text` in the dynamic symbol table, with readable names.
 pub fn dynamic_text_symbols(alloc: Global, file: &[u8]) -> Result<Vec<SymbolData>, ParseError>
     ensures { let table = section_table elf64 (record { order = LittleEndian; bytes = file.now }) in
-        IfOk result (λ symbols. (listed : Listed) → elf_answer Dynsym elf64 table (codes ".text") ≡ Ok listed
+        IfOk result (λ symbols. (listed : Listed) → section_answer Dynsym elf64 table (codes ".text") ≡ Ok listed
         → AreSymbolsOf listed.entries symbols.items) }
 {
     let elf = elf64::parse(file, ByteOrder::LittleEndian)?;

@@ -1,6 +1,6 @@
 ghost use Rattle.std.specs.Prelude.{◌≡◌, Ok, Err, None, option_map, slice_get, IsErrAnd, MatchResult};
 ghost use Rattle.binfarce.specs.Elf.{elf64, section_table};
-ghost use Rattle.binfarce.specs.ElfSymbols.{elf_selected, Selected};
+ghost use Rattle.binfarce.specs.ElfSelection.{elf_selected, Selected};
 ghost use Rattle.binfarce.specs.Refusal.{Refusal, refusal_of, out_of_memory};
 ghost use Rattle.binfarce.specs.SymbolViews.{section_function_view};
 ghost use Rattle.binfarce.specs.declared.SymbolTable.TheVariants.{Dynsym};

@@ -3,7 +3,6 @@ ghost use Rattle.binfarce.specs.Elf.{elf64, section_table};
 ghost use Rattle.binfarce.specs.ElfSymbols.{elf_answer};
 ghost use Rattle.binfarce.specs.Symbol.{Listed, AreSymbolsOf};
 ghost use Rattle.binfarce.specs.declared.ByteOrder.TheVariants.{LittleEndian};
-ghost use Rattle.binfarce.specs.declared.SymbolTable.TheVariants.{Symtab};
 
 use binfarce::demangle::SymbolData;
 use binfarce::{ByteOrder, ParseError, elf64};
@@ -12,7 +11,7 @@ use std::alloc::Global;
 /// The function symbols of `.text`, with readable names.
 pub fn text_symbols(alloc: Global, file: &[u8]) -> Result<Vec<SymbolData>, ParseError>
     ensures { let table = section_table elf64 (record { order = LittleEndian; bytes = file.now }) in
-        IfOk result (λ symbols. (listed : Listed) → elf_answer Symtab elf64 table (codes ".text") ≡ Ok listed
+        IfOk result (λ symbols. (listed : Listed) → elf_answer elf64 table (codes ".text") ≡ Ok listed
         → AreSymbolsOf listed.entries symbols.items) }
 {
     let elf = elf64::parse(file, ByteOrder::LittleEndian)?;

@@ -1,6 +1,6 @@
 ghost use Rattle.std.specs.Prelude.{◌≡◌, List, ℕ, Ok, Err, Some, map, IfOk, codes};
 ghost use Rattle.binfarce.specs.Elf.{elf64};
-ghost use Rattle.binfarce.specs.ElfSymbols.{selected_file_answer};
+ghost use Rattle.binfarce.specs.ElfSelection.{selected_file_answer};
 ghost use Rattle.binfarce.specs.Refusal.{refusal_of};
 ghost use Rattle.binfarce.specs.SectionEntries.{SelectedSymbols};
 ghost use Rattle.binfarce.specs.Symbol.{AreSymbolsOf};

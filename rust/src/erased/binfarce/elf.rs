@@ -7,11 +7,12 @@ use crate::erased::binfarce::symbols::symbols_of_elf;
 use crate::erased::binfarce_bytes::functions::{FunctionSymbol, SectionFunction};
 use crate::erased::binfarce_bytes::{ByteOrder, ParseError};
 use crate::erased::binfarce_elf::class::Class;
-use crate::erased::binfarce_elf::ends::kind_of;
 use crate::erased::binfarce_elf::header::{Header, parse_header};
 use crate::erased::binfarce_elf::sections::{self, HasSections, Section, Sections, Table};
 use crate::erased::binfarce_elf::symbol_table::SymbolTable;
-use crate::erased::binfarce_elf::symbols::{self, Functions as AllFunctions};
+use crate::erased::binfarce_elf::symbols;
+use crate::erased::binfarce_elf_memory::ends::kind_of;
+use crate::erased::binfarce_elf_memory::selection::{self, Functions as AllFunctions};
 use crate::erased::binfarce_names::demangle::SymbolData;
 use crate::shim::alloc::Global;
 
@@ -102,8 +103,7 @@ impl<'a, C: Class> Elf<'a, C> {
     /// that isn't of type 3 (`SHT_STRTAB`); `MalformedInput` where the string table's bytes end past `usize`, and
     /// `UnexpectedEof` past the file; the same for the symbol table's bytes; `UnexpectedEof` for a truncated last row.
     pub fn functions(&self, section_name: &str) -> Result<(Functions<'a>, u64), ParseError> {
-        let functions = self.section_functions(SymbolTable::Symtab, section_name)?;
-        Ok(of_section(functions))
+        self.functions_by(SymbolTable::Symtab, section_name)
     }
 
     /// The same functions from the dynamic symbol table, which a stripped file still has; and indirect functions
@@ -114,7 +114,16 @@ impl<'a, C: Class> Elf<'a, C> {
     /// Those of `functions`, but `SectionIsMissing` is of `.dynsym` (the first section of type 11, `SHT_DYNSYM`) and of
     /// `.dynstr` (the section that it links to).
     pub fn dynamic_functions(&self, section_name: &str) -> Result<(Functions<'a>, u64), ParseError> {
-        let functions = self.section_functions(SymbolTable::Dynsym, section_name)?;
+        self.functions_by(SymbolTable::Dynsym, section_name)
+    }
+
+    // The function symbols of the section with this name by this symbol table, and the section's size.
+    fn functions_by(
+        &self,
+        which: SymbolTable,
+        name: &str,
+    ) -> Result<(Functions<'a>, u64), ParseError> {
+        let functions = self.section_functions(which, name)?;
         Ok(of_section(functions))
     }
 
@@ -136,7 +145,7 @@ impl<'a, C: Class> Elf<'a, C> {
         alloc: Global,
         which: SymbolTable,
     ) -> Result<Vec<SectionFunction<'a>>, ParseError> {
-        symbols::all_functions::<C>(alloc, self.section_table(), kind_of(&self.header), which)
+        selection::all_functions::<C>(alloc, self.section_table(), kind_of(&self.header), which)
     }
 
     /// The function symbols of a section as `functions` or `dynamic_functions` gives them, each with the section's
@@ -150,7 +159,7 @@ impl<'a, C: Class> Elf<'a, C> {
         which: SymbolTable,
         name: &str,
     ) -> Result<AllFunctions<'a>, ParseError> {
-        symbols::section_functions::<C>(self.section_table(), which, name)
+        selection::section_functions::<C>(self.section_table(), which, name)
     }
 
     /// The functions of the symbol table as symbols with readable names, and the section's size in bytes.

@@ -4,7 +4,8 @@
 
 use crate::erased::binfarce::elf;
 use crate::erased::binfarce_bytes::{ByteOrder, ParseError};
-use crate::erased::binfarce_elf::{header, sections, symbols};
+use crate::erased::binfarce_elf::{header, sections};
+use crate::erased::binfarce_elf_memory::selection;
 
 // The word of this class (gABI, "Data Representation"), which names the class.
 type Address = u64;
@@ -28,7 +29,7 @@ pub type Functions<'a> = elf::Functions<'a>;
 
 /// An iterator over the function symbols of all sections: the result of
 /// [`Elf64::all_functions`](elf::Elf::all_functions).
-pub type AllFunctions<'a> = symbols::Functions<'a>;
+pub type AllFunctions<'a> = selection::Functions<'a>;
 
 /// Reads the file header in the given order. The magic number isn't checked. Nothing is copied.
 ///

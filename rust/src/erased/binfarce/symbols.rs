@@ -5,7 +5,7 @@
 use crate::shim::Vec;
 use crate::erased::binfarce::elf::Functions;
 use crate::erased::binfarce_bytes::functions::{FunctionSymbol, SectionFunction};
-use crate::erased::binfarce_elf::symbols::Functions as AllFunctions;
+use crate::erased::binfarce_elf_memory::selection::Functions as AllFunctions;
 use crate::erased::binfarce_names::demangle::{Demangler, SymbolData};
 use crate::shim::alloc::{AllocError, Global};
 

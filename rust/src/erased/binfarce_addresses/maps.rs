@@ -4,7 +4,7 @@
 
 use crate::shim::TrimAscii;
 use crate::erased::binfarce_addresses::address::hex_number;
-use crate::erased::binfarce_elf::segments::{CodeSegment, LoadAddress};
+use crate::erased::binfarce_elf_memory::segments::{CodeSegment, LoadAddress};
 
 /// Why a text doesn't say where a file is loaded.
 #[derive(Debug, Clone, Copy, PartialEq)]

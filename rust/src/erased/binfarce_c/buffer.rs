@@ -6,7 +6,6 @@ use crate::erased::binfarce_c::status::OK;
 
 /// What a call that gives a text returns: `struct binfarce_text`.
 #[repr(C)]
-#[derive(Default)]
 pub struct Text {
     /// How the call ended.
     pub status: u32,

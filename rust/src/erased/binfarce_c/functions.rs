@@ -31,7 +31,6 @@ pub struct Function {
 
 /// What a call that gives function symbols returns: `struct binfarce_functions`.
 #[repr(C)]
-#[derive(Default)]
 pub struct Functions {
     /// How the call ended.
     pub status: u32,
@@ -172,6 +171,7 @@ fn nothing(status: u32, detail: u32) -> Functions {
     Functions {
         status,
         detail,
-        ..Functions::default()
+        count: 0,
+        section_size: 0,
     }
 }

@@ -12,7 +12,6 @@ use core::str;
 
 /// What `binfarce_demangle` returns: `struct binfarce_name`.
 #[repr(C)]
-#[derive(Default)]
 pub struct SymbolName {
     /// How the call ended.
     pub status: u32,
@@ -119,7 +118,11 @@ fn kind_number(kind: Kind) -> u32 {
 fn no_name(status: u32) -> SymbolName {
     SymbolName {
         status,
-        ..SymbolName::default()
+        kind: 0,
+        complete_length: 0,
+        trimmed_length: 0,
+        crate_length: 0,
+        has_crate: false,
     }
 }
 
@@ -127,6 +130,7 @@ fn no_name(status: u32) -> SymbolName {
 pub(crate) fn none(status: u32) -> Text {
     Text {
         status,
-        ..Text::default()
+        detail: 0,
+        length: 0,
     }
 }

@@ -78,11 +78,12 @@ impl<C: Class> Section<C> {
 /// The section header table of a file, as its header states it.
 #[derive(Clone, Copy)]
 pub struct Table<'a> {
-    pub(crate) data: &'a [u8],
-    pub(crate) byte_order: ByteOrder,
-    pub(crate) shoff: usize,
-    pub(crate) shnum: Half,
-    pub(crate) shstrndx: Half,
+    /// The file's bytes.
+    pub data: &'a [u8],
+    pub byte_order: ByteOrder,
+    pub shoff: usize,
+    pub shnum: Half,
+    pub shstrndx: Half,
 }
 
 /// A file of this class with a section header table, in which a section looks up its name.
@@ -223,8 +224,8 @@ pub fn section_with_name<C: Class>(
     section_named::<C>(table, names_bytes::<C>(table), name)
 }
 
-// The first section with this name among the section names.
-pub(crate) fn section_named<C: Class>(
+/// The first section with this name among the section names.
+pub fn section_named<C: Class>(
     table: Table<'_>,
     names: Option<&[u8]>,
     name: &str,
@@ -260,12 +261,13 @@ pub(crate) fn section_name<'a, C: Class>(table: Table<'a>, section: Section<C>) 
     name_at(names_bytes::<C>(table), section.name_offset)
 }
 
+// The name among the section names at this offset.
 pub(crate) fn name_at(names: Option<&[u8]>, offset: Word) -> Option<&str> {
     parse_null_string(names?, offset as usize)
 }
 
-// The bytes of the section of the section names.
-pub(crate) fn names_bytes<'a, C: Class>(table: Table<'a>) -> Option<&'a [u8]> {
+/// The bytes of the section of the section names, where the file has them.
+pub fn names_bytes<'a, C: Class>(table: Table<'a>) -> Option<&'a [u8]> {
     section_data(table.data, names_section::<C>(table)?).ok()
 }
 
@@ -274,6 +276,21 @@ fn names_section<C: Class>(table: Table<'_>) -> Option<Section<C>> {
     let before = C::SECTION_LENGTH.checked_mul(table.shstrndx as usize)?;
     let start = table.shoff.checked_add(before)?;
     section_at(table.data, start, table.byte_order, table.shstrndx).ok()
+}
+
+/// The section's name in these section names.
+pub fn name_in<'a>(names: Option<&'a [u8]>, section: &Section<u64>) -> Option<&'a str> {
+    name_at(names, section.name_offset)
+}
+
+/// Whether this is the section's name in these section names.
+pub fn is_named_in(names: Option<&[u8]>, section: &Section<u64>, name: &str) -> bool {
+    is_named(names, section.name_offset, name)
+}
+
+/// The section's index in the section header table.
+pub fn index_of<C: Class>(section: Section<C>) -> Half {
+    section.index
 }
 
 /// The section's bytes, a slice of the file. `MalformedInput` where their end exceeds 64 bits, `UnexpectedEof` where

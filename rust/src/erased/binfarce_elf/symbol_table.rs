@@ -44,9 +44,4 @@ impl SymbolTable {
             SymbolTable::Dynsym => ".dynstr",
         }
     }
-
-    // Whether indirect functions (`STT_GNU_IFUNC`) count among the functions of one section.
-    pub(crate) fn has_indirect(self) -> bool {
-        self == SymbolTable::Dynsym
-    }
 }

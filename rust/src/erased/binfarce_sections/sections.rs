@@ -5,8 +5,8 @@
 use crate::erased::binfarce_sections::error::SectionError;
 use crate::erased::binfarce_sections::kinds::SectionType;
 use crate::erased::binfarce::{ByteOrder, Format, ParseError, detect_format, macho, pe};
-use crate::erased::binfarce_elf::parts::{AnySections, is_named_in, name_in, sections_of_file};
-use crate::erased::binfarce_elf::sections as elf_sections;
+use crate::erased::binfarce_elf::sections::{self as elf_sections, is_named_in, name_in};
+use crate::erased::binfarce_elf_memory::parts::{AnySections, sections_of_file};
 use crate::erased::binfarce_tables::Width;
 use crate::erased::binfarce_tables::elf::SectionParts;
 

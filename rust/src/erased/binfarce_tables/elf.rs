@@ -10,16 +10,16 @@ use crate::erased::binfarce_bytes::parser::to_index;
 use crate::erased::binfarce_bytes::source::{Source, read_part};
 use crate::erased::binfarce_bytes::{ByteOrder, ParseError};
 use crate::erased::binfarce_elf::class::{Half, Width, Word};
-use crate::erased::binfarce_elf::parts::{
-    self, HeaderTable, needed_in, place_in, section_at, sizes_in,
-};
 use crate::erased::binfarce_elf::sections::Section;
 use crate::erased::binfarce_elf::symbol_table::SymbolTable;
-use crate::erased::binfarce_elf::symbols::{
-    Functions, Needed, TableSections, Taken, functions_in, whole_rows,
+use crate::erased::binfarce_elf::symbols::{TableSections, whole_rows};
+use crate::erased::binfarce_elf_memory::parts::{
+    self, HeaderTable, needed_in, place_in, section_at, sizes_in,
 };
-use crate::erased::binfarce_elf::versions::{VersionNames, name_offsets};
+use crate::erased::binfarce_elf_memory::selection::{Functions, Needed, Taken, functions_in};
+use crate::erased::binfarce_elf_memory::versions::{VersionNames, name_offsets};
 use crate::shim::alloc::{AllocError, Global};
+use crate::shim::collections::BTreeMap;
 
 /// `ET_REL`, the type of an object file.
 const RELOCATABLE: Half = 1;
@@ -61,14 +61,14 @@ impl Parts {
     /// borrow the parts; nothing is copied.
     pub fn version_names(&self) -> VersionNames<'_> {
         VersionNames {
-            offsets: &self.versions.names,
+            offsets: Some(&self.versions.names),
             strings: &self.strings,
         }
     }
 
     /// Whether the selected sections share addresses: all those of an object file (`ET_REL`) do.
     pub fn shares_addresses(&self) -> bool {
-        self.taken.size.is_none() && self.sections.place.kind.elf_type == RELOCATABLE
+        self.taken.size().is_none() && self.sections.place.kind.elf_type == RELOCATABLE
     }
 }
 
@@ -76,7 +76,7 @@ impl Parts {
 /// section names, numbers in the given order. These are the file header of 52 or 64 bytes, the header of the section
 /// names' own section, the section names, all section headers, the symbol table and its strings; for the dynamic symbol
 /// table also its versions and their definitions. Each is read once, into memory of its size, which is never more than
-/// the file has of it; of the definitions the offsets of names are kept, at most 32,768. No other byte is read, except
+/// the file has of it; of the definitions the offsets of names are kept. No other byte is read, except
 /// the first byte of a section header table without headers. The magic number isn't checked.
 ///
 /// # Errors
@@ -227,7 +227,7 @@ fn read_rows<S: Source>(
 // The versions of the rows of a symbol table, and the offsets of their names.
 struct VersionParts {
     rows: Vec<u8>,
-    names: Vec<Option<Word>>,
+    names: BTreeMap<Half, Word>,
 }
 
 // Those of this symbol table, of a file with these sections.

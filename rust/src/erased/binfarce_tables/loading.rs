@@ -7,7 +7,7 @@ use crate::erased::binfarce_tables::{macho, pe, segments};
 use crate::erased::binfarce_bytes::format::Format;
 use crate::erased::binfarce_bytes::source::Source;
 use crate::erased::binfarce_elf::class::Width;
-pub use crate::erased::binfarce_elf::segments::{CodeSegment, LoadAddress};
+pub use crate::erased::binfarce_elf_memory::segments::{CodeSegment, LoadAddress};
 use crate::shim::alloc::Global;
 
 /// Where a file of this format says that it is loaded, unless the loader chooses another address: of ELF the page of

@@ -8,7 +8,9 @@ use crate::erased::binfarce_tables::error::ReadError;
 use crate::erased::binfarce_bytes::ByteOrder;
 use crate::erased::binfarce_bytes::source::Source;
 use crate::erased::binfarce_elf::class::Width;
-use crate::erased::binfarce_elf::parts::{AnySections, HeaderTable, name_of_index, sections_in};
+use crate::erased::binfarce_elf_memory::parts::{
+    AnySections, HeaderTable, name_of_index, sections_in,
+};
 use crate::shim::alloc::Global;
 
 /// The section headers of a file and the section names, in memory, and the file's length.

@@ -7,8 +7,8 @@ use crate::erased::binfarce_tables::error::ReadError;
 use crate::erased::binfarce_bytes::source::Source;
 use crate::erased::binfarce_bytes::{ByteOrder, ParseError};
 use crate::erased::binfarce_elf::class::Width;
-use crate::erased::binfarce_elf::parts::HeaderTable;
-use crate::erased::binfarce_elf::segments::{LoadAddress, load_address};
+use crate::erased::binfarce_elf_memory::parts::HeaderTable;
+use crate::erased::binfarce_elf_memory::segments::{self, LoadAddress, load_address};
 use crate::shim::alloc::Global;
 
 /// Where a file of this class is loaded unless the loader chooses another address, numbers in the given order: the page
@@ -42,7 +42,7 @@ fn read_segments<S: Source>(
     width: Width,
     place: HeaderTable,
 ) -> Result<Option<LoadAddress>, ReadError> {
-    let size = u64::from(place.phnum) * width.program_length() as u64;
+    let size = u64::from(place.phnum) * segments::program_length(width) as u64;
     if place.phoff > len || size > len - place.phoff {
         return Err(ReadError::Refused(ParseError::UnexpectedEof));
     }

@@ -12,7 +12,7 @@ use crate::erased::binfarce_bytes::functions::Selection;
 use crate::erased::binfarce_elf::class::Class;
 use crate::erased::binfarce_elf::header::parse_header;
 use crate::erased::binfarce_elf::sections::section_table;
-use crate::erased::binfarce_elf::symbols;
+use crate::erased::binfarce_elf_memory::selection;
 use crate::shim::alloc::Global;
 
 /// An iterator over the function symbols of a file, in the order of its listing.
@@ -31,7 +31,7 @@ impl<'a> Iterator for Functions<'a> {
 
 /// An iterator over the function symbols of a selection with their sections, in the order of the listing.
 pub enum AllFunctions<'a> {
-    Elf(symbols::Functions<'a>),
+    Elf(selection::Functions<'a>),
     Arranged(Arranged<'a>),
     Lent(Lent<'a>),
 }
@@ -132,12 +132,12 @@ fn functions_of_elf<'a, C: Class>(
 ) -> Result<Selected<'a>, ParseError> {
     let header = parse_header::<C>(file, byte_order)?;
     let table = section_table(file, byte_order, &header);
-    let functions = symbols::section_functions::<C>(table, SymbolTable::Symtab, section)?;
+    let functions = selection::section_functions::<C>(table, SymbolTable::Symtab, section)?;
     Ok(of_elf(functions))
 }
 
 // The function symbols of a selection of an ELF file.
-pub(crate) fn of_elf(functions: symbols::Functions<'_>) -> Selected<'_> {
+pub(crate) fn of_elf(functions: selection::Functions<'_>) -> Selected<'_> {
     let size = functions.section_size();
     Selected {
         functions: AllFunctions::Elf(functions),

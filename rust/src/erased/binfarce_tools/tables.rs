@@ -113,7 +113,7 @@ impl<'a> Tables<'a> {
             Tables::Elf(parts) => parts.version_names(),
             Tables::Made { versions, .. } => *versions,
             _ => VersionNames {
-                offsets: &[],
+                offsets: None,
                 strings: &[],
             },
         }

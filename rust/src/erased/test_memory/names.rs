@@ -7,8 +7,8 @@ use crate::erased::binfarce::demangle::{Demangler, Kind, SymbolName, crate_of};
 use crate::shim::alloc::{AllocError, Global};
 use crate::erased::test_image_samples::tally::{Row, Tally};
 
-pub(crate) struct Name {
-    pub(crate) name: &'static str,
+struct Name {
+    name: &'static str,
     kind: Kind,
     complete: &'static str,
     trimmed: &'static str,
@@ -17,7 +17,7 @@ pub(crate) struct Name {
     crate_of: Option<&'static str>,
 }
 
-pub(crate) const NAMES: [Name; 9] = [
+const NAMES: [Name; 9] = [
     Name { kind: Kind::Legacy, crate_name: None, crate_of: Some("foo"),
         name: "_ZN3foo3barE",
         complete: "foo::bar",

@@ -2,7 +2,8 @@ use Rattle.std.proofs.Common.{◌≡◌, ◌+◌, ℕ, ◌∷◌, ◌++◌, [], 
 use Rattle.std.proofs.lemmas.List.Elements.{All-nil}
 use Rattle.binfarce_pe.specs.PeParts.{table_view}
 use Rattle.binfarce_pe.specs.PeSelection.{rules_of, sections_view}
-use Rattle.binfarce_pe.specs.PeSymbols.{SymbolRow, function_name}
+use Rattle.binfarce_pe.specs.PeSymbols.{SymbolRow}
+use Rattle.binfarce_pe.specs.PeRules.{accepted_name}
 use Rattle.binfarce_pe.proofs.Rows.{after, all_left, one_before, all_before, IsLeftOut}
 use Rattle.binfarce_pe.proofs.EachSection.{none_more, none_selected, some_selected}
 use Rattle.binfarce_pe.proofs.functions.keeps_some.Goals as goal
@@ -24,7 +25,7 @@ loop-next-preserved c =
       before ++ k ∷ [],
       one_before t k next before c.loop-next-test.true follows c.loop-next.invariant.1,
       none_more t rules before k
-          (λ i lt. ap (function_name t (rules.section (rules.first + i)).accepts k) (sym c.symbol_of-row.ensures) ∙ c.in-None.ensures i lt) c.loop-next.invariant.2,
+          (λ i lt. ap (accepted_name t (rules.section (rules.first + i)).accepts k) (sym c.symbol_of-row.ensures) ∙ c.in-None.ensures i lt) c.loop-next.invariant.2,
     )
 
 pub returns-in-Some-clause-some : goal.returns-in-Some-clause-some
@@ -33,7 +34,7 @@ returns-in-Some-clause-some c is =
     let rules = rules_of (sections_view c.args.sections) in
     let k = c.loop-next.next in
     some_selected t rules c.loop-next.invariant.0 k c.in-Some.field-0 c.loop-next-test.true c.loop-next.invariant.1 c.in-Some.ensures.0
-    (ap (λ (r : SymbolRow ℕ). is_some (function_name t (rules.section (rules.first + c.in-Some.field-0)).accepts k r)) (sym c.symbol_of-row.ensures) ∙ c.in-Some.ensures.1)
+    (ap (λ (r : SymbolRow ℕ). is_some (accepted_name t (rules.section (rules.first + c.in-Some.field-0)).accepts k r)) (sym c.symbol_of-row.ensures) ∙ c.in-Some.ensures.1)
 
 pub returns-clause-none : goal.returns-clause-none
 returns-clause-none c is =

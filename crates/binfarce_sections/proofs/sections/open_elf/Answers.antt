@@ -1,6 +1,6 @@
 use Rattle.std.specs.Option.{option_map}
 use Rattle.binfarce_elf.specs.Classes.{class_of}
-use Rattle.binfarce_elf.specs.ElfParts.{sections_left}
+use Rattle.binfarce_elf_memory.specs.ElfParts.{sections_left}
 use Rattle.binfarce_sections.proofs.Opening.{opened}
 use Rattle.binfarce_sections.proofs.sections.open_elf.Goals as goal
 

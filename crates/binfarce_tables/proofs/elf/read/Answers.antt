@@ -1,10 +1,13 @@
-use Rattle.std.proofs.Common.{None, Result, Ok, Err, ap, get_or, sym, ◌∙◌}
+use Rattle.std.proofs.Common.{Result, Ok, Err, ap, sym, ◌∙◌}
+use Rattle.std.specs.BTreeMap.{get}
+use Rattle.std.specs.Ordering.{nat_cmp}
 use Rattle.binfarce_bytes.specs.Refusal.{◌>>=◌, Refusal}
 use Rattle.binfarce_bytes.specs.Selection.{section_of}
 use Rattle.binfarce_elf.specs.Classes.{class_of}
-use Rattle.binfarce_elf.specs.ElfParts.{needed_view}
-use Rattle.binfarce_elf.specs.ElfSymbols.{NeededSections, TableRows, rows_at, selected_file_answer}
-use Rattle.binfarce_elf.specs.Versions.{bytes_if, name_by, versions_section}
+use Rattle.binfarce_elf_memory.specs.SelectionViews.{needed_view}
+use Rattle.binfarce_elf_memory.specs.ElfSelection.{NeededSections, selected_file_answer}
+use Rattle.binfarce_elf.specs.SymbolTables.{TableRows, rows_at}
+use Rattle.binfarce_elf_memory.specs.Versions.{bytes_if, name_by, versions_section}
 use Rattle.binfarce_tables.specs.ElfReading.{parts_view}
 use Rattle.binfarce_tables.specs.Reading.{Known, Reads}
 use Rattle.binfarce_tables.specs.declared.error.ReadError.TheVariants.{OutOfMemory}
@@ -82,8 +85,8 @@ returns-clause-answer g c = λ file known.
     let versions = c.in_ok-versions.versions in
     from_needed c.args.which class c.args.byte_order file section seen given n c.in_ok-needed.ensures
     ∙ ap (λ (a : Result TableRows Refusal). a >>= λ found. Ok (after_found c.args.which file seen n found)) (c.in_ok-table.ensures.answer file is_known)
-    ∙ ap Ok (versions_read c.args.which file seen n.taken rows versions.rows.items versions.names.items (taken (c.in_ok-versions.ensures.rows file is_known)) (c.in_ok-versions.ensures.names file is_known)
-    ∙ sym (c.in_ok-sizes.ensures versions.rows.items (name_by rows.strings (λ index. get_or versions.names.items index None))))
+    ∙ ap Ok (versions_read c.args.which file seen n.taken rows versions.rows.items versions.names (taken (c.in_ok-versions.ensures.rows file is_known)) (c.in_ok-versions.ensures.names file is_known)
+    ∙ sym (c.in_ok-sizes.ensures versions.rows.items (name_by rows.strings (get nat_cmp versions.names))))
 
 pub returns-in_err-sections-clause-only : goal.returns-in_err-sections-clause-only
 returns-in_err-sections-clause-only g c = λ file known.

@@ -1,7 +1,8 @@
 use Rattle.std.proofs.Common.{◌≡◌, ℕ, Vec, Global, List, Result, Ok, Err, ap, sym, ◌∙◌}
 use Rattle.binfarce_bytes.specs.Refusal.{◌>>=◌, Refusal, refusal_of}
-use Rattle.binfarce_elf.specs.ElfParts.{table_sections_view}
-use Rattle.binfarce_elf.specs.ElfSymbols.{rows_at, section_data, whole_rows}
+use Rattle.binfarce_elf.specs.ElfViews.{table_sections_view}
+use Rattle.binfarce_elf.specs.SymbolTables.{rows_at}
+use Rattle.binfarce_elf.specs.ElfSymbols.{section_data, whole_rows}
 use Rattle.binfarce_elf.specs.Classes.{class_of}
 use Rattle.binfarce_tables.specs.ElfReads.{section_parts}
 use Rattle.binfarce_tables.specs.machine.Places.{rows_view}

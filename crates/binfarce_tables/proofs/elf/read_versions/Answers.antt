@@ -3,8 +3,8 @@ use Rattle.std.specs.Prelude.{Option}
 use Rattle.binfarce_elf.specs.Classes.{class_of}
 use Rattle.binfarce_bytes.specs.Walk.{Walk}
 use Rattle.binfarce_elf.specs.Elf.{Section, walk}
-use Rattle.binfarce_elf.specs.ElfParts.{headers_alone}
-use Rattle.binfarce_elf.specs.Versions.{definitions_section, versions_section}
+use Rattle.binfarce_elf_memory.specs.ElfParts.{headers_alone}
+use Rattle.binfarce_elf_memory.specs.Versions.{definitions_section, versions_section}
 use Rattle.binfarce_tables.specs.SectionReading.{sections_view}
 use Rattle.binfarce_tables.proofs.ElfSure.{of_row_versions, of_definitions}
 use Rattle.binfarce_tables.proofs.Sure.{within, next, ending, passed_only, out_surely}

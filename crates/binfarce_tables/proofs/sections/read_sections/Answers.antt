@@ -1,8 +1,8 @@
 use Rattle.std.specs.Option.{option_map}
 use Rattle.binfarce_elf.specs.Elf.{walk}
-use Rattle.binfarce_elf.specs.ElfParts.{headers_alone}
+use Rattle.binfarce_elf_memory.specs.ElfParts.{headers_alone}
 use Rattle.binfarce_elf.specs.Classes.{class_of}
-use Rattle.binfarce_elf.specs.ElfViews.{kind_view}
+use Rattle.binfarce_elf_memory.specs.SelectionViews.{kind_view}
 use Rattle.binfarce_tables.specs.ElfReads.{names_parts, headers_parts}
 use Rattle.binfarce_tables.specs.Reading.{Known}
 use Rattle.binfarce_tables.specs.machine.Places.{table_at}

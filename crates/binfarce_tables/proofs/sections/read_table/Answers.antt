@@ -1,7 +1,7 @@
 use Rattle.std.proofs.Common.{◌+◌, ◌<◌, ◌≤◌, List, Vec, Global, ℕ, Ok, ap, sym, ◌∙◌, arith, length}
 use Rattle.binfarce_bytes.specs.Number.{bytes_at}
 use Rattle.binfarce_elf.specs.Elf.{walk}
-use Rattle.binfarce_elf.specs.ElfParts.{headers_alone}
+use Rattle.binfarce_elf_memory.specs.ElfParts.{headers_alone}
 use Rattle.binfarce_elf.specs.Classes.{class_of}
 use Rattle.binfarce_tables.specs.machine.Places.{table_at, headers_of}
 use Rattle.binfarce_tables.proofs.Contents.{part_long}

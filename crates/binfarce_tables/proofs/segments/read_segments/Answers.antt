@@ -1,6 +1,6 @@
 use Rattle.std.proofs.Common.{◌≡◌, ℕ, ◌+◌, ◌*◌, ◌≤◌, ap₂, sym, arith, length, subst}
 use Rattle.binfarce_bytes.specs.Part.{part}
-use Rattle.binfarce_elf.specs.ElfSegments.{program_length}
+use Rattle.binfarce_elf_memory.specs.ElfSegments.{program_length}
 use Rattle.binfarce_tables.proofs.Sure.{in_file, one}
 use Rattle.binfarce_tables.proofs.segments.read_segments.Goals as goal
 

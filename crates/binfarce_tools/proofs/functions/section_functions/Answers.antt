@@ -2,7 +2,7 @@ use Rattle.std.proofs.Common.{Some, refl, subst}
 use Rattle.binfarce.specs.declared.Format.TheVariants.{Elf32, Elf64, Macho, PE}
 use Rattle.binfarce.specs.Format.{format_of}
 use Rattle.binfarce.specs.Elf.{elf32, elf64}
-use Rattle.binfarce.specs.ElfSymbols as elf
+use Rattle.binfarce.specs.ElfSelection as elf
 use Rattle.binfarce.specs.MachoSelection as macho
 use Rattle.binfarce.specs.PeSelection as pe
 use Rattle.binfarce.specs.SectionEntries.{as_listed}
@@ -21,7 +21,7 @@ returns-in_err-functions_of_elf-in-Elf32 c =
     let order = c.in-Elf32.byte_order in
     let answer = elf.selected_file_answer Symtab elf32 order file (Some section) in
     refused (Elf32 order) (format_of file) file section answer c.in_err-functions_of_elf-in-Elf32.field-0.0 c.from_residual.result c.in-Elf32.ensures refl
-    (reported_list answer as_listed (subst Reported (elf_listed Symtab elf32 order file section) (reported_elf Symtab elf32 order file section))) c.in_err-functions_of_elf-in-Elf32.ensures c.from_residual.ensures.1
+    (reported_list answer as_listed (subst Reported (elf_listed elf32 order file section) (reported_elf elf32 order file section))) c.in_err-functions_of_elf-in-Elf32.ensures c.from_residual.ensures.1
 
 pub returns-in_err-functions_of_elf-in-Elf64 : goal.returns-in_err-functions_of_elf-in-Elf64
 unfolding selected_symbols NeedsMemory
@@ -31,7 +31,7 @@ returns-in_err-functions_of_elf-in-Elf64 c =
     let order = c.in-Elf64.byte_order in
     let answer = elf.selected_file_answer Symtab elf64 order file (Some section) in
     refused (Elf64 order) (format_of file) file section answer c.in_err-functions_of_elf-in-Elf64.field-0.0 c.from_residual-in_err-functions_of_elf-in-Elf64.result c.in-Elf64.ensures refl
-    (reported_list answer as_listed (subst Reported (elf_listed Symtab elf64 order file section) (reported_elf Symtab elf64 order file section))) c.in_err-functions_of_elf-in-Elf64.ensures c.from_residual-in_err-functions_of_elf-in-Elf64.ensures.1
+    (reported_list answer as_listed (subst Reported (elf_listed elf64 order file section) (reported_elf elf64 order file section))) c.in_err-functions_of_elf-in-Elf64.ensures c.from_residual-in_err-functions_of_elf-in-Elf64.ensures.1
 
 pub returns-in_err-functions_of_macho-in-Macho : goal.returns-in_err-functions_of_macho-in-Macho
 unfolding selected_symbols NeedsMemory

@@ -2,8 +2,8 @@ use Rattle.std.proofs.Common.{Ok}
 use Rattle.binfarce_tools.specs.Answer.{selected_answer, MemoryIn}
 use Rattle.binfarce_tools.specs.Entries.{all_left, functions_left}
 use Rattle.binfarce_tools.specs.Map.{IsMapOf}
-use Rattle.binfarce_tools.specs.Report.{ReportFits}
 use Rattle.binfarce_tools.specs.ReportWords.{outcome_of}
+use Rattle.binfarce_tools.specs.SelectedTexts.{SelectedReportFits}
 use Rattle.binfarce_tools.proofs.Maps.{of_picture}
 use Rattle.binfarce_tools.proofs.Reports.{HoldsList, ends, fits, got, list_of, none_reported, none_taken, size_of_all, summed_or_not, takes}
 use Rattle.binfarce_tools.proofs.map.map_tables.Goals as goal
@@ -24,7 +24,7 @@ returns-clause-outcome g c = λ which file section are.
     let list = c.into_list-functions in
     let gets = list_of (MemoryIn file section) (selected_answer which section file) c.in_ok-functions.field-0 (all_left list.result.0.all) list.result.1 list.ensures.functions list.ensures.size (c.in_ok-functions.ensures.gets which file section are) in
     let summed = summed_or_not (MemoryIn file section) (selected_answer which section file) (functions_left list.result.0) list.result.1 (Ok c.in_ok-sums.sums) gets c.in_ok-sums.ensures in
-    ends (selected_answer which section file) summed.0 summed.1 ReportFits (MemoryIn file section) c.picture.result _ _ (outcome_of c.write_made.result) (fits summed.0 c.in_ok-sums.sums summed.2) c.write_made.ensures.takes
+    ends (selected_answer which section file) summed.0 summed.1 SelectedReportFits (MemoryIn file section) c.picture.result _ _ (outcome_of c.write_made.result) (fits summed.0 c.in_ok-sums.sums summed.2) c.write_made.ensures.takes
 
 pub returns-clause-takes : goal.returns-clause-takes
 returns-clause-takes g c = λ which file section are.

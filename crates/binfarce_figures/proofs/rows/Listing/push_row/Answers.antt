@@ -5,7 +5,8 @@ use Rattle.std.specs.Prelude.{Option, Some}
 use Rattle.std.specs.String.{string_bytes}
 use Rattle.binfarce.specs.SymbolViews.{section_function_view}
 use Rattle.binfarce_tools.specs.Json.{address_member, number_member, object_start, style_of, text_member}
-use Rattle.binfarce_tools.specs.Listing.{line_head, section_part}
+use Rattle.binfarce_tools.specs.Listing.{line_head}
+use Rattle.binfarce_tools.specs.SelectedTexts.{section_part}
 use Rattle.binfarce_tools.specs.Tables.{section_names, version_names_of}
 use Rattle.binfarce_tools.specs.declared.json.Form.{Form}
 use Rattle.binfarce_tools.proofs.Objects.{one, more}

@@ -1,7 +1,7 @@
 use Rattle.std.proofs.Common.{◌≡◌}
 use Rattle.binfarce.specs.Walk.{first}
 use Rattle.std.specs.Option.{option_map}
-use Rattle.binfarce_elf.specs.ElfParts as elf_parts
+use Rattle.binfarce_elf_memory.specs.ElfParts as elf_parts
 use Rattle.binfarce_sections.specs.Named.{is_named}
 use Rattle.binfarce_sections.specs.Section.{elf_named, mapped}
 use Rattle.binfarce_sections.specs.Views.{elf_left, named_by}

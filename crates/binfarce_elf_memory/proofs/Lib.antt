@@ -1,0 +1,10 @@
+pub mod Defined
+pub mod RowsLeft
+pub mod Steps
+pub mod Numbered
+pub mod Keys
+pub mod Pushed
+pub mod Sized
+pub mod Selecting
+pub mod Firsts
+pub mod Answered

@@ -1,0 +1,7 @@
+pub mod ElfEnds
+pub mod Versions
+pub mod ElfSelection
+pub mod SelectionViews
+pub mod ElfParts
+pub mod ElfSegments
+pub mod machine

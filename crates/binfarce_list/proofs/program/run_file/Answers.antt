@@ -1,0 +1,33 @@
+use Rattle.std.proofs.Common.{◌≡◌, Some, Result, Ok, Err, sym, ap, subst, inr}
+use Rattle.std.specs.Prelude.{MatchResult}
+use Rattle.std.specs.Result.{IsErrAnd}
+use Rattle.binfarce.specs.declared.SymbolTable.TheVariants.{Symtab}
+use Rattle.binfarce_tools.specs.declared.list.ListError.{ListError}
+use Rattle.binfarce_tools.specs.Listing.{ListingFits}
+use Rattle.binfarce_tools.specs.ListWords as call
+use Rattle.binfarce_tools.specs.SectionAnswer.{IsListingOf, NeedsMemory, readers_answer}
+use Rattle.binfarce_tools.specs.SelectedTexts.{IsListingOfSelected}
+use Rattle.binfarce_tools.specs.Writing.{EndsAs, Takes}
+use Rattle.binfarce_tools.proofs.SectionAnswers.{ends, listing_is, takes}
+use Rattle.binfarce_list.specs.declared.program.Fault.{Fault}
+use Rattle.binfarce_list.specs.declared.program.Fault.TheVariants.{List as Listing}
+use Rattle.binfarce_list.specs.Program.{outcome_of}
+use Rattle.binfarce_list.proofs.program.run_file.Goals as goal
+
+-- the outcome of the call is that of the program
+same : (listed : Result (Unit {0}) ListError) (result : Result (Unit {0}) Fault) → MatchResult listed (λ x. result ≡ Ok x) (λ e. IsErrAnd result (λ f. f ≡ Listing e)) → call.outcome_of listed ≡ outcome_of result
+same (Ok x) result is = sym (ap outcome_of is)
+same (Err e) (Ok x) is = absurd is
+same (Err e) (Err f) is = sym (ap (λ (f : Fault). outcome_of (Err f)) is)
+
+pub returns-clause-outcome : goal.returns-clause-outcome
+returns-clause-outcome g c = λ bytes known left.
+    let section = c.args.section.now in
+    inr (inr (subst (EndsAs ListingFits (NeedsMemory bytes) (readers_answer bytes section)) (same c.list_tables.result c.map_err.result c.map_err.ensures.cases)
+    (ends bytes section ListingFits (call.outcome_of c.list_tables.result) (c.list_tables.ensures.outcome Symtab bytes (Some section) (c.in_ok-tables.ensures.gets bytes known)))))
+
+pub returns-clause-takes : goal.returns-clause-takes
+returns-clause-takes g c = λ bytes known left.
+    let section = c.args.section.now in
+    subst (Takes IsListingOf (readers_answer bytes section) _ _) (same c.list_tables.result c.map_err.result c.map_err.ensures.cases)
+    (takes bytes section IsListingOfSelected IsListingOf listing_is _ _ (call.outcome_of c.list_tables.result) (c.list_tables.ensures.takes Symtab bytes (Some section) (c.in_ok-tables.ensures.gets bytes known)))

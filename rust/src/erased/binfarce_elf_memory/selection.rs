@@ -1,0 +1,360 @@
+// From crates/binfarce_elf_memory/src/selection.rt, by tools/erase.
+
+//! The function symbols of a selection: of one section, or of all sections with their addresses and sizes in memory.
+
+use crate::shim::Vec;
+use crate::erased::binfarce_elf_memory::ends::{
+    FileKind, address_of, is_function_kind, keys_of, row_size,
+};
+use crate::erased::binfarce_elf_memory::versions::{row_versions, version_at};
+use crate::erased::binfarce_bytes::functions::{
+    FunctionSymbol, SectionFunction, Selection, found_with,
+};
+use crate::erased::binfarce_bytes::parser::{UnexpectedEof, parse_null_string};
+use crate::erased::binfarce_bytes::{ByteOrder, ParseError};
+use crate::erased::binfarce_elf::class::{Class, Half, SymbolRow, Width, row_at};
+use crate::erased::binfarce_elf::sections::{Table, index_of, names_bytes};
+use crate::erased::binfarce_elf::symbol_table::SymbolTable;
+use crate::erased::binfarce_elf::symbols::{
+    Rows, TableSections, named_section, rows_at, table_sections,
+};
+use crate::shim::alloc::{AllocError, Global};
+
+// The index of no section, and the first of the reserved indices.
+const SHN_UNDEF: Half = 0;
+
+const SHN_LORESERVE: Half = 0xff00;
+
+/// What a selection takes of a symbol table.
+#[derive(Clone, Copy)]
+pub enum Taken {
+    /// The functions of the section of this index, as the file stores them; the section's size, and whether indirect
+    /// functions (`STT_GNU_IFUNC`) count.
+    Section {
+        index: Half,
+        size: u64,
+        indirect: bool,
+    },
+    /// Those of all sections, of which there are so many, in memory.
+    All {
+        count: Half,
+    },
+}
+
+impl Taken {
+    /// The size of the one section; `None` for all sections.
+    pub fn size(self) -> Option<u64> {
+        match self {
+            Taken::Section { size, .. } => Some(size),
+            Taken::All { .. } => None,
+        }
+    }
+}
+
+/// What a selection takes of a symbol table, and the sections of the table and its strings.
+#[derive(Clone, Copy)]
+pub struct Needed {
+    pub taken: Taken,
+    pub table: TableSections,
+}
+
+/// The function symbols of the section with this name, by this symbol table. Nothing is allocated.
+pub fn section_functions<'a, C: Class>(
+    table: Table<'a>,
+    which: SymbolTable,
+    name: &str,
+) -> Result<Functions<'a>, ParseError> {
+    let selection = Selection::Section(name);
+    let needed = needed_of::<C>(table, names_bytes::<C>(table), which, selection)?;
+    let Rows { strings, rows } = rows_at(table.data, C::width(), needed.table)?;
+    Ok(functions_in(
+        rows,
+        strings,
+        row_versions::<C>(table, which),
+        C::width(),
+        table.byte_order,
+        needed.taken,
+        false,
+        &[],
+    ))
+}
+
+/// The function symbols of all sections of a file of this kind, by this symbol table: a list in table order. Every
+/// refusal comes before the first allocation.
+pub fn all_functions<'a, C: Class>(
+    alloc: Global,
+    table: Table<'a>,
+    kind: FileKind,
+    which: SymbolTable,
+) -> Result<Vec<SectionFunction<'a>>, ParseError> {
+    let needed = needed_of::<C>(table, names_bytes::<C>(table), which, Selection::All)?;
+    let found = rows_at(table.data, C::width(), needed.table)?;
+    let has_modes = kind.has_modes();
+    let keys = keys_of::<C>(alloc, table, kind, found)?;
+    let width = C::width();
+    let functions = list_in(
+        alloc,
+        &keys,
+        width,
+        table.byte_order,
+        has_modes,
+        needed.taken,
+        found,
+        row_versions::<C>(table, which),
+    )?;
+    Ok(functions)
+}
+
+// The function symbols that a selection takes of these rows with their versions, by the keys of the ends of their
+// sections.
+fn list_in<'a>(
+    alloc: Global,
+    keys: &[u128],
+    width: Width,
+    byte_order: ByteOrder,
+    has_modes: bool,
+    taken: Taken,
+    found: Rows<'a>,
+    versions: &[u8],
+) -> Result<Vec<SectionFunction<'a>>, AllocError> {
+    let length = width.symbol_length();
+    let mut functions = Vec::new(alloc);
+    for k in 0..found.rows.len() / length {
+        let row = row_at(width, found.rows, k * length, byte_order).unwrap();
+        let version = version_at(versions, k, byte_order);
+        let size = row_size(keys, has_modes, row);
+        match function_of(found.strings, taken, has_modes, row, version, size) {
+            None => {}
+            Some(function) => functions.push(function)?,
+        }
+    }
+    Ok(functions)
+}
+
+/// The function symbols that a selection takes of the rows of a symbol table of this class, whose names are in these
+/// strings, and whose versions these are. For all sections, `sizes` has the sizes of all rows in memory, and `has_modes`
+/// says whether bit 0 of a function's value is its instruction set.
+pub fn functions_in<'a>(
+    rows: &'a [u8],
+    strings: &'a [u8],
+    versions: &'a [u8],
+    width: Width,
+    byte_order: ByteOrder,
+    taken: Taken,
+    has_modes: bool,
+    sizes: &'a [u64],
+) -> Functions<'a> {
+    Functions {
+        rows,
+        strings,
+        versions,
+        width,
+        byte_order,
+        taken,
+        has_modes,
+        sizes,
+        next: 0,
+    }
+}
+
+// A selection and the sections that its symbols need; `names` holds the section names.
+pub(crate) fn needed_of<C: Class>(
+    table: Table<'_>,
+    names: Option<&[u8]>,
+    which: SymbolTable,
+    selection: Selection<'_>,
+) -> Result<Needed, ParseError> {
+    let taken = taken_by::<C>(table, names, which, selection)?;
+    let sections = table_sections::<C>(table, which)?;
+    Ok(Needed {
+        taken,
+        table: sections,
+    })
+}
+
+fn taken_by<C: Class>(
+    table: Table<'_>,
+    names: Option<&[u8]>,
+    which: SymbolTable,
+    selection: Selection<'_>,
+) -> Result<Taken, ParseError> {
+    match selection {
+        Selection::Section(name) => {
+            let section = named_section::<C>(table, names, name)?;
+            Ok(Taken::Section {
+                index: index_of(section),
+                size: section.size().widened(),
+                indirect: has_indirect(which),
+            })
+        }
+        Selection::All => {
+            whole_sections::<C>(table)?;
+            Ok(Taken::All { count: table.shnum })
+        }
+    }
+}
+
+// Whether indirect functions count among those of one section.
+fn has_indirect(which: SymbolTable) -> bool {
+    which == SymbolTable::Dynsym
+}
+
+// Refused where a section header is truncated.
+fn whole_sections<C: Class>(table: Table<'_>) -> Result<(), UnexpectedEof> {
+    let room = table.data.len().saturating_sub(table.shoff) / C::SECTION_LENGTH;
+    if table.shoff < table.data.len() && usize::from(table.shnum) <= room {
+        Ok(())
+    } else {
+        Err(UnexpectedEof {})
+    }
+}
+
+/// An iterator over the function symbols of a selection, each with the index of its section, in the order of the symbol
+/// table.
+///
+/// Rows are read on demand, and names stay in the file: nothing is allocated or copied.
+#[must_use = "iterators are lazy and do nothing unless consumed"]
+#[derive(Clone)]
+pub struct Functions<'a> {
+    rows: &'a [u8],
+    strings: &'a [u8],
+    versions: &'a [u8],
+    width: Width,
+    byte_order: ByteOrder,
+    taken: Taken,
+    has_modes: bool,
+    sizes: &'a [u64],
+    next: usize,
+}
+
+impl<'a> Functions<'a> {
+    /// The size of the selected section in bytes (`sh_size`); `None` for all sections.
+    pub fn section_size(&self) -> Option<u64> {
+        self.taken.size()
+    }
+
+    /// The function symbol that an address symbolizes to, among those that are left: of those whose range holds it the
+    /// one of greatest address, and of several the first. `None` where no range holds it.
+    ///
+    /// A range begins at the symbol's address (`st_value`) and has its size in bytes. Each row that is left is read
+    /// once; nothing is allocated or copied.
+    pub fn symbol_at(self, address: u64) -> Option<FunctionSymbol<'a>> {
+        let mut found = None;
+        for function in self {
+            found = found_with(found, function.function, address);
+        }
+        found
+    }
+
+    // The first function that is left, and the number of the row after it.
+    #[cfg_attr(not(debug_assertions), inline(always))]
+    fn first_left(&self) -> Option<(SectionFunction<'a>, usize)> {
+        match self.width {
+            Width::Bits32 => self.first_of(Width::Bits32),
+            Width::Bits64 => self.first_of(Width::Bits64),
+        }
+    }
+
+    // So by this class, whose size of a row the compiler knows.
+    #[cfg_attr(not(debug_assertions), inline(always))]
+    fn first_of(&self, width: Width) -> Option<(SectionFunction<'a>, usize)> {
+        let length = width.symbol_length();
+        for k in self.next..self.rows.len() / length {
+            let row = row_at(width, self.rows, k * length, self.byte_order).unwrap();
+            let version = version_at(self.versions, k, self.byte_order);
+            let size = size_at(self.sizes, k);
+            match function_of(self.strings, self.taken, self.has_modes, row, version, size) {
+                None => continue,
+                Some(function) => return Some((function, k + 1)),
+            }
+        }
+        None
+    }
+}
+
+impl<'a> Iterator for Functions<'a> {
+    type Item = SectionFunction<'a>;
+
+    #[cfg_attr(not(debug_assertions), inline(always))]
+    fn next(&mut self) -> Option<SectionFunction<'a>> {
+        let (function, next) = self.first_left()?;
+        self.next = next;
+        Some(function)
+    }
+}
+
+// The size of row k among these; 0 where they have none.
+#[cfg_attr(not(debug_assertions), inline(always))]
+fn size_at(sizes: &[u64], k: usize) -> u64 {
+    if k < sizes.len() { sizes[k] } else { 0 }
+}
+
+// The function of a row of this version, and of this size in memory, with its section, where it is taken.
+#[cfg_attr(not(debug_assertions), inline(always))]
+fn function_of(
+    strings: &[u8],
+    taken: Taken,
+    has_modes: bool,
+    row: SymbolRow,
+    version: Half,
+    size: u64,
+) -> Option<SectionFunction<'_>> {
+    let name = function_name(strings, taken, row)?;
+    Some(SectionFunction {
+        section: u32::from(row.section),
+        info: row.info,
+        version,
+        function: FunctionSymbol {
+            name,
+            address: address_taken(taken, has_modes, row),
+            size: size_in(taken, row, size),
+        },
+    })
+}
+
+// The address of a row's function, where it is taken.
+#[cfg_attr(not(debug_assertions), inline(always))]
+fn address_taken(taken: Taken, has_modes: bool, row: SymbolRow) -> u64 {
+    match taken {
+        Taken::Section { .. } => row.value,
+        Taken::All { .. } => address_of(has_modes, row),
+    }
+}
+
+// The size of a row's function, where it is taken; this one in memory.
+#[cfg_attr(not(debug_assertions), inline(always))]
+fn size_in(taken: Taken, row: SymbolRow, size: u64) -> u64 {
+    match taken {
+        Taken::Section { .. } => row.size,
+        Taken::All { .. } => size,
+    }
+}
+
+// The name of a row's function, where it is taken.
+#[cfg_attr(not(debug_assertions), inline(always))]
+fn function_name(strings: &[u8], taken: Taken, row: SymbolRow) -> Option<&str> {
+    if is_taken(taken, row) && row.name != 0 {
+        parse_null_string(strings, row.name as usize)
+    } else {
+        None
+    }
+}
+
+// Whether a row is of a function that is taken.
+#[cfg_attr(not(debug_assertions), inline(always))]
+fn is_taken(taken: Taken, row: SymbolRow) -> bool {
+    match taken {
+        Taken::Section {
+            index,
+            indirect,
+            ..
+        } => row.section == index && row.size != 0 && is_function_kind(indirect, row),
+        Taken::All { count } => { is_of_section(count, row.section) && is_function_kind(true, row) }
+    }
+}
+
+// Whether this is the index of one of so many sections.
+#[cfg_attr(not(debug_assertions), inline(always))]
+fn is_of_section(count: Half, index: Half) -> bool {
+    SHN_UNDEF < index && index < SHN_LORESERVE && index < count
+}

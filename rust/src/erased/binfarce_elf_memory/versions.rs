@@ -1,0 +1,137 @@
+// From crates/binfarce_elf_memory/src/versions.rt, by tools/erase.
+
+//! The versions of dynamic symbols, and their names (LSB Core Generic, "Symbol Versioning").
+
+use crate::erased::binfarce_bytes::ByteOrder;
+use crate::erased::binfarce_bytes::parser::{number_at, parse_null_string, slice_at};
+use crate::erased::binfarce_elf::class::{Class, Half, Word};
+use crate::erased::binfarce_elf::sections::{Section, Table, section_data};
+use crate::erased::binfarce_elf::symbol_table::SymbolTable;
+use crate::erased::binfarce_elf::symbols::section_of_kind;
+use crate::shim::alloc::{AllocError, Global};
+use crate::shim::collections::BTreeMap;
+
+// The types of the sections of versions, and of their definitions: `SHT_GNU_versym` and `SHT_GNU_verdef`.
+const VERSIONS: Word = 0x6fffffff;
+
+const DEFINITIONS: Word = 0x6ffffffd;
+
+// An index is in the low 15 bits of a version; the high bit says that the symbol is hidden.
+const INDICES: Half = 1 << 15;
+
+// The index of symbols that are global, without a version; that of local ones is below.
+const VER_NDX_GLOBAL: Half = 1;
+
+/// The names of the versions that a file defines. It is a copy of two references.
+#[derive(Clone, Copy)]
+pub struct VersionNames<'a> {
+    /// The offset of each defined version's name by its index, as `name_offsets` gives them; `None` for a file without
+    /// versions.
+    pub offsets: Option<&'a BTreeMap<Half, Word>>,
+    /// The strings of the symbol table.
+    pub strings: &'a [u8],
+}
+
+impl<'a> VersionNames<'a> {
+    /// The name of a version, a slice of the strings: `GLIBC_2.14`. `None` for a symbol without one (the indices 0 and
+    /// 1), for a version that isn't defined, and for a name that isn't in the strings or no valid UTF-8.
+    pub fn name(self, version: u16) -> Option<&'a str> {
+        let index = version % INDICES;
+        if index <= VER_NDX_GLOBAL {
+            return None;
+        }
+        let offset = *self.offsets?.get(&index)?;
+        parse_null_string(self.strings, offset as usize)
+    }
+}
+
+/// The offsets of the names of the versions that a section of definitions defines, by the versions' indices: no more
+/// than the section has definitions. Each is read once. The only error is a failed allocation.
+pub fn name_offsets(
+    alloc: Global,
+    section: &[u8],
+    byte_order: ByteOrder,
+) -> Result<BTreeMap<Half, Word>, AllocError> {
+    let mut offsets = BTreeMap::new(alloc);
+    let mut start = 0;
+    for _passed in 0..section.len() {
+        let Some(definition) = definition_at(section, start, byte_order) else {
+            return Ok(offsets);
+        };
+        define(&mut offsets, definition)?;
+        if definition.next == 0 {
+            return Ok(offsets);
+        }
+        start += definition.next as usize;
+    }
+    Ok(offsets)
+}
+
+// Sets the offset of a definition's name at its index, unless an earlier one is there. An index of 16 bits has none.
+fn define(offsets: &mut BTreeMap<Half, Word>, definition: Definition) -> Result<(), AllocError> {
+    if definition.index >= INDICES || offsets.get(&definition.index).is_some() {
+        return Ok(());
+    }
+    let _ = offsets.insert(definition.index, definition.name)?;
+    Ok(())
+}
+
+// What a definition says: its version's index, the offset of its name, and how far behind its beginning the next one
+// begins.
+#[derive(Clone, Copy)]
+struct Definition {
+    index: Half,
+    name: Word,
+    next: Word,
+}
+
+// The definition that begins at `start`, where it is whole.
+fn definition_at(bytes: &[u8], start: usize, byte_order: ByteOrder) -> Option<Definition> {
+    slice_at(bytes, start, 20).ok()?;
+    let behind: Word = number_at(bytes, start + 12, byte_order).unwrap();
+    let names = start + behind as usize;
+    slice_at(bytes, names, 8).ok()?;
+    Some(Definition {
+        index: number_at(bytes, start + 4, byte_order).unwrap(),
+        name: number_at(bytes, names, byte_order).unwrap(),
+        next: number_at(bytes, start + 16, byte_order).unwrap(),
+    })
+}
+
+// The version of a row, where these are those of all rows; 0 where it has none.
+#[cfg_attr(not(debug_assertions), inline(always))]
+pub(crate) fn version_at(versions: &[u8], row: usize, byte_order: ByteOrder) -> Half {
+    number_at(versions, row.saturating_mul(2), byte_order).unwrap_or(0)
+}
+
+// The versions of all rows of this symbol table, where the file has them.
+pub(crate) fn row_versions<'a, C: Class>(table: Table<'a>, which: SymbolTable) -> &'a [u8] {
+    match versions_section::<C>(table, which) {
+        None => &[],
+        Some(section) => section_data(table.data, section).ok().unwrap_or(&[]),
+    }
+}
+
+// The section of the versions of this symbol table's rows.
+pub(crate) fn versions_section<C: Class>(table: Table<'_>, which: SymbolTable) -> Option<Section<C>> {
+    match which {
+        SymbolTable::Symtab => None,
+        SymbolTable::Dynsym => whole_section_of_kind::<C>(table, VERSIONS),
+    }
+}
+
+// The section of the definitions of its versions.
+pub(crate) fn definitions_section<C: Class>(
+    table: Table<'_>,
+    which: SymbolTable,
+) -> Option<Section<C>> {
+    match which {
+        SymbolTable::Symtab => None,
+        SymbolTable::Dynsym => whole_section_of_kind::<C>(table, DEFINITIONS),
+    }
+}
+
+// The first section of this type whose header is whole.
+fn whole_section_of_kind<C: Class>(table: Table<'_>, kind: Word) -> Option<Section<C>> {
+    section_of_kind::<C>(table, kind).unwrap_or(None)
+}

@@ -34,7 +34,7 @@ wait "$beside" || { cat "$scratch/plain"; fail "what runs beside rt ci"; }
 beside=
 cat "$scratch/plain"
 # A wrong body that can't be read shows nothing, and `rt ci` passes it.
-! grep "BAD EDIT" "$scratch/gate" || fail "wrong bodies"
+! grep "BAD EDIT" "$scratch/gate" || fail "wrong bodies; rt ci: $last"
 case $last in *" passed, 0 failed") ;; *) fail "rt ci: $last" ;; esac
 
 proved="$scratch/proved" built="${CARGO_TARGET_DIR:-target}/release"

@@ -1,5 +1,6 @@
 #!/usr/bin/env python3
-"""Counts the functions and the lines of code of each crate, and ends with status 1 where one isn't below both bounds.
+"""Counts the functions and the lines of code of each crate, and ends with status 1 if one isn't below its bounds, or if an exception
+to them is no longer needed.
 
 Counted are the files that `mod` items reach from src/lib.rt or src/main.rt, tests among them. A function is an `fn` with a name
 and a body. A line of code is a line on which something is left once comments, contracts (`requires`, `ensures` and all `ghost`
@@ -11,7 +12,9 @@ import pathlib
 import re
 import sys
 
-FUNCTIONS, LINES = 130, 1800
+FUNCTIONS, LINES = 100, 1500
+# Crates that are still to be split, and their bounds on functions.
+EXCEPTIONS = {"binfarce_addresses": 130, "binfarce_sections": 130}
 CRATES = pathlib.Path(__file__).resolve().parent.parent / "crates"
 # What may hold a brace, a quote or a slash that is none: comments, texts and characters (a lifetime has no second ').
 TOKENS = re.compile(r"""//[^\n]*|b?"(?:\\.|[^"\\])*"|b?'(?:\\[^']+|[^'\\])'""", re.S)
@@ -72,16 +75,21 @@ def counted(file, folder):
 
 def main():
     names = sys.argv[1:] or sorted(folder.name for folder in CRATES.iterdir() if (folder / "src").is_dir())
-    passed = []
+    failed = []
     print("%-24s %9s %6s" % ("crate", "functions", "lines"))
     for name in names:
         source = CRATES / name / "src"
         root = next(source / file for file in ("lib.rt", "main.rt") if (source / file).is_file())
         functions, lines = counted(root, source)
-        over = functions >= FUNCTIONS or lines >= LINES
-        passed += [name] * over
-        print("%-24s %9d %6d%s" % (name, functions, lines, "  not below the bound" if over else ""))
-    sys.exit(1 if passed else 0)
+        if functions >= EXCEPTIONS.get(name, FUNCTIONS) or lines >= LINES:
+            fault = "not below the bound"
+        elif name in EXCEPTIONS and functions < FUNCTIONS:
+            fault = "no exception is needed"
+        else:
+            fault = ""
+        failed += [name] * bool(fault)
+        print(("%-24s %9d %6d  %s" % (name, functions, lines, fault)).rstrip())
+    sys.exit(1 if failed else 0)
 
 if __name__ == "__main__":
     main()

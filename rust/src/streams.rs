@@ -2,7 +2,8 @@
 
 use crate::any::known_format;
 use crate::erased::binfarce_bytes::source::Source;
-use crate::erased::binfarce_figures::{diff::diff, map::map_by, rows::list_by, stacks::fold_tables, sums::sum_by};
+use crate::erased::binfarce_figures::claims::Claims;
+use crate::erased::binfarce_figures::{diff::diff, map::map_by, rows::list_by, stacks::fold_claims, sums::sum_by};
 use crate::erased::binfarce_sections::error::SectionError;
 use crate::erased::binfarce_tables::loading::{self, LoadAddress};
 use crate::erased::binfarce_tables::{ReadError, part};
@@ -233,7 +234,7 @@ impl Tables<'_> {
     /// ```
     pub fn map_to<W: Write>(&self, title: &str, grouping: impl Into<Grouping>, output: W) -> io::Result<()> {
         let grouping = grouping.into().into_erased();
-        write_to(output, |sink| map_by(Global, title, &self.0, grouping, None, sink))
+        write_to(output, |sink| map_by(Global, title, &Claims::of_tables(Global, &self.0)?, grouping, None, sink))
     }
 
     /// Writes a listing in an order, of the first rows, or with other names, as lines or as JSON objects. With the feature `std`.
@@ -285,8 +286,8 @@ impl Tables<'_> {
     /// # Ok::<(), Box<dyn std::error::Error>>(())
     /// ```
     pub fn figures_to<W: Write>(&self, figures: &Figures, layout: Layout<'_>, output: W) -> io::Result<u64> {
-        let sums =
-            write_to(output, |sink| sum_by(Global, &self.0, &figures.into_erased(), layout.into_erased(), sink))?;
+        let (figures, form) = (figures.into_erased(), layout.into_erased());
+        let sums = write_to(output, |sink| sum_by(Global, &Claims::of_tables(Global, &self.0)?, &figures, form, sink))?;
         Ok(sums.total)
     }
 
@@ -325,8 +326,9 @@ impl Tables<'_> {
     {
         let (figures, form) = (figures.into_erased(), layout.into_erased());
         write_to(output, |sink| {
-            let grown = diff(Global, &old.0, &self.0, &figures, form, sink).map_err(|e| e.error);
-            grown.map(Growth::of)
+            let old = Claims::of_tables(Global, &old.0)?;
+            let new = Claims::of_tables(Global, &self.0)?;
+            diff(Global, &old, &new, &figures, form, sink).map(Growth::of)
         })
     }
 
@@ -351,7 +353,7 @@ impl Tables<'_> {
     /// # Ok::<(), Box<dyn std::error::Error>>(())
     /// ```
     pub fn stacks_to<W: Write>(&self, output: W) -> io::Result<()> {
-        write_to(output, |sink| fold_tables(Global, &self.0, false, sink))
+        write_to(output, |sink| fold_claims(Global, &Claims::of_tables(Global, &self.0)?, false, sink))
     }
 }
 

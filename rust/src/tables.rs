@@ -3,7 +3,8 @@
 use crate::any::{Functions, known_format};
 use crate::erased::binfarce::elf32;
 use crate::erased::binfarce_elf::symbol_table;
-use crate::erased::binfarce_figures::sums::{claims_in, numbers_of};
+use crate::erased::binfarce_figures::claims::Claims;
+use crate::erased::binfarce_figures::sums::numbers_of;
 use crate::erased::binfarce_tables::ReadError;
 use crate::erased::binfarce_tools::functions::{self as functions_of, Selected};
 use crate::erased::binfarce_tools::tables;
@@ -224,7 +225,7 @@ impl<'a> Tables<'a> {
     /// # Ok::<(), Box<dyn std::error::Error>>(())
     /// ```
     pub fn sums_by_key(&self, grouping: impl Into<Grouping>) -> Result<Sums<String>, Error> {
-        let claims = claims_in(Global, &self.0)?;
+        let claims = Claims::of_tables(Global, &self.0)?;
         let numbers = numbers_of(Global, &claims, grouping.into().into_erased())?;
         let mut rows = shim::Vec::new(Global);
         for (name, numbers) in numbers {

@@ -1,35 +1,33 @@
 -- The text of sums, from shares and from a file's answer.
-use Rattle.std.proofs.Common.{◌≡◌, ℕ, ◌<◌, ◌^◌, true, BTreeMap, List, [], ◌∷◌, ◌++◌, String, length, Option, None, Some, Result, Ok, filter, unwrap_or, refl, sym, ap, subst, ◌∙◌, arith}
+use Rattle.std.proofs.Common.{◌≡◌, ℕ, ◌<◌, ◌≤◌, ◌^◌, true, BTreeMap, List, [], ◌∷◌, ◌++◌, String, length, map, take, Option, None, Some, filter, unwrap_or, refl, sym, ap, subst, ◌∙◌, arith}
 use Rattle.std.specs.Global.{Global}
 use Rattle.std.specs.List.{AllZip}
 use denote.Ref.{Bor}
-use Rattle.std.proofs.lemmas.List.{length-map}
+use Rattle.std.proofs.lemmas.List.{take_all}
 use Rattle.std.proofs.lemmas.List.Sums.{sum_by-cons}
 use Rattle.std.proofs.lemmas.Slice.Zip.{AllZip-long}
-use Rattle.binfarce.specs.Refusal.{Refusal}
 use Rattle.binfarce.specs.SectionEntries.{SectionEntry, SelectedSymbols}
 use Rattle.binfarce.specs.SymbolViews.{section_function_view}
-use Rattle.binfarce.specs.declared.SymbolTable.{SymbolTable}
-use Rattle.binfarce_tools.specs.Answer.{selected_answer}
+use Rattle.binfarce_bytes.specs.declared.functions.SectionFunction.{SectionFunction}
 use Rattle.binfarce_tools.specs.Report.{Share, sum_of, total, unknown_crate}
 use Rattle.binfarce_figures.specs.declared.key.Grouping.{Grouping}
 use Rattle.binfarce_figures.specs.declared.figures.Columns.TheVariants.{Sums}
-use Rattle.binfarce_figures.specs.declared.sums.Claims.{Claims}
 use Rattle.binfarce_figures.specs.declared.sums.Counting.TheVariants.{Symbols}
 use Rattle.binfarce_figures.specs.declared.sums.Figures.{Figures}
 use Rattle.binfarce_figures.specs.declared.sums.Numbers.{Numbers}
-use Rattle.binfarce_figures.specs.Claims.{AreClaimsOf, IsSumOf, bytes_of, sum_of_sizes}
+use Rattle.binfarce_figures.specs.Claimed.{AreClaimsFor, Claimed}
+use Rattle.binfarce_figures.specs.Claims.{sum_of_sizes}
 use Rattle.binfarce_figures.specs.Figures.{AreRowsOf, AreSharesIn, AreSumsBy, IsShareOf, IsTextOfShares, copies_of, numbers_of, sum_row, whole_text}
 use Rattle.binfarce_figures.specs.Keys.{section_keys}
 use Rattle.binfarce_tools.specs.Json.{style_of}
 use Rattle.binfarce_tools.specs.Tables.{section_names}
 use Rattle.binfarce_tools.specs.declared.json.Form.{Form}
+use Rattle.binfarce_tools.specs.declared.tables.Tables.{Tables}
 use Rattle.binfarce_figures.specs.machine.Columns.{AreRowsFor}
 use Rattle.binfarce_figures.specs.machine.Counts.{AddsShares, AreNumbersFor, AreNumbersOf, numbers_at}
-use Rattle.binfarce_figures.specs.machine.Got.{AreClaimsIn}
-use Rattle.binfarce_figures.specs.machine.Shares.{AddUp, AreSharesWith, entries_of}
+use Rattle.binfarce_figures.specs.machine.Shares.{AreFew, AreSharesWith}
 use Rattle.binfarce_figures.proofs.Counted.{counts_are, of_symbols, ones}
-use Rattle.binfarce_figures.proofs.Once.{bytes_are}
+use Rattle.binfarce_figures.proofs.Got.{sum_in}
 
 all_kept : {X : Type 0} (xs : List X) → filter (λ x. true) xs ≡ xs
 all_kept [] = refl
@@ -46,6 +44,14 @@ of_shares alloc figures form size shares sum whole rows text summed whole_is (na
     let given = subst (λ (n : ℕ). P n (numbers_of (sum_of shares) (copies_of shares) names)) (whole_is ∙ ap (unwrap_or size) (sym summed)) (subst (P whole) (kept ∙ counts) are) in
     (names, rows, crates, given, is ∙ ap (λ (n : ℕ). rows ++ whole_text style size n) (sym summed))
 
+-- shares of the first function symbols, which are all, are those of claims
+pub of_all : (grouping : Grouping) (tables : Tables) (size : Option ℕ) (functions items : List SectionFunction) (i : ℕ) (claims : Claimed) (shares : List Share) → items ≡ functions → length items ≤ i
+    → Path Claimed (record { tables = tables; size = size; entries = map section_function_view functions }) claims
+    → AllZip (IsShareOf grouping (section_keys (section_names tables) size)) (map section_function_view (take i items)) shares → AreSharesWith grouping claims shares
+of_all grouping tables size functions items i claims shares same end view_is are =
+    let P : List SectionFunction → Type 0 = λ fs. AllZip (IsShareOf grouping (section_keys (section_names tables) size)) (map section_function_view fs) shares in
+    subst (λ (v : Claimed). AreSharesWith grouping v shares) view_is (subst P (take_all i items end ∙ same) are)
+
 -- the sum of shares is that of the claims
 total_is : (grouping : Grouping) (sections : ℕ → List ℕ) (claims : List SectionEntry) (shares : List Share) → AllZip (IsShareOf grouping sections) claims shares → total shares ≡ sum_of_sizes claims
 total_is grouping sections [] [] are = refl
@@ -54,44 +60,36 @@ total_is grouping sections (e ∷ claims) [] are = absurd are
 total_is grouping sections (e ∷ claims) (s ∷ shares) are =
     omega (arith, sum_by-cons (λ (s : Share). s.size) s shares, sum_by-cons (λ (e : SectionEntry). e.entry.size) e claims, are.0.size_is, total_is grouping sections claims shares are.1)
 
-pub total_of : (grouping : Grouping) (claims : Claims) (shares : List Share) → AddUp claims → AreSharesWith grouping claims shares → total shares ≡ claims.total
-total_of grouping claims shares add_up are = total_is grouping (section_keys (section_names claims.tables.now) claims.size) (entries_of claims) shares are ∙ sym add_up.total_is
+pub total_of : (grouping : Grouping) (claims : Claimed) (shares : List Share) → AreSharesWith grouping claims shares → total shares ≡ sum_of_sizes claims.entries
+total_of grouping claims shares are = total_is grouping (section_keys (section_names claims.tables) claims.size) claims.entries shares are
 
 -- the numbers of the keys of claims, of a map that had no entries
-pub of_claims : (grouping : Grouping) (claims : Claims) (shares : List Share) (old new : BTreeMap (String Global) Numbers) → AddUp claims → old.entries ≡ [] → AreSharesWith grouping claims shares → AddsShares Symbols shares old new → AreNumbersOf shares (ones shares) new
-of_claims grouping claims shares old new add_up empty are adds =
-    let sections = section_keys (section_names claims.tables.now) claims.size in
-    let fits : total shares < 2 ^ 64 = omega (arith, total_of grouping claims shares add_up are, add_up.fits) in
-    let few : length shares < 2 ^ 64 = omega (arith, AllZip-long (IsShareOf grouping sections) (entries_of claims) shares are, length-map claims.list.items section_function_view, add_up.few) in
-    of_symbols shares old new empty adds fits few
+pub of_claims : (grouping : Grouping) (claims : Claimed) (shares : List Share) (old new : BTreeMap (String Global) Numbers) → AreFew claims → old.entries ≡ [] → AreSharesWith grouping claims shares → AddsShares Symbols shares old new → AreNumbersOf shares (ones shares) new
+of_claims grouping claims shares old new few empty are adds =
+    let sections = section_keys (section_names claims.tables) claims.size in
+    let fits : total shares < 2 ^ 64 = omega (arith, total_of grouping claims shares are, few.fits) in
+    let count : length shares < 2 ^ 64 = omega (arith, AllZip-long (IsShareOf grouping sections) claims.entries shares are, few.few) in
+    of_symbols shares old new empty adds fits count
 
 keys_are : (size : Option ℕ) (names other : ℕ → Option (List ℕ)) → (size ≡ None → names ≡ other) → section_keys names size ≡ section_keys other size
 keys_are None names other same = ap (λ (ns : ℕ → Option (List ℕ)). section_keys ns None) (same refl)
 keys_are (Some n) names other same = refl
 
--- shares of claims that were got are those of the file's answer
-pub shares_in : (grouping : Grouping) (which : SymbolTable) (file : List ℕ) (section : Option (List ℕ)) (claims : Claims) (shares : List Share) (got : AreClaimsIn which file section claims) → AreSharesWith grouping claims shares
-    → AreSharesIn grouping got.1.0 shares
-shares_in grouping which file section claims shares (entries, (seen, answer, fits, same, size_is, named), claimed) are = (
-  entries_of claims,
-  subst (λ (es : List SectionEntry). AreClaimsOf es (entries_of claims)) same claimed,
-  subst (λ (sections : ℕ → List ℕ). AllZip (IsShareOf grouping sections) (entries_of claims) shares) (ap (section_keys (section_names claims.tables.now)) size_is ∙ keys_are seen.section_size (section_names claims.tables.now) seen.section_name named) are,
+-- shares of claims are those of the answer
+pub shares_in : (grouping : Grouping) (selected : SelectedSymbols) (claims : Claimed) (shares : List Share) → AreClaimsFor selected claims → AreSharesWith grouping claims shares → AreSharesIn grouping selected shares
+shares_in grouping selected claims shares for are = (
+  claims.entries,
+  for.added,
+  subst (λ (sections : ℕ → List ℕ). AllZip (IsShareOf grouping sections) claims.entries shares)
+      (ap (section_keys (section_names claims.tables)) for.size_is ∙ keys_are selected.section_size (section_names claims.tables) selected.section_name for.names_are) are,
 )
 
--- so is their sum
-pub sum_in : (which : SymbolTable) (file : List ℕ) (section : Option (List ℕ)) (claims : Claims) (got : AreClaimsIn which file section claims) → AddUp claims → IsSumOf got.1.0 claims.total
-sum_in which file section claims (entries, (seen, answer, fits, same, size_is, named), claimed) add_up = add_up.total_is ∙ bytes_are entries (entries_of claims) claimed ∙ ap bytes_of same
-
-same_answer : (a b : SelectedSymbols) → Path (Option (Result SelectedSymbols Refusal)) (Some (Ok a)) (Some (Ok b)) → a ≡ b
-same_answer a b e = cc
-
--- and that of `[unknown]`
-pub sums_in : (grouping : Grouping) (which : SymbolTable) (file : List ℕ) (section : Option (List ℕ)) (claims : Claims) (numbers : BTreeMap (String Global) Numbers) (unknown : ℕ) (got : AreClaimsIn which file section claims) → AddUp claims → AreNumbersFor grouping claims numbers
-    → unknown ≡ (numbers_at numbers unknown_crate).sum → (selected : SelectedSymbols) → selected_answer which section file ≡ Some (Ok selected) → AreSumsBy grouping selected (record { total = claims.total; unknown = unknown })
-sums_in grouping which file section claims numbers unknown got add_up (shares, with, are) is selected answer =
-    subst (λ (s : SelectedSymbols). AreSumsBy grouping s (record { total = claims.total; unknown = unknown })) (same_answer got.1.0 selected (sym got.1.1 ∙ answer)) (record {
-      total_is = sum_in which file section claims got add_up;
-      shares = shares;
-      are = shares_in grouping which file section claims shares got with;
-      unknown_is = is ∙ sym (are.sums_are unknown_crate);
-    })
+-- so are their sum, and that of `[unknown]`
+pub sums_in : (grouping : Grouping) (selected : SelectedSymbols) (claims : Claimed) (numbers : BTreeMap (String Global) Numbers) (sum unknown : ℕ) → AreClaimsFor selected claims → sum ≡ sum_of_sizes claims.entries → AreNumbersFor grouping claims numbers
+    → unknown ≡ (numbers_at numbers unknown_crate).sum → AreSumsBy grouping selected (record { total = sum; unknown = unknown })
+sums_in grouping selected claims numbers sum unknown for summed (shares, with, are) is = record {
+  total_is = summed ∙ sum_in selected claims for;
+  shares = shares;
+  are = shares_in grouping selected claims shares for with;
+  unknown_is = is ∙ sym (are.sums_are unknown_crate);
+}

@@ -1,5 +1,5 @@
 -- The text of how the sums of two files differ.
-use Rattle.std.specs.Prelude.{◌≡◌, ◌⊎◌, ℕ, zero, suc, ◌+◌, ◌-◌, ◌/◌, ◌%◌, Bool, true, false, not, List, [], ◌++◌, filter, Option, Some, None, Result, Ok, Err, codes, nat_eq, nat_lt, if◌then◌else◌}
+use Rattle.std.specs.Prelude.{◌≡◌, ℕ, zero, suc, ◌+◌, ◌-◌, ◌/◌, ◌%◌, Bool, true, false, not, List, [], ◌++◌, filter, Option, Some, None, Result, Ok, Err, codes, nat_eq, nat_lt, if◌then◌else◌}
 use Rattle.std.specs.Fmt.{decimal}
 use Rattle.binfarce.specs.Refusal.{Refusal}
 use Rattle.binfarce.specs.SectionEntries.{SelectedSymbols}
@@ -7,16 +7,11 @@ use Rattle.binfarce.specs.declared.SymbolTable.{SymbolTable}
 use Rattle.binfarce_tools.specs.Json.{Style, number_member}
 use Rattle.binfarce_tools.specs.Listing.{pad_left, size_text}
 use Rattle.binfarce_tools.specs.Report.{Share, AreCratesOf, sum_of, total}
-use Rattle.binfarce_tools.specs.ReportWords.{outcome_of}
-use Rattle.binfarce_tools.specs.Answer.{selected_answer, MemoryIn}
-use Rattle.binfarce_tools.specs.Tables.{AreTablesOf}
-use Rattle.binfarce_tools.specs.Writing.{Outcome, EndsAs, no_memory, too_large}
-use Rattle.binfarce_tools.specs.declared.report.ReportError.{ReportError}
-use Rattle.binfarce_tools.specs.declared.tables.Tables.{Tables}
-use Rattle.binfarce_figures.specs.declared.diff.DiffError.{DiffError}
+use Rattle.binfarce_tools.specs.Answer.{selected_answer}
 use Rattle.binfarce_figures.specs.declared.diff.Growth.{Growth}
 use Rattle.binfarce_figures.specs.declared.sums.Figures.{Figures}
-use Rattle.binfarce_figures.specs.Claims.{IsSumOf, SumFits}
+use Rattle.binfarce_figures.specs.Claimed.{Claimed, AreClaimsIn}
+use Rattle.binfarce_figures.specs.Claims.{IsSumOf}
 use Rattle.binfarce_figures.specs.Figures.{AreRowsOf, AreSharesIn, hundredths, numbers_of, percent_member, row_of}
 
 -- the distance of two numbers
@@ -91,8 +86,9 @@ pub record Asked : Type 0 where
   pub file : List ℕ
   pub section : Option (List ℕ)
 
-abbrev pub AreTablesFor : Asked → Tables → Type 0
-AreTablesFor asked tables = AreTablesOf asked.which asked.file asked.section tables
+-- claims are those of what is asked for
+abbrev pub AreClaimsAsked : Asked → Claimed → Type 0
+AreClaimsAsked asked claims = AreClaimsIn asked.which asked.file asked.section claims
 
 abbrev pub answer_for : Asked → Option (Result SelectedSymbols Refusal)
 answer_for asked = selected_answer asked.which asked.section asked.file
@@ -105,17 +101,6 @@ both (Some (Ok old)) None = None
 both (Some (Err refusal)) new = Some (Err refusal)
 both None new = None
 
--- a call ends as one that sums the old file, if that fails; and otherwise as one that sums the new file, or an allocation failed
-abbrev pub EndsAfter : (old : Option (Result SelectedSymbols Refusal)) → (Old New : Outcome → Type 0) → Outcome → Type 0
-EndsAfter (Some (Ok selected)) Old New outcome = (outcome ≡ no_memory) ⊎ (SumFits selected × New outcome) ⊎ ((¬ (SumFits selected)) × (outcome ≡ too_large))
-EndsAfter old Old New outcome = Old outcome
-
-abbrev pub EndsFor : Asked → Outcome → Type 0
-EndsFor asked outcome = EndsAs SumFits (MemoryIn asked.file asked.section) (answer_for asked) outcome
-
-abbrev pub EndsForBoth : (old new : Asked) → Outcome → Type 0
-EndsForBoth old new outcome = EndsAfter (answer_for old) (EndsFor old) (EndsFor new) outcome
-
 -- text is that of the changes between two files' answers
 abbrev pub AreChangesBy : Figures → Style → SelectedSymbols × SelectedSymbols → List ℕ → Type 0
 AreChangesBy shown style selected text =
@@ -126,20 +111,3 @@ AreChangesBy shown style selected text =
 pub record IsGrowthBy (selected : SelectedSymbols × SelectedSymbols) (growth : Growth) : Type 0 where
   pub old_is : IsSumOf selected.0 growth.old
   pub new_is : IsSumOf selected.1 growth.new
-
--- a result without its value, and without whose the error is
-abbrev pub ended : Result Growth DiffError → Result (Unit {0}) ReportError
-ended (Ok growth) = Ok tt
-ended (Err e) = Err e.error
-
--- an error that isn't the old file's
-abbrev pub other_error : ReportError → DiffError
-other_error e = record { error = e; is_of_old = false }
-
--- the error is the old file's where that file can't be summed; and where it isn't, that file can be
-abbrev pub IsOf : Asked → (is_of_old : Bool) → ReportError → Type 0
-IsOf before true e = EndsFor before (outcome_of (Err e))
-IsOf before false e = (selected : SelectedSymbols) × (answer_for before ≡ Some (Ok selected)) × SumFits selected
-
-abbrev pub IsWhose : (before : Asked) → DiffError → Type 0
-IsWhose before e = IsOf before e.is_of_old e.error

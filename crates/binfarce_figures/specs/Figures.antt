@@ -156,6 +156,6 @@ pub record AreSumsBy (grouping : Grouping) (selected : SelectedSymbols) (sums : 
   pub unknown_is : sums.unknown ≡ sum_of shares unknown_crate
 
 -- a result without its value
-abbrev pub ended : Result Sums ReportError → Result (Unit {0}) ReportError
-ended (Ok n) = Ok tt
+abbrev pub ended : {A : Type 0} → Result A ReportError → Result (Unit {0}) ReportError
+ended (Ok value) = Ok tt
 ended (Err e) = Err e

@@ -2,6 +2,7 @@ pub mod Rows
 pub mod Order
 pub mod RowListing
 pub mod Claims
+pub mod Claimed
 pub mod Generic
 pub mod Keys
 pub mod Stacks

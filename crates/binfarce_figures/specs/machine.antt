@@ -1,5 +1,4 @@
 -- Definitions that only private contracts cite.
-pub mod Got
 pub mod Shares
 pub mod Counts
 pub mod Compared

@@ -1,27 +1,24 @@
 //! How the sums of two files differ.
 
-ghost use Rattle.std.specs.Prelude.{◌≡◌, ◌≢◌, true, Some, Ok, Err, IfOk, IfErr, MatchResult};
+ghost use Rattle.std.specs.Prelude.{◌≡◌, ◌⊎◌, Some, Ok, IfErr, IfOk};
 ghost use Rattle.std.specs.String.{string_bytes};
 ghost use Rattle.binfarce.specs.SectionEntries.{SelectedSymbols};
 ghost use Rattle.binfarce_tools.specs.Json.{style_of};
 ghost use Rattle.binfarce_tools.specs.ReportWords.{outcome_of};
 ghost use Rattle.binfarce_tools.specs.Writing.{Takes, Fails, Leaves};
-ghost use Rattle.binfarce_tools.specs.declared.report.ReportError.TheVariants.{Write};
-ghost use Rattle.binfarce_figures.specs.Changes.{AreChangesBy, AreTablesFor, Asked, EndsFor, EndsForBoth, IsGrowthBy, IsWhose, answer_for, both, ended};
+ghost use Rattle.binfarce_tools.specs.declared.report.ReportError.TheVariants.{OutOfMemory, Write};
+ghost use Rattle.binfarce_figures.specs.Changes.{AreChangesBy, AreClaimsAsked, Asked, IsGrowthBy, answer_for, both};
+ghost use Rattle.binfarce_figures.specs.Figures.{ended};
 ghost use Rattle.binfarce_figures.specs.machine.Compared.{IsTextWith};
-ghost use Rattle.binfarce_figures.specs.machine.Got.{AreClaimsIn};
-ghost use Rattle.binfarce_figures.specs.machine.Shares.{AddUp};
 
+use crate::claims::Claims;
 use crate::figures::{Columns, Figure, Layout};
-use crate::sums::{Claims, Counting, Figures, add_claims, claims_in};
+use crate::sums::{Counting, Figures, add_claims};
 use binfarce_tools::json::Form;
 use binfarce_tools::list::Sink;
 use binfarce_tools::report::{ReportError, write_made};
-use binfarce_tools::tables::Tables;
 use std::alloc::{AllocError, Global};
 use std::collections::BTreeMap;
-use std::error::Error;
-use std::fmt;
 
 /// The sums of all sizes of two files, each byte counted once.
 #[derive(Debug, Clone, Copy, PartialEq)]
@@ -30,53 +27,6 @@ pub struct Growth {
     pub old: u64,
     /// The new file's sum.
     pub new: u64,
-}
-
-/// Why two files were not compared.
-#[derive(Debug, PartialEq, Drop)]
-pub struct DiffError {
-    /// The reason, as `sum_by` gives it.
-    pub error: ReportError,
-    /// Whether the old file can't be summed for this reason.
-    pub is_of_old: bool,
-}
-
-impl fmt::Display for DiffError {
-    ghost use Rattle.std.specs.Prelude.{Some};
-    ghost use Rattle.binfarce_tools.specs.ReportWords.{report_words};
-
-    ghost output = { λ e. Some (report_words e.error) };
-
-    fn fmt<W: fmt::Write>(&self, f: &mut fmt::Formatter<W>) -> fmt::Result {
-        write!(f, "{}", self.error)
-    }
-}
-
-impl Error for DiffError {}
-
-impl From<ReportError> for DiffError {
-    ghost use Rattle.binfarce_figures.specs.Changes.{other_error};
-
-    ghost from_gives = { λ e d. d ≡ other_error e };
-
-    /// An error that isn't the old file's.
-    fn from(error: ReportError) -> Self {
-        DiffError {
-            error,
-            is_of_old: false,
-        }
-    }
-}
-
-impl From<AllocError> for DiffError {
-    ghost use Rattle.binfarce_tools.specs.declared.report.ReportError.TheVariants.{OutOfMemory};
-    ghost use Rattle.binfarce_figures.specs.Changes.{other_error};
-
-    ghost from_gives = { λ _ d. d ≡ other_error OutOfMemory };
-
-    fn from(_: AllocError) -> Self {
-        DiffError::from(ReportError::OutOfMemory)
-    }
 }
 
 /// Writes a line for each key whose sums in two files differ, the greatest difference first, those of one difference in
@@ -91,51 +41,32 @@ impl From<AllocError> for DiffError {
 ///
 /// # Errors
 ///
-/// Those of `sum_by`, first for the old file, with whether it is that file's.
+/// As `sum_by`.
 pub fn diff<S: Sink>(
     alloc: Global,
-    old: &Tables<'_>,
-    new: &Tables<'_>,
+    old: &Claims<'_, '_>,
+    new: &Claims<'_, '_>,
     figures: &Figures,
     form: Form<'_>,
     out: &mut S,
-) -> Result<Growth, DiffError>
-    ensures outcome { (before after : Asked) → AreTablesFor before old.now → AreTablesFor after new.now
-        → EndsForBoth before after (outcome_of (ended result)) }
-    ensures takes { (before after : Asked) → AreTablesFor before old.now → AreTablesFor after new.now
+) -> Result<Growth, ReportError>
+    ensures outcome { IfErr result (λ e. (e ≡ OutOfMemory) ⊎ (e ≡ Write)) }
+    ensures takes { (before after : Asked) → AreClaimsAsked before old.now → AreClaimsAsked after new.now
         → Takes (AreChangesBy figures.now (style_of form.entry))
         (both (answer_for before) (answer_for after))
         (S.taken out.old) (S.taken out.new) (outcome_of (ended result)) }
     ensures growth { (before after : Asked) (selected : SelectedSymbols × SelectedSymbols)
-        → AreTablesFor before old.now → AreTablesFor after new.now
+        → AreClaimsAsked before old.now → AreClaimsAsked after new.now
         → both (answer_for before) (answer_for after) ≡ Some (Ok selected)
         → IfOk result (IsGrowthBy selected) }
-    ensures whose { (before : Asked) → AreTablesFor before old.now → IfErr result (IsWhose before) }
     ensures fails { Fails (S.has_failed out.old) (S.has_failed out.new) (outcome_of (ended result)) }
     ensures leaves { Leaves out.old out.new (outcome_of (ended result)) }
 {
-    let old = old_claims(alloc, old)?;
-    let new = claims_in(alloc, new)?;
-    write_made(out, text_of(alloc, figures, form, &old, &new))?;
+    write_made(out, text_of(alloc, figures, form, old, new))?;
     Ok(Growth {
         old: old.total,
         new: new.total,
     })
-}
-
-// What the old file's function symbols add.
-fn old_claims<'b, 'a>(alloc: Global, old: &'b Tables<'a>) -> Result<Claims<'b, 'a>, DiffError>
-    ensures got { (before : Asked) → AreTablesFor before old.entry.now → MatchResult result
-        (AreClaimsIn before.which before.file before.section) (λ e. EndsFor before (outcome_of (Err e.error))) }
-    ensures total { MatchResult result AddUp (λ e. (e.is_of_old ≡ true) × (e.error ≢ Write)) }
-{
-    match claims_in(alloc, old) {
-        Ok(claims) => Ok(claims),
-        Err(error) => Err(DiffError {
-            error,
-            is_of_old: true,
-        }),
-    }
 }
 
 // The whole text.
@@ -146,7 +77,6 @@ fn text_of(
     old: &Claims<'_, '_>,
     new: &Claims<'_, '_>,
 ) -> Result<String, AllocError>
-    requires { AddUp old.now × AddUp new.now }
     ensures { IfOk result (λ t. IsTextWith figures.now (style_of form.entry) old.now new.now (string_bytes t)) }
 {
     let mut numbers = BTreeMap::new(alloc);

@@ -1,7 +1,7 @@
 //! Function symbols of executables in an order, sums of their sizes by a key, and how the sums of two files differ.
 #![tactic(auto)]
 
-mod claims;
+pub mod claims;
 pub mod diff;
 mod figures;
 mod generic;

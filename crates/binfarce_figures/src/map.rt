@@ -1,27 +1,27 @@
 //! Sums by a key as a picture.
 
-ghost use Rattle.std.specs.Prelude.{◌≡◌, ℕ, List, Option, map, unwrap_or, IfOk};
+ghost use Rattle.std.specs.Prelude.{◌≡◌, ◌⊎◌, ℕ, List, Option, map, unwrap_or, IfErr, IfOk};
 ghost use Rattle.std.specs.String.{string_bytes};
 ghost use Rattle.binfarce.specs.declared.SymbolTable.{SymbolTable};
 ghost use Rattle.binfarce_chart.specs.Views.{bar_view};
-ghost use Rattle.binfarce_tools.specs.Answer.{selected_answer, MemoryIn};
+ghost use Rattle.binfarce_tools.specs.Answer.{selected_answer};
 ghost use Rattle.binfarce_tools.specs.Map.{IsMapOfShares, crate_rows};
 ghost use Rattle.binfarce_tools.specs.Report.{Share, AreCratesOf, total};
 ghost use Rattle.binfarce_tools.specs.ReportWords.{outcome_of};
-ghost use Rattle.binfarce_tools.specs.Tables.{AreTablesOf};
-ghost use Rattle.binfarce_tools.specs.Writing.{EndsAs, Takes, Fails, Leaves};
-ghost use Rattle.binfarce_figures.specs.Claims.{SumFits};
+ghost use Rattle.binfarce_tools.specs.Writing.{Takes, Fails, Leaves};
+ghost use Rattle.binfarce_tools.specs.declared.report.ReportError.TheVariants.{OutOfMemory, Write};
+ghost use Rattle.binfarce_figures.specs.Claimed.{AreClaimsIn};
 ghost use Rattle.binfarce_figures.specs.Figures.{IsPictureBy};
 ghost use Rattle.binfarce_figures.specs.machine.Counts.{AreNumbersOf};
-ghost use Rattle.binfarce_figures.specs.machine.Shares.{AddUp, AreSharesWith};
+ghost use Rattle.binfarce_figures.specs.machine.Shares.{AreSharesWith};
 
+use crate::claims::Claims;
 use crate::key::Grouping;
-use crate::sums::{Claims, Numbers, claims_in, numbers_of};
+use crate::sums::{Numbers, numbers_of};
 use binfarce_chart::bars::Bar;
 use binfarce_chart::svg::chart;
 use binfarce_tools::list::Sink;
 use binfarce_tools::report::{ReportError, write_made};
-use binfarce_tools::tables::Tables;
 use std::alloc::{AllocError, Global};
 use std::collections::BTreeMap;
 
@@ -31,26 +31,23 @@ use std::collections::BTreeMap;
 ///
 /// # Errors
 ///
-/// Those of `sum_by`.
+/// As `sum_by`.
 pub fn map_by<S: Sink>(
     alloc: Global,
     title: &str,
-    tables: &Tables<'_>,
+    claims: &Claims<'_, '_>,
     grouping: Grouping,
     first: Option<usize>,
     out: &mut S,
 ) -> Result<(), ReportError>
-    ensures outcome { (which : SymbolTable) (file : List ℕ) (section : Option (List ℕ))
-        → AreTablesOf which file section tables.now
-        → EndsAs SumFits (MemoryIn file section) (selected_answer which section file) (outcome_of result) }
+    ensures outcome { IfErr result (λ e. (e ≡ OutOfMemory) ⊎ (e ≡ Write)) }
     ensures takes { (which : SymbolTable) (file : List ℕ) (section : Option (List ℕ))
-        → AreTablesOf which file section tables.now → Takes (IsPictureBy title.now grouping first)
+        → AreClaimsIn which file section claims.now → Takes (IsPictureBy title.now grouping first)
         (selected_answer which section file) (S.taken out.old) (S.taken out.new) (outcome_of result) }
     ensures fails { Fails (S.has_failed out.old) (S.has_failed out.new) (outcome_of result) }
     ensures leaves { Leaves out.old out.new (outcome_of result) }
 {
-    let claims = claims_in(alloc, tables)?;
-    write_made(out, picture_of(alloc, title, grouping, first, &claims))
+    write_made(out, picture_of(alloc, title, grouping, first, claims))
 }
 
 // The whole picture.
@@ -61,7 +58,6 @@ fn picture_of(
     first: Option<usize>,
     claims: &Claims<'_, '_>,
 ) -> Result<String, AllocError>
-    requires { AddUp claims.now }
     ensures { IfOk result (λ t. (shares : List Share) × AreSharesWith grouping claims.now shares
         × IsMapOfShares title.now shares claims.now.size first (string_bytes t)) }
 {

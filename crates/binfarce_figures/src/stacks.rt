@@ -1,58 +1,55 @@
 //! Function symbols as stacks.
 
-ghost use Rattle.std.specs.Prelude.{◌≡◌, ◌++◌, ℕ, List, Option, codes, IfOk, OnOk};
+ghost use Rattle.std.specs.Prelude.{◌≡◌, ◌⊎◌, ◌++◌, ℕ, List, Option, codes, IfErr, IfOk, OnOk};
 ghost use Rattle.std.specs.List.{flat_map};
 ghost use Rattle.std.specs.String.{string_bytes};
 ghost use Rattle.binfarce.specs.declared.SymbolTable.{SymbolTable};
 ghost use Rattle.binfarce_tools.specs.Report.{Share};
 ghost use Rattle.binfarce_tools.specs.ReportWords.{outcome_of};
-ghost use Rattle.binfarce_tools.specs.Answer.{selected_answer, MemoryIn};
-ghost use Rattle.binfarce_tools.specs.Tables.{AreTablesOf};
-ghost use Rattle.binfarce_tools.specs.Writing.{EndsAs, Takes, Fails, Leaves};
-ghost use Rattle.binfarce_figures.specs.Claims.{SumFits};
+ghost use Rattle.binfarce_tools.specs.Answer.{selected_answer};
+ghost use Rattle.binfarce_tools.specs.Writing.{Takes, Fails, Leaves};
+ghost use Rattle.binfarce_tools.specs.declared.report.ReportError.TheVariants.{OutOfMemory, Write};
+ghost use Rattle.binfarce_figures.specs.Claimed.{AreClaimsIn};
 ghost use Rattle.binfarce_figures.specs.Figures.{AreStacksIn, claim_line};
 ghost use Rattle.binfarce_figures.specs.Keys.{IsCrateOf, IsTrimmedOf};
 ghost use Rattle.binfarce_figures.specs.Stacks.{stack, stack_of};
 ghost use Rattle.binfarce_figures.specs.declared.key.Key.TheVariants.{Stack};
 ghost use Rattle.binfarce_figures.specs.machine.Shares.{AreSharesWith};
 
+use crate::claims::Claims;
 use crate::generic::{Shape, push_rewritten};
 use crate::key::{Grouping, Key, put_crate, put_key};
-use crate::sums::{Claims, claims_in};
 use binfarce_names::demangle::Demangler;
 use binfarce_tools::list::Sink;
 use binfarce_tools::report::{ReportError, write_made};
-use binfarce_tools::tables::Tables;
 use std::alloc::{AllocError, Global};
 
-/// Writes a line for each function symbol that adds bytes to the sum of `sum_by`, as tools for flame graphs read it: a
-/// stack, a blank, and the number of these bytes.
+/// Writes a line for each function symbol that adds bytes, as tools for flame graphs read it: a stack, a blank, and the
+/// number of these bytes.
 ///
 /// A stack is the crate that `sum_by` counts the function symbol for, and the parts of the trimmed name, which `::`
 /// outside of brackets separates, with `;` between them. The first part is left out where it is the crate: of a crate
 /// `foo` the function `foo::bar` is `foo;bar`, and `foo` is `foo`, as `foo;foo` is `foo::foo`. A `;` in a name is shown
-/// as `:`. With `joins_std` the stack of all functions of Rust's standard library is `[std]`. Inner function symbols come before outer ones. The lines are made before the first byte is written.
+/// as `:`. With `joins_std` the stack of all functions of Rust's standard library is `[std]`. Inner function symbols come
+/// before outer ones. The lines are made before the first byte is written.
 ///
 /// # Errors
 ///
-/// Those of `sum_by`.
-pub fn fold_tables<S: Sink>(
+/// As `sum_by`.
+pub fn fold_claims<S: Sink>(
     alloc: Global,
-    tables: &Tables<'_>,
+    claims: &Claims<'_, '_>,
     joins_std: bool,
     out: &mut S,
 ) -> Result<(), ReportError>
-    ensures outcome { (which : SymbolTable) (file : List ℕ) (section : Option (List ℕ))
-        → AreTablesOf which file section tables.now
-        → EndsAs SumFits (MemoryIn file section) (selected_answer which section file) (outcome_of result) }
+    ensures outcome { IfErr result (λ e. (e ≡ OutOfMemory) ⊎ (e ≡ Write)) }
     ensures takes { (which : SymbolTable) (file : List ℕ) (section : Option (List ℕ))
-        → AreTablesOf which file section tables.now → Takes (AreStacksIn joins_std)
+        → AreClaimsIn which file section claims.now → Takes (AreStacksIn joins_std)
         (selected_answer which section file) (S.taken out.old) (S.taken out.new) (outcome_of result) }
     ensures fails { Fails (S.has_failed out.old) (S.has_failed out.new) (outcome_of result) }
     ensures leaves { Leaves out.old out.new (outcome_of result) }
 {
-    let claims = claims_in(alloc, tables)?;
-    write_made(out, stacks_of(alloc, &claims, joins_std))
+    write_made(out, stacks_of(alloc, claims, joins_std))
 }
 
 // The lines of function symbols with their stacks.

@@ -1,33 +1,27 @@
 //! Sums of sizes by a key, the greatest first.
 
-ghost use Rattle.std.specs.Prelude.{◌≡◌, ◌≢◌, ◌+◌, ◌^◌, ◌<◌, ◌++◌, ℕ, List, Option, Some, Ok, map, IfOk, OnOk, MatchResult};
+ghost use Rattle.std.specs.Prelude.{◌≡◌, ◌⊎◌, ◌+◌, ◌^◌, ◌<◌, ◌++◌, ℕ, List, Option, Some, Ok, IfErr, IfOk, OnOk};
 ghost use Rattle.std.specs.String.{string_bytes};
 ghost use Rattle.binfarce.specs.SectionEntries.{SelectedSymbols};
-ghost use Rattle.binfarce.specs.SymbolViews.{section_function_view};
 ghost use Rattle.binfarce.specs.declared.SymbolTable.{SymbolTable};
 ghost use Rattle.binfarce_tools.specs.Json.{style_of};
 ghost use Rattle.binfarce_tools.specs.Report.{Share};
 ghost use Rattle.binfarce_tools.specs.ReportWords.{outcome_of};
-ghost use Rattle.binfarce_tools.specs.Answer.{selected_answer, MemoryIn};
-ghost use Rattle.binfarce_tools.specs.Tables.{AreTablesOf};
-ghost use Rattle.binfarce_tools.specs.Writing.{EndsAs, Takes, Fails, Leaves};
-ghost use Rattle.binfarce_tools.specs.declared.report.ReportError.TheVariants.{Write};
-ghost use Rattle.binfarce_figures.specs.Claims.{SumFits, sum_of_sizes};
+ghost use Rattle.binfarce_tools.specs.Answer.{selected_answer};
+ghost use Rattle.binfarce_tools.specs.Writing.{Takes, Fails, Leaves};
+ghost use Rattle.binfarce_tools.specs.declared.report.ReportError.TheVariants.{OutOfMemory, Write};
+ghost use Rattle.binfarce_figures.specs.Claimed.{AreClaimsIn};
 ghost use Rattle.binfarce_figures.specs.Figures.{AreFiguresBy, AreSumsBy, IsTextOfShares, ended, section_member, whole_text};
 ghost use Rattle.binfarce_figures.specs.machine.Counts.{AddsNumbers, AddsShares, AreNumbersFor, counts, numbers_at};
-ghost use Rattle.binfarce_figures.specs.machine.Got.{AreClaimsIn, IsFaultOf};
-ghost use Rattle.binfarce_figures.specs.machine.Shares.{AddUp, AreSharesWith};
+ghost use Rattle.binfarce_figures.specs.machine.Shares.{AreFew, AreSharesWith};
 
-use crate::claims::claims_of;
+use crate::claims::Claims;
 use crate::figures::{Columns, Layout};
 use crate::key::{Grouping, put_key};
-use crate::rows::list_of;
-use binfarce::SectionFunction;
 use binfarce_names::demangle::Demangler;
 use binfarce_tools::json::{Form, push_number_member, push_start};
 use binfarce_tools::list::Sink;
 use binfarce_tools::report::{ReportError, write_made};
-use binfarce_tools::tables::Tables;
 use std::alloc::{AllocError, Global};
 use std::collections::BTreeMap;
 
@@ -51,19 +45,6 @@ pub struct Sums {
     pub unknown: u64,
 }
 
-/// What the function symbols of a selection add to the sums of their keys.
-#[derive(Drop)]
-pub(crate) struct Claims<'b, 'a> {
-    /// The tables that they were read from.
-    pub tables: &'b Tables<'a>,
-    /// The section's size, if one is selected.
-    pub size: Option<u64>,
-    /// The function symbols, with the bytes that each adds as its size.
-    pub list: Vec<SectionFunction<'b>>,
-    /// The sum of these bytes.
-    pub total: u64,
-}
-
 /// Two numbers of a key.
 #[derive(Debug, Clone, Copy)]
 pub(crate) struct Numbers {
@@ -84,10 +65,9 @@ pub(crate) enum Counting {
     New,
 }
 
-/// Writes a line for each key: the sum of the sizes of its function symbols, the greatest first, those of one size in
-/// the order of the keys' bytes; and the lines for the whole, as `report_tables` does. A byte that several symbols of a
-/// section have counts for the innermost of them: the one that begins last, of these the shortest, and of these the one
-/// whose stored name is least. The sum of all is returned, and that of `[unknown]`.
+/// Writes a line for each key: the sum of what its function symbols add, the greatest first, those of one size in the
+/// order of the keys' bytes; and the lines for the whole, as `report_tables` does. Each byte is counted once, for the
+/// innermost symbol that has it (`Claims`). The sum of all is returned, and that of `[unknown]`.
 ///
 /// A line is `{sum:>10} {key}`. Before the key it has the share of the section, or of all sections in the sum of all
 /// sizes, as `{percent:>3}.{hundredths:02}% `, if that is wanted; and for `Key::Generic` the number of function symbols
@@ -97,73 +77,33 @@ pub(crate) enum Counting {
 ///
 /// # Errors
 ///
-/// Those of `list_tables`; `TooLarge` where the sum of all, each byte counted once, is 2^64 or more. Only after `Write` a
-/// beginning of the text may be written.
+/// `OutOfMemory` where an allocation failed: nothing is written. `Write` where a write of the sink failed: a beginning of
+/// the text may be written.
 pub fn sum_by<S: Sink>(
     alloc: Global,
-    tables: &Tables<'_>,
+    claims: &Claims<'_, '_>,
     figures: &Figures,
     form: Form<'_>,
     out: &mut S,
 ) -> Result<Sums, ReportError>
-    ensures outcome { (which : SymbolTable) (file : List ℕ) (section : Option (List ℕ))
-        → AreTablesOf which file section tables.now
-        → EndsAs SumFits (MemoryIn file section) (selected_answer which section file) (outcome_of (ended result)) }
+    ensures outcome { IfErr result (λ e. (e ≡ OutOfMemory) ⊎ (e ≡ Write)) }
     ensures takes { (which : SymbolTable) (file : List ℕ) (section : Option (List ℕ))
-        → AreTablesOf which file section tables.now
+        → AreClaimsIn which file section claims.now
         → Takes (AreFiguresBy figures.now (style_of form.entry))
         (selected_answer which section file) (S.taken out.old) (S.taken out.new) (outcome_of (ended result)) }
     ensures sums { (which : SymbolTable) (file : List ℕ) (section : Option (List ℕ)) (selected : SelectedSymbols)
-        → AreTablesOf which file section tables.now
+        → AreClaimsIn which file section claims.now
         → selected_answer which section file ≡ Some (Ok selected)
         → IfOk result (AreSumsBy figures.now.grouping selected) }
     ensures fails { Fails (S.has_failed out.old) (S.has_failed out.new) (outcome_of (ended result)) }
     ensures leaves { Leaves out.old out.new (outcome_of (ended result)) }
 {
-    let claims = claims_in(alloc, tables)?;
-    let numbers = numbers_of(alloc, &claims, figures.grouping)?;
-    write_made(out, text_of(alloc, figures, form, &claims, &numbers))?;
+    let numbers = numbers_of(alloc, claims, figures.grouping)?;
+    write_made(out, text_of(alloc, figures, form, claims, &numbers))?;
     Ok(Sums {
         total: claims.total,
         unknown: sum_at(&numbers, "[unknown]"),
     })
-}
-
-/// What the function symbols that the tables were read for add.
-///
-/// # Errors
-///
-/// Those of `sum_by`, but for `Write`.
-pub(crate) fn claims_in<'b, 'a>(
-    alloc: Global,
-    tables: &'b Tables<'a>,
-) -> Result<Claims<'b, 'a>, ReportError>
-    ensures got { (which : SymbolTable) (file : List ℕ) (section : Option (List ℕ))
-        → AreTablesOf which file section tables.entry.now
-        → MatchResult result (AreClaimsIn which file section) (IsFaultOf which file section) }
-    ensures total { MatchResult result AddUp (λ e. e ≢ Write) }
-{
-    let selected = tables.functions(alloc)?;
-    let (functions, size) = list_of(alloc, selected)?;
-    let list = claims_of(alloc, functions)?;
-    let total = total_of(&list);
-    if total > u128::from(u64::MAX) {
-        return Err(ReportError::TooLarge);
-    }
-    Ok(Claims {
-        tables,
-        size,
-        list,
-        total: total as u64,
-    })
-}
-
-// The sum of all sizes.
-fn total_of(functions: &[SectionFunction<'_>]) -> u128
-    ensures { result ≡ sum_of_sizes (map section_function_view functions.now) }
-{
-    let sizes = functions.iter().map(|it| u128::from(it.function.size));
-    sizes.sum()
 }
 
 // The whole text.
@@ -174,8 +114,7 @@ fn text_of(
     claims: &Claims<'_, '_>,
     numbers: &BTreeMap<String, Numbers>,
 ) -> Result<String, AllocError>
-    requires add_up { AddUp claims.now }
-    requires numbers { AreNumbersFor figures.now.grouping claims.now numbers.now }
+    requires { AreNumbersFor figures.now.grouping claims.now numbers.now }
     ensures { IfOk result (λ t. (shares : List Share) × AreSharesWith figures.now.grouping claims.now shares
         × IsTextOfShares figures.now (style_of form.entry) claims.now.size shares (string_bytes t)) }
 {
@@ -197,7 +136,6 @@ pub(crate) fn numbers_of(
     claims: &Claims<'_, '_>,
     grouping: Grouping,
 ) -> Result<BTreeMap<String, Numbers>, AllocError>
-    requires { AddUp claims.now }
     ensures { IfOk result (AreNumbersFor grouping claims.now) }
 {
     let mut numbers = BTreeMap::new(alloc);
@@ -223,8 +161,9 @@ pub(crate) fn add_claims(
     counting: Counting,
     numbers: &mut BTreeMap<String, Numbers>,
 ) -> Result<(), AllocError>
-    ensures { OnOk result ((shares : List Share) × AreSharesWith grouping claims.now shares
+    ensures adds { OnOk result ((shares : List Share) × AreSharesWith grouping claims.now shares
         × AddsShares counting shares numbers.old numbers.new) }
+    ensures few { OnOk result (AreFew claims.now) }
 {
     let mut demangler = Demangler::new(alloc);
     let mut key = String::new(alloc);

@@ -2,7 +2,7 @@
 
 //! Function symbols of executables in an order, sums of their sizes by a key, and how the sums of two files differ.
 
-pub(crate) mod claims;
+pub mod claims;
 pub mod diff;
 pub(crate) mod figures;
 pub(crate) mod generic;

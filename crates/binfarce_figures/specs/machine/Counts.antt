@@ -8,10 +8,10 @@ use Rattle.std.specs.Str.{bytes_eq}
 use Rattle.binfarce_tools.specs.Report.{Share, sum_of, total}
 use Rattle.binfarce_tools.specs.Sums.{occurs}
 use Rattle.binfarce_figures.specs.declared.key.Grouping.{Grouping}
-use Rattle.binfarce_figures.specs.declared.sums.Claims.{Claims}
 use Rattle.binfarce_figures.specs.declared.sums.Counting.{Counting}
 use Rattle.binfarce_figures.specs.declared.sums.Counting.TheVariants.{Symbols, Old, New}
 use Rattle.binfarce_figures.specs.declared.sums.Numbers.{Numbers}
+use Rattle.binfarce_figures.specs.Claimed.{Claimed}
 use Rattle.binfarce_figures.specs.machine.Shares.{AreSharesWith}
 
 -- what a function symbol that adds so many bytes adds to the two numbers of its key
@@ -52,5 +52,5 @@ AddsShares counting shares old new =
     → AreNumbersOf first second old → AreNumbersOf (first ++ firsts counting shares) (second ++ seconds counting shares) new
 
 -- numbers are the sums, and the counts, of what claims add by their keys
-abbrev pub AreNumbersFor : Grouping → Claims → BTreeMap (String Global) Numbers → Type 0
+abbrev pub AreNumbersFor : Grouping → Claimed → BTreeMap (String Global) Numbers → Type 0
 AreNumbersFor grouping claims numbers = (shares : List Share) × AreSharesWith grouping claims shares × AreNumbersOf shares (seconds Symbols shares) numbers

@@ -1,19 +1,81 @@
 // From crates/binfarce_figures/src/claims.rt, by tools/erase.
 
-//! How many bytes each function symbol adds to those before it.
+//! What each function symbol adds to a sum of sizes, each byte counted once.
 
 use crate::shim::Vec;
+use crate::erased::binfarce_figures::rows::list_of;
 use crate::erased::binfarce::{FunctionSymbol, SectionFunction};
+use crate::erased::binfarce_tools::report::ReportError;
+use crate::erased::binfarce_tools::tables::Tables;
 use crate::shim::alloc::{AllocError, Global};
 use core::cmp::Reverse;
 
 // Addresses and their ends, from section to section.
 const RANGE: u128 = 36893488147419103232;
 
-/// Function symbols with the bytes that each adds to its key's sum as its size: a byte that several of a section have
-/// counts for the innermost of them. That is the one that begins last, of these the shortest, and of these the one
-/// whose stored name is least. Inner ones come before outer ones.
-pub(crate) fn claims_of<'a>(
+/// What the function symbols of a selection add to a sum of sizes: the bytes that each has, without those that an inner
+/// one has. Of several symbols of a section that have a byte, the innermost is the one that begins last, of these the
+/// shortest, and of these the one whose stored name is least. The sum of all is below 2^64.
+///
+/// Contracts speak of the tables, of the size of the selected section, and of the entries: the function symbols, each
+/// with the bytes that it adds as its size.
+pub struct Claims<'b, 'a> {
+    // The tables that they were read from.
+    pub(crate) tables: &'b Tables<'a>,
+    // The section's size, if one is selected.
+    pub(crate) size: Option<u64>,
+    // The function symbols, each with the bytes that it adds as its size; inner ones come before outer ones.
+    pub(crate) list: Vec<SectionFunction<'b>>,
+    // The sum of these bytes.
+    pub(crate) total: u64,
+}
+
+impl<'b, 'a> Claims<'b, 'a> {
+    /// What the function symbols add that the tables were read for.
+    ///
+    /// # Errors
+    ///
+    /// Those of `list_tables`, except `Write`; `TooLarge` where the sum of all, each byte counted once, is 2^64 or more.
+    pub fn of_tables(alloc: Global, tables: &'b Tables<'a>) -> Result<Claims<'b, 'a>, ReportError> {
+        let selected = tables.functions(alloc)?;
+        let (functions, size) = list_of(alloc, selected)?;
+        let list = claims_of(alloc, functions)?;
+        let total = total_of(&list);
+        if total > u128::from(u64::MAX) {
+            return Err(ReportError::TooLarge);
+        }
+        Ok(Claims {
+            tables,
+            size,
+            list,
+            total: total as u64,
+        })
+    }
+
+    /// How many bytes the function symbols have, each byte counted once.
+    pub fn total(&self) -> u64 {
+        self.total
+    }
+
+    /// How many function symbols there are, with those that add no bytes.
+    pub fn len(&self) -> usize {
+        self.list.len()
+    }
+
+    /// Whether there are no function symbols.
+    pub fn is_empty(&self) -> bool {
+        self.list.is_empty()
+    }
+}
+
+// The sum of all sizes.
+fn total_of(functions: &[SectionFunction<'_>]) -> u128 {
+    let sizes = functions.iter().map(|it| u128::from(it.function.size));
+    sizes.sum()
+}
+
+// Function symbols with the bytes that each adds as its size. Inner ones come before outer ones.
+fn claims_of<'a>(
     alloc: Global,
     functions: Vec<SectionFunction<'a>>,
 ) -> Result<Vec<SectionFunction<'a>>, AllocError> {

@@ -3,16 +3,14 @@
 //! How the sums of two files differ.
 
 use crate::shim::String;
+use crate::erased::binfarce_figures::claims::Claims;
 use crate::erased::binfarce_figures::figures::{Columns, Figure, Layout};
-use crate::erased::binfarce_figures::sums::{Claims, Counting, Figures, add_claims, claims_in};
+use crate::erased::binfarce_figures::sums::{Counting, Figures, add_claims};
 use crate::erased::binfarce_tools::json::Form;
 use crate::erased::binfarce_tools::list::Sink;
 use crate::erased::binfarce_tools::report::{ReportError, write_made};
-use crate::erased::binfarce_tools::tables::Tables;
 use crate::shim::alloc::{AllocError, Global};
 use crate::shim::collections::BTreeMap;
-use crate::shim::error::Error;
-use core::fmt;
 
 /// The sums of all sizes of two files, each byte counted once.
 #[derive(Debug, Clone, Copy, PartialEq)]
@@ -21,39 +19,6 @@ pub struct Growth {
     pub old: u64,
     /// The new file's sum.
     pub new: u64,
-}
-
-/// Why two files were not compared.
-#[derive(Debug, PartialEq)]
-pub struct DiffError {
-    /// The reason, as `sum_by` gives it.
-    pub error: ReportError,
-    /// Whether the old file can't be summed for this reason.
-    pub is_of_old: bool,
-}
-
-impl fmt::Display for DiffError {
-    fn fmt(&self, f: &mut fmt::Formatter<'_>) -> fmt::Result {
-        write!(f, "{}", self.error)
-    }
-}
-
-impl Error for DiffError {}
-
-impl From<ReportError> for DiffError {
-    /// An error that isn't the old file's.
-    fn from(error: ReportError) -> Self {
-        DiffError {
-            error,
-            is_of_old: false,
-        }
-    }
-}
-
-impl From<AllocError> for DiffError {
-    fn from(_: AllocError) -> Self {
-        DiffError::from(ReportError::OutOfMemory)
-    }
 }
 
 /// Writes a line for each key whose sums in two files differ, the greatest difference first, those of one difference in
@@ -68,33 +33,20 @@ impl From<AllocError> for DiffError {
 ///
 /// # Errors
 ///
-/// Those of `sum_by`, first for the old file, with whether it is that file's.
+/// As `sum_by`.
 pub fn diff<S: Sink>(
     alloc: Global,
-    old: &Tables<'_>,
-    new: &Tables<'_>,
+    old: &Claims<'_, '_>,
+    new: &Claims<'_, '_>,
     figures: &Figures,
     form: Form<'_>,
     out: &mut S,
-) -> Result<Growth, DiffError> {
-    let old = old_claims(alloc, old)?;
-    let new = claims_in(alloc, new)?;
-    write_made(out, text_of(alloc, figures, form, &old, &new))?;
+) -> Result<Growth, ReportError> {
+    write_made(out, text_of(alloc, figures, form, old, new))?;
     Ok(Growth {
         old: old.total,
         new: new.total,
     })
-}
-
-// What the old file's function symbols add.
-fn old_claims<'b, 'a>(alloc: Global, old: &'b Tables<'a>) -> Result<Claims<'b, 'a>, DiffError> {
-    match claims_in(alloc, old) {
-        Ok(claims) => Ok(claims),
-        Err(error) => Err(DiffError {
-            error,
-            is_of_old: true,
-        }),
-    }
 }
 
 // The whole text.

@@ -3,13 +3,13 @@
 //! Sums by a key as a picture.
 
 use crate::shim::{String, Vec};
+use crate::erased::binfarce_figures::claims::Claims;
 use crate::erased::binfarce_figures::key::Grouping;
-use crate::erased::binfarce_figures::sums::{Claims, Numbers, claims_in, numbers_of};
+use crate::erased::binfarce_figures::sums::{Numbers, numbers_of};
 use crate::erased::binfarce_chart::bars::Bar;
 use crate::erased::binfarce_chart::svg::chart;
 use crate::erased::binfarce_tools::list::Sink;
 use crate::erased::binfarce_tools::report::{ReportError, write_made};
-use crate::erased::binfarce_tools::tables::Tables;
 use crate::shim::alloc::{AllocError, Global};
 use crate::shim::collections::BTreeMap;
 
@@ -19,17 +19,16 @@ use crate::shim::collections::BTreeMap;
 ///
 /// # Errors
 ///
-/// Those of `sum_by`.
+/// As `sum_by`.
 pub fn map_by<S: Sink>(
     alloc: Global,
     title: &str,
-    tables: &Tables<'_>,
+    claims: &Claims<'_, '_>,
     grouping: Grouping,
     first: Option<usize>,
     out: &mut S,
 ) -> Result<(), ReportError> {
-    let claims = claims_in(alloc, tables)?;
-    write_made(out, picture_of(alloc, title, grouping, first, &claims))
+    write_made(out, picture_of(alloc, title, grouping, first, claims))
 }
 
 // The whole picture.

@@ -3,34 +3,33 @@
 //! Function symbols as stacks.
 
 use crate::shim::String;
+use crate::erased::binfarce_figures::claims::Claims;
 use crate::erased::binfarce_figures::generic::{Shape, push_rewritten};
 use crate::erased::binfarce_figures::key::{Grouping, Key, put_crate, put_key};
-use crate::erased::binfarce_figures::sums::{Claims, claims_in};
 use crate::erased::binfarce_names::demangle::Demangler;
 use crate::erased::binfarce_tools::list::Sink;
 use crate::erased::binfarce_tools::report::{ReportError, write_made};
-use crate::erased::binfarce_tools::tables::Tables;
 use crate::shim::alloc::{AllocError, Global};
 
-/// Writes a line for each function symbol that adds bytes to the sum of `sum_by`, as tools for flame graphs read it: a
-/// stack, a blank, and the number of these bytes.
+/// Writes a line for each function symbol that adds bytes, as tools for flame graphs read it: a stack, a blank, and the
+/// number of these bytes.
 ///
 /// A stack is the crate that `sum_by` counts the function symbol for, and the parts of the trimmed name, which `::`
 /// outside of brackets separates, with `;` between them. The first part is left out where it is the crate: of a crate
 /// `foo` the function `foo::bar` is `foo;bar`, and `foo` is `foo`, as `foo;foo` is `foo::foo`. A `;` in a name is shown
-/// as `:`. With `joins_std` the stack of all functions of Rust's standard library is `[std]`. Inner function symbols come before outer ones. The lines are made before the first byte is written.
+/// as `:`. With `joins_std` the stack of all functions of Rust's standard library is `[std]`. Inner function symbols come
+/// before outer ones. The lines are made before the first byte is written.
 ///
 /// # Errors
 ///
-/// Those of `sum_by`.
-pub fn fold_tables<S: Sink>(
+/// As `sum_by`.
+pub fn fold_claims<S: Sink>(
     alloc: Global,
-    tables: &Tables<'_>,
+    claims: &Claims<'_, '_>,
     joins_std: bool,
     out: &mut S,
 ) -> Result<(), ReportError> {
-    let claims = claims_in(alloc, tables)?;
-    write_made(out, stacks_of(alloc, &claims, joins_std))
+    write_made(out, stacks_of(alloc, claims, joins_std))
 }
 
 // The lines of function symbols with their stacks.

@@ -2,17 +2,14 @@
 
 //! Sums of sizes by a key, the greatest first.
 
-use crate::shim::{String, Vec};
-use crate::erased::binfarce_figures::claims::claims_of;
+use crate::shim::String;
+use crate::erased::binfarce_figures::claims::Claims;
 use crate::erased::binfarce_figures::figures::{Columns, Layout};
 use crate::erased::binfarce_figures::key::{Grouping, put_key};
-use crate::erased::binfarce_figures::rows::list_of;
-use crate::erased::binfarce::SectionFunction;
 use crate::erased::binfarce_names::demangle::Demangler;
 use crate::erased::binfarce_tools::json::{Form, push_number_member, push_start};
 use crate::erased::binfarce_tools::list::Sink;
 use crate::erased::binfarce_tools::report::{ReportError, write_made};
-use crate::erased::binfarce_tools::tables::Tables;
 use crate::shim::alloc::{AllocError, Global};
 use crate::shim::collections::BTreeMap;
 
@@ -36,18 +33,6 @@ pub struct Sums {
     pub unknown: u64,
 }
 
-/// What the function symbols of a selection add to the sums of their keys.
-pub(crate) struct Claims<'b, 'a> {
-    /// The tables that they were read from.
-    pub tables: &'b Tables<'a>,
-    /// The section's size, if one is selected.
-    pub size: Option<u64>,
-    /// The function symbols, with the bytes that each adds as its size.
-    pub list: Vec<SectionFunction<'b>>,
-    /// The sum of these bytes.
-    pub total: u64,
-}
-
 /// Two numbers of a key.
 #[derive(Debug, Clone, Copy)]
 pub(crate) struct Numbers {
@@ -68,10 +53,9 @@ pub(crate) enum Counting {
     New,
 }
 
-/// Writes a line for each key: the sum of the sizes of its function symbols, the greatest first, those of one size in
-/// the order of the keys' bytes; and the lines for the whole, as `report_tables` does. A byte that several symbols of a
-/// section have counts for the innermost of them: the one that begins last, of these the shortest, and of these the one
-/// whose stored name is least. The sum of all is returned, and that of `[unknown]`.
+/// Writes a line for each key: the sum of what its function symbols add, the greatest first, those of one size in the
+/// order of the keys' bytes; and the lines for the whole, as `report_tables` does. Each byte is counted once, for the
+/// innermost symbol that has it (`Claims`). The sum of all is returned, and that of `[unknown]`.
 ///
 /// A line is `{sum:>10} {key}`. Before the key it has the share of the section, or of all sections in the sum of all
 /// sizes, as `{percent:>3}.{hundredths:02}% `, if that is wanted; and for `Key::Generic` the number of function symbols
@@ -81,52 +65,21 @@ pub(crate) enum Counting {
 ///
 /// # Errors
 ///
-/// Those of `list_tables`; `TooLarge` where the sum of all, each byte counted once, is 2^64 or more. Only after `Write` a
-/// beginning of the text may be written.
+/// `OutOfMemory` where an allocation failed: nothing is written. `Write` where a write of the sink failed: a beginning of
+/// the text may be written.
 pub fn sum_by<S: Sink>(
     alloc: Global,
-    tables: &Tables<'_>,
+    claims: &Claims<'_, '_>,
     figures: &Figures,
     form: Form<'_>,
     out: &mut S,
 ) -> Result<Sums, ReportError> {
-    let claims = claims_in(alloc, tables)?;
-    let numbers = numbers_of(alloc, &claims, figures.grouping)?;
-    write_made(out, text_of(alloc, figures, form, &claims, &numbers))?;
+    let numbers = numbers_of(alloc, claims, figures.grouping)?;
+    write_made(out, text_of(alloc, figures, form, claims, &numbers))?;
     Ok(Sums {
         total: claims.total,
         unknown: sum_at(&numbers, "[unknown]"),
     })
-}
-
-/// What the function symbols that the tables were read for add.
-///
-/// # Errors
-///
-/// Those of `sum_by`, but for `Write`.
-pub(crate) fn claims_in<'b, 'a>(
-    alloc: Global,
-    tables: &'b Tables<'a>,
-) -> Result<Claims<'b, 'a>, ReportError> {
-    let selected = tables.functions(alloc)?;
-    let (functions, size) = list_of(alloc, selected)?;
-    let list = claims_of(alloc, functions)?;
-    let total = total_of(&list);
-    if total > u128::from(u64::MAX) {
-        return Err(ReportError::TooLarge);
-    }
-    Ok(Claims {
-        tables,
-        size,
-        list,
-        total: total as u64,
-    })
-}
-
-// The sum of all sizes.
-fn total_of(functions: &[SectionFunction<'_>]) -> u128 {
-    let sizes = functions.iter().map(|it| u128::from(it.function.size));
-    sizes.sum()
 }
 
 // The whole text.

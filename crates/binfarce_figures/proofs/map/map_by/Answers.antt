@@ -4,6 +4,5 @@ use Rattle.binfarce_figures.proofs.Figured.{figured}
 use Rattle.binfarce_figures.proofs.map.map_by.Goals as goal
 
 pub returns-clause-takes : goal.returns-clause-takes
-returns-clause-takes g c = λ which file section are.
-    figured c.args.grouping (λ size shares text. IsMapOfShares c.args.title.now shares size c.args.first text) which file section c.in_ok-claims.claims c.picture_of.result _ _ (outcome_of c.write_made.result)
-    (c.in_ok-claims.ensures.got which file section are) c.picture_of.ensures c.write_made.ensures.takes
+returns-clause-takes g c = λ which file section got.
+    figured c.args.grouping (λ size shares text. IsMapOfShares c.args.title.now shares size c.args.first text) which file section c.args.claims.now c.picture_of.result _ _ (outcome_of c.write_made.result) got c.picture_of.ensures c.write_made.ensures.takes

@@ -12,5 +12,5 @@ use Rattle.binfarce_figures.proofs.stacks.stacks_of.Given as goal
 -- the lines so far
 abbrev pub invariant-loop-claim : goal.invariant-loop-claim
 invariant-loop-claim l =
-    (shares : List Share) × AllZip (IsShareOf (record { key = Stack; joins_std = l.joins_std }) (section_keys (section_names l.claims.tables.now) l.claims.size)) (map section_function_view (take l.claim-index l.claim-items)) shares
+    (shares : List Share) × AllZip (IsShareOf (record { key = Stack; joins_std = l.joins_std }) (section_keys (section_names l.claims-inside.tables.now) l.claims-inside.size)) (map section_function_view (take l.claim-index l.claim-items)) shares
     × (string_bytes l.text ≡ flat_map claim_line shares)

@@ -8,6 +8,7 @@ use Rattle.binfarce_figures.specs.Keys.{IsKeyOf, section_keys}
 use Rattle.binfarce_figures.specs.machine.Counts.{AddsNumbers, numbers_at}
 use Rattle.binfarce_figures.proofs.Growing.{zip_more}
 use Rattle.binfarce_figures.proofs.Numbers.{begun, one_more}
+use Rattle.binfarce_figures.proofs.Summed.{of_all}
 use Rattle.binfarce_figures.proofs.sums.add_claims.Goals as goal
 
 pub loop-claim-init : goal.loop-claim-init
@@ -15,7 +16,7 @@ loop-claim-init c = ([], tt, begun c.args.counting c.args.numbers.now)
 
 pub loop-claim-preserved : goal.loop-claim-preserved
 loop-claim-preserved c =
-    let claims = c.args.claims.now in
+    let claims = c.claims.inside in
     let sections = section_keys (section_names claims.tables.now) claims.size in
     let (shares, are, adds) = c.loop-claim.invariant in
     let name = c.as_str.result.now in
@@ -26,3 +27,9 @@ loop-claim-preserved c =
       zip_more (IsShareOf c.args.grouping sections) section_function_view _ c.loop-claim.claim-index _ shares _ s c.loop-claim-test.true refl are (record { name_is = subst (IsKeyOf c.args.grouping sections _) (sym c.as_str.ensures.value) c.in_ok-put_key.ensures; size_is = refl }),
       one_more c.args.counting shares s c.args.numbers.now old c.add.new.numbers adds (subst P c.counts-more.ensures c.in_ok-add.ensures),
     )
+
+pub returns-clause-adds : goal.returns-clause-adds
+returns-clause-adds c =
+    let claims = c.claims.inside in
+    let (shares, are, adds) = c.loop-claim.invariant in
+    (shares, of_all c.args.grouping claims.tables.now claims.size claims.list.items _ c.loop-claim.claim-index c.args.claims.now shares c.deref-claim-items.ensures.value c.loop-claim-test.false c.claims.view_is are, adds)

@@ -11,5 +11,5 @@ use Rattle.binfarce_figures.proofs.sums.add_claims.Given as goal
 -- the shares of the function symbols so far were added
 abbrev pub invariant-loop-claim : goal.invariant-loop-claim
 invariant-loop-claim l =
-    (shares : List Share) × AllZip (IsShareOf l.grouping (section_keys (section_names l.claims.tables.now) l.claims.size)) (map section_function_view (take l.claim-index l.claim-items)) shares
+    (shares : List Share) × AllZip (IsShareOf l.grouping (section_keys (section_names l.claims-inside.tables.now) l.claims-inside.size)) (map section_function_view (take l.claim-index l.claim-items)) shares
     × AddsShares l.counting shares l.fn.numbers l.numbers

@@ -5,10 +5,9 @@ use Rattle.binfarce_figures.specs.declared.key.Grouping.{Grouping}
 use Rattle.binfarce_figures.specs.declared.key.Key.TheVariants.{Stack}
 use Rattle.binfarce_figures.specs.Figures.{claim_line}
 use Rattle.binfarce_figures.proofs.Figured.{figured}
-use Rattle.binfarce_figures.proofs.stacks.fold_tables.Goals as goal
+use Rattle.binfarce_figures.proofs.stacks.fold_claims.Goals as goal
 
 pub returns-clause-takes : goal.returns-clause-takes
-returns-clause-takes g c = λ which file section are.
+returns-clause-takes g c = λ which file section got.
     let grouping : Grouping = record { key = Stack; joins_std = c.args.joins_std } in
-    figured grouping (λ size shares text. text ≡ flat_map claim_line shares) which file section c.in_ok-claims.claims c.stacks_of.result _ _ (outcome_of c.write_made.result)
-    (c.in_ok-claims.ensures.got which file section are) c.stacks_of.ensures c.write_made.ensures.takes
+    figured grouping (λ size shares text. text ≡ flat_map claim_line shares) which file section c.args.claims.now c.stacks_of.result _ _ (outcome_of c.write_made.result) got c.stacks_of.ensures c.write_made.ensures.takes

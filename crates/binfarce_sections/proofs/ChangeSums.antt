@@ -1,23 +1,22 @@
 -- Changes whose neighbours of one name are made one, and the sums over them.
-use Rattle.std.proofs.Common.{◌≡◌, ℕ, ◌+◌, ◌<◌, ◌≤◌, ◌-◌, Bool, true, false, not, List, [], ◌∷◌, ◌++◌, drop, filter, length, length-drop, map, nat_lt, take, Option, refl, sym, ap, ◌∙◌, arith, append-nil}
+use Rattle.std.proofs.Common.{◌≡◌, ℕ, ◌+◌, ◌<◌, ◌≤◌, ◌-◌, ◌^◌, Bool, true, false, not, List, [], ◌∷◌, ◌++◌, drop, filter, length, length-drop, map, nat_lt, take, Option, refl, sym, ap, subst, ◌∙◌, arith, append-nil, append_assoc}
 use Rattle.std.specs.List.{flat_map, sum_by}
-use Rattle.std.specs.Prelude.{if◌then◌else◌}
+use Rattle.std.specs.Prelude.{All, if◌then◌else◌}
 use Rattle.std.specs.Str.{bytes_eq}
 use Rattle.std.proofs.lemmas.Bool.{le-ltb, lt-ltb}
-use Rattle.std.proofs.lemmas.List.{take-append-drop, take_all}
+use Rattle.std.proofs.lemmas.List.{map-append, take-append-drop, take_all}
+use Rattle.std.proofs.lemmas.List.Elements.{All-head, All-tail}
 use Rattle.std.proofs.lemmas.List.Filters.{sum_by-filter_both}
 use Rattle.std.proofs.lemmas.List.Sums.{sum_by-append, sum_by-cons}
-use Rattle.std.proofs.lemmas.List.Sorted.{sum_by-IsPermutation}
 use Rattle.binfarce_sections.specs.declared.changes.Change.{Change}
-use Rattle.binfarce_sections.specs.declared.changes.Parts.{Parts}
 use Rattle.binfarce_sections.specs.declared.sums.Share as code_share
 use Rattle.binfarce_tools.specs.Json.{Style}
-use Rattle.binfarce_sections.specs.Changes.{Part, Row, change_row, change_rows, differs, memory_of, new_row, old_row, others_row, part_of, rest_of, row_view, shown_row}
-use Rattle.binfarce_sections.specs.Section.{Section}
-use Rattle.binfarce_sections.specs.Sums.{AreSharesOf, Share, count_of, share_view, total}
-use Rattle.binfarce_sections.specs.Views.{section_view}
-use Rattle.binfarce_sections.specs.machine.Changed.{Fit, IsWhole, added, joined, joined_to, parts_view, total_of}
-use Rattle.binfarce_sections.proofs.Whole.{all_le}
+use Rattle.binfarce_sections.specs.Changes.{Part, Row, change_row, change_rows, differs, new_row, old_row, others_row, part_of, parts_of, rest_of, row_view, shown_row}
+use Rattle.binfarce_sections.specs.Lines.{name_text}
+use Rattle.binfarce_sections.specs.Sums.{FileSums, count_of, total}
+use Rattle.binfarce_sections.specs.Views.{section_view, share_view}
+use Rattle.binfarce_sections.specs.machine.Changed.{Fit, added, joined, joined_to}
+use Rattle.binfarce_sections.specs.machine.Summed.{AreWhole, IsNamed, shown_name}
 
 -- sums over changes
 abbrev pub Additive : (Change → ℕ) → Type 0
@@ -51,7 +50,26 @@ fit_less xs ys fit less = (
 pub fit_joined : (changes : List Change) → Fit changes → Fit (filter differs (joined changes))
 fit_joined changes fit = fit_less changes (filter differs (joined changes)) fit (λ w adds. joined_le w adds changes)
 
-pub sum_map : {X Y : Type 0} (f : Y → ℕ) (g : X → Y) (xs : List X) → sum_by f (map g xs) ≡ sum_by (λ x. f (g x)) xs
+-- the sums over parts are numbers of 64 bits, and of bytes in memory of 128
+abbrev pub IsBounded : List Part → Type 0
+IsBounded parts = (sum_by (λ p. p.bytes) parts < 2 ^ 64) × (sum_by (λ p. p.memory) parts < 2 ^ 128)
+
+-- the part of a share
+abbrev pub named_view : code_share.Share → Part
+named_view s = record { name = shown_name s; bytes = s.bytes; memory = s.section.memory_size }
+
+-- the parts of a file with these shares
+abbrev pub parts_view : List code_share.Share → (rest : ℕ) → List Part
+parts_view shares rest = map named_view shares ++ rest_of rest ∷ []
+
+-- of shares that have their names
+all_named : (shares : List code_share.Share) → All IsNamed shares → map named_view shares ≡ map part_of (map share_view shares)
+all_named [] named = refl
+all_named (s ∷ others) named =
+    let is : shown_name s ≡ name_text (section_view s.section).segment (section_view s.section).name = All-head IsNamed s others named in
+    λ i. (record { name = is i; bytes = s.bytes; memory = s.section.memory_size }) ∷ all_named others (All-tail IsNamed s others named) i
+
+sum_map : {X Y : Type 0} (f : Y → ℕ) (g : X → Y) (xs : List X) → sum_by f (map g xs) ≡ sum_by (λ x. f (g x)) xs
 sum_map f g [] = refl
 sum_map f g (x ∷ xs) = omega (arith, sum_by-cons f (g x) (map g xs), sum_by-cons (λ y. f (g y)) x xs, sum_map f g xs)
 
@@ -59,50 +77,68 @@ none : (parts : List Part) → sum_by (λ (p : Part). 0) parts ≡ 0
 none [] = refl
 none (p ∷ parts) = omega (arith, sum_by-cons (λ (q : Part). 0) p parts, none parts)
 
-module _ (given : List Change) (old new : Parts) (is : map row_view given ≡ map old_row (parts_view old) ++ map new_row (parts_view new)) where
-  pub given_sum : (w : Row → ℕ) → sum_by (λ (c : Change). w (row_view c)) given ≡ sum_by (λ (p : Part). w (old_row p)) (parts_view old) + sum_by (λ (p : Part). w (new_row p)) (parts_view new)
+module _ (given : List Change) (old new : List Part) (is : map row_view given ≡ map old_row old ++ map new_row new) where
+  pub given_sum : (w : Row → ℕ) → sum_by (λ (c : Change). w (row_view c)) given ≡ sum_by (λ (p : Part). w (old_row p)) old + sum_by (λ (p : Part). w (new_row p)) new
   given_sum w = omega (
     arith,
     sum_map w row_view given,
     ap (sum_by w) is,
-    sum_by-append w (map old_row (parts_view old)) (map new_row (parts_view new)),
-    sum_map w old_row (parts_view old),
-    sum_map w new_row (parts_view new),
+    sum_by-append w (map old_row old) (map new_row new),
+    sum_map w old_row old,
+    sum_map w new_row new,
   )
 
   -- the changes that parts make alone
-  pub fit_given : IsWhole old → IsWhole new → Fit given
+  pub fit_given : IsBounded old → IsBounded new → Fit given
   fit_given was is_now = (
-    omega (arith, given_sum (λ r. r.old), none (parts_view new), was.length_is, was.fits),
-    omega (arith, given_sum (λ r. r.new), none (parts_view old), is_now.length_is, is_now.fits),
-    omega (arith, given_sum (λ r. r.old_memory), none (parts_view new), was.memory_is, was.memory_fits),
-    omega (arith, given_sum (λ r. r.new_memory), none (parts_view old), is_now.memory_is, is_now.memory_fits),
+    omega (arith, given_sum (λ r. r.old), none new, was.0),
+    omega (arith, given_sum (λ r. r.new), none old, is_now.0),
+    omega (arith, given_sum (λ r. r.old_memory), none new, was.1),
+    omega (arith, given_sum (λ r. r.new_memory), none old, is_now.1),
   )
 
--- the bytes that count for sections are no more than the file has
-shares_le : (len : ℕ) (sections : List Section) (ranked : List code_share.Share) → AreSharesOf len sections ranked → total (map share_view ranked) ≤ len
-shares_le len sections ranked (given, sorted, shares, same, by_offset, are, by_size) = omega (
-  arith,
-  sum_map (λ (s : Share). s.bytes) share_view ranked,
-  sum_map (λ (s : Share). s.bytes) share_view shares,
-  sum_by-IsPermutation (λ (s : code_share.Share). s.bytes) shares ranked by_size.same,
-  ap total are,
-  all_le len (map section_view sorted),
-)
+-- the changes of a file's parts, after those that there were before
+pub given_parts : (row : Part → Row) (start : List Row) (given new : List Change) (shares : List code_share.Share) (n rest : ℕ) (last : Change) → length shares ≤ n
+    → map row_view given ≡ start ++ map row (map named_view (take n shares)) → new ≡ given ++ last ∷ [] → row_view last ≡ row (rest_of rest) → map row_view new ≡ start ++ map row (parts_view shares rest)
+given_parts row start given new shares n rest last all so_far is last_is =
+    ap (map row_view) is
+    ∙ map-append row_view given (last ∷ [])
+    ∙ (λ i. so_far i ++ last_is i ∷ [])
+    ∙ append_assoc start (map row (map named_view (take n shares))) (row (rest_of rest) ∷ [])
+    ∙ ap (λ (xs : List code_share.Share). start ++ (map row (map named_view xs) ++ row (rest_of rest) ∷ [])) (take_all n shares all)
+    ∙ ap (λ (rows : List Row). start ++ rows) (sym (map-append row (map named_view shares) (rest_of rest ∷ [])))
 
--- with those that count for none they are all
-pub parts_sum : (len : ℕ) (sections : List Section) (ranked : List code_share.Share) → AreSharesOf len sections ranked → total_of (map part_of (map share_view ranked)) + (len - total (map share_view ranked)) ≡ len
-parts_sum len sections ranked are = omega (arith, sum_map (λ (p : Part). p.bytes) part_of (map share_view ranked), shares_le len sections ranked are)
+-- the parts of a `SectionSums`
+module _ (shares : List code_share.Share) (rest len memory : ℕ) (whole : AreWhole shares rest len memory) (sums : FileSums) (is : record { file_length = len; shares = map share_view shares } ≡ sums) where
+  rest_is : rest ≡ len - total (map share_view shares)
+  rest_is = omega (arith, whole.length_is)
 
-pub parts_memory : (shares : List Share) → memory_of (map part_of shares) ≡ sum_by (λ (s : Share). s.section.memory_size) shares
-parts_memory shares = sum_map (λ (p : Part). p.memory) part_of shares
+  pub parts_are : parts_view shares rest ≡ parts_of sums
+  parts_are = (λ i. all_named shares whole.named i ++ rest_of (rest_is i) ∷ []) ∙ ap parts_of is
 
--- the sums over parts, with the bytes that count for none
-pub whole_length : (parts : List Part) (rest : ℕ) → total_of (parts ++ rest_of rest ∷ []) ≡ total_of parts + rest
-whole_length parts rest = omega (arith, sum_by-append (λ (p : Part). p.bytes) parts (rest_of rest ∷ []), sum_by-cons (λ (p : Part). p.bytes) (rest_of rest) [])
-
-pub whole_memory : (parts : List Part) (rest : ℕ) → memory_of (parts ++ rest_of rest ∷ []) ≡ memory_of parts
-whole_memory parts rest = omega (arith, sum_by-append (λ (p : Part). p.memory) parts (rest_of rest ∷ []), sum_by-cons (λ (p : Part). p.memory) (rest_of rest) [])
+  -- the sums over them are the file's length, and the memory of all sections
+  pub parts_bounded : IsBounded (parts_of sums)
+  parts_bounded =
+      let parts = map part_of (map share_view shares) in
+      let last = rest_of (len - total (map share_view shares)) in
+      subst (λ (s : FileSums). IsBounded (parts_of s)) is (
+        omega (
+          arith,
+          sum_by-append (λ (p : Part). p.bytes) parts (last ∷ []),
+          sum_by-cons (λ (p : Part). p.bytes) last [],
+          sum_map (λ (p : Part). p.bytes) part_of (map share_view shares),
+          whole.length_is,
+          whole.fits,
+        ),
+        omega (
+          arith,
+          sum_by-append (λ (p : Part). p.memory) parts (last ∷ []),
+          sum_by-cons (λ (p : Part). p.memory) last [],
+          sum_map (λ (p : Part). p.memory) part_of (map share_view shares),
+          whole.memory_is,
+          whole.memory_fits,
+        ),
+      )
 
 -- the sum over a part of a list
 pub part_le : {X : Type 0} (f : X → ℕ) (xs : List X) (m n : ℕ) → sum_by f (take m (drop n xs)) ≤ sum_by f xs

@@ -14,10 +14,9 @@ use Rattle.std.specs.Str.{bytes_eq}
 use Rattle.std.specs.declared.cmp.Ordering.{Ordering}
 use Rattle.std.specs.declared.cmp.Ordering.TheVariants.{Less, Equal, Greater}
 use Rattle.binfarce_sections.specs.declared.changes.Change.{Change}
-use Rattle.binfarce_sections.specs.declared.changes.Parts.{Parts}
 use Rattle.binfarce_sections.specs.Changes.{AreNamesOf, Part, Row, new_row, old_row, row_of, row_view, sum_named}
 use Rattle.binfarce_sections.specs.Sums.{IsByKey}
-use Rattle.binfarce_sections.specs.machine.Changed.{added, joined, joined_to, parts_view}
+use Rattle.binfarce_sections.specs.machine.Changed.{added, joined, joined_to}
 use Rattle.binfarce_sections.proofs.ChangeSums.{given_sum}
 
 abbrev name_of : Change → List ℕ
@@ -247,40 +246,40 @@ any_map : {X Y : Type 0} (test : Y → Bool) (f : X → Y) (xs : List X) → lis
 any_map test f [] = refl
 any_map test f (x ∷ xs) = ap (λ (b : Bool). test (f x) || b) (any_map test f xs)
 
-module _ (given : List Change) (old new : Parts) (is : map row_view given ≡ map old_row (parts_view old) ++ map new_row (parts_view new)) where
+module _ (given : List Change) (old new : List Part) (is : map row_view given ≡ map old_row old ++ map new_row new) where
   module _ (name : List ℕ) where
     abbrev test : Part → Bool
     test p = bytes_eq p.name name
 
     seen : (w : Row → ℕ) → named_sum (λ c. w (row_view c)) name given
-        ≡ sum_by (λ p. if test p then w (old_row p) else 0) (parts_view old) + sum_by (λ p. if test p then w (new_row p) else 0) (parts_view new)
+        ≡ sum_by (λ p. if test p then w (old_row p) else 0) old + sum_by (λ p. if test p then w (new_row p) else 0) new
     seen w = given_sum given old new is (λ r. if bytes_eq r.name name then w r else 0)
 
     as_sizes : (w size : Part → ℕ) → ((p : Part) → w p ≡ size p) → (parts : List Part) → sum_by (λ p. if test p then w p else 0) parts ≡ sum_by (λ p. if test p then size p else 0) parts
     as_sizes w size are parts = λ i. sum_by (λ p. if test p then are p i else 0) parts
 
-    old_is : (w : Row → ℕ) (size : Part → ℕ) → ((p : Part) → w (old_row p) ≡ size p) → ((p : Part) → w (new_row p) ≡ 0) → named_sum (λ c. w (row_view c)) name given ≡ sum_named size name (parts_view old)
+    old_is : (w : Row → ℕ) (size : Part → ℕ) → ((p : Part) → w (old_row p) ≡ size p) → ((p : Part) → w (new_row p) ≡ 0) → named_sum (λ c. w (row_view c)) name given ≡ sum_named size name old
     old_is w size sizes none = omega (
       arith,
       seen w,
-      as_sizes (λ p. w (old_row p)) size sizes (parts_view old),
-      as_sizes (λ p. w (new_row p)) (λ p. 0) none (parts_view new),
-      kept_sum size test (parts_view old),
-      nothing test (parts_view new),
+      as_sizes (λ p. w (old_row p)) size sizes old,
+      as_sizes (λ p. w (new_row p)) (λ p. 0) none new,
+      kept_sum size test old,
+      nothing test new,
     )
 
-    new_is : (w : Row → ℕ) (size : Part → ℕ) → ((p : Part) → w (old_row p) ≡ 0) → ((p : Part) → w (new_row p) ≡ size p) → named_sum (λ c. w (row_view c)) name given ≡ sum_named size name (parts_view new)
+    new_is : (w : Row → ℕ) (size : Part → ℕ) → ((p : Part) → w (old_row p) ≡ 0) → ((p : Part) → w (new_row p) ≡ size p) → named_sum (λ c. w (row_view c)) name given ≡ sum_named size name new
     new_is w size none sizes = omega (
       arith,
       seen w,
-      as_sizes (λ p. w (old_row p)) (λ p. 0) none (parts_view old),
-      as_sizes (λ p. w (new_row p)) size sizes (parts_view new),
-      kept_sum size test (parts_view new),
-      nothing test (parts_view old),
+      as_sizes (λ p. w (old_row p)) (λ p. 0) none old,
+      as_sizes (λ p. w (new_row p)) size sizes new,
+      kept_sum size test new,
+      nothing test old,
     )
 
     -- the sums of changes that parts make alone
-    given_row : row_at given name ≡ row_of (parts_view old) (parts_view new) name
+    given_row : row_at given name ≡ row_of old new name
     given_row = λ i. record {
       name = name;
       old = old_is (λ r. r.old) (λ p. p.bytes) (λ p. refl) (λ p. refl) i;
@@ -289,21 +288,21 @@ module _ (given : List Change) (old new : Parts) (is : map row_view given ≡ ma
       new_memory = new_is (λ r. r.new_memory) (λ p. p.memory) (λ p. refl) (λ p. refl) i;
     }
 
-    given_any : list_any (λ c. bytes_eq name (name_of c)) given ≡ list_any (λ p. bytes_eq name p.name) (parts_view old ++ parts_view new)
+    given_any : list_any (λ c. bytes_eq name (name_of c)) given ≡ list_any (λ p. bytes_eq name p.name) (old ++ new)
     given_any =
         let has = λ (r : Row). bytes_eq name r.name in
         let is_named = λ (p : Part). bytes_eq name p.name in
         sym (any_map has row_view given)
         ∙ ap (list_any has) is
-        ∙ list_any-append has (map old_row (parts_view old)) (map new_row (parts_view new))
-        ∙ (λ i. any_map has old_row (parts_view old) i || any_map has new_row (parts_view new) i)
-        ∙ sym (list_any-append is_named (parts_view old) (parts_view new))
+        ∙ list_any-append has (map old_row old) (map new_row new)
+        ∙ (λ i. any_map has old_row old i || any_map has new_row new i)
+        ∙ sym (list_any-append is_named old new)
 
   -- with neighbours of one name made one
   pub rows_between : (sorted : List Change) → IsByKey name_of (slice_cmp nat_cmp) given sorted
-      → AreNamesOf (parts_view old ++ parts_view new) (names (joined sorted)) × (map row_view (joined sorted) ≡ map (row_of (parts_view old) (parts_view new)) (names (joined sorted)))
+      → AreNamesOf (old ++ new) (names (joined sorted)) × (map row_view (joined sorted) ≡ map (row_of old new) (names (joined sorted)))
   rows_between sorted by_name =
       let rows = joined_is sorted by_name.rises in (
         record { rises = rows.rises; same = λ name. rows.same name ∙ sym (list_any-IsPermutation (λ c. bytes_eq name (name_of c)) given sorted by_name.same) ∙ given_any name },
-        rows.rows_are ∙ same_map (row_at sorted) (row_of (parts_view old) (parts_view new)) (λ name. moved_row given sorted by_name.same name ∙ given_row name) (names (joined sorted)),
+        rows.rows_are ∙ same_map (row_at sorted) (row_of old new) (λ name. moved_row given sorted by_name.same name ∙ given_row name) (names (joined sorted)),
       )

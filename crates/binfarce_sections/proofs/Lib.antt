@@ -12,4 +12,3 @@ pub mod Whole
 pub mod Widths
 pub mod ChangeSums
 pub mod Joined
-pub mod ChangeAnswers

@@ -1,5 +1,5 @@
 -- The bytes that sections add, one section after the other.
-use Rattle.std.proofs.Common.{◌≡◌, ℕ, zero, suc, ◌+◌, ◌-◌, ◌<◌, ◌≤◌, Bool, false, not, ◌&&◌, ◌||◌, List, [], ◌∷◌, ◌++◌, length, map, drop, get_or, min, max, nat_cmp, nat_le, nat_lt, refl, sym, ap, subst, ◌∙◌, arith, append-nil, append_assoc, inl, inr}
+use Rattle.std.proofs.Common.{◌≡◌, ℕ, zero, suc, ◌+◌, ◌-◌, ◌<◌, ◌≤◌, Bool, false, Global, Option, String, not, ◌&&◌, ◌||◌, List, [], ◌∷◌, ◌++◌, length, map, drop, get_or, min, max, nat_cmp, nat_le, nat_lt, refl, sym, ap, subst, ◌∙◌, arith, append-nil, append_assoc, inl, inr}
 use Rattle.std.specs.List.{list_any}
 use Rattle.std.specs.List.Sorted.{IsNonDecreasingBy, IsSortedByKey}
 use Rattle.std.specs.Prelude.{if◌then◌else◌}
@@ -10,8 +10,8 @@ use Rattle.std.proofs.lemmas.List.Sorted.{IsNonDecreasingBy-from_sort}
 use Rattle.binfarce_sections.specs.declared.sections.Section as code
 use Rattle.binfarce_sections.specs.declared.sums.Share as code_share
 use Rattle.binfarce_sections.specs.Section.{Section}
-use Rattle.binfarce_sections.specs.Views.{section_view}
-use Rattle.binfarce_sections.specs.Sums.{Share, count, has, new_bytes, shares_after, shares_of, share_view}
+use Rattle.binfarce_sections.specs.Views.{section_view, share_view}
+use Rattle.binfarce_sections.specs.Sums.{Share, count, has, new_bytes, shares_after, shares_of}
 
 -- the next number is in a range, or not
 in_range : (n a b : ℕ) → (min b n - a) + (if nat_le a n && nat_lt n b then 1 else 0) ≡ min b (suc n) - a
@@ -79,18 +79,18 @@ begun len rows up = record { before = []; low = 0; reach = λ x le lt. none x; r
     none x = grind (arith, nat_tests)
 
 -- the next section has its share
-pub one_more : (len : ℕ) (rows : List code.Section) (shares new : List code_share.Share) (i end added next : ℕ) (d : code.Section) → i < length rows
+pub one_more : (len : ℕ) (rows : List code.Section) (shares new : List code_share.Share) (i end added next : ℕ) (d : code.Section) (name : Option (String Global)) → i < length rows
     → added ≡ min ((get_or rows i d).offset + (get_or rows i d).file_size) len - max (get_or rows i d).offset end
     → next ≡ max (min ((get_or rows i d).offset + (get_or rows i d).file_size) len) end
-    → new ≡ shares ++ (record { section = get_or rows i d; bytes = added }) ∷ [] → Shared len rows shares i end → Shared len rows new (i + 1) next
-one_more len rows shares new i end added next d lt adds more grown w =
+    → new ≡ shares ++ (record { section = get_or rows i d; bytes = added; full_name = name }) ∷ [] → Shared len rows shares i end → Shared len rows new (i + 1) next
+one_more len rows shares new i end added next d name lt adds more grown w =
     let row = get_or rows i d in
     let s = section_view row in
     let split : drop i rows ≡ row ∷ drop (i + 1) rows = drop_more rows i d lt in
     let rise : Rise w.low (row ∷ drop (i + 1) rows) = subst (Rise w.low) split w.rise in
     let others = shares_after len (s ∷ w.before) (map section_view (drop (i + 1) rows)) in
     let is : added ≡ new_bytes len w.before s = adds ∙ sym (new_are len w.before s w.low end w.reach rise.0) in
-    let one : code_share.Share = record { section = row; bytes = added } in
+    let one : code_share.Share = record { section = row; bytes = added; full_name = name } in
     record {
       before = s ∷ w.before;
       low = row.offset;

@@ -21,7 +21,7 @@ use Rattle.binfarce_sections.specs.Section.{Section, sections_of}
 use Rattle.binfarce_sections.specs.Results.{TakesBytes, TakesLines, TakesRead, TakesReadLines, Fails, error_of}
 use Rattle.binfarce_sections.specs.Views.{Opens, section_view, sections_left}
 use Rattle.binfarce_sections.specs.machine.Found.{Finds, ReadsBytes}
-use Rattle.binfarce_sections.specs.machine.Tables.{ReadsTables}
+use Rattle.binfarce_sections.specs.Tables.{ReadsTables}
 use Rattle.binfarce_tools.proofs.Lines.{nothing}
 use Rattle.binfarce_tables.proofs.Readings.{err_is}
 

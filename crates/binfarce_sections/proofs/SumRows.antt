@@ -7,7 +7,8 @@ use Rattle.std.proofs.lemmas.List.{drop-map, drop_more, length-map, take-map}
 use Rattle.binfarce_tools.specs.Json.{Style}
 use Rattle.binfarce_sections.specs.declared.sums.Share as code_share
 use Rattle.binfarce_sections.specs.Section.{Section}
-use Rattle.binfarce_sections.specs.Sums.{active, is_inactive, count_of, end_row, others_row, plain_row, rest_row, share_row, share_rows, share_view, sums_text, total, Share}
+use Rattle.binfarce_sections.specs.Sums.{FileSums, active, is_inactive, count_of, end_row, others_row, plain_row, rest_row, share_row, share_rows, sums_text, total}
+use Rattle.binfarce_sections.specs.Views.{share_view}
 
 taken : (n : ℕ) (xs : List code_share.Share) → take n (map share_view xs) ≡ map share_view (take n xs)
 taken n xs = take-map share_view n xs
@@ -64,12 +65,12 @@ rows_done style xs i old all none before =
     sym (append-nil old) ∙ ap (λ (rest : List code_share.Share). old ++ flat_map (share_row style) (map share_view rest)) (sym none) ∙ before
 
 -- the rows, that of the rest, and the end
-pub sums_are : (style : Style) (first : Option ℕ) (len : ℕ) (shares : List Share) (t0 t1 t2 t3 : List ℕ) (rest : ℕ) → t0 ≡ [] → t1 ≡ t0 ++ share_rows style first shares
-    → t2 ≡ t1 ++ plain_row style (codes "[headers and gaps]") rest 0 → t3 ≡ t2 ++ end_row style len → rest ≡ len - total shares → t3 ≡ sums_text style first len shares
-sums_are style first len shares t0 t1 t2 t3 rest none rows plain last is =
-    let shown = share_rows style first shares in
-    let others = rest_row style len shares in
-    let end = end_row style len in
+pub sums_are : (style : Style) (first : Option ℕ) (sums : FileSums) (t0 t1 t2 t3 : List ℕ) (rest : ℕ) → t0 ≡ [] → t1 ≡ t0 ++ share_rows style first sums.shares
+    → t2 ≡ t1 ++ plain_row style (codes "[headers and gaps]") rest 0 → t3 ≡ t2 ++ end_row style sums.file_length → rest ≡ sums.file_length - total sums.shares → t3 ≡ sums_text style first sums
+sums_are style first sums t0 t1 t2 t3 rest none rows plain last is =
+    let shown = share_rows style first sums.shares in
+    let others = rest_row style sums in
+    let end = end_row style sums.file_length in
     let one : t1 ≡ shown = rows ∙ ap (λ (t : List ℕ). t ++ shown) none in
     let two : t2 ≡ shown ++ others = plain ∙ ap (λ (n : ℕ). t1 ++ plain_row style (codes "[headers and gaps]") n 0) is ∙ ap (λ (t : List ℕ). t ++ others) one in
     last ∙ ap (λ (t : List ℕ). t ++ end) two ∙ append_assoc shown others end

@@ -23,7 +23,7 @@ use Rattle.binfarce_sections.specs.declared.error.SectionError.TheVariants as er
 use Rattle.binfarce_sections.specs.declared.sections.Sections.{Sections}
 use Rattle.binfarce_sections.specs.declared.tables.Tables.{Tables}
 use Rattle.binfarce_sections.specs.declared.tables.Tables.TheVariants.{Elf, Macho, Pe, Unknown}
-use Rattle.binfarce_sections.specs.machine.Tables.{Has, AreTablesOf, HasLength, ReadsTables}
+use Rattle.binfarce_sections.specs.Tables.{Has, AreTablesOf, HasLength, ReadsTables}
 use Rattle.binfarce_tables.proofs.Readings.{taken, err_is}
 use Rattle.binfarce_sections.proofs.Opening.{table_of}
 

@@ -1,10 +1,14 @@
 -- The bytes that count for sections, and those that count for none.
-use Rattle.std.proofs.Common.{◌≡◌, ℕ, zero, suc, ◌+◌, ◌≤◌, Bool, true, false, not, ◌&&◌, ◌||◌, List, [], ◌∷◌, refl, arith}
-use Rattle.std.specs.List.{list_any}
-use Rattle.std.specs.Prelude.{if◌then◌else◌}
+use Rattle.std.proofs.Common.{◌≡◌, ℕ, zero, suc, ◌+◌, ◌-◌, ◌<◌, ◌^◌, ◌≤◌, Bool, true, false, not, ◌&&◌, ◌||◌, List, [], ◌∷◌, map, refl, arith}
+use Rattle.std.proofs.lemmas.List.Sorted.{sum_by-IsPermutation}
 use Rattle.std.proofs.lemmas.List.Sums.{sum_by-cons}
+use Rattle.std.specs.List.{list_any}
+use Rattle.std.specs.Prelude.{All, if◌then◌else◌}
+use Rattle.binfarce_sections.specs.declared.sums.Share as code_share
 use Rattle.binfarce_sections.specs.Section.{Section}
-use Rattle.binfarce_sections.specs.Sums.{Share, count, has, new_bytes, shares_after, shares_of, total}
+use Rattle.binfarce_sections.specs.Sums.{AreSharesOf, Share, count, has, new_bytes, shares_after, shares_of, total, total_memory}
+use Rattle.binfarce_sections.specs.Views.{share_view}
+use Rattle.binfarce_sections.specs.machine.Summed.{AreWhole, IsNamed}
 
 -- a number passes both tests at once, the second alone, or neither
 one_number : (a b : Bool) → (if a && not b then 1 else 0) + (if b then 1 else 0) ≡ (if a || b then 1 else 0)
@@ -38,3 +42,14 @@ total_le len before (s ∷ others) = omega (
 
 pub all_le : (len : ℕ) (sections : List Section) → total (shares_of len sections) ≤ len
 all_le len sections = omega (arith, total_le len [] sections)
+
+-- in any order they are no more than the file has, and with those that count for none they are all
+pub sums_whole : (len rest memory : ℕ) (sections : List Section) (ranked : List code_share.Share) → AreSharesOf len sections (map share_view ranked) → All IsNamed ranked
+    → rest ≡ len - total (map share_view ranked) → memory ≡ total_memory (map share_view ranked) → len < 2 ^ 64 → memory < 2 ^ 128 → AreWhole ranked rest len memory
+sums_whole len rest memory sections ranked (sorted, by_offset, by_size) named rest_is memory_is fits memory_fits = record {
+  named = named;
+  length_is = omega (arith, rest_is, all_le len sorted, sum_by-IsPermutation (λ (s : Share). s.bytes) (shares_of len sorted) (map share_view ranked) by_size.same);
+  memory_is = omega (arith, memory_is);
+  fits = fits;
+  memory_fits = memory_fits;
+}

@@ -1,26 +1,16 @@
 -- How the bytes of the sections of two files differ.
-use Rattle.std.specs.Prelude.{◌≡◌, ℕ, zero, suc, ◌+◌, ◌-◌, ◌*◌, ◌/◌, ◌%◌, Bool, true, false, not, ◌&&◌, List, [], ◌∷◌, ◌++◌, codes, length, map, filter, take, drop, nat_eq, nat_lt, Option, Some, None, Result, Ok, Err, if◌then◌else◌}
+use Rattle.std.specs.Prelude.{◌≡◌, ℕ, zero, suc, ◌+◌, ◌-◌, ◌*◌, ◌/◌, ◌%◌, Bool, true, false, not, ◌&&◌, List, [], ◌∷◌, ◌++◌, codes, length, map, filter, take, drop, nat_eq, nat_lt, Option, Some, if◌then◌else◌}
 use Rattle.std.specs.Cmp.Lexicographic.{slice_cmp}
 use Rattle.std.specs.Fmt.{decimal}
-use Rattle.std.specs.Io.KnownBytes.{Appends}
 use Rattle.std.specs.List.{concat, flat_map, list_any, sum_by}
 use Rattle.std.specs.List.Sorted.{IsStrictlySortedBy}
 use Rattle.std.specs.Ordering.{nat_cmp}
 use Rattle.std.specs.Str.{bytes_eq}
-use Rattle.binfarce.specs.Format.{format_of}
-use Rattle.binfarce.specs.Refusal.{refusal_of}
-use Rattle.binfarce.specs.Walk.{Walk}
 use Rattle.binfarce_tools.specs.Json.{Style, lines, objects, number_member, object_start, text_member}
 use Rattle.binfarce_tools.specs.Listing.{pad_left, size_text}
-use Rattle.binfarce_tools.specs.Writing.{AppendsBeginning}
 use Rattle.binfarce_sections.specs.declared.changes.Change.{Change}
-use Rattle.binfarce_sections.specs.declared.changes.ChangeError.{ChangeError}
-use Rattle.binfarce_sections.specs.declared.error.SectionError.{SectionError}
-use Rattle.binfarce_sections.specs.declared.error.SectionError.TheVariants.{Unknown, Parse, OutOfMemory, Write, Unreadable}
-use Rattle.binfarce_sections.specs.declared.sums.Share as code_share
 use Rattle.binfarce_sections.specs.Lines.{name_text}
-use Rattle.binfarce_sections.specs.Section.{Section, sections_of}
-use Rattle.binfarce_sections.specs.Sums.{AreSharesOf, IsByKey, Share, active, count_of, falling, share_view, total}
+use Rattle.binfarce_sections.specs.Sums.{FileSums, IsByKey, Share, count_of, falling, total, total_memory}
 
 -- what one section adds to its name, or what the bytes add that count for no section: bytes in the file, and bytes in memory
 pub record Part : Type 0 where
@@ -36,17 +26,9 @@ part_of s = record { name = name_text s.section.segment s.section.name; bytes = 
 abbrev pub rest_of : (bytes : ℕ) → Part
 rest_of bytes = record { name = codes "[headers and gaps]"; bytes = bytes; memory = 0 }
 
-abbrev pub parts_of : (file_length : ℕ) → List Share → List Part
-parts_of file_length shares = map part_of shares ++ rest_of (file_length - total shares) ∷ []
-
--- how many bytes parts have in memory
-abbrev pub memory_of : List Part → ℕ
-memory_of parts = sum_by (λ p. p.memory) parts
-
--- parts are those of a file that has these sections and whose walk over them isn't refused
-abbrev pub ArePartsIn : (file_length : ℕ) → Walk Section → List Part → Type 0
-ArePartsIn file_length walk parts =
-    (ranked : List code_share.Share) × (walk.refusal ≡ None) × AreSharesOf file_length (active walk.items) ranked × (parts ≡ parts_of file_length (map share_view ranked))
+-- the parts of a file
+abbrev pub parts_of : FileSums → List Part
+parts_of sums = map part_of sums.shares ++ rest_of (sums.file_length - total sums.shares) ∷ []
 
 -- what a row shows: a name, its bytes in the old file and in the new one, and its bytes in memory by both
 pub record Row : Type 0 where
@@ -193,67 +175,11 @@ change_rows has_percent style first changes = let n = count_of first (length cha
     flat_map (shown_row has_percent style) (take n changes) ++ (if nat_lt n (length changes) then change_row has_percent style (others_row (drop n changes)) else [])
 
 -- the row of both files: their lengths, and the bytes that all their sections have in memory
-abbrev pub total_row : (old_length new_length : ℕ) → (old new : List Part) → Row
-total_row old_length new_length old new = record { name = codes "[total]"; old = old_length; new = new_length; old_memory = memory_of old; new_memory = memory_of new }
+abbrev pub total_row : (old new : FileSums) → Row
+total_row old new = record { name = codes "[total]"; old = old.file_length; new = new.file_length; old_memory = total_memory old.shares; new_memory = total_memory new.shares }
 
--- text is that of the changes from the sections of a file to those of another
-abbrev pub IsTextOfChanges : (has_percent : Bool) → Style → (first : Option ℕ) → (old_length new_length : ℕ) → (old new : Walk Section) → (text : List ℕ) → Type 0
-IsTextOfChanges has_percent style first old_length new_length old new text =
-    (before after : List Part) × (changes : List Change) × ArePartsIn old_length old before × ArePartsIn new_length new after × AreChangesFrom before after changes
-    × (text ≡ change_rows has_percent style first changes ++ change_row has_percent style (total_row old_length new_length before after))
-
--- the sections that a file answers with, if its format is known
-abbrev pub answer_of : (file : List ℕ) → Option (Walk Section)
-answer_of file = sections_of (format_of file) file
-
--- so of two files' bytes
-abbrev pub AreChangesOf : (has_percent : Bool) → Style → (first : Option ℕ) → (before after : List ℕ) → (text : List ℕ) → Type 0
-AreChangesOf has_percent style first before after text =
-    (old new : Walk Section) × (answer_of before ≡ Some old) × (answer_of after ≡ Some new)
-    × IsTextOfChanges has_percent style first (length before) (length after) old new text
-
--- the sections of a file can be summed
-abbrev pub IsSummable : Option (Walk Section) → Type 0
-IsSummable None = ⊥
-IsSummable (Some walk) = walk.refusal ≡ None
-
--- or they can't for this reason: a source that may fail is unreadable; an allocation failed; the format is unknown; the walk over the sections ends with this refusal
-abbrev pub IsReason : (may_fail : Bool) → Option (Walk Section) → SectionError → Type 0
-IsReason may_fail walk Unreadable = may_fail ≡ true
-IsReason may_fail walk OutOfMemory = Unit {0}
-IsReason may_fail None Unknown = Unit {0}
-IsReason may_fail (Some walk) (Parse e) = walk.refusal ≡ Some (refusal_of e)
-IsReason may_fail walk e = ⊥
-
--- the reason is the old file's; or that file can be summed, and the reason is the new one's
-abbrev pub IsReasonOf : (is_of_old : Bool) → (old_may_fail new_may_fail : Bool) → (old new : Option (Walk Section)) → SectionError → Type 0
-IsReasonOf true old_may_fail new_may_fail old new e = IsReason old_may_fail old e
-IsReasonOf false old_may_fail new_may_fail old new e = IsSummable old × IsReason new_may_fail new e
-
--- where a write failed, a beginning of a text was taken; else nothing, for this reason
-abbrev pub TakesUpTo : (IsText : List ℕ → Type 0) → (IsWhy : SectionError → Type 0) → (is_of_old : Bool) → Option (List ℕ) → Option (List ℕ) → SectionError → Type 0
-TakesUpTo IsText IsWhy is_of_old old new Write = (text : List ℕ) × (is_of_old ≡ false) × IsText text × AppendsBeginning old new text
-TakesUpTo IsText IsWhy is_of_old old new e = IsWhy e × Appends old new []
-
--- a text was taken, and these lengths are returned; or less, and the error says why, and of which file it is
-abbrev pub TakesWhole : (IsText : List ℕ → Type 0) → (IsWhy : (is_of_old : Bool) → SectionError → Type 0) → (lengths : ℕ × ℕ) → Option (List ℕ) → Option (List ℕ) → Result (ℕ × ℕ) ChangeError → Type 0
-TakesWhole IsText IsWhy lengths old new (Ok r) = (text : List ℕ) × (r ≡ lengths) × IsText text × Appends old new text
-TakesWhole IsText IsWhy lengths old new (Err e) = TakesUpTo IsText (IsWhy e.is_of_old) e.is_of_old old new e.error
-
--- what is taken of the changes between two sources
-abbrev pub TakesChanges : (has_percent : Bool) → Style → (first : Option ℕ) → (before after : List ℕ) → (old_may_fail new_may_fail : Bool) → Option (List ℕ) → Option (List ℕ) → Result (ℕ × ℕ) ChangeError → Type 0
-TakesChanges has_percent style first before after old_may_fail new_may_fail =
-    TakesWhole (AreChangesOf has_percent style first before after) (λ is_of_old. IsReasonOf is_of_old old_may_fail new_may_fail (answer_of before) (answer_of after)) (length before, length after)
-
--- a result without whose the error is
-abbrev pub ended : Result (ℕ × ℕ) ChangeError → Result (ℕ × ℕ) SectionError
-ended (Ok lengths) = Ok lengths
-ended (Err e) = Err e.error
-
--- an error that is the old file's
-abbrev pub old_error : SectionError → ChangeError
-old_error e = record { error = e; is_of_old = true }
-
--- an error that isn't the old file's
-abbrev pub other_error : SectionError → ChangeError
-other_error e = record { error = e; is_of_old = false }
+-- text is that of the changes from the sums of a file to those of another
+unfoldable pub AreChangesOf : (has_percent : Bool) → Style → (first : Option ℕ) → (old new : FileSums) → (text : List ℕ) → Type 0
+AreChangesOf has_percent style first old new text =
+    (changes : List Change) × AreChangesFrom (parts_of old) (parts_of new) changes
+    × (text ≡ change_rows has_percent style first changes ++ change_row has_percent style (total_row old new))

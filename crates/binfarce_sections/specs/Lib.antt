@@ -6,5 +6,6 @@ pub mod Sums
 pub mod Changes
 pub mod Results
 pub mod Views
+pub mod Tables
 pub mod Parts
 pub mod machine

@@ -14,7 +14,7 @@ use Rattle.binfarce_sections.specs.declared.error.SectionError.TheVariants.{Unkn
 use Rattle.binfarce_sections.specs.Lines.{section_lines}
 use Rattle.binfarce_sections.specs.Named.{Lack, unknown_format, refused, no_section, no_bytes, past_end}
 use Rattle.binfarce_sections.specs.Section.{Section}
-use Rattle.binfarce_sections.specs.Sums.{AreSumsOf}
+use Rattle.binfarce_sections.specs.Sums.{AreSumsOf, FileSums}
 
 -- the printed text; for the errors of `list`, its text
 abbrev pub section_words : SectionError → List ℕ
@@ -77,20 +77,20 @@ TakesReadLines style may_fail sections old new (Err Unreadable) = (may_fail ≡ 
 TakesReadLines style may_fail sections old new (Err OutOfMemory) = Appends old new []
 TakesReadLines style may_fail sections old new result = TakesLines style sections old new result
 
--- the text of the sums of the sections was taken, and the file's length is returned; or where a write failed, a beginning of it was taken; else nothing, also where the walk over the sections ends with a refusal
-abbrev pub TakesSums : Style → (first : Option ℕ) → (file_length : ℕ) → Option (Walk Section) → Option (List ℕ) → Option (List ℕ) → Result ℕ SectionError → Type 0
-TakesSums style first file_length None old new result = (result ≡ Err Unknown) × Appends old new []
-TakesSums style first file_length (Some walk) old new (Ok length) = (text : List ℕ) × (length ≡ file_length) × (walk.refusal ≡ None) × AreSumsOf style first file_length walk.items text × Appends old new text
-TakesSums style first file_length (Some walk) old new (Err (Parse e)) = (walk.refusal ≡ Some (refusal_of e)) × Appends old new []
-TakesSums style first file_length (Some walk) old new (Err OutOfMemory) = Appends old new []
-TakesSums style first file_length (Some walk) old new (Err Write) = (text : List ℕ) × (walk.refusal ≡ None) × AreSumsOf style first file_length walk.items text × AppendsBeginning old new text
-TakesSums style first file_length (Some walk) old new (Err e) = ⊥
+-- the sums of a file of this length whose walk over its sections has no refusal; or that refusal, or the format is unknown; or an allocation failed
+abbrev pub SumsUp : (file_length : ℕ) → Option (Walk Section) → Result FileSums SectionError → Type 0
+SumsUp file_length None (Err Unknown) = Unit {0}
+SumsUp file_length (Some walk) (Ok sums) = (walk.refusal ≡ None) × AreSumsOf file_length walk.items sums
+SumsUp file_length (Some walk) (Err (Parse e)) = walk.refusal ≡ Some (refusal_of e)
+SumsUp file_length walk (Err OutOfMemory) = Unit {0}
+SumsUp file_length walk result = ⊥
 
--- the same for a source
-abbrev pub TakesReadSums : Style → (first : Option ℕ) → (file_length : ℕ) → Bool → Option (Walk Section) → Option (List ℕ) → Option (List ℕ) → Result ℕ SectionError → Type 0
-TakesReadSums style first file_length may_fail sections old new (Err Unreadable) = (may_fail ≡ true) × Appends old new []
-TakesReadSums style first file_length may_fail sections old new (Err OutOfMemory) = Appends old new []
-TakesReadSums style first file_length may_fail sections old new result = TakesSums style first file_length sections old new result
+-- a text of this kind was taken; where a write failed, a beginning of it; where an allocation failed, nothing. There is no other error
+abbrev pub TakesText : (IsText : List ℕ → Type 0) → Option (List ℕ) → Option (List ℕ) → Result (Unit {0}) SectionError → Type 0
+TakesText IsText old new (Ok x) = (text : List ℕ) × IsText text × Appends old new text
+TakesText IsText old new (Err Write) = (text : List ℕ) × IsText text × AppendsBeginning old new text
+TakesText IsText old new (Err OutOfMemory) = Appends old new []
+TakesText IsText old new (Err e) = ⊥
 
 -- whether the sink has failed afterwards: it has where a write failed; otherwise this is unchanged
 abbrev pub Fails : {X : Type 0} → Bool → Bool → Result X SectionError → Type 0

@@ -1,5 +1,5 @@
 -- The bytes of a file by its sections: each byte counts once.
-use Rattle.std.specs.Prelude.{◌≡◌, ℕ, zero, suc, ◌+◌, ◌-◌, Bool, false, not, ◌&&◌, List, [], ◌∷◌, ◌++◌, codes, length, map, filter, take, drop, min, nat_eq, nat_le, nat_lt, Option, Some, None, IsPermutation, if◌then◌else◌}
+use Rattle.std.specs.Prelude.{◌≡◌, ℕ, zero, suc, ◌+◌, ◌-◌, Bool, false, not, ◌&&◌, List, [], ◌∷◌, ◌++◌, codes, length, filter, take, drop, min, nat_eq, nat_le, nat_lt, Option, Some, None, IsPermutation, if◌then◌else◌}
 use Rattle.std.specs.Fmt.{decimal}
 use Rattle.std.specs.List.{concat, flat_map, list_any, sum_by}
 use Rattle.std.specs.List.Sorted.{IsSortedByKey, IsStableByKey}
@@ -10,11 +10,8 @@ use Rattle.binfarce_tools.specs.Listing.{size_text}
 use Rattle.binfarce_tools.specs.Report.{total_line}
 use Rattle.binfarce_sections.specs.declared.kinds.SectionType.{SectionType}
 use Rattle.binfarce_sections.specs.declared.kinds.SectionType.TheVariants as types
-use Rattle.binfarce_sections.specs.declared.sections.Section as code
-use Rattle.binfarce_sections.specs.declared.sums.Share as code_share
 use Rattle.binfarce_sections.specs.Lines.{name_text, type_member}
 use Rattle.binfarce_sections.specs.Section.{Section}
-use Rattle.binfarce_sections.specs.Views.{section_view}
 
 -- of this type there is no section: its header is inactive (SHT_NULL)
 abbrev pub is_inactive : SectionType → Bool
@@ -57,6 +54,10 @@ shares_of file_length sections = shares_after file_length [] sections
 abbrev pub total : List Share → ℕ
 total shares = sum_by (λ s. s.bytes) shares
 
+-- how many bytes they have in memory
+abbrev pub total_memory : List Share → ℕ
+total_memory shares = sum_by (λ s. s.section.memory_size) shares
+
 -- sorted is rows by a key: rows of one key keep their order
 pub record IsByKey {X K : Type 0} (key : X → K) (cmp : K → K → Ordering) (rows sorted : List X) : Type 0 where
   pub same : IsPermutation rows sorted
@@ -67,16 +68,19 @@ pub record IsByKey {X K : Type 0} (key : X → K) (cmp : K → K → Ordering) (
 abbrev pub falling : ℕ → ℕ → Ordering
 falling a b = nat_cmp b a
 
--- a `Share`
-abbrev pub share_view : code_share.Share → Share
-share_view s = record { section = section_view s.section; bytes = s.bytes }
-
 -- the shares of sections, the greatest first: a byte counts for the first section that has it, in the order of their offsets, those of one offset in file order. Shares of one size are in that order
-abbrev pub AreSharesOf : (file_length : ℕ) → List Section → List code_share.Share → Type 0
+abbrev pub AreSharesOf : (file_length : ℕ) → List Section → List Share → Type 0
 AreSharesOf file_length sections ranked =
-    (given sorted : List code.Section) × (shares : List code_share.Share)
-    × (map section_view given ≡ sections) × IsByKey (λ s. s.offset) nat_cmp given sorted
-    × (map share_view shares ≡ shares_of file_length (map section_view sorted)) × IsByKey (λ s. s.bytes) falling shares ranked
+    (sorted : List Section) × IsByKey (λ s. s.offset) nat_cmp sections sorted × IsByKey (λ s. s.bytes) falling (shares_of file_length sorted) ranked
+
+-- the value of a `SectionSums`: a file's length, and the shares of its sections
+pub record FileSums : Type 0 where
+  pub file_length : ℕ
+  pub shares : List Share
+
+-- sums are those of a file of this length that has these sections
+abbrev pub AreSumsOf : (file_length : ℕ) → List Section → FileSums → Type 0
+AreSumsOf file_length sections sums = (sums.file_length ≡ file_length) × AreSharesOf file_length (active sections) sums.shares
 
 -- a row without a section, of this label: `{bytes:>10} {memory:>10} {label}`
 abbrev pub plain_line : (label : List ℕ) → (bytes memory : ℕ) → List ℕ
@@ -112,7 +116,7 @@ count_of (Some n) all = min n all
 
 -- the row that sums up these
 abbrev pub others_row : Style → List Share → List ℕ
-others_row style others = plain_row style (codes "[" ++ (decimal (length others) ++ codes " others]")) (total others) (sum_by (λ s. s.section.memory_size) others)
+others_row style others = plain_row style (codes "[" ++ (decimal (length others) ++ codes " others]")) (total others) (total_memory others)
 
 -- the rows of the first shares, and that of all others where there are any
 abbrev pub share_rows : Style → (first : Option ℕ) → List Share → List ℕ
@@ -120,19 +124,14 @@ share_rows style first shares = let n = count_of first (length shares) in
     flat_map (share_row style) (take n shares) ++ (if nat_lt n (length shares) then others_row style (drop n shares) else [])
 
 -- the row of the bytes that count for no section
-abbrev pub rest_row : Style → (file_length : ℕ) → List Share → List ℕ
-rest_row style file_length shares = plain_row style (codes "[headers and gaps]") (file_length - total shares) 0
+abbrev pub rest_row : Style → FileSums → List ℕ
+rest_row style sums = plain_row style (codes "[headers and gaps]") (sums.file_length - total sums.shares) 0
 
 -- the last row: the file's length, which is the sum of all
 abbrev pub end_row : Style → (file_length : ℕ) → List ℕ
 end_row lines file_length = total_line file_length
 end_row (objects file section) file_length = object_start file ++ (number_member (codes "sum") file_length ++ codes "}\n")
 
--- the text of shares
-abbrev pub sums_text : Style → (first : Option ℕ) → (file_length : ℕ) → List Share → List ℕ
-sums_text style first file_length shares = share_rows style first shares ++ (rest_row style file_length shares ++ end_row style file_length)
-
--- text is that of a file's sections
-abbrev pub AreSumsOf : Style → (first : Option ℕ) → (file_length : ℕ) → List Section → (text : List ℕ) → Type 0
-AreSumsOf style first file_length sections text =
-    (ranked : List code_share.Share) × AreSharesOf file_length (active sections) ranked × (text ≡ sums_text style first file_length (map share_view ranked))
+-- the text of a file's sums
+abbrev pub sums_text : Style → (first : Option ℕ) → FileSums → List ℕ
+sums_text style first sums = share_rows style first sums.shares ++ (rest_row style sums ++ end_row style sums.file_length)

@@ -11,13 +11,19 @@ use Rattle.binfarce_sections.specs.declared.sections.Section as code
 use Rattle.binfarce_sections.specs.declared.sections.ElfSections.{ElfSections}
 use Rattle.binfarce_sections.specs.declared.sections.Sections.{Sections}
 use Rattle.binfarce_sections.specs.declared.sections.Sections.TheVariants as variants
+use Rattle.binfarce_sections.specs.declared.sums.Share as code_share
 use Rattle.binfarce_sections.specs.declared.error.SectionError.{SectionError}
 use Rattle.binfarce_sections.specs.declared.error.SectionError.TheVariants.{Unknown, Parse}
+use Rattle.binfarce_sections.specs.Sums.{Share}
 use Rattle.binfarce_sections.specs.Section.{Section, elf_named, macho_section, pe_section, mapped}
 
 -- a `Section`
 abbrev pub section_view : code.Section → Section
 section_view s = record { segment = option_map (λ t. t.now) s.segment; name = option_map (λ t. t.now) s.name; address = s.address; offset = s.offset; size = s.size; has_bytes = s.has_bytes; kind = s.kind; flags = s.flags; file_size = s.file_size; memory_size = s.memory_size }
+
+-- a `Share`
+abbrev pub share_view : code_share.Share → Share
+share_view s = record { section = section_view s.section; bytes = s.bytes }
 
 -- the name of an ELF section among section names
 abbrev pub named_by : Option (List ℕ) → elf.Section → Option (List ℕ)

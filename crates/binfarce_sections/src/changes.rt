@@ -1,32 +1,22 @@
 //! How the bytes of the sections of two files differ.
 
-ghost use Rattle.std.specs.Prelude.{◌≡◌, ◌≢◌, ◌+◌, ◌<◌, ◌^◌, ◌++◌, ◌∷◌, [], ℕ, Bool, List, Ok, Err, codes, filter, map, Some, IfOk, IfErr, OnOk, MatchResult};
+ghost use Rattle.std.specs.Prelude.{◌≡◌, ◌+◌, ◌<◌, ◌^◌, ◌++◌, ◌∷◌, [], ℕ, List, codes, filter, map, Some, IfOk, OnOk};
 ghost use Rattle.std.specs.List.{flat_map};
-ghost use Rattle.std.specs.Option.{option_map};
 ghost use Rattle.std.specs.String.{string_bytes};
 ghost use Rattle.binfarce_tools.specs.Json.{style_of};
 ghost use Rattle.binfarce_tools.specs.Listing.{pad_left};
-ghost use Rattle.binfarce_sections.specs.Changes.{AreChangesFrom, TakesChanges, change_line, change_object, change_row, change_rows, change_text, difference, differs, ended, growth_member, growth_part, growth_text, hundredths, memory_of, minus, new_row, old_error, old_row, others_row, part_of, percent_member, rest_of, row_view, shown_row, sign, signed_member, size_column};
-ghost use Rattle.binfarce_sections.specs.Results.{Fails};
-ghost use Rattle.binfarce_sections.specs.Sums.{share_view};
-ghost use Rattle.binfarce_sections.specs.Views.{section_view, sections_left};
-ghost use Rattle.binfarce_sections.specs.declared.error.SectionError.TheVariants.{Write};
-ghost use Rattle.binfarce_sections.specs.machine.Changed.{AreLeft, Fit, IsFullName, IsTextFor, IsWhole, OpensTables, ReadsParts, added, joined, named_view, parts_view, shown_name, total_of};
-ghost use Rattle.binfarce_sections.specs.machine.Tables.{AreTablesOf};
+ghost use Rattle.binfarce_sections.specs.Changes.{AreChangesFrom, AreChangesOf, change_line, change_object, change_row, change_rows, change_text, difference, differs, growth_member, growth_part, growth_text, hundredths, minus, new_row, old_row, others_row, parts_of, percent_member, row_view, shown_row, sign, signed_member, size_column};
+ghost use Rattle.binfarce_sections.specs.Results.{TakesText, Fails};
+ghost use Rattle.binfarce_sections.specs.machine.Changed.{Fit, added, joined};
 
 use crate::error::SectionError;
-use crate::list::push_name;
-use crate::sections::{Section, Sections};
-use crate::sums::{Share, active_of, count_of, memory_of, push_long_member, ranked_of, rest_of};
-use crate::tables::{Tables, read};
-use binfarce_bytes::source::Source;
+use crate::sums::{REST, SectionSums, count_of, push_long_member};
 use binfarce_tools::json::{Form, push_number_member, push_start, push_text_member};
 use binfarce_tools::list::Sink;
 use binfarce_tools::writing::write_whole;
 use std::alloc::{AllocError, Global};
 use std::cmp::Reverse;
-use std::error::Error;
-use std::fmt;
+use std::fmt::Write;
 
 /// A name of sections, with its bytes in two files.
 #[derive(Debug, Clone, Copy)]
@@ -43,91 +33,12 @@ pub struct Change<'a> {
     pub new_memory: u128,
 }
 
-/// Why two files were not compared.
-#[derive(Debug, PartialEq, Drop)]
-pub struct ChangeError {
-    /// The reason, as `sum_sections` gives it.
-    pub error: SectionError,
-    /// Whether the old file can't be summed for this reason.
-    pub is_of_old: bool,
-}
-
-impl fmt::Display for ChangeError {
-    ghost use Rattle.std.specs.Prelude.{Some};
-    ghost use Rattle.binfarce_sections.specs.Results.{section_words};
-
-    ghost output = { λ e. Some (section_words e.error) };
-
-    fn fmt<W: fmt::Write>(&self, f: &mut fmt::Formatter<W>) -> fmt::Result {
-        write!(f, "{}", self.error)
-    }
-}
-
-impl Error for ChangeError {}
-
-impl From<SectionError> for ChangeError {
-    ghost use Rattle.binfarce_sections.specs.Changes.{other_error};
-
-    ghost from_gives = { λ e c. c ≡ other_error e };
-
-    /// An error that isn't the old file's.
-    fn from(error: SectionError) -> Self {
-        ChangeError {
-            error,
-            is_of_old: false,
-        }
-    }
-}
-
-impl From<AllocError> for ChangeError {
-    ghost use Rattle.binfarce_sections.specs.declared.error.SectionError.TheVariants.{OutOfMemory};
-    ghost use Rattle.binfarce_sections.specs.Changes.{other_error};
-
-    ghost from_gives = { λ _ c. c ≡ other_error OutOfMemory };
-
-    fn from(_: AllocError) -> Self {
-        ChangeError::from(SectionError::OutOfMemory)
-    }
-}
-
-// A section with the bytes that count for it.
-#[derive(Drop)]
-pub(crate) struct Named<'a> {
-    pub share: Share<'a>,
-    /// Its name after its segment's, if it has a segment.
-    pub full_name: Option<String>,
-}
-
-impl Named<'_> {
-    // The name, as `sum_sections` shows it.
-    fn name(&self) -> &str
-        ensures { result.now ≡ shown_name self.now }
-    {
-        match (&self.full_name, self.share.section.name) {
-            (Some(name), _) => name.as_str(),
-            (None, Some(name)) => name,
-            (None, None) => "",
-        }
-    }
-}
-
-// The sections of a file, how many of its bytes count for none, how many bytes it has, and how many its sections have
-// in memory.
-#[derive(Drop)]
-pub(crate) struct Parts<'a> {
-    pub named: Vec<Named<'a>>,
-    pub rest: u64,
-    pub file_length: u64,
-    pub memory: u128,
-}
-
 /// Writes a row for each name of sections, and for `[headers and gaps]`, whose bytes in the file or in memory differ
-/// between two files, and one for the whole files. The lengths of the files are returned.
+/// between two files, and one for the whole files.
 ///
-/// Each file is summed as `sum_sections` does; a name is as its lines show it, and the numbers of all sections of one
-/// name are added: also those of a section that is named `[headers and gaps]`. The greatest difference of bytes in the
-/// file comes first, of one difference the greatest in memory, and those of one rank are in the order of the names'
-/// bytes.
+/// A name is as `sum_sections` shows it, and the numbers of all sections of one name are added: also those of a section
+/// that is named `[headers and gaps]`. The greatest difference of bytes in the file comes first, of one difference the
+/// greatest in memory, and those of one rank are in the order of the names' bytes.
 ///
 /// A line is `{old:>10} {new:>10} {change:>11} {memory change:>11} {name}`; a change has its sign. Before the name it
 /// has, if that is wanted, the change of the bytes in the file in per cent of the old number, with two decimals and to
@@ -135,149 +46,40 @@ pub(crate) struct Parts<'a> {
 /// name of the line that sums up those past the first; the last line, `[total]`, has the lengths of the files, and the
 /// memory of all sections. An object has the members `file`, which is the new one's name, `section`, `old`, `new`,
 /// `change`, `old_memory`, `new_memory`, `memory_change` and, if that is wanted, `percent`, which is `null` where the
-/// old number is 0. Of a source only the bytes are read that `sum_sections` reads.
+/// old number is 0.
 ///
 /// # Errors
 ///
-/// Those of `sum_sections`, first for the old file, with whether it is that file's.
-pub fn diff_sections<F: Source<Log = ()>, G: Source<Log = ()>, S: Sink>(
+/// Those of `sum_sections`.
+pub fn diff_sections<S: Sink>(
     alloc: Global,
-    old: &F,
-    new: &G,
+    old: &SectionSums<'_>,
+    new: &SectionSums<'_>,
     first: Option<usize>,
     has_percent: bool,
     form: Form<'_>,
     out: &mut S,
-) -> Result<(u64, u64), ChangeError>
-    ensures takes { (before after : List ℕ) → F.bytes old.now ≡ Some before → G.bytes new.now ≡ Some after
-        → TakesChanges has_percent (style_of form.entry) first before after
-        (F.may_fail old.now) (G.may_fail new.now) (S.taken out.old) (S.taken out.new) result }
-    ensures fails { Fails (S.has_failed out.old) (S.has_failed out.new) (ended result) }
+) -> Result<(), SectionError>
+    ensures takes { TakesText (AreChangesOf has_percent (style_of form.entry) first old.now new.now) (S.taken out.old)
+        (S.taken out.new) result }
+    ensures fails { Fails (S.has_failed out.old) (S.has_failed out.new) result }
 {
-    let old_tables = of_old(tables_of(alloc, old))?;
-    let before = of_old(parts_of(alloc, &old_tables))?;
-    let new_tables = tables_of(alloc, new)?;
-    let after = parts_of(alloc, &new_tables)?;
     let layout = Layout {
         alloc,
         form,
         has_percent,
     };
-    let text = layout.text_of(first, &before, &after)?;
-    match write_whole(out, text.as_bytes()) {
-        Ok(()) => Ok((before.file_length, after.file_length)),
-        Err(_) => Err(ChangeError::from(SectionError::Write)),
-    }
+    let text = layout.text_of(first, old, new)?;
+    write_whole(out, text.as_bytes()).map_err(|_| SectionError::Write)
 }
 
-// A result for the old file.
-fn of_old<T>(given: Result<T, SectionError>) -> Result<T, ChangeError>
-    ensures { MatchResult given (λ v. result ≡ Ok v) (λ e. result ≡ Err (old_error e)) }
-{
-    match given {
-        Ok(value) => Ok(value),
-        Err(error) => Err(ChangeError {
-            error,
-            is_of_old: true,
-        }),
-    }
-}
-
-// The tables of a file's sections.
-fn tables_of<F: Source<Log = ()>>(alloc: Global, source: &F) -> Result<Tables, SectionError>
-    ensures reads { (file : List ℕ) → F.bytes source.now ≡ Some file
-        → OpensTables (F.may_fail source.now) file result }
-    ensures unwritten { IfErr result (λ e. e ≢ Write) }
-{
-    Ok(read(alloc, source, &mut ())?)
-}
-
-// The parts of a file with these tables.
-fn parts_of<'a>(alloc: Global, tables: &'a Tables) -> Result<Parts<'a>, SectionError>
-    ensures reads { (may_fail : Bool) (file : List ℕ) → AreTablesOf file tables.entry.now
-        → ReadsParts may_fail file result }
-    ensures whole { IfOk result IsWhole }
-    ensures unwritten { IfErr result (λ e. e ≢ Write) }
-{
-    let sections = tables.sections()?;
-    parts_left(alloc, sections, tables.file_length())
-}
-
-// The parts of the sections that are left.
-fn parts_left<'a>(
-    alloc: Global,
-    sections: Sections<'a>,
-    file_length: u64,
-) -> Result<Parts<'a>, SectionError>
-    ensures left { AreLeft file_length (sections_left sections.entry) result }
-    ensures whole { IfOk result IsWhole }
-{
-    let sections = active_of(alloc, sections)?;
-    let shares = ranked_of(alloc, sections, file_length)?;
-    let named = named_of(alloc, &shares)?;
-    Ok(whole(
-        named,
-        rest_of(&shares, file_length),
-        file_length,
-        memory_of(&shares),
-    ))
-}
-
-// Sections with the sums over them.
-fn whole<'a>(named: Vec<Named<'a>>, rest: u128, file_length: u64, memory: u128) -> Parts<'a>
-    requires { (total_of (map named_view named.items) + rest ≡ file_length)
-        × (memory_of (map named_view named.items) ≡ memory) }
-    ensures is { (parts_view result ≡ map named_view named.entry.items ++ rest_of rest ∷ [])
-        × (result.file_length ≡ file_length) }
-    ensures whole { IsWhole result }
-{
-    Parts {
-        named,
-        rest: rest as u64,
-        file_length,
-        memory,
-    }
-}
-
-// Sections with the names that aren't stored whole.
-fn named_of<'a>(alloc: Global, shares: &[Share<'a>]) -> Result<Vec<Named<'a>>, AllocError>
-    ensures { IfOk result (λ v. map named_view v.items ≡ map part_of (map share_view shares.now)) }
-{
-    let mut all = Vec::new(alloc);
-    for share in shares {
-        all.push(with_name(alloc, *share)?)?;
-    }
-    Ok(all)
-}
-
-// A section with its name.
-fn with_name<'a>(alloc: Global, share: Share<'a>) -> Result<Named<'a>, AllocError>
-    ensures { IfOk result (λ n. named_view n ≡ part_of (share_view share.entry)) }
-{
-    let full_name = full_name(alloc, &share.section)?;
-    Ok(Named { share, full_name })
-}
-
-// A section's name after its segment's, if it has a segment.
-fn full_name(alloc: Global, section: &Section<'_>) -> Result<Option<String>, AllocError>
-    ensures { IfOk result (λ t. IsFullName (section_view section.now) (option_map string_bytes t)) }
-{
-    if section.segment.is_none() {
-        return Ok(None);
-    }
-    let mut name = String::new(alloc);
-    push_name(&mut name, section.segment, section.name)?;
-    Ok(Some(name))
-}
-
-// The changes from old parts to new ones.
+// The changes from the sums of a file to those of another.
 fn changes_of<'a>(
     alloc: Global,
-    old: &'a Parts<'a>,
-    new: &'a Parts<'a>,
+    old: &'a SectionSums<'a>,
+    new: &'a SectionSums<'a>,
 ) -> Result<Vec<Change<'a>>, AllocError>
-    requires { IsWhole old.now × IsWhole new.now }
-    ensures from { IfOk result (λ v. AreChangesFrom (parts_view old.entry.now) (parts_view new.entry.now) v.items) }
+    ensures from { IfOk result (λ v. AreChangesFrom (parts_of old.entry.now) (parts_of new.entry.now) v.items) }
     ensures fit { IfOk result (λ v. Fit v.items) }
 {
     let mut given = given_of(alloc, old, new)?;
@@ -304,28 +106,24 @@ fn bytes_distance(old: u64, new: u64) -> u64
 // A change for each part.
 fn given_of<'a>(
     alloc: Global,
-    old: &'a Parts<'a>,
-    new: &'a Parts<'a>,
+    old: &'a SectionSums<'a>,
+    new: &'a SectionSums<'a>,
 ) -> Result<Vec<Change<'a>>, AllocError>
-    ensures { IfOk result (λ v. map row_view v.items
-        ≡ map old_row (parts_view old.entry.now) ++ map new_row (parts_view new.entry.now)) }
+    ensures rows { IfOk result (λ v. map row_view v.items
+        ≡ map old_row (parts_of old.entry.now) ++ map new_row (parts_of new.entry.now)) }
+    ensures fit { IfOk result (λ v. Fit v.items) }
 {
     let mut given = Vec::new(alloc);
-    for named in &old.named {
-        let share = &named.share;
-        given.push(old_change(named.name(), share.bytes, share.section.memory_size))?;
+    for share in &old.shares {
+        given.push(old_change(share.name(), share.bytes, share.section.memory_size))?;
     }
     given.push(old_change(REST, old.rest, 0))?;
-    for named in &new.named {
-        let share = &named.share;
-        given.push(new_change(named.name(), share.bytes, share.section.memory_size))?;
+    for share in &new.shares {
+        given.push(new_change(share.name(), share.bytes, share.section.memory_size))?;
     }
     given.push(new_change(REST, new.rest, 0))?;
     Ok(given)
 }
-
-// The name of the bytes that count for no section.
-const REST: &str = "[headers and gaps]";
 
 // The change that a part of the old file makes alone.
 fn old_change(name: &str, bytes: u64, memory: u64) -> Change<'_>
@@ -413,11 +211,11 @@ impl Layout<'_> {
     fn text_of(
         &self,
         first: Option<usize>,
-        old: &Parts<'_>,
-        new: &Parts<'_>,
+        old: &SectionSums<'_>,
+        new: &SectionSums<'_>,
     ) -> Result<String, AllocError>
-        requires { IsWhole old.now × IsWhole new.now }
-        ensures { IfOk result (λ t. IsTextFor self.now first old.now new.now (string_bytes t)) }
+        ensures { IfOk result (λ t. AreChangesOf self.now.has_percent (style_of self.now.form) first old.now new.now
+            (string_bytes t)) }
     {
         let changes = changes_of(self.alloc, old, new)?;
         let mut text = self.first_rows(first, &changes)?;

@@ -9,4 +9,4 @@ mod laws;
 pub mod list;
 pub mod sections;
 pub mod sums;
-mod tables;
+pub mod tables;

@@ -1,125 +1,163 @@
 //! The bytes of a file by its sections.
 
-ghost use Rattle.std.specs.Prelude.{◌≡◌, ◌≢◌, ◌+◌, ◌-◌, ◌++◌, ◌∷◌, [], ℕ, List, codes, length, map, min, Some, IfOk, IfErr, OnOk};
-ghost use Rattle.std.specs.List.{flat_map, sum_by};
+ghost use Rattle.std.specs.Prelude.{◌≡◌, ◌+◌, ◌-◌, ◌++◌, ◌∷◌, [], ℕ, List, codes, length, map, min, All, Some, IfOk, OnOk};
+ghost use Rattle.std.specs.List.{flat_map};
 ghost use Rattle.std.specs.List.Sorted.{IsSortedByKey};
+ghost use Rattle.std.specs.Option.{option_map};
 ghost use Rattle.std.specs.Ordering.{nat_cmp};
 ghost use Rattle.std.specs.String.{string_bytes};
 ghost use Rattle.binfarce.specs.Format.{format_of};
-ghost use Rattle.binfarce_bytes.specs.Source.{ReadsOnly};
 ghost use Rattle.binfarce_tools.specs.Json.{number_member, style_of};
 ghost use Rattle.binfarce_tools.specs.Listing.{size_text};
 ghost use Rattle.binfarce_sections.specs.Lines.{name_text};
-ghost use Rattle.binfarce_sections.specs.Parts.{section_parts_of};
-ghost use Rattle.binfarce_sections.specs.Results.{TakesSums, TakesReadSums, Fails};
+ghost use Rattle.binfarce_sections.specs.Results.{SumsUp, TakesText, Fails};
 ghost use Rattle.binfarce_sections.specs.Section.{sections_of};
-ghost use Rattle.binfarce_sections.specs.Sums.{AreSharesOf, active, count_of, end_row, is_inactive, others_row, plain_line, plain_object, plain_row, share_object, share_row, share_rows, share_view, shares_of, sums_text, total};
-ghost use Rattle.binfarce_sections.specs.Views.{section_view, sections_left};
-ghost use Rattle.binfarce_sections.specs.declared.error.SectionError.TheVariants.{Unreadable};
-ghost use Rattle.binfarce_sections.specs.machine.Summed.{AreActive, IsSummed};
+ghost use Rattle.binfarce_sections.specs.Sums.{AreSharesOf, active, count_of, end_row, is_inactive, others_row, plain_line, plain_object, plain_row, share_object, share_row, share_rows, shares_of, sums_text, total, total_memory};
+ghost use Rattle.binfarce_sections.specs.Tables.{AreTablesOf};
+ghost use Rattle.binfarce_sections.specs.Views.{section_view, sections_left, share_view};
+ghost use Rattle.binfarce_sections.specs.machine.Summed.{AreActive, IsFullName, IsNamed, shown_name};
 
 use crate::error::SectionError;
 use crate::kinds::SectionType;
 use crate::list::{push_name, push_type_member};
 use crate::sections::{Section, Sections};
-use crate::tables::read;
-use binfarce_bytes::source::Source;
+use crate::tables::Tables;
 use binfarce_tools::json::{Form, push_number_member, push_start, push_text_member};
 use binfarce_tools::list::Sink;
 use binfarce_tools::writing::write_whole;
 use std::alloc::{AllocError, Global};
 use std::cmp::Reverse;
 use std::fmt::Write;
+use std::marker::Model;
 
-/// A section, and how many of the file's bytes count for it.
-#[derive(Debug, Clone, Copy)]
-pub struct Share<'a> {
-    /// The section.
+// A section, and how many of the file's bytes count for it.
+#[derive(Drop)]
+pub(crate) struct Share<'a> {
     pub section: Section<'a>,
-    /// How many bytes count for it.
     pub bytes: u64,
+    /// Its name after its segment's, if it has a segment.
+    pub full_name: Option<String>,
+}
+
+impl Share<'_> {
+    // The name, as `sum_sections` shows it.
+    pub(crate) fn name(&self) -> &str
+        ensures { result.now ≡ shown_name self.now }
+    {
+        match (&self.full_name, self.section.name) {
+            (Some(name), _) => name.as_str(),
+            (None, Some(name)) => name,
+            (None, None) => "",
+        }
+    }
+}
+
+/// The bytes of a file by its sections: how many of the file's bytes count for each section, and for none.
+///
+/// A byte that several sections have counts for the first of them, in the order of their offsets, those of one offset in
+/// file order. Bytes past the file's end don't count. ELF's inactive section headers (`SHT_NULL`) are left out. Names that
+/// the file stores whole are borrowed.
+///
+/// Contracts speak of the file's length, and of the sections with their bytes: the greatest number of bytes first, those
+/// of one number in the order of their offsets.
+#[derive(Drop)]
+pub struct SectionSums<'a> {
+    pub(crate) shares: Vec<Share<'a>>,
+    // How many of the file's bytes count for no section.
+    pub(crate) rest: u64,
+    pub(crate) file_length: u64,
+    // How many bytes all sections have in memory.
+    pub(crate) memory: u128,
+}
+
+impl<'a> Model for SectionSums<'a> {
+    ghost use Rattle.std.specs.Prelude.{map};
+    ghost use Rattle.binfarce_sections.specs.Sums.{FileSums};
+    ghost use Rattle.binfarce_sections.specs.Views.{share_view};
+    ghost use Rattle.binfarce_sections.specs.machine.Summed.{AreWhole};
+
+    ghost Value = { FileSums };
+
+    ghost view = { λ s. record { file_length = s.file_length; shares = map share_view s.shares.items } };
+
+    ghost invariant = { λ s. AreWhole s.shares.items s.rest s.file_length s.memory };
+}
+
+impl<'a> SectionSums<'a> {
+    /// The sums of the sections of a file, from its tables, which `tables::read` reads.
+    ///
+    /// # Errors
+    ///
+    /// `Unknown` where the file's format isn't supported; `Parse` where the reader refuses a section, of all that the file
+    /// states; `OutOfMemory` where an allocation failed.
+    pub fn of_tables(alloc: Global, tables: &'a Tables) -> Result<SectionSums<'a>, SectionError>
+        ensures { (file : List ℕ) → AreTablesOf file tables.entry.now
+            → SumsUp (length file) (sections_of (format_of file) file) result }
+    {
+        let sections = tables.sections()?;
+        sums_left(alloc, sections, tables.file_length())
+    }
+
+    /// The length of the file in bytes: the sum of all numbers of bytes in the file.
+    pub fn file_length(&self) -> u64
+        ensures { result ≡ self.now.file_length }
+    {
+        self.file_length
+    }
 }
 
 /// Writes a row for each section of a file: how many of the file's bytes count for it, and how many it has in memory.
-/// A row for the bytes that count for none follows, then the file's length, which is the sum of the first numbers. The
-/// length is returned.
+/// A row for the bytes that count for none follows, then the file's length, which is the sum of the first numbers.
 ///
-/// A byte that several sections have counts for the first of them, in the order of their offsets, those of one offset in
-/// file order; a section counts as far as it lies in the file. The greatest comes first, those of one number of bytes
-/// are in the order of their offsets. ELF's inactive section headers (`SHT_NULL`) have no row.
+/// The greatest comes first, those of one number of bytes are in the order of their offsets.
 ///
 /// A line is `{bytes:>10} {memory:>10} {name}`, with the name as in `list_sections`; `[N others]` is the name of the line
 /// that sums up those past the first, `[headers and gaps]` of the rest; the last line is `sum {length}`. An object has
 /// the members `file`, `segment`, `section`, `type`, `flags`, `size` and `memory`; type and flags are as in `list_source`,
 /// and `null` of the two rows that are no sections. The last one has `file`, and the length as `sum`.
 ///
-/// Of the source only these bytes are read: those that `list_source` reads.
-///
 /// # Errors
 ///
-/// Those of `list_source`; but nothing is written where the reader refuses a section (`Parse`).
-pub fn sum_sections<F: Source, S: Sink>(
+/// `OutOfMemory` where an allocation failed: nothing is written then. `Write` where a write failed: a beginning of the
+/// rows may then be written.
+pub fn sum_sections<S: Sink>(
     alloc: Global,
-    source: &F,
-    log: &mut F::Log,
+    sums: &SectionSums<'_>,
     first: Option<usize>,
     form: Form<'_>,
     out: &mut S,
-) -> Result<u64, SectionError>
-    ensures takes { (file : List ℕ) → F.bytes source.now ≡ Some file
-        → TakesReadSums (style_of form.entry) first (length file) (F.may_fail source.now)
-        (sections_of (format_of file) file) (S.taken out.old) (S.taken out.new) result }
-    ensures fails { Fails (S.has_failed out.old) (S.has_failed out.new) result }
-    ensures only { (file : List ℕ) → F.bytes source.now ≡ Some file
-        → ReadsOnly (F.is_sure source.now) (F.logs_only log.old) (F.logs_only log.new)
-        (section_parts_of file) (IfErr result (λ e. e ≢ Unreadable)) }
-{
-    let tables = read(alloc, source, log)?;
-    let sections = tables.sections()?;
-    write_sums(alloc, sections, tables.file_length(), first, form, out)
-}
-
-// Writes the rows of all sections that are left, and returns the file's length.
-fn write_sums<S: Sink>(
-    alloc: Global,
-    sections: Sections<'_>,
-    file_length: u64,
-    first: Option<usize>,
-    form: Form<'_>,
-    out: &mut S,
-) -> Result<u64, SectionError>
-    ensures takes { TakesSums (style_of form.entry) first file_length (Some (sections_left sections.entry))
-        (S.taken out.old) (S.taken out.new) result }
+) -> Result<(), SectionError>
+    ensures takes { TakesText (λ text. text ≡ sums_text (style_of form.entry) first sums.now) (S.taken out.old)
+        (S.taken out.new) result }
     ensures fails { Fails (S.has_failed out.old) (S.has_failed out.new) result }
 {
-    let text = text_of(alloc, sections, file_length, first, form)?;
-    match write_whole(out, text.as_bytes()) {
-        Ok(()) => Ok(file_length),
-        Err(_) => Err(SectionError::Write),
-    }
+    let text = rows_of(alloc, sums, first, form)?;
+    write_whole(out, text.as_bytes()).map_err(|_| SectionError::Write)
 }
 
-// The whole text.
-fn text_of(
+// The sums of the sections that are left.
+fn sums_left<'a>(
     alloc: Global,
-    sections: Sections<'_>,
+    sections: Sections<'a>,
     file_length: u64,
-    first: Option<usize>,
-    form: Form<'_>,
-) -> Result<String, SectionError>
-    ensures { IsSummed (style_of form.entry) first file_length (sections_left sections.entry) result }
+) -> Result<SectionSums<'a>, SectionError>
+    ensures { SumsUp file_length (Some (sections_left sections.entry)) result }
 {
     let sections = active_of(alloc, sections)?;
     let shares = ranked_of(alloc, sections, file_length)?;
-    Ok(rows_of(alloc, &shares, file_length, first, form)?)
+    let rest = rest_of(&shares, file_length);
+    let memory = memory_of(&shares);
+    Ok(SectionSums {
+        shares,
+        rest,
+        file_length,
+        memory,
+    })
 }
 
 // The sections that are left, without inactive ones.
 #[tactic(auto, using(crate::proofs::SumRows::kept_more))]
-pub(crate) fn active_of<'a>(
-    alloc: Global,
-    sections: Sections<'a>,
-) -> Result<Vec<Section<'a>>, SectionError>
+fn active_of<'a>(alloc: Global, sections: Sections<'a>) -> Result<Vec<Section<'a>>, SectionError>
     ensures { AreActive (sections_left sections.entry) result }
 {
     let mut active = Vec::new(alloc);
@@ -151,12 +189,14 @@ fn is_inactive(kind: SectionType) -> bool
 const SHT_NULL: u32 = 0;
 
 // The shares of sections, the greatest first.
-pub(crate) fn ranked_of<'a>(
+fn ranked_of<'a>(
     alloc: Global,
     mut sections: Vec<Section<'a>>,
     file_length: u64,
 ) -> Result<Vec<Share<'a>>, AllocError>
-    ensures { IfOk result (λ v. AreSharesOf file_length (map section_view sections.entry.items) v.items) }
+    ensures shares { IfOk result (λ v. AreSharesOf file_length (map section_view sections.entry.items)
+        (map share_view v.items)) }
+    ensures named { IfOk result (λ v. All IsNamed v.items) }
 {
     sections.sort_by_key(|section| section.offset)?;
     let mut shares = shares_of(alloc, &sections, file_length)?;
@@ -171,7 +211,8 @@ fn shares_of<'a>(
     file_length: u64,
 ) -> Result<Vec<Share<'a>>, AllocError>
     requires { IsSortedByKey (λ s. s.offset) nat_cmp sections.now }
-    ensures { IfOk result (λ v. map share_view v.items ≡ shares_of file_length (map section_view sections.now)) }
+    ensures shares { IfOk result (λ v. map share_view v.items ≡ shares_of file_length (map section_view sections.now)) }
+    ensures named { IfOk result (λ v. All IsNamed v.items) }
 {
     let mut shares = Vec::with_capacity(alloc, sections.len())?;
     let mut end = 0;
@@ -179,7 +220,12 @@ fn shares_of<'a>(
         let next = end_in(section, file_length);
         let bytes = next.saturating_sub(section.offset.max(end));
         let section = *section;
-        shares.push(Share { section, bytes })?;
+        let full_name = full_name(alloc, &section)?;
+        shares.push(Share {
+            section,
+            bytes,
+            full_name,
+        })?;
         end = next.max(end);
     }
     Ok(shares)
@@ -193,30 +239,43 @@ fn end_in(section: &Section<'_>, file_length: u64) -> u64
     end.min(file_length)
 }
 
-// The rows of shares, that of the rest, and the file's length.
-fn rows_of(
-    alloc: Global,
-    shares: &[Share<'_>],
-    file_length: u64,
-    first: Option<usize>,
-    form: Form<'_>,
-) -> Result<String, AllocError>
-    ensures { IfOk result (λ t. string_bytes t
-        ≡ sums_text (style_of form.entry) first file_length (map share_view shares.now)) }
+// A section's name after its segment's, if it has a segment.
+fn full_name(alloc: Global, section: &Section<'_>) -> Result<Option<String>, AllocError>
+    ensures { IfOk result (λ t. IsFullName (section_view section.now) (option_map string_bytes t)) }
 {
-    let mut text = String::new(alloc);
-    push_shares(alloc, &mut text, form, first, shares)?;
-    let rest = rest_of(shares, file_length);
-    push_plain(&mut text, form, "[headers and gaps]", rest, 0)?;
-    push_end(&mut text, form, file_length)?;
-    Ok(text)
+    if section.segment.is_none() {
+        return Ok(None);
+    }
+    let mut name = String::new(alloc);
+    push_name(&mut name, section.segment, section.name)?;
+    Ok(Some(name))
 }
 
 // How many of a file's bytes count for no section.
-pub(crate) fn rest_of(shares: &[Share<'_>], file_length: u64) -> u128
+fn rest_of(shares: &[Share<'_>], file_length: u64) -> u64
     ensures { result ≡ file_length - total (map share_view shares.now) }
 {
-    u128::from(file_length).saturating_sub(total_of(shares))
+    let rest = u128::from(file_length).saturating_sub(total_of(shares));
+    rest as u64
+}
+
+// The name of the bytes that count for no section.
+pub(crate) const REST: &str = "[headers and gaps]";
+
+// The rows of sections, that of the rest, and the file's length.
+fn rows_of(
+    alloc: Global,
+    sums: &SectionSums<'_>,
+    first: Option<usize>,
+    form: Form<'_>,
+) -> Result<String, AllocError>
+    ensures { IfOk result (λ t. string_bytes t ≡ sums_text (style_of form.entry) first sums.now) }
+{
+    let mut text = String::new(alloc);
+    push_shares(alloc, &mut text, form, first, &sums.shares)?;
+    push_plain(&mut text, form, REST, u128::from(sums.rest), 0)?;
+    push_end(&mut text, form, sums.file_length)?;
+    Ok(text)
 }
 
 // Appends the row of the file's length.
@@ -352,8 +411,8 @@ fn total_of(shares: &[Share<'_>]) -> u128
 }
 
 // How many bytes they have in memory.
-pub(crate) fn memory_of(shares: &[Share<'_>]) -> u128
-    ensures { result ≡ sum_by (λ s. s.section.memory_size) (map share_view shares.now) }
+fn memory_of(shares: &[Share<'_>]) -> u128
+    ensures { result ≡ total_memory (map share_view shares.now) }
 {
     let sizes = shares
         .iter()

@@ -10,7 +10,7 @@ ghost use Rattle.binfarce_sections.specs.Section.{sections_of};
 ghost use Rattle.binfarce_sections.specs.Views.{section_view, Opens};
 ghost use Rattle.binfarce_sections.specs.declared.error.SectionError.TheVariants.{Write, Unreadable};
 ghost use Rattle.binfarce_sections.specs.machine.Found.{ReadsBytes};
-ghost use Rattle.binfarce_sections.specs.machine.Tables.{AreTablesOf, ReadsTables, HasLength};
+ghost use Rattle.binfarce_sections.specs.Tables.{AreTablesOf, ReadsTables, HasLength};
 
 use crate::bytes::first_in;
 use crate::error::SectionError;
@@ -21,12 +21,13 @@ use binfarce_tables::format::read_format;
 use binfarce_tables::{Beginning, ReadError, Width, elf, macho, part, pe};
 use std::alloc::Global;
 
-// The tables of a file's sections.
+/// The tables of a file's sections.
 #[derive(Drop)]
-pub(crate) enum Tables {
+pub enum Tables {
     Elf(elf::SectionParts),
     Macho(Beginning),
     Pe(Beginning),
+    /// Those of a file whose format isn't supported.
     Unknown,
 }
 
@@ -58,13 +59,14 @@ impl Tables {
     }
 }
 
-// Reads the first bytes of a file, which name its format, and the tables of the sections of a file of that format
-// (`binfarce_tables`). Refused where the file is too short for its header.
-pub(crate) fn read<S: Source>(
-    alloc: Global,
-    source: &S,
-    log: &mut S::Log,
-) -> Result<Tables, ReadError>
+/// Reads the tables of a file's sections from a source. Of the source only these bytes are read: the first 8 bytes, which
+/// name the format, and those that `read_sections` of `binfarce_tables` reads of a file of that format.
+///
+/// # Errors
+///
+/// `Refused` where the file is too short for its header. `Unreadable` where the source can't be read at offsets, or a read
+/// of it fails; `OutOfMemory` where an allocation failed.
+pub fn read<S: Source>(alloc: Global, source: &S, log: &mut S::Log) -> Result<Tables, ReadError>
     ensures reads { (file : List ℕ) → S.bytes source.now ≡ Some file
         → ReadsTables (S.may_fail source.now) file result }
     ensures only { (file : List ℕ) → S.bytes source.now ≡ Some file

@@ -9,4 +9,4 @@ pub mod kinds;
 pub mod list;
 pub mod sections;
 pub mod sums;
-pub(crate) mod tables;
+pub mod tables;

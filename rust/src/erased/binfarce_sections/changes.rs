@@ -4,20 +4,12 @@
 
 use crate::shim::{String, Vec};
 use crate::erased::binfarce_sections::error::SectionError;
-use crate::erased::binfarce_sections::list::push_name;
-use crate::erased::binfarce_sections::sections::{Section, Sections};
-use crate::erased::binfarce_sections::sums::{
-    Share, active_of, count_of, memory_of, push_long_member, ranked_of, rest_of,
-};
-use crate::erased::binfarce_sections::tables::{Tables, read};
-use crate::erased::binfarce_bytes::source::Source;
+use crate::erased::binfarce_sections::sums::{REST, SectionSums, count_of, push_long_member};
 use crate::erased::binfarce_tools::json::{Form, push_number_member, push_start, push_text_member};
 use crate::erased::binfarce_tools::list::Sink;
 use crate::erased::binfarce_tools::writing::write_whole;
 use crate::shim::alloc::{AllocError, Global};
 use core::cmp::Reverse;
-use crate::shim::error::Error;
-use core::fmt;
 
 /// A name of sections, with its bytes in two files.
 #[derive(Debug, Clone, Copy)]
@@ -34,73 +26,12 @@ pub struct Change<'a> {
     pub new_memory: u128,
 }
 
-/// Why two files were not compared.
-#[derive(Debug, PartialEq)]
-pub struct ChangeError {
-    /// The reason, as `sum_sections` gives it.
-    pub error: SectionError,
-    /// Whether the old file can't be summed for this reason.
-    pub is_of_old: bool,
-}
-
-impl fmt::Display for ChangeError {
-    fn fmt(&self, f: &mut fmt::Formatter<'_>) -> fmt::Result {
-        write!(f, "{}", self.error)
-    }
-}
-
-impl Error for ChangeError {}
-
-impl From<SectionError> for ChangeError {
-    /// An error that isn't the old file's.
-    fn from(error: SectionError) -> Self {
-        ChangeError {
-            error,
-            is_of_old: false,
-        }
-    }
-}
-
-impl From<AllocError> for ChangeError {
-    fn from(_: AllocError) -> Self {
-        ChangeError::from(SectionError::OutOfMemory)
-    }
-}
-
-// A section with the bytes that count for it.
-pub(crate) struct Named<'a> {
-    pub share: Share<'a>,
-    /// Its name after its segment's, if it has a segment.
-    pub full_name: Option<String>,
-}
-
-impl Named<'_> {
-    // The name, as `sum_sections` shows it.
-    fn name(&self) -> &str {
-        match (&self.full_name, self.share.section.name) {
-            (Some(name), _) => name.as_str(),
-            (None, Some(name)) => name,
-            (None, None) => "",
-        }
-    }
-}
-
-// The sections of a file, how many of its bytes count for none, how many bytes it has, and how many its sections have
-// in memory.
-pub(crate) struct Parts<'a> {
-    pub named: Vec<Named<'a>>,
-    pub rest: u64,
-    pub file_length: u64,
-    pub memory: u128,
-}
-
 /// Writes a row for each name of sections, and for `[headers and gaps]`, whose bytes in the file or in memory differ
-/// between two files, and one for the whole files. The lengths of the files are returned.
+/// between two files, and one for the whole files.
 ///
-/// Each file is summed as `sum_sections` does; a name is as its lines show it, and the numbers of all sections of one
-/// name are added: also those of a section that is named `[headers and gaps]`. The greatest difference of bytes in the
-/// file comes first, of one difference the greatest in memory, and those of one rank are in the order of the names'
-/// bytes.
+/// A name is as `sum_sections` shows it, and the numbers of all sections of one name are added: also those of a section
+/// that is named `[headers and gaps]`. The greatest difference of bytes in the file comes first, of one difference the
+/// greatest in memory, and those of one rank are in the order of the names' bytes.
 ///
 /// A line is `{old:>10} {new:>10} {change:>11} {memory change:>11} {name}`; a change has its sign. Before the name it
 /// has, if that is wanted, the change of the bytes in the file in per cent of the old number, with two decimals and to
@@ -108,115 +39,34 @@ pub(crate) struct Parts<'a> {
 /// name of the line that sums up those past the first; the last line, `[total]`, has the lengths of the files, and the
 /// memory of all sections. An object has the members `file`, which is the new one's name, `section`, `old`, `new`,
 /// `change`, `old_memory`, `new_memory`, `memory_change` and, if that is wanted, `percent`, which is `null` where the
-/// old number is 0. Of a source only the bytes are read that `sum_sections` reads.
+/// old number is 0.
 ///
 /// # Errors
 ///
-/// Those of `sum_sections`, first for the old file, with whether it is that file's.
-pub fn diff_sections<F: Source<Log = ()>, G: Source<Log = ()>, S: Sink>(
+/// Those of `sum_sections`.
+pub fn diff_sections<S: Sink>(
     alloc: Global,
-    old: &F,
-    new: &G,
+    old: &SectionSums<'_>,
+    new: &SectionSums<'_>,
     first: Option<usize>,
     has_percent: bool,
     form: Form<'_>,
     out: &mut S,
-) -> Result<(u64, u64), ChangeError> {
-    let old_tables = of_old(tables_of(alloc, old))?;
-    let before = of_old(parts_of(alloc, &old_tables))?;
-    let new_tables = tables_of(alloc, new)?;
-    let after = parts_of(alloc, &new_tables)?;
+) -> Result<(), SectionError> {
     let layout = Layout {
         alloc,
         form,
         has_percent,
     };
-    let text = layout.text_of(first, &before, &after)?;
-    match write_whole(out, text.as_bytes()) {
-        Ok(()) => Ok((before.file_length, after.file_length)),
-        Err(_) => Err(ChangeError::from(SectionError::Write)),
-    }
+    let text = layout.text_of(first, old, new)?;
+    write_whole(out, text.as_bytes()).map_err(|_| SectionError::Write)
 }
 
-// A result for the old file.
-fn of_old<T>(given: Result<T, SectionError>) -> Result<T, ChangeError> {
-    match given {
-        Ok(value) => Ok(value),
-        Err(error) => Err(ChangeError {
-            error,
-            is_of_old: true,
-        }),
-    }
-}
-
-// The tables of a file's sections.
-fn tables_of<F: Source<Log = ()>>(alloc: Global, source: &F) -> Result<Tables, SectionError> {
-    Ok(read(alloc, source, &mut ())?)
-}
-
-// The parts of a file with these tables.
-fn parts_of<'a>(alloc: Global, tables: &'a Tables) -> Result<Parts<'a>, SectionError> {
-    let sections = tables.sections()?;
-    parts_left(alloc, sections, tables.file_length())
-}
-
-// The parts of the sections that are left.
-fn parts_left<'a>(
-    alloc: Global,
-    sections: Sections<'a>,
-    file_length: u64,
-) -> Result<Parts<'a>, SectionError> {
-    let sections = active_of(alloc, sections)?;
-    let shares = ranked_of(alloc, sections, file_length)?;
-    let named = named_of(alloc, &shares)?;
-    Ok(whole(
-        named,
-        rest_of(&shares, file_length),
-        file_length,
-        memory_of(&shares),
-    ))
-}
-
-// Sections with the sums over them.
-fn whole<'a>(named: Vec<Named<'a>>, rest: u128, file_length: u64, memory: u128) -> Parts<'a> {
-    Parts {
-        named,
-        rest: rest as u64,
-        file_length,
-        memory,
-    }
-}
-
-// Sections with the names that aren't stored whole.
-fn named_of<'a>(alloc: Global, shares: &[Share<'a>]) -> Result<Vec<Named<'a>>, AllocError> {
-    let mut all = Vec::new(alloc);
-    for share in shares {
-        all.push(with_name(alloc, *share)?)?;
-    }
-    Ok(all)
-}
-
-// A section with its name.
-fn with_name<'a>(alloc: Global, share: Share<'a>) -> Result<Named<'a>, AllocError> {
-    let full_name = full_name(alloc, &share.section)?;
-    Ok(Named { share, full_name })
-}
-
-// A section's name after its segment's, if it has a segment.
-fn full_name(alloc: Global, section: &Section<'_>) -> Result<Option<String>, AllocError> {
-    if section.segment.is_none() {
-        return Ok(None);
-    }
-    let mut name = String::new(alloc);
-    push_name(&mut name, section.segment, section.name)?;
-    Ok(Some(name))
-}
-
-// The changes from old parts to new ones.
+// The changes from the sums of a file to those of another.
 fn changes_of<'a>(
     alloc: Global,
-    old: &'a Parts<'a>,
-    new: &'a Parts<'a>,
+    old: &'a SectionSums<'a>,
+    new: &'a SectionSums<'a>,
 ) -> Result<Vec<Change<'a>>, AllocError> {
     let mut given = given_of(alloc, old, new)?;
     given.sort_by_key(|change| change.name)?;
@@ -238,25 +88,20 @@ fn bytes_distance(old: u64, new: u64) -> u64 {
 // A change for each part.
 fn given_of<'a>(
     alloc: Global,
-    old: &'a Parts<'a>,
-    new: &'a Parts<'a>,
+    old: &'a SectionSums<'a>,
+    new: &'a SectionSums<'a>,
 ) -> Result<Vec<Change<'a>>, AllocError> {
     let mut given = Vec::new(alloc);
-    for named in &old.named {
-        let share = &named.share;
-        given.push(old_change(named.name(), share.bytes, share.section.memory_size))?;
+    for share in &old.shares {
+        given.push(old_change(share.name(), share.bytes, share.section.memory_size))?;
     }
     given.push(old_change(REST, old.rest, 0))?;
-    for named in &new.named {
-        let share = &named.share;
-        given.push(new_change(named.name(), share.bytes, share.section.memory_size))?;
+    for share in &new.shares {
+        given.push(new_change(share.name(), share.bytes, share.section.memory_size))?;
     }
     given.push(new_change(REST, new.rest, 0))?;
     Ok(given)
 }
-
-// The name of the bytes that count for no section.
-const REST: &str = "[headers and gaps]";
 
 // The change that a part of the old file makes alone.
 fn old_change(name: &str, bytes: u64, memory: u64) -> Change<'_> {
@@ -331,8 +176,8 @@ impl Layout<'_> {
     fn text_of(
         &self,
         first: Option<usize>,
-        old: &Parts<'_>,
-        new: &Parts<'_>,
+        old: &SectionSums<'_>,
+        new: &SectionSums<'_>,
     ) -> Result<String, AllocError> {
         let changes = changes_of(self.alloc, old, new)?;
         let mut text = self.first_rows(first, &changes)?;

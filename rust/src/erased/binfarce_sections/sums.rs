@@ -7,88 +7,112 @@ use crate::erased::binfarce_sections::error::SectionError;
 use crate::erased::binfarce_sections::kinds::SectionType;
 use crate::erased::binfarce_sections::list::{push_name, push_type_member};
 use crate::erased::binfarce_sections::sections::{Section, Sections};
-use crate::erased::binfarce_sections::tables::read;
-use crate::erased::binfarce_bytes::source::Source;
+use crate::erased::binfarce_sections::tables::Tables;
 use crate::erased::binfarce_tools::json::{Form, push_number_member, push_start, push_text_member};
 use crate::erased::binfarce_tools::list::Sink;
 use crate::erased::binfarce_tools::writing::write_whole;
 use crate::shim::alloc::{AllocError, Global};
 use core::cmp::Reverse;
 
-/// A section, and how many of the file's bytes count for it.
-#[derive(Debug, Clone, Copy)]
-pub struct Share<'a> {
-    /// The section.
+// A section, and how many of the file's bytes count for it.
+pub(crate) struct Share<'a> {
     pub section: Section<'a>,
-    /// How many bytes count for it.
     pub bytes: u64,
+    /// Its name after its segment's, if it has a segment.
+    pub full_name: Option<String>,
+}
+
+impl Share<'_> {
+    // The name, as `sum_sections` shows it.
+    pub(crate) fn name(&self) -> &str {
+        match (&self.full_name, self.section.name) {
+            (Some(name), _) => name.as_str(),
+            (None, Some(name)) => name,
+            (None, None) => "",
+        }
+    }
+}
+
+/// The bytes of a file by its sections: how many of the file's bytes count for each section, and for none.
+///
+/// A byte that several sections have counts for the first of them, in the order of their offsets, those of one offset in
+/// file order. Bytes past the file's end don't count. ELF's inactive section headers (`SHT_NULL`) are left out. Names that
+/// the file stores whole are borrowed.
+///
+/// Contracts speak of the file's length, and of the sections with their bytes: the greatest number of bytes first, those
+/// of one number in the order of their offsets.
+pub struct SectionSums<'a> {
+    pub(crate) shares: Vec<Share<'a>>,
+    // How many of the file's bytes count for no section.
+    pub(crate) rest: u64,
+    pub(crate) file_length: u64,
+    // How many bytes all sections have in memory.
+    pub(crate) memory: u128,
+}
+
+impl<'a> SectionSums<'a> {
+    /// The sums of the sections of a file, from its tables, which `tables::read` reads.
+    ///
+    /// # Errors
+    ///
+    /// `Unknown` where the file's format isn't supported; `Parse` where the reader refuses a section, of all that the file
+    /// states; `OutOfMemory` where an allocation failed.
+    pub fn of_tables(alloc: Global, tables: &'a Tables) -> Result<SectionSums<'a>, SectionError> {
+        let sections = tables.sections()?;
+        sums_left(alloc, sections, tables.file_length())
+    }
+
+    /// The length of the file in bytes: the sum of all numbers of bytes in the file.
+    pub fn file_length(&self) -> u64 {
+        self.file_length
+    }
 }
 
 /// Writes a row for each section of a file: how many of the file's bytes count for it, and how many it has in memory.
-/// A row for the bytes that count for none follows, then the file's length, which is the sum of the first numbers. The
-/// length is returned.
+/// A row for the bytes that count for none follows, then the file's length, which is the sum of the first numbers.
 ///
-/// A byte that several sections have counts for the first of them, in the order of their offsets, those of one offset in
-/// file order; a section counts as far as it lies in the file. The greatest comes first, those of one number of bytes
-/// are in the order of their offsets. ELF's inactive section headers (`SHT_NULL`) have no row.
+/// The greatest comes first, those of one number of bytes are in the order of their offsets.
 ///
 /// A line is `{bytes:>10} {memory:>10} {name}`, with the name as in `list_sections`; `[N others]` is the name of the line
 /// that sums up those past the first, `[headers and gaps]` of the rest; the last line is `sum {length}`. An object has
 /// the members `file`, `segment`, `section`, `type`, `flags`, `size` and `memory`; type and flags are as in `list_source`,
 /// and `null` of the two rows that are no sections. The last one has `file`, and the length as `sum`.
 ///
-/// Of the source only these bytes are read: those that `list_source` reads.
-///
 /// # Errors
 ///
-/// Those of `list_source`; but nothing is written where the reader refuses a section (`Parse`).
-pub fn sum_sections<F: Source, S: Sink>(
+/// `OutOfMemory` where an allocation failed: nothing is written then. `Write` where a write failed: a beginning of the
+/// rows may then be written.
+pub fn sum_sections<S: Sink>(
     alloc: Global,
-    source: &F,
-    log: &mut F::Log,
+    sums: &SectionSums<'_>,
     first: Option<usize>,
     form: Form<'_>,
     out: &mut S,
-) -> Result<u64, SectionError> {
-    let tables = read(alloc, source, log)?;
-    let sections = tables.sections()?;
-    write_sums(alloc, sections, tables.file_length(), first, form, out)
+) -> Result<(), SectionError> {
+    let text = rows_of(alloc, sums, first, form)?;
+    write_whole(out, text.as_bytes()).map_err(|_| SectionError::Write)
 }
 
-// Writes the rows of all sections that are left, and returns the file's length.
-fn write_sums<S: Sink>(
+// The sums of the sections that are left.
+fn sums_left<'a>(
     alloc: Global,
-    sections: Sections<'_>,
+    sections: Sections<'a>,
     file_length: u64,
-    first: Option<usize>,
-    form: Form<'_>,
-    out: &mut S,
-) -> Result<u64, SectionError> {
-    let text = text_of(alloc, sections, file_length, first, form)?;
-    match write_whole(out, text.as_bytes()) {
-        Ok(()) => Ok(file_length),
-        Err(_) => Err(SectionError::Write),
-    }
-}
-
-// The whole text.
-fn text_of(
-    alloc: Global,
-    sections: Sections<'_>,
-    file_length: u64,
-    first: Option<usize>,
-    form: Form<'_>,
-) -> Result<String, SectionError> {
+) -> Result<SectionSums<'a>, SectionError> {
     let sections = active_of(alloc, sections)?;
     let shares = ranked_of(alloc, sections, file_length)?;
-    Ok(rows_of(alloc, &shares, file_length, first, form)?)
+    let rest = rest_of(&shares, file_length);
+    let memory = memory_of(&shares);
+    Ok(SectionSums {
+        shares,
+        rest,
+        file_length,
+        memory,
+    })
 }
 
 // The sections that are left, without inactive ones.
-pub(crate) fn active_of<'a>(
-    alloc: Global,
-    sections: Sections<'a>,
-) -> Result<Vec<Section<'a>>, SectionError> {
+fn active_of<'a>(alloc: Global, sections: Sections<'a>) -> Result<Vec<Section<'a>>, SectionError> {
     let mut active = Vec::new(alloc);
     for section in sections {
         push_active(&mut active, section?)?;
@@ -113,7 +137,7 @@ fn is_inactive(kind: SectionType) -> bool {
 const SHT_NULL: u32 = 0;
 
 // The shares of sections, the greatest first.
-pub(crate) fn ranked_of<'a>(
+fn ranked_of<'a>(
     alloc: Global,
     mut sections: Vec<Section<'a>>,
     file_length: u64,
@@ -136,7 +160,12 @@ fn shares_of<'a>(
         let next = end_in(section, file_length);
         let bytes = next.saturating_sub(section.offset.max(end));
         let section = *section;
-        shares.push(Share { section, bytes })?;
+        let full_name = full_name(alloc, &section)?;
+        shares.push(Share {
+            section,
+            bytes,
+            full_name,
+        })?;
         end = next.max(end);
     }
     Ok(shares)
@@ -148,25 +177,37 @@ fn end_in(section: &Section<'_>, file_length: u64) -> u64 {
     end.min(file_length)
 }
 
-// The rows of shares, that of the rest, and the file's length.
+// A section's name after its segment's, if it has a segment.
+fn full_name(alloc: Global, section: &Section<'_>) -> Result<Option<String>, AllocError> {
+    if section.segment.is_none() {
+        return Ok(None);
+    }
+    let mut name = String::new(alloc);
+    push_name(&mut name, section.segment, section.name)?;
+    Ok(Some(name))
+}
+
+// How many of a file's bytes count for no section.
+fn rest_of(shares: &[Share<'_>], file_length: u64) -> u64 {
+    let rest = u128::from(file_length).saturating_sub(total_of(shares));
+    rest as u64
+}
+
+// The name of the bytes that count for no section.
+pub(crate) const REST: &str = "[headers and gaps]";
+
+// The rows of sections, that of the rest, and the file's length.
 fn rows_of(
     alloc: Global,
-    shares: &[Share<'_>],
-    file_length: u64,
+    sums: &SectionSums<'_>,
     first: Option<usize>,
     form: Form<'_>,
 ) -> Result<String, AllocError> {
     let mut text = String::new(alloc);
-    push_shares(alloc, &mut text, form, first, shares)?;
-    let rest = rest_of(shares, file_length);
-    push_plain(&mut text, form, "[headers and gaps]", rest, 0)?;
-    push_end(&mut text, form, file_length)?;
+    push_shares(alloc, &mut text, form, first, &sums.shares)?;
+    push_plain(&mut text, form, REST, u128::from(sums.rest), 0)?;
+    push_end(&mut text, form, sums.file_length)?;
     Ok(text)
-}
-
-// How many of a file's bytes count for no section.
-pub(crate) fn rest_of(shares: &[Share<'_>], file_length: u64) -> u128 {
-    u128::from(file_length).saturating_sub(total_of(shares))
 }
 
 // Appends the row of the file's length.
@@ -272,7 +313,7 @@ fn total_of(shares: &[Share<'_>]) -> u128 {
 }
 
 // How many bytes they have in memory.
-pub(crate) fn memory_of(shares: &[Share<'_>]) -> u128 {
+fn memory_of(shares: &[Share<'_>]) -> u128 {
     let sizes = shares
         .iter()
         .map(|share| u128::from(share.section.memory_size));

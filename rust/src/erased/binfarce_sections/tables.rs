@@ -14,11 +14,12 @@ use crate::erased::binfarce_tables::format::read_format;
 use crate::erased::binfarce_tables::{Beginning, ReadError, Width, elf, macho, part, pe};
 use crate::shim::alloc::Global;
 
-// The tables of a file's sections.
-pub(crate) enum Tables {
+/// The tables of a file's sections.
+pub enum Tables {
     Elf(elf::SectionParts),
     Macho(Beginning),
     Pe(Beginning),
+    /// Those of a file whose format isn't supported.
     Unknown,
 }
 
@@ -44,13 +45,14 @@ impl Tables {
     }
 }
 
-// Reads the first bytes of a file, which name its format, and the tables of the sections of a file of that format
-// (`binfarce_tables`). Refused where the file is too short for its header.
-pub(crate) fn read<S: Source>(
-    alloc: Global,
-    source: &S,
-    log: &mut S::Log,
-) -> Result<Tables, ReadError> {
+/// Reads the tables of a file's sections from a source. Of the source only these bytes are read: the first 8 bytes, which
+/// name the format, and those that `read_sections` of `binfarce_tables` reads of a file of that format.
+///
+/// # Errors
+///
+/// `Refused` where the file is too short for its header. `Unreadable` where the source can't be read at offsets, or a read
+/// of it fails; `OutOfMemory` where an allocation failed.
+pub fn read<S: Source>(alloc: Global, source: &S, log: &mut S::Log) -> Result<Tables, ReadError> {
     let format = read_format(alloc, source, log)?;
     read_as(alloc, source, log, format)
 }

@@ -1,9 +1,11 @@
-use Rattle.std.proofs.Common.{◌++◌, map, refl}
+use Rattle.std.proofs.Common.{◌++◌, ◌∙◌, ap, map, refl}
 use Rattle.std.specs.List.{flat_map}
 use Rattle.std.specs.String.{string_bytes}
 use Rattle.std.proofs.lemmas.List.{drop_all}
 use Rattle.binfarce_tools.specs.Json.{style_of}
-use Rattle.binfarce_sections.specs.Sums.{share_row, share_view}
+use Rattle.binfarce_sections.specs.declared.sums.Share.{Share}
+use Rattle.binfarce_sections.specs.Sums.{share_row}
+use Rattle.binfarce_sections.specs.Views.{share_view}
 use Rattle.binfarce_sections.proofs.SumRows.{row_more, rows_done}
 use Rattle.binfarce_sections.proofs.sums.push_each.Goals as goal
 
@@ -15,7 +17,8 @@ loop-share-preserved c =
     let style = style_of c.args.form in
     let shares = c.args.shares.now in
     row_more style shares c.loop-share.share-index _ (string_bytes c.loop-share.text) (string_bytes c.push_share.new.text)
-    (string_bytes c.args.text.now ++ flat_map (share_row style) (map share_view shares)) c.loop-share-test.true c.in_ok-push_share.ensures c.loop-share.invariant
+    (string_bytes c.args.text.now ++ flat_map (share_row style) (map share_view shares)) c.loop-share-test.true
+    (c.in_ok-push_share.ensures ∙ ap (λ (s : Share). string_bytes c.loop-share.text ++ share_row style (share_view s)) c.share-item.is) c.loop-share.invariant
 
 pub returns : goal.returns
 returns c =

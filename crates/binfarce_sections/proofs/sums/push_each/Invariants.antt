@@ -2,7 +2,8 @@ use Rattle.std.proofs.Common.{◌≡◌, ◌++◌, map, drop}
 use Rattle.std.specs.List.{flat_map}
 use Rattle.std.specs.String.{string_bytes}
 use Rattle.binfarce_tools.specs.Json.{style_of}
-use Rattle.binfarce_sections.specs.Sums.{share_row, share_view}
+use Rattle.binfarce_sections.specs.Sums.{share_row}
+use Rattle.binfarce_sections.specs.Views.{share_view}
 use Rattle.binfarce_sections.proofs.sums.push_each.Given as goal
 
 -- with the rows of what is left after it, the text has the rows of all

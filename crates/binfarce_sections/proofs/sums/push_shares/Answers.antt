@@ -3,7 +3,8 @@ use Rattle.std.proofs.lemmas.List.{take_all}
 use Rattle.std.specs.String.{string_bytes}
 use Rattle.binfarce_tools.specs.Json.{style_of}
 use Rattle.binfarce_sections.specs.declared.sums.Share.{Share}
-use Rattle.binfarce_sections.specs.Sums.{others_row, share_view}
+use Rattle.binfarce_sections.specs.Sums.{others_row}
+use Rattle.binfarce_sections.specs.Views.{share_view}
 use Rattle.binfarce_sections.proofs.SumRows.{split_rows}
 use Rattle.binfarce_sections.proofs.sums.push_shares.Goals as goal
 

@@ -1,6 +1,6 @@
 //! Symbolizes addresses in an executable, a line for each.
 
-ghost use Rattle.std.specs.Prelude.{◌≡◌, ◌≢◌, ◌++◌, ◌<◌, ℕ, List, Option, length, Some, None, Ok, map, IfErr, IfOk, MatchOption};
+ghost use Rattle.std.specs.Prelude.{◌≡◌, ◌≢◌, ◌++◌, ◌<◌, ℕ, List, Option, length, nat_eq, Some, None, Ok, map, IfErr, IfOk, MatchOption};
 ghost use Rattle.binfarce.specs.SectionEntries.{SelectedSymbols};
 ghost use Rattle.binfarce.specs.Symbol.{Entry};
 ghost use Rattle.binfarce.specs.SymbolViews.{function_view};
@@ -80,6 +80,20 @@ impl<'a> Places<'a> {
     {
         let (functions, _) = tables.functions(alloc)?.into_list();
         Ok(places_of(alloc, functions)?)
+    }
+
+    /// How many function symbols there are.
+    pub fn len(&self) -> usize
+        ensures { result ≡ length self.now }
+    {
+        self.functions.len()
+    }
+
+    /// Whether there is no function symbol.
+    pub fn is_empty(&self) -> bool
+        ensures { result ≡ nat_eq (length self.now) 0 }
+    {
+        self.functions.is_empty()
     }
 
     /// The function symbol that an address symbolizes to by this lookup, and the offset of the address into it.

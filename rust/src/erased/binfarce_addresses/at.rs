@@ -48,6 +48,16 @@ impl<'a> Places<'a> {
         Ok(places_of(alloc, functions)?)
     }
 
+    /// How many function symbols there are.
+    pub fn len(&self) -> usize {
+        self.functions.len()
+    }
+
+    /// Whether there is no function symbol.
+    pub fn is_empty(&self) -> bool {
+        self.functions.is_empty()
+    }
+
     /// The function symbol that an address symbolizes to by this lookup, and the offset of the address into it.
     pub fn find(&self, lookup: Lookup<'_>, address: u64) -> Option<(FunctionSymbol<'a>, u64)> {
         let (place, offset) = self.find_place(lookup, Some(address))?;

@@ -14,7 +14,7 @@ import sys
 
 FUNCTIONS, LINES = 100, 1500
 # Crates that are still to be split, and their bounds on functions.
-EXCEPTIONS = {"binfarce_addresses": 130, "binfarce_sections": 130}
+EXCEPTIONS = {"binfarce_addresses": 132, "binfarce_sections": 120}
 CRATES = pathlib.Path(__file__).resolve().parent.parent / "crates"
 # What may hold a brace, a quote or a slash that is none: comments, texts and characters (a lifetime has no second ').
 TOKENS = re.compile(r"""//[^\n]*|b?"(?:\\.|[^"\\])*"|b?'(?:\\[^']+|[^'\\])'""", re.S)

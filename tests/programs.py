@@ -190,6 +190,11 @@ lines = f"{0:016x} {64:10} {0:10} \n{0:016x} {64:10} {32:10} \n"
 ends(1, lines, f"binfarce: {truncated}: {ended}", "binfarce", "section", truncated)
 ends(1, "", f"binfarce: {sample}: no section of this name", "binfarce", "section", sample, ".data")
 
+# Of a pipe without an end that no reader reads only the first bytes are read.
+for writer, line in (("yes", is_text), ("cat /dev/zero", unknown)):
+    for command in ("list", "size", "section"):
+        ends(1, "", f"binfarce: -: {line}", "binfarce", command, "-", under=("sh", "-c", f'{writer} | timeout 60 "$0" "$@"'))
+
 # Names on standard input, and as arguments.
 fails(full, 0, "", "binfarce", "filter", given=names)
 ends(0, text.format("foo::bar", "a::b", "std::process::abort"), "", "binfarce", "filter", given=names)
@@ -256,6 +261,7 @@ ends(2, "", "binfarce: --as comes once for each file, in their order, or not at 
 # A file that is refused doesn't keep the others from answering; where each is, nothing is written.
 ends(1, "0x401005 0x7f0000001005 other.so+0x1005 <foo+0x5> x/other.so(+0x1005 <foo+0x5>) 0x1005 <foo+0x5> libother.so+0x1005\n", lost, *several, missing, given=both)
 ends(1, "", lost, *at, "--annotate", missing, given=both)
+ends(1, b"0x401005 <foo+0x5> 0x1005\n", lost, *at, "--annotate", "--base=0", "--base=400000", missing, sample, given=b"0x401005 0x1005\n")
 others = "binfarce: standard input: offsets ({}) behind other names than the file's; --as=NAME takes those behind one of these"
 ends(0, b"libother.so+0x1005 main+0x1f2e\n", others.format(2), *several, given=b"libother.so+0x1005 main+0x1f2e\n")
 # Behind a name that a function of the file has, too, a word `main+0x12` is an offset into the function, as perf writes it; others are in the file.
@@ -445,6 +451,7 @@ ends(0, f"a;f {top}\n", "", "binfarce", "map", "--folded", pair)
 for call in (("size",), ("map",), ("map", "--folded")):
     ends(1, "", f"binfarce: {apart}: sizes are too large", "binfarce", *call, apart)
 ends(1, "", f"binfarce: {apart}: sizes are too large", "binfarce", "diff", pair, apart)
+ends(1, "", f"binfarce: {apart}: sizes are too large\n{lost}", "binfarce", "diff", apart, missing)
 # Where half of the bytes or more have no crate, a line says how many, by crate alone.
 half, less = assembled("half", 20, ("_RNvC1a1f", 0, 10), ("c", 10, 10)), assembled("less", 21, ("_RNvC1a1f", 0, 11), ("c", 11, 10))
 for words, line in (((), f"binfarce: {half}: 10 of 20 bytes {nameless}"), (("--by=function",), "")):
@@ -483,6 +490,13 @@ def changed(rows):
 ends(0, changed([*differ, whole]), "", "binfarce", "diff", "--by=section", old, new)
 others = (f"[{len(differ) - 1} others]", *(sum(it[k] for it in differ[1:]) for k in (1, 2, 3, 4)))
 ends(0, changed([differ[0], others, whole]), "", "binfarce", "diff", "--by=section", "-n", "1", old, new)
+# A limit for the growth of the file, which doesn't hold for one that shrinks.
+by = whole[3] - whole[1]
+assert by, "the files have one length"
+for before, after, growth, rows in ((old, new, by, [*differ, whole]), (new, old, -by, [(name, d, e, b, c) for name, b, c, d, e in (*differ, whole)])):
+    for limit in (abs(by), abs(by) - 1):
+        line = f"binfarce: {after}: grew by {growth} bytes, and --fail-above allows {limit}" if growth > limit else ""
+        ends(3 if line else 0, changed(rows), line, "binfarce", "diff", "--by=section", f"--fail-above={limit}", before, after)
 for *paths, lines in ((missing, of_sys, f"{lost}\nbinfarce: {of_sys}: {is_text}"), (of_sys, missing, f"binfarce: {of_sys}: {is_text}\n{lost}"),
                       (byte, "/dev/null", f"binfarce: {byte}: {unknown}\nbinfarce: /dev/null: {is_empty}")):
     ends(1, "", lines, "binfarce", "diff", "--by=section", *paths)
@@ -507,6 +521,8 @@ ends(0, printed(folder / "binfarce", "size", old), "", "binfarce", "size", "--fa
 ends(3, printed(folder / "binfarce", "size", old, new), line, "binfarce", "size", "--fail-above=38", old, new)
 ends(3, printed(folder / "binfarce", "size", "--by=section", sample), f"binfarce: {sample}: has 587 bytes, and --fail-above allows 586",
      "binfarce", "size", "--by=section", "--fail-above=586", sample)
+line = f"binfarce: {old}: has {whole[1]} bytes, and --fail-above allows 587"
+ends(3, printed(folder / "binfarce", "size", "--by=section", old, sample), line, "binfarce", "size", "--by=section", "--fail-above=587", old, sample)
 for line, *words in (("--fail-above=2% is for diff; size takes a number of bytes", "size", "--fail-above=2%", old), ("--folded and --first exclude each other", "map", "--folded", "-n2", old),
                      ("--fail-above takes a number of bytes, or of per cent as 2%, and not 2.5%", "diff", "--fail-above=2.5%", old, new)):
     ends(2, "", f"binfarce: {line}", "binfarce", *words)
@@ -532,6 +548,7 @@ assert sorted(printed(folder / "binfarce", "map", "--folded", old).splitlines())
 def objects(*words):
     run = subprocess.run([folder / "binfarce", *words, "--json"], capture_output=True, input=b"0x1\n-\n")
     return [json.loads(it) for it in run.stdout.splitlines()]
+assert objects("list", "--section=.data", old) == [], "function symbols of another section in JSON"
 assert objects("list", escaped)[0]["raw"] == 'a"\\\n\x01\x7f\xe9;:<>', "another name in JSON"
 for *options, path in [("--all", "--dynamic", library), ("--all", old)] + [("--all", folder / "binfarce")] * (not is_static):
     lines = [f"{int(it['address'], 16):016x} {it['size']:10} {it['section']} {it['name']}\n" for it in objects("list", *options, path)]

@@ -3,6 +3,7 @@ use Rattle.std.specs.Prelude.{ℕ, Bool, true, false, ◌&&◌, not, Option, Som
 use Rattle.std.specs.declared.io.ErrorKind.{ErrorKind}
 use Rattle.std.specs.declared.io.ErrorKind.TheVariants.{BrokenPipe}
 use Rattle.binfarce_jobs.specs.declared.fault.Fault.{Fault}
+use Rattle.binfarce_jobs.specs.declared.limit.Verdict.{Verdict}
 use Rattle.binfarce_jobs.specs.Faults.{is_write}
 use Rattle.binfarce_jobs.specs.declared.fault.Fault.TheVariants.{Missing}
 use Rattle.binfarce_words.specs.declared.words.Wrong.{Wrong}
@@ -28,8 +29,11 @@ abbrev pub fault_status : Fault → ℕ
 fault_status (Missing count) = 2
 fault_status fault = 1
 
--- the status of work that is done, or done except for files that were refused, or that ended early: 3 where all is done and a sum is above its limit; the reason is that of a failed write
-abbrev pub status_of : Result Bool Fault → (is_above has_limit : Bool) → Option ErrorKind → ℕ
-status_of (Ok true) is_above has_limit reason = if is_above then 3 else 0
-status_of (Ok false) is_above has_limit reason = 1
-status_of (Err fault) is_above has_limit reason = if is_write fault then write_status has_limit reason else fault_status fault
+-- the status of work that came to this: 1 where a file was refused, else 3 where a sum exceeds its limit
+abbrev pub verdict_status : Verdict → ℕ
+verdict_status verdict = if not verdict.is_done then 1 else (if verdict.is_above then 3 else 0)
+
+-- the status of a call, by what its work came to, or why it ended early; the reason is that of a failed write
+abbrev pub status_of : Result Verdict Fault → (has_limit : Bool) → Option ErrorKind → ℕ
+status_of (Ok verdict) has_limit reason = verdict_status verdict
+status_of (Err fault) has_limit reason = if is_write fault then write_status has_limit reason else fault_status fault

@@ -7,40 +7,33 @@ mod report;
 
 use crate::asked::{Addresses, path_of};
 use crate::help::{VERSION, help};
-use crate::report::{ended, refuse, report};
+use crate::report::{ended, refuse as refuse_call, report};
 use binfarce_addresses::annotate::annotate_stream;
 use binfarce_addresses::at::Places;
 use binfarce_addresses::{Counts, Lookup, Module};
 use binfarce_bytes::source::Source;
-use binfarce_figures::diff::{DiffError, Growth, diff};
-use binfarce_figures::key::{Grouping, Key};
-use binfarce_figures::rows::{Naming, Shown};
-use binfarce_figures::sums::{Figures, sum_by};
+use binfarce_calls::compare::{Pair, Sizes, compare, compare_sections};
+use binfarce_calls::request::{figures_of, form_of, request_of, symbols_of};
+use binfarce_calls::sections::{show_section, sum_files};
 use binfarce_filtering::stream::{StreamError, filter_stream};
 use binfarce_jobs::at::{answer_all, answer_input, load_addresses_of, places_of};
 use binfarce_jobs::fault::Fault;
-use binfarce_jobs::files::{System, heading, open_input, reported, show_files};
+use binfarce_jobs::files::{System, open_input, refuse, show_files};
 use binfarce_jobs::filter::lines_of;
 use binfarce_jobs::hint::{Hint, Loaded, lack};
 use binfarce_jobs::input::{FileOrStdin, OpenFile};
-use binfarce_jobs::limit::{above, grown};
+use binfarce_jobs::limit::Verdict;
 use binfarce_jobs::message::{Message, Unplaced, message_of, push_refusal};
 use binfarce_jobs::output::Output;
-use binfarce_jobs::section::{Asked, write_sections};
-use binfarce_jobs::show::{Kind, Request, Symbols, tables_of};
-use binfarce_sections::changes::diff_sections;
+use binfarce_jobs::section::Asked;
+use binfarce_jobs::show::{Symbols, tables_of};
 use binfarce_sections::error::SectionError;
-use binfarce_sections::sums::sum_sections;
 use binfarce_tables::ReadError;
 use binfarce_tables::loading::LoadAddress;
-use binfarce_tools::SymbolTable::{Dynsym, Symtab};
-use binfarce_tools::json::Form;
-use binfarce_tools::list::Out;
 use binfarce_tools::report::ReportError;
-use binfarce_tools::tables::{Selection, Tables};
+use binfarce_tools::tables::Tables;
 use binfarce_words::words::Flag::{
-    self, All, Annotate, Bare, Base, Dynamic, First, Folded, Full, Json, Maps, NoTotal, Percent,
-    Raw, Return, Section, Sort, Std,
+    Annotate, Bare, Base, FailAbove, First, Full, Json, Maps, Return,
 };
 use binfarce_words::words::{Arguments, Call, Command, Wrong, read_call};
 use std::alloc::{AllocError, Global};
@@ -51,8 +44,8 @@ use std::process::ExitCode;
 
 fn main(rt: HostRuntime) -> ExitCode {
     let status = match arguments(&rt) {
-        Ok(words) => run(&rt, words.as_slice()).unwrap_or_else(|wrong| refuse(&rt, &wrong)),
-        Err(_) => refuse(&rt, &Wrong::OutOfMemory),
+        Ok(words) => run(&rt, words.as_slice()).unwrap_or_else(|wrong| refuse_call(&rt, &wrong)),
+        Err(_) => refuse_call(&rt, &Wrong::OutOfMemory),
     };
     ExitCode::from(status)
 }
@@ -140,16 +133,21 @@ fn run<'a>(rt: &HostRuntime, words: &'a [String]) -> Result<u8, Wrong<'a>> {
         _ => Addresses::nothing(rt.alloc()),
     };
     let mut out = Output::new(rt.alloc(), io::writer(rt));
-    let mut is_above = false;
-    let mut are_no_maps = false;
-    let done = answer(rt, &call, &asked, &mut out, &mut is_above, &mut are_no_maps);
-    if are_no_maps {
-        if let Call::Run(_, given) = &call {
-            return Err(Wrong::NotMaps(given.value(Maps).unwrap_or("")));
-        }
+    let done = match answer(rt, &call, &asked, &mut out) {
+        Ok(Some(verdict)) => Ok(verdict),
+        Ok(None) => return Err(Wrong::NotMaps(maps_of(&call))),
+        Err(fault) => Err(fault),
+    };
+    let has_limit = matches!(&call, Call::Run(_, given) if given.has(FailAbove));
+    Ok(ended(rt, done, has_limit, out.into_parts().1))
+}
+
+// The path of the maps.
+fn maps_of<'a>(call: &Call<'a>) -> &'a str {
+    match call {
+        Call::Run(_, given) => given.value(Maps).unwrap_or(""),
+        _ => "",
     }
-    let has_limit = matches!(&call, Call::Run(_, given) if given.has(Flag::FailAbove));
-    Ok(ended(rt, done, is_above, has_limit, out.into_parts().1))
 }
 
 // The first operand.
@@ -162,65 +160,48 @@ fn second<'a>(given: &Arguments<'a>) -> Option<&'a str> {
     given.operands.get(1).copied()
 }
 
-// Whether one of the options is given.
-fn has_any(given: &Arguments<'_>, flags: &[Flag]) -> bool {
-    flags.iter().any(|flag| given.has(*flag))
-}
-
-// Runs a call, and flushes the output. `false` where a file was refused. Sets whether a sum is above its limit, and whether
-// the maps have no mapping: nothing is then written.
+// Runs a call, and flushes the output. `None` where the maps have no mapping: nothing is then written.
 fn answer<W: Write>(
     rt: &HostRuntime,
     call: &Call<'_>,
     asked: &Addresses,
     out: &mut Output<W>,
-    is_above: &mut bool,
-    are_no_maps: &mut bool,
-) -> Result<bool, Fault> {
-    let is_done = match call {
+) -> Result<Option<Verdict>, Fault> {
+    let done = match call {
         Call::Help(topic) => {
             let (text, options) = help(*topic);
-            print(text, out)? && print(options, out)?
+            print(text, out)?;
+            print(options, out)?;
+            Some(Verdict::done())
         }
-        Call::Version => print(VERSION, out)?,
+        Call::Version => {
+            print(VERSION, out)?;
+            Some(Verdict::done())
+        }
         Call::Run(command, given) => {
             let refusals = String::new(rt.alloc());
-            let host = Host {
-                rt,
-                refusals,
-                is_above: false,
-            };
-            let mut work = Work {
-                host,
-                given,
-                out,
-                are_no_maps: false,
-            };
-            let is_done = work.run(*command, asked)?;
+            let host = Host { rt, refusals };
+            let mut work = Work { host, given, out };
+            let done = work.run(*command, asked)?;
             work.print_refusals()?;
-            *is_above = work.host.is_above;
-            *are_no_maps = work.are_no_maps;
-            is_done
+            done
         }
     };
     out.flush().map_err(|_| Fault::Report(ReportError::Write))?;
-    Ok(is_done)
+    Ok(done)
 }
 
-fn print<W: Write>(text: &str, out: &mut Output<W>) -> Result<bool, Fault> {
-    let written = out.write_all(text.as_bytes());
-    written
-        .map(|()| true)
+fn print<W: Write>(text: &str, out: &mut Output<W>) -> Result<(), Fault> {
+    out.write_all(text.as_bytes())
         .map_err(|_| Fault::Report(ReportError::Write))
 }
 
-// A command's work: the system around it, what it is given, where it writes, and whether the maps have no mapping.
+// A command's work: the system around it, what it is given, and where it writes.
 #[derive(Drop)]
 struct Work<'a, 'b, W> {
     host: Host<'a>,
     given: &'a Arguments<'b>,
     out: &'a mut Output<W>,
-    are_no_maps: bool,
 }
 
 // Where the file at a place among the operands is loaded, where it says that it is, and the address for an offset in a text.
@@ -232,25 +213,29 @@ struct Placed {
     origin: u64,
 }
 
+// Whether a file is placed.
+#[derive(Clone, Copy)]
+enum Place {
+    At(Placed),
+    // The maps don't place it, which is reported.
+    Refused,
+    // The maps have no mapping.
+    NoMaps,
+}
+
 impl<'a, W: Write> Work<'a, '_, W> {
-    // The addresses of `at`, and the maps, were read before.
-    fn run(&mut self, command: Command, asked: &Addresses) -> Result<bool, Fault> {
+    // The addresses of `at`, and the maps, were read before. `None` where the maps have no mapping.
+    fn run(&mut self, command: Command, asked: &Addresses) -> Result<Option<Verdict>, Fault> {
         let given = self.given;
-        match command {
-            Command::List => self.show_all(listing_of(given)),
-            Command::Size if given.is_by_section() => self.sum_sections(),
-            Command::Size => self.show_all(Kind::Figures(figures_of(given))),
-            Command::Map if given.has(Folded) => self.show_all(Kind::Stacks(given.has(Std))),
-            Command::Map => {
-                let figures = figures_of(given);
-                self.show_all(Kind::Picture(figures.grouping, figures.first))
-            }
-            Command::Diff if given.is_by_section() => self.compare_sections(),
-            Command::Diff => self.compare(),
-            Command::Filter => self.filter(),
-            Command::At => self.symbolize(asked),
-            Command::Section => self.write_section(),
-        }
+        let verdict = match command {
+            Command::At if given.has(Annotate) => return self.annotate(asked),
+            Command::At => return self.symbolize(asked),
+            Command::Diff => self.compare()?,
+            Command::Filter => self.filter()?,
+            Command::Section => self.write_section()?,
+            Command::List | Command::Size | Command::Map => self.show_all(command)?,
+        };
+        Ok(Some(verdict))
     }
 
     // Prints the objects of the files that were refused since the last time, if objects are asked for.
@@ -262,176 +247,87 @@ impl<'a, W: Write> Work<'a, '_, W> {
         Ok(())
     }
 
-    // Shows the function symbols of all files that are given.
-    fn show_all(&mut self, kind: Kind) -> Result<bool, Fault> {
+    // Shows what the command shows of all files that are given.
+    fn show_all(&mut self, command: Command) -> Result<Verdict, Fault> {
+        let given = self.given;
         let alloc = self.host.rt.alloc();
-        let asked = Request {
-            kind,
-            symbols: symbols_of(self.given, false),
-            is_json: self.given.has(Json),
-            limit: self.given.limit(),
-        };
+        let asked = request_of(command, given);
         // Objects have the names of their files, and need no headings.
         let most = if asked.is_json { 1 } else { usize::MAX };
-        let mut are_shown = true;
-        for files in self.given.operands.chunks(most) {
-            are_shown &= show_files(alloc, &mut self.host, &asked, files, self.out)?;
+        let mut all = Verdict::done();
+        for files in given.operands.chunks(most) {
+            let host = &mut self.host;
+            let shown = if given.is_by_section() {
+                sum_files(alloc, host, &asked, given.count(First), files, self.out)?
+            } else {
+                show_files(alloc, host, &asked, files, self.out)?
+            };
+            all = all.and_then(shown);
             self.print_refusals()?;
         }
-        Ok(are_shown)
+        Ok(all)
     }
 
-    // Compares the sizes of two files. `false` where one is refused.
-    fn compare(&mut self) -> Result<bool, Fault> {
+    // Compares two files.
+    fn compare(&mut self) -> Result<Verdict, Fault> {
         let given = self.given;
         let alloc = self.host.rt.alloc();
-        let paths = (first(given), second(given).unwrap_or(""));
-        let old = self.host.tables_at(given, paths.0)?;
-        let new = self.host.tables_at(given, paths.1)?;
-        let (Some(old), Some(new)) = (&old, &new) else {
-            self.check_alone(paths.0, old.as_ref());
-            self.check_alone(paths.1, new.as_ref());
-            return Ok(false);
+        let new = second(given).unwrap_or("");
+        let pair = Pair {
+            old: first(given),
+            new,
+            form: form_of(given, new),
+            limit: given.limit(),
         };
-        let form = form_of(given, paths.1);
-        let (before, after) = (&old.tables, &new.tables);
-        match diff(alloc, before, after, &figures_of(given), form, self.out) {
-            Ok(growth) => {
-                self.hint_on_none(paths.0, old, growth.old);
-                self.hint_on_none(paths.1, new, growth.new);
-                self.host.warn(paths.1, grown(growth, given.limit()));
-                Ok(true)
-            }
-            Err(DiffError { error, .. }) if error == ReportError::Write => Err(Fault::from(error)),
-            Err(DiffError { error, is_of_old }) => {
-                let path = if is_of_old { paths.0 } else { paths.1 };
-                self.host.report(path, Fault::from(error), None);
-                if is_of_old {
-                    self.check_alone(paths.1, Some(new));
-                }
-                Ok(false)
-            }
+        let figures = figures_of(given);
+        if given.is_by_section() {
+            return compare_sections(alloc, &mut self.host, &pair, &figures, self.out);
         }
-    }
-
-    // Gives a hint where the file at this path, of this sum, has no function symbol.
-    fn hint_on_none(&mut self, path: &str, read: &ReadFile, sum: u64) {
-        if sum == 0 {
-            let alloc = self.host.rt.alloc();
-            let why = lack(alloc, &read.file, &symbols_of(self.given, false));
-            self.host.warn(path, why.unwrap_or(None));
-        }
-    }
-
-    // Reports the file at this path if it can't be summed, where its tables could be read.
-    fn check_alone(&mut self, path: &str, read: Option<&ReadFile>) {
-        let Some(ReadFile { tables, .. }) = read else {
-            return;
+        let sizes = Sizes {
+            symbols: symbols_of(given, false),
+            figures,
         };
-        let alloc = self.host.rt.alloc();
-        let mut unseen = Out::new(Vec::new(alloc));
-        if let Err(e) = sum_by(
-            alloc,
-            tables,
-            &figures_of(self.given),
-            Form::Lines,
-            &mut unseen,
-        ) {
-            self.host.report(path, Fault::from(e), None);
-        }
-    }
-
-    // Compares the bytes of the sections of two files. `false` where one is refused.
-    fn compare_sections(&mut self) -> Result<bool, Fault> {
-        let given = self.given;
-        let alloc = self.host.rt.alloc();
-        let paths = (first(given), second(given).unwrap_or(""));
-        let old = open_input(alloc, &mut self.host, paths.0);
-        let is_summed = self.check_sections(paths.0, old.as_ref())?;
-        let new = open_input(alloc, &mut self.host, paths.1);
-        let (true, Some(old), Some(new)) = (is_summed, &old, &new) else {
-            self.check_sections(paths.1, new.as_ref())?;
-            return Ok(false);
-        };
-        let form = form_of(given, paths.1);
-        let first = given.count(First);
-        let has_percent = given.has(Percent);
-        match diff_sections(alloc, old, new, first, has_percent, form, self.out) {
-            Ok((old, new)) => {
-                let growth = Growth { old, new };
-                self.host.warn(paths.1, grown(growth, given.limit()));
-                Ok(true)
-            }
-            Err(e) if e.is_of_old => reported(
-                alloc,
-                &mut self.host,
-                paths.0,
-                old,
-                Err(Fault::from(e.error)),
-            ),
-            Err(e) => reported(
-                alloc,
-                &mut self.host,
-                paths.1,
-                new,
-                Err(Fault::from(e.error)),
-            ),
-        }
-    }
-
-    // Whether the sections of the file at this path can be summed; the file is reported if they can't, unless it couldn't
-    // be opened and was reported before.
-    fn check_sections(
-        &mut self,
-        path: &str,
-        file: Option<&OpenFile<FileOrStdin>>,
-    ) -> Result<bool, Fault> {
-        let Some(file) = file else {
-            return Ok(false);
-        };
-        let alloc = self.host.rt.alloc();
-        let mut unseen = Out::new(Vec::new(alloc));
-        match sum_sections(alloc, file, &mut (), None, Form::Lines, &mut unseen) {
-            Ok(_) => Ok(true),
-            Err(e) => reported(alloc, &mut self.host, path, file, Err(Fault::from(e))),
-        }
+        compare(alloc, &mut self.host, &pair, &sizes, self.out)
     }
 
     // Demangles the names in standard input, or the given ones.
-    fn filter(&mut self) -> Result<bool, Fault> {
+    fn filter(&mut self) -> Result<Verdict, Fault> {
         let alloc = self.host.rt.alloc();
         let full = self.given.has(Full);
         if !self.given.operands.is_empty() {
             let text = lines_of(alloc, self.given.operands.as_slice())?;
             filter_stream(alloc, full, &mut text.as_slice(), self.out)?;
-            return Ok(true);
+            return Ok(Verdict::done());
         }
         let mut input = OpenFile::new(self.host.rt.stdin());
         match filter_stream(alloc, full, &mut input, self.out) {
-            Ok(()) => Ok(true),
-            Err(StreamError::Read) => self.host.report_input(&input),
+            Ok(()) => Ok(Verdict::done()),
+            Err(StreamError::Read) => Ok(self.host.report_input(&input)),
             Err(e) => Err(Fault::from(e)),
         }
     }
 
-    // Symbolizes addresses: those that are given, or those of standard input, in lines or in a text.
-    fn symbolize(&mut self, asked: &Addresses) -> Result<bool, Fault> {
+    // Symbolizes addresses: those that are given, or those of standard input, one a line. `None` where the maps have no
+    // mapping.
+    fn symbolize(&mut self, asked: &Addresses) -> Result<Option<Verdict>, Fault> {
         let given = self.given;
-        if given.has(Annotate) {
-            return self.annotate(asked);
-        }
         let alloc = self.host.rt.alloc();
         let path = first(given);
         let Some(file) = open_input(alloc, &mut self.host, path) else {
-            return Ok(false);
+            return Ok(Some(Verdict::refused()));
         };
         let symbols = symbols_of(given, true);
         let loaded = match self.loaded_at(asked, 0, &file) {
             Ok(loaded) => loaded,
-            Err(e) => return reported(alloc, &mut self.host, path, &file, Err(Fault::from(e))),
+            Err(e) => {
+                let verdict = refuse(alloc, &mut self.host, path, &file, Fault::from(e))?;
+                return Ok(Some(verdict));
+            }
         };
-        let Some(placed) = self.placed(asked, 0, loaded) else {
-            return Ok(false);
+        let placed = match self.placed(asked, 0, loaded) {
+            Place::At(placed) => placed,
+            Place::Refused => return Ok(Some(Verdict::refused())),
+            Place::NoMaps => return Ok(None),
         };
         let lookup = self.lookup(placed);
         let addresses = asked.addresses.as_slice();
@@ -442,19 +338,20 @@ impl<'a, W: Write> Work<'a, '_, W> {
             answer_all(alloc, &file, &symbols, lookup, addresses, self.out)
         };
         match done {
-            Ok(counts) => {
+            Ok(answered) => {
+                let counts = answered.counts;
                 if counts.asked > 0 && counts.found == 0 {
                     let missed = Hint::Missed(counts.asked, loaded_by(given));
-                    let lack = lack(alloc, &file, &symbols).unwrap_or(None);
+                    let lack = lack(alloc, &file, &symbols, Some(answered.symbols)).unwrap_or(None);
                     self.host.hint(path, lack.unwrap_or(missed));
                 }
                 match counts.missing {
-                    0 => Ok(true),
+                    0 => Ok(Some(Verdict::done())),
                     missing => Err(Fault::Missing(missing)),
                 }
             }
-            Err(Fault::Stream(StreamError::Read)) => self.host.report_input(input),
-            Err(fault) => reported(alloc, &mut self.host, path, &file, Err(fault)),
+            Err(Fault::Stream(StreamError::Read)) => Ok(Some(self.host.report_input(input))),
+            Err(fault) => Ok(Some(refuse(alloc, &mut self.host, path, &file, fault)?)),
         }
     }
 
@@ -478,30 +375,27 @@ impl<'a, W: Write> Work<'a, '_, W> {
         }
     }
 
-    // Where the file at this place is loaded, which says that it is loaded there. `None` where the maps don't place it: it
-    // is refused, unless they have no mapping.
-    fn placed(
-        &mut self,
-        asked: &Addresses,
-        at: usize,
-        loaded: (LoadAddress, u64),
-    ) -> Option<Placed> {
-        match asked.base(self.given, at, loaded.0) {
-            Ok(base) => Some(Placed {
-                at,
-                base,
-                linked: loaded.0.address,
-                origin: loaded.1,
-            }),
-            Err(why) => {
-                match asked::unplaced(self.given, at, why) {
-                    Some(why) => self
-                        .host
-                        .refuse_unplaced(asked::file_at(self.given, at), &why),
-                    None => self.are_no_maps = true,
-                }
-                None
+    // Where the file at this place is loaded, which says that it is loaded there. A file that the maps don't place is
+    // refused, unless they have no mapping.
+    fn placed(&mut self, asked: &Addresses, at: usize, loaded: (LoadAddress, u64)) -> Place {
+        let why = match asked.base(self.given, at, loaded.0) {
+            Ok(base) => {
+                return Place::At(Placed {
+                    at,
+                    base,
+                    linked: loaded.0.address,
+                    origin: loaded.1,
+                });
             }
+            Err(why) => why,
+        };
+        match asked::unplaced(self.given, at, why) {
+            Some(why) => {
+                self.host
+                    .refuse_unplaced(asked::file_at(self.given, at), &why);
+                Place::Refused
+            }
+            None => Place::NoMaps,
         }
     }
 
@@ -530,48 +424,51 @@ impl<'a, W: Write> Work<'a, '_, W> {
         Ok((tables_of(self.host.rt.alloc(), file, symbols)?, loaded))
     }
 
-    // Annotates the text of standard input, by all files that are given and not refused. `false` where one is refused;
-    // nothing is written where each is.
-    fn annotate(&mut self, asked: &Addresses) -> Result<bool, Fault> {
+    // Annotates the text of standard input, by all files that are given and not refused; nothing is written where each is.
+    // `None` where the maps have no mapping.
+    fn annotate(&mut self, asked: &Addresses) -> Result<Option<Verdict>, Fault> {
         let given = self.given;
         let alloc = self.host.rt.alloc();
         let symbols = symbols_of(given, true);
         let mut read = Vec::new(alloc);
         let mut all = Vec::new(alloc);
+        let mut alone = None;
         for (at, path) in given.operands.iter().enumerate() {
             let Some(file) = open_input(alloc, &mut self.host, path) else {
                 continue;
             };
-            match self.module(asked, at, &file, &symbols) {
-                Ok((tables, loaded)) => {
-                    let Some(placed) = self.placed(asked, at, loaded) else {
-                        if self.are_no_maps {
-                            return Ok(false);
-                        }
-                        continue;
-                    };
-                    if read.push(tables).is_err() || all.push(placed).is_err() {
-                        return Err(Fault::Report(ReportError::OutOfMemory));
-                    }
-                }
+            let (tables, loaded) = match self.module(asked, at, &file, &symbols) {
+                Ok(module) => module,
                 Err(e) => {
-                    reported(alloc, &mut self.host, path, &file, Err(Fault::from(e)))?;
+                    let _ = refuse(alloc, &mut self.host, path, &file, Fault::from(e))?;
+                    continue;
                 }
+            };
+            let placed = match self.placed(asked, at, loaded) {
+                Place::At(placed) => placed,
+                Place::Refused => continue,
+                Place::NoMaps => return Ok(None),
+            };
+            if read.push(tables).is_err() || all.push(placed).is_err() {
+                return Err(Fault::Report(ReportError::OutOfMemory));
+            }
+            if given.operands.len() == 1 {
+                alone = Some(file);
             }
         }
-        // What the modules refer to isn't freed before the program ends.
+        // What the modules refer to isn't freed before the program ends: a reference in a structure has one lifetime.
         let mut kept = Vec::new(alloc);
         let found = self
             .host
             .places_of_all(read.leak(), &all, given.operands.as_slice(), &mut kept)?;
         let found: &'static [Places<'static>] = found.leak();
         if found.is_empty() {
-            return Ok(false);
+            return Ok(Some(Verdict::refused()));
         }
         let mut modules = Vec::new(alloc);
         for (at, places) in found.iter().enumerate() {
             let Some(placed) = kept.get(at) else {
-                return Ok(false);
+                return Ok(Some(Verdict::refused()));
             };
             let lookup = self.lookup(*placed);
             let module = Module { places, lookup };
@@ -589,18 +486,26 @@ impl<'a, W: Write> Work<'a, '_, W> {
             Ok(counts) => {
                 let is_empty = asked.text().is_none() && input.len() == 0;
                 if !is_empty {
-                    self.hint_on_text(counts);
+                    let count = found.first().map(Places::len);
+                    let lack = match &alone {
+                        Some(file) => lack(alloc, file, &symbols, count).unwrap_or(None),
+                        None => None,
+                    };
+                    self.hint_on_text(counts, lack);
                 }
-                Ok(found.len() == given.operands.len())
+                Ok(Some(Verdict {
+                    is_done: found.len() == given.operands.len(),
+                    is_above: false,
+                }))
             }
-            Err(StreamError::Read) => self.host.report_input(input),
+            Err(StreamError::Read) => Ok(Some(self.host.report_input(input))),
             Err(e) => Err(Fault::from(e)),
         }
     }
 
     // Gives a hint where several files have a name in a text; and where nothing was found: on offsets behind other names,
-    // or that there is no address; and on addresses of which none is in a function symbol.
-    fn hint_on_text(&mut self, counts: Counts) {
+    // or that there is no address; and on addresses of which none is in a function symbol, with what the file lacks.
+    fn hint_on_text(&mut self, counts: Counts, lack: Option<Hint>) {
         let given = self.given;
         if counts.unclear > 0 {
             let hint = Hint::Unclear(counts.unclear);
@@ -621,68 +526,28 @@ impl<'a, W: Write> Work<'a, '_, W> {
             return;
         }
         let alloc = self.host.rt.alloc();
-        let path = first(given);
-        let mut hint = Hint::Missed(clear, loaded_by(given));
-        if given.operands.len() == 1 {
-            if let Some(file) = open_input(alloc, &mut self.host, path) {
-                let symbols = symbols_of(given, true);
-                hint = lack(alloc, &file, &symbols).unwrap_or(None).unwrap_or(hint);
-            }
-        }
+        let missed = Hint::Missed(clear, loaded_by(given));
         if let Ok(names) = joined(alloc, given.operands.as_slice()) {
-            self.host.hint(names.as_str(), hint);
+            self.host.hint(names.as_str(), lack.unwrap_or(missed));
         }
     }
 
     // Writes the bytes of the section that is named, or a line for each section.
-    fn write_section(&mut self) -> Result<bool, Fault> {
+    fn write_section(&mut self) -> Result<Verdict, Fault> {
         let asked = match second(self.given) {
             Some(name) => Asked::Bytes(name),
             None => Asked::Lines,
         };
-        self.write_sections(first(self.given), asked)
-    }
-
-    // Writes how many bytes of each file its sections have. Of several files, each is under a line with its name.
-    fn sum_sections(&mut self) -> Result<bool, Fault> {
-        let given = self.given;
-        let alloc = self.host.rt.alloc();
-        let are_several = given.operands.len() > 1 && !given.has(Json);
-        let mut are_shown = true;
-        for path in given.operands.as_slice() {
-            self.out.begin(heading(alloc, path, are_several)?);
-            are_shown &= self.sum_sections_of(path)?;
-            self.print_refusals()?;
-        }
-        Ok(are_shown)
-    }
-
-    // Writes how many bytes of the file at this path its sections have.
-    fn sum_sections_of(&mut self, path: &str) -> Result<bool, Fault> {
-        let given = self.given;
-        let alloc = self.host.rt.alloc();
-        let Some(file) = open_input(alloc, &mut self.host, path) else {
-            return Ok(false);
-        };
-        let form = form_of(given, path);
-        match sum_sections(alloc, &file, &mut (), given.count(First), form, self.out) {
-            Ok(length) => {
-                self.host.warn(path, above(length, given.limit()));
-                Ok(true)
-            }
-            Err(e) => reported(alloc, &mut self.host, path, &file, Err(Fault::from(e))),
-        }
-    }
-
-    // Writes what is asked for of the sections of the file at this path.
-    fn write_sections(&mut self, path: &str, asked: Asked<'_>) -> Result<bool, Fault> {
-        let alloc = self.host.rt.alloc();
-        let Some(file) = open_input(alloc, &mut self.host, path) else {
-            return Ok(false);
-        };
+        let path = first(self.given);
         let form = form_of(self.given, path);
-        let written = write_sections(alloc, &file, asked, form, self.out).map_err(Fault::from);
-        reported(alloc, &mut self.host, path, &file, written)
+        show_section(
+            self.host.rt.alloc(),
+            &mut self.host,
+            path,
+            asked,
+            form,
+            self.out,
+        )
     }
 }
 
@@ -709,89 +574,14 @@ fn joined(alloc: Global, words: &[&str]) -> Result<String, AllocError> {
     Ok(text)
 }
 
-// How function symbols are listed: in their order and whole, unless something else is asked for.
-fn listing_of(given: &Arguments<'_>) -> Kind {
-    if !has_any(given, &[Sort, First, NoTotal, Raw, Full, Json]) {
-        return Kind::Listing;
-    }
-    let naming = match (given.has(Raw), given.has(Full)) {
-        (true, _) => Naming::Stored,
-        (false, true) => Naming::Complete,
-        (false, false) => Naming::Trimmed,
-    };
-    Kind::Rows(Shown {
-        order: given.order(),
-        first: given.count(First),
-        naming,
-        has_total: !has_any(given, &[Sort, First, NoTotal]),
-    })
-}
-
-// What sizes are summed by, and how the sums are shown.
-fn figures_of(given: &Arguments<'_>) -> Figures {
-    Figures {
-        grouping: Grouping {
-            key: given.key().unwrap_or(Key::Crate),
-            joins_std: given.has(Std),
-        },
-        first: given.count(First),
-        has_percent: given.has(Percent),
-    }
-}
-
-// How rows are written.
-fn form_of<'a>(given: &Arguments<'_>, path: &'a str) -> Form<'a> {
-    if given.has(Json) {
-        Form::Objects(path, "")
-    } else {
-        Form::Lines
-    }
-}
-
-// The function symbols that are asked for: of the section that is named, or if none is, of `.text`; but of all sections
-// for sums by section, and where all are the default.
-fn symbols_of<'a>(given: &Arguments<'a>, are_all: bool) -> Symbols<'a> {
-    let which = if given.has(Dynamic) { Dynsym } else { Symtab };
-    let selection = match given.value(Section) {
-        _ if given.has(All) => Selection::All,
-        Some(section) => Selection::Section(section),
-        None if are_all || given.key() == Some(Key::Section) => Selection::All,
-        None => Selection::Section(".text"),
-    };
-    Symbols { which, selection }
-}
-
-// A file, and the tables that were read of it.
-#[derive(Drop)]
-struct ReadFile {
-    file: OpenFile<FileOrStdin>,
-    tables: Tables<'static>,
-}
-
-// The system around a command, the objects of the files that were refused, and whether a sum is above its limit.
+// The system around a command, and the objects of the files that were refused.
 #[derive(Drop)]
 struct Host<'a> {
     rt: &'a HostRuntime,
     refusals: String,
-    is_above: bool,
 }
 
 impl Host<'_> {
-    // The file at this path, and its tables. `None` where it is refused, which is reported.
-    fn tables_at(&mut self, given: &Arguments<'_>, path: &str) -> Result<Option<ReadFile>, Fault> {
-        let alloc = self.rt.alloc();
-        let Some(file) = open_input(alloc, self, path) else {
-            return Ok(None);
-        };
-        match tables_of(alloc, &file, &symbols_of(given, false)) {
-            Ok(tables) => Ok(Some(ReadFile { file, tables })),
-            Err(e) => {
-                reported(alloc, self, path, &file, Err(Fault::from(e)))?;
-                Ok(None)
-            }
-        }
-    }
-
     // The places of these tables, of files that are placed so among these paths; where those are placed that have places
     // is kept. Why a file has none is reported.
     fn places_of_all(
@@ -816,13 +606,6 @@ impl Host<'_> {
         Ok(found)
     }
 
-    // Gives the hint, if there is one.
-    fn warn(&mut self, path: &str, hint: Option<Hint>) {
-        if let Some(hint) = hint {
-            self.hint(path, hint);
-        }
-    }
-
     // Reports why a file is refused, and keeps its object.
     fn refuse(&mut self, name: &str, message: &Message) {
         report(self.rt, name, message);
@@ -844,13 +627,13 @@ impl Host<'_> {
     }
 
     // Reports that standard input can't be read.
-    fn report_input<F>(&mut self, input: &OpenFile<F>) -> Result<bool, Fault> {
+    fn report_input<F>(&mut self, input: &OpenFile<F>) -> Verdict {
         self.report(
             "standard input",
             Fault::Section(SectionError::Unreadable),
             input.take_reason(),
         );
-        Ok(false)
+        Verdict::refused()
     }
 }
 
@@ -880,7 +663,6 @@ impl System<FileOrStdin> for Host<'_> {
 
     fn hint(&mut self, path: &str, hint: Hint) {
         let rt = self.rt;
-        self.is_above |= matches!(hint, Hint::Above(..) | Hint::Grown(..));
         let _ = eprintln!(rt; "binfarce: {path}: {hint}");
     }
 }

@@ -6,6 +6,7 @@ ghost use Rattle.std.specs.Option.{option_map};
 ghost use Rattle.binfarce_command.specs.Status.{fault_status, is_broken_pipe, status_of, wrong_status};
 
 use binfarce_jobs::fault::Fault;
+use binfarce_jobs::limit::Verdict;
 use binfarce_jobs::message::{Message, message_of};
 use binfarce_words::words::Wrong;
 use std::io::{Error, ErrorKind};
@@ -25,16 +26,20 @@ pub fn refuse(rt: &HostRuntime, wrong: &Wrong<'_>) -> u8
 /// failure, unless sums have a limit: whether they exceed it isn't known then.
 pub fn ended(
     rt: &HostRuntime,
-    done: Result<bool, Fault>,
-    is_above: bool,
+    done: Result<Verdict, Fault>,
     has_limit: bool,
     reason: Option<Error>,
 ) -> u8
-    ensures { result ≡ status_of done is_above has_limit (option_map error_kind reason) }
+    ensures { result ≡ status_of done has_limit (option_map error_kind reason) }
 {
     match done {
-        Ok(true) if is_above => 3,
-        Ok(is_done) => u8::from(!is_done),
+        Ok(
+            Verdict {
+                is_done: true,
+                is_above: true,
+            },
+        ) => 3,
+        Ok(verdict) => u8::from(!verdict.is_done),
         Err(fault) if !fault.is_write() => {
             let _ = eprintln!(rt; "binfarce: {fault}");
             status(&fault)

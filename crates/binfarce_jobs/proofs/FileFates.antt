@@ -1,7 +1,6 @@
 -- What a file comes to, by what is read of it and by how its showing ended.
 use Rattle.std.proofs.Common.{◌≡◌, ◌≢◌, ◌∙◌, ◌⊎◌, inl, inr, ℕ, Bool, true, false, not, ◌||◌, List, [], ◌∷◌, ◌++◌, Option, Some, None, Result, Ok, Err, refl, sym, ap, subst, append_assoc, append-nil, IsErrAnd, if◌then◌else◌}
 use Rattle.std.specs.Option.{option_map}
-use Rattle.std.specs.Prelude.{IfErr, OnOk}
 use Rattle.std.specs.Io.KnownBytes.{Appends, Keeps}
 use Rattle.binfarce_bytes.specs.Format.{format_of}
 use Rattle.binfarce_bytes.specs.Refusal.{Refusal, symbols_section_is_missing}
@@ -17,16 +16,19 @@ use Rattle.binfarce_tools.specs.declared.report.ReportError.TheVariants as sums
 use Rattle.binfarce_tools.specs.Writing as writing
 use Rattle.binfarce_tools.specs.Writing.{AppendsBeginning, IsDue, Leaves, Outcome, EndsAs, wrong_usage}
 use Rattle.binfarce_jobs.specs.Faults.{failure, is_failed_write, is_of_call}
-use Rattle.binfarce_jobs.specs.Files.{FailsAs, Files, MayBeRefused, Reports, ReportsFault, ReportsWhy, ShowsSource, ShowsOne, State, heading, refused, shown}
+use Rattle.binfarce_jobs.specs.Files.{FailsAs, Files, MayBeRefused, Reports, ReportsFault, ShowsSource, ShowsOne, State, heading, refused, shown, verdict_of}
 use Rattle.binfarce_jobs.specs.Output.{pending, taken, writer_of}
 use Rattle.binfarce_jobs.specs.Foreign.{first_bytes, foreign_in}
 use Rattle.binfarce_jobs.specs.Input.{IsForeign, IsReadOf, IsUnreadable}
 use Rattle.binfarce_jobs.proofs.Streams.{format_of_beginning}
-use Rattle.binfarce_jobs.specs.Show.{Fits, IsAskedText, IsShownText, MayEnd, MemoryFor, TakesText, answer_for, answer_taken, is_taken}
+use Rattle.binfarce_jobs.specs.Show.{Fits, HasSumsOf, IsAboveIn, IsAskedText, IsSeenOf, IsShownText, MayEnd, MemoryFor, TakesText, answer_for, answer_taken, exceeds, is_taken}
 use Rattle.binfarce_jobs.specs.declared.fault.Fault.{Fault}
 use Rattle.binfarce_jobs.specs.declared.fault.Fault.TheVariants.{Report, Section, Stream, Unsupported, NotUtf8, SharedAddresses, Missing}
+use Rattle.binfarce_jobs.specs.declared.limit.Verdict.{Verdict}
 use Rattle.binfarce_jobs.specs.declared.output.Output.{Output}
 use Rattle.binfarce_jobs.specs.declared.show.Request.{Request}
+use Rattle.binfarce_jobs.specs.declared.show.Seen.{Seen}
+use Rattle.binfarce_figures.specs.declared.sums.Sums.{Sums}
 
 -- the showing of a file that is read ends so
 abbrev Ends : Request → (file : List ℕ) → Outcome → Type 0
@@ -57,6 +59,24 @@ pub text_of_file : (asked : Request) (path file bytes text : List ℕ) → IsRea
 text_of_file asked path file bytes text (inl same) is = subst (λ (f : List ℕ). IsShownText asked path f text) same is
 text_of_file asked path file bytes text (inr (unknown, first)) is =
     absurd (subst (λ (answer : Option (Result SelectedSymbols Refusal)). IsDue (IsAskedText asked path) answer text) (no_shown asked bytes (unknown_too file bytes unknown first)) is)
+
+-- a text is due of a file that has an answer
+answered : (asked : Request) (path : List ℕ) (answer : Option (Result SelectedSymbols Refusal)) (text : List ℕ) → IsDue (IsAskedText asked path) answer text → (selected : SelectedSymbols) × (answer ≡ Some (Ok selected))
+answered asked path (Some (Ok selected)) text due = (selected, refl)
+answered asked path (Some (Err refusal)) text due = absurd due
+answered asked path None text due = absurd due
+
+-- the sums that were found are those of this answer
+pub sums_of : (asked : Request) (path file text : List ℕ) (seen : Seen) → IsShownText asked path file text → ((selected : SelectedSymbols) → answer_for asked.symbols file ≡ Some (Ok selected) → IsSeenOf asked.kind selected seen)
+    → HasSumsOf asked file seen.sums
+sums_of asked path file text seen due is =
+    let found = answered asked path (answer_for asked.symbols file) text due in (found.0, found.1, (is found.0 found.1).sums_are)
+
+-- and sums of what was read of a file are those of the file
+above_of_file : (asked : Request) (file bytes : List ℕ) (sums : Option Sums) → IsReadOf file bytes → HasSumsOf asked bytes sums → IsAboveIn asked file (exceeds asked.limit sums)
+above_of_file asked file bytes sums (inl same) has = (sums, subst (λ (f : List ℕ). HasSumsOf asked f sums) same has, refl)
+above_of_file asked file bytes sums (inr (unknown, first)) (selected, answer, is) =
+    let never : Path (Option (Result SelectedSymbols Refusal)) None (Some (Ok selected)) = sym (no_shown asked bytes (unknown_too file bytes unknown first)) ∙ answer in absurd cc
 
 -- of a file of an unknown format that is reported, and nothing else
 ends_of_file : (asked : Request) (file bytes : List ℕ) (o : Outcome) → IsReadOf file bytes → Ends asked bytes o → Ends asked file o
@@ -159,36 +179,34 @@ module _ {W : Type 0} (contents : W → Option (List ℕ)) (asked : Request) (pa
   unshown writing.unreadable other ends takes leaves = (ends, ap (λ (s : Output W). contents (writer_of s)) leaves)
   unshown writing.wrong_usage other ends takes leaves = (ends, ap (λ (s : Output W). contents (writer_of s)) leaves)
 
-  -- a file that is shown, and its heading written
-  pub ended : (new : Output W) → (text : List ℕ) × IsShownText asked path file text × Appends (taken contents old) (taken contents mid) text → Keeps (taken contents mid) (taken contents new) → pending new ≡ []
-      → (x : Unit {0}) → ShowsSource asked path MayFail file (pending old) (contents (writer_of old)) (contents (writer_of new)) (taken contents new) (Ok x)
-  ended new (text, due, took) kept none x = (text, due, whole (contents (writer_of old)) (taken contents mid) (contents (writer_of new)) (pending old) (pending new) text took kept none)
-
-  abbrev pub Held : Output W → Result (Unit {0}) Fault → Type 0
+  abbrev pub Held : Output W → Result Seen Fault → Type 0
   Held new result = ShowsSource asked path MayFail file (pending old) (contents (writer_of old)) (contents (writer_of new)) (taken contents new) result
 
-  -- the same, where the writing of the heading failed
-  pub broke_off : (new : Output W) (e : Fault) → (text : List ℕ) × IsShownText asked path file text × Appends (taken contents old) (taken contents mid) text → Keeps (taken contents mid) (taken contents new) → failure e ≡ writing.write_failed → Held new (Err e)
-  broke_off new e (text, due, took) kept is =
-      subst (λ (o : Outcome). FailsAs asked path MayFail file (pending old) (contents (writer_of old)) (contents (writer_of new)) (taken contents new) o) (sym is)
-      (text, due, whole_taken (contents (writer_of old)) (taken contents mid) (taken contents new) (pending old) text took kept)
+  -- a file that is shown, and its heading written
+  pub was_shown : (new : Output W) (seen : Seen) → (text : List ℕ) × IsShownText asked path file text × Appends (taken contents old) (taken contents mid) text → Keeps (taken contents mid) (taken contents new) → pending new ≡ []
+      → ((selected : SelectedSymbols) → answer_for asked.symbols file ≡ Some (Ok selected) → IsSeenOf asked.kind selected seen) → Held new (Ok seen)
+  was_shown new seen (text, due, took) kept none is =
+      ((text, due, whole (contents (writer_of old)) (taken contents mid) (contents (writer_of new)) (pending old) (pending new) text took kept none), sums_of asked path file text seen due is)
+
+  -- the same, where the writing of the heading failed, as `?` passes the fault on
+  pub broke_off : (new : Output W) (e : Fault) (result : Result Seen Fault) → IsErrAnd result (λ f. f ≡ e) → (text : List ℕ) × IsShownText asked path file text × Appends (taken contents old) (taken contents mid) text
+      → Keeps (taken contents mid) (taken contents new) → failure e ≡ writing.write_failed → Held new result
+  broke_off new e (Ok seen) err took kept is = absurd err
+  broke_off new e (Err f) err (text, due, took) kept is =
+      subst (λ (f : Fault). Held new (Err f)) (sym err)
+      (subst (λ (o : Outcome). FailsAs asked path MayFail file (pending old) (contents (writer_of old)) (contents (writer_of new)) (taken contents new) o) (sym is)
+      (text, due, whole_taken (contents (writer_of old)) (taken contents mid) (taken contents new) (pending old) text took kept))
 
   -- a file whose showing failed, as `?` passes the fault on
-  pub show_failed : (e : Fault) (result : Result (Unit {0}) Fault) → IsErrAnd result (λ f. f ≡ e) → MayEnd MayFail asked file (failure e) → TakesText asked path file (taken contents old) (taken contents mid) (failure e) → Leaves old mid (failure e) → Held mid result
+  pub show_failed : (e : Fault) (result : Result Seen Fault) → IsErrAnd result (λ f. f ≡ e) → MayEnd MayFail asked file (failure e) → TakesText asked path file (taken contents old) (taken contents mid) (failure e) → Leaves old mid (failure e) → Held mid result
   show_failed e (Ok x) is ends takes leaves = absurd is
   show_failed e (Err f) is ends takes leaves = subst (λ (f : Fault). Held mid (Err f)) (sym is) (unshown (failure e) (never_written e) ends takes leaves)
 
-  -- a file that is shown, by how the writing of its heading ended
-  pub was_shown : (new : Output W) (P Q : Type 0) (result : Result (Unit {0}) Fault) → (text : List ℕ) × IsShownText asked path file text × Appends (taken contents old) (taken contents mid) text → Keeps (taken contents mid) (taken contents new)
-      → OnOk result ((pending new ≡ []) × P) → IfErr result (λ e. (failure e ≡ writing.write_failed) × Q) → Held new result
-  was_shown new P Q (Ok x) took kept done failed = ended new took kept done.0 x
-  was_shown new P Q (Err e) took kept done failed = broke_off new e took kept failed.0
-
 module _ (files : Files) (path : List ℕ) (old new : State) where
-  abbrev pub One : Result Bool Fault → Type 0
+  abbrev pub One : Result Verdict Fault → Type 0
   One result = ShowsOne files path old new result
 
-  was_refused : (fault : Fault) (result : Result Bool Fault) → MayBeRefused files.asked (files.may_fail path) (files.held path) fault → new.bytes ≡ old.bytes → (result ≡ Ok false) × Reports old.reports new.reports ((path, fault) ∷ []) → One result
+  was_refused : (fault : Fault) (result : Result Verdict Fault) → MayBeRefused files.asked (files.may_fail path) (files.held path) fault → new.bytes ≡ old.bytes → (result ≡ Ok (verdict_of (refused fault))) × Reports old.reports new.reports ((path, fault) ∷ []) → One result
   was_refused fault result may same (is, answered_lines) = subst One (sym is) (refused fault, may, refl, unwritten old.bytes new.bytes same, answered_lines)
     where
       unwritten : (old new : Option (List ℕ)) → new ≡ old → Appends old new []
@@ -196,16 +214,16 @@ module _ (files : Files) (path : List ℕ) (old new : State) where
       unwritten (Some a) new same = subst (λ (n : Option (List ℕ)). Appends (Some a) n []) (sym same) (sym (append-nil a))
 
   -- a file that can't be opened or read, or that no reader reads
-  pub unopened : (fault : Fault) → IsForeign (files.held path) fault ⊎ IsUnreadable (files.may_fail path) (files.held path) fault → new.bytes ≡ old.bytes → Reports old.reports new.reports ((path, fault) ∷ []) → One (Ok false)
-  unopened fault (inl is) same answered_lines = was_refused fault (Ok false) (inl is) same (refl, answered_lines)
-  unopened fault (inr is) same answered_lines = was_refused fault (Ok false) (inr (inl is)) same (refl, answered_lines)
+  pub unopened : (fault : Fault) → IsForeign (files.held path) fault ⊎ IsUnreadable (files.may_fail path) (files.held path) fault → new.bytes ≡ old.bytes → Reports old.reports new.reports ((path, fault) ∷ []) → One (Ok (verdict_of (refused fault)))
+  unopened fault (inl is) same answered_lines = was_refused fault (Ok (verdict_of (refused fault))) (inl is) same (refl, answered_lines)
+  unopened fault (inr is) same answered_lines = was_refused fault (Ok (verdict_of (refused fault))) (inr (inl is)) same (refl, answered_lines)
 
   module _ (bytes left : List ℕ) (MayFail : Type 0) (read : IsReadOf (files.held path) bytes) (more : MayFail → files.may_fail path ≡ true) (is : left ≡ heading files.are_several path) (native : foreign_in (files.held path) ≡ None) where
     abbrev May : Outcome → Type 0
     May o = MayEnd MayFail files.asked bytes o
 
     -- a file whose showing failed before its first write
-    not_shown : (fault : Fault) (result : Result Bool Fault) (o : Outcome) (call : Bool) → o ≢ writing.write_failed → failure fault ≡ o → is_of_call fault ≡ call → May o × (new.bytes ≡ old.bytes) → ReportsFault path old.reports new.reports fault (not call) result → One result
+    not_shown : (fault : Fault) (result : Result Verdict Fault) (o : Outcome) (call : Bool) → o ≢ writing.write_failed → failure fault ≡ o → is_of_call fault ≡ call → May o × (new.bytes ≡ old.bytes) → ReportsFault path old.reports new.reports fault (not call) result → One result
     not_shown fault result o true other is_o is_call (ends, same) reports = absurd (never_wrong MayFail files.asked bytes (subst May (sym is_o ∙ of_call fault is_call) ends))
     not_shown fault result o false other is_o is_call (ends, same) reports =
         was_refused fault result (inr (inr (
@@ -215,7 +233,7 @@ module _ (files : Files) (path : List ℕ) (old new : State) where
         ))) same reports
 
     -- a file whose showing failed
-    failed : (fault : Fault) (result : Result Bool Fault) (o : Outcome) (call : Bool) → failure fault ≡ o → is_of_call fault ≡ call → FailsAs files.asked path MayFail bytes left old.bytes new.bytes new.taken o
+    pub failed : (fault : Fault) (result : Result Verdict Fault) (o : Outcome) (call : Bool) → failure fault ≡ o → is_of_call fault ≡ call → FailsAs files.asked path MayFail bytes left old.bytes new.bytes new.taken o
         → ReportsFault path old.reports new.reports fault (not (is_failed_write o || call)) result → One result
     failed fault result writing.write_failed call is_o is_call (text, due, wrote) (err, reports) =
         subst One (sym err) (inl (is_o, (text, (native, text_of_file files.asked path (files.held path) bytes text read due), subst (λ (h : List ℕ). AppendsBeginning old.bytes new.taken (h ++ text)) is wrote)), reports)
@@ -227,8 +245,14 @@ module _ (files : Files) (path : List ℕ) (old new : State) where
     failed fault result writing.unreadable call is_o is_call fails reports = not_shown fault result writing.unreadable call (λ e. cc) is_o is_call fails reports
     failed fault result writing.wrong_usage call is_o is_call fails reports = not_shown fault result writing.wrong_usage call (λ e. cc) is_o is_call fails reports
 
-    -- a file that is read, by how its showing ended
-    pub came_to : (done : Result (Unit {0}) Fault) (result : Result Bool Fault) → ShowsSource files.asked path MayFail bytes left old.bytes new.bytes new.taken done → ReportsWhy path old.reports new.reports done result → One result
-    came_to (Ok x) result (text, due, wrote) (ok, answered_lines) =
-        subst One (sym ok) (shown text, (native, text_of_file files.asked path (files.held path) bytes text read due), refl, subst (λ (h : List ℕ). Appends old.bytes new.bytes (h ++ text)) is wrote, answered_lines)
-    came_to (Err fault) result fails reports = failed fault result (failure fault) (is_of_call fault) refl refl fails reports
+    -- a file that is shown
+    pub came_to : (seen : Seen) (is_above : Bool) → ShowsSource files.asked path MayFail bytes left old.bytes new.bytes new.taken (Ok seen) → is_above ≡ exceeds files.asked.limit seen.sums → Reports old.reports new.reports []
+        → One (Ok (record { is_done = true; is_above = is_above }))
+    came_to seen is_above ((text, due, wrote), sums) above answered_lines =
+        subst (λ (b : Bool). One (Ok (record { is_done = true; is_above = b }))) (sym above) (
+          shown text (exceeds files.asked.limit seen.sums),
+          ((native, text_of_file files.asked path (files.held path) bytes text read due), above_of_file files.asked (files.held path) bytes seen.sums read sums),
+          refl,
+          subst (λ (h : List ℕ). Appends old.bytes new.bytes (h ++ text)) is wrote,
+          answered_lines,
+        )

@@ -5,5 +5,5 @@ pub mod Making
 pub mod Lines
 pub mod AddressWords
 mod Outcomes
-mod FileLoop
+pub mod FileLoop
 mod FileFates

@@ -1,6 +1,5 @@
 -- The function symbols of a section, made once of its tables: they are those of its answer, and why there are none.
 use Rattle.std.proofs.Common.{◌≡◌, ◌≢◌, ◌∙◌, inl, inr, ℕ, Bool, true, List, length, map, Option, Some, None, is_some, unwrap_or, Result, Ok, Err, IsErrAnd, refl, sym, ap, subst}
-use Rattle.std.specs.Prelude.{IfOk}
 use Rattle.std.proofs.lemmas.List.{length-map}
 use Rattle.std.specs.Global.{Vec}
 use Rattle.binfarce.specs.SelectionViews.{version_names}
@@ -24,9 +23,9 @@ use Rattle.binfarce_tools.proofs.Lines.{nothing}
 use Rattle.binfarce_tools.proofs.Reports.{got}
 use Rattle.binfarce_tools.proofs.Selected.{sized_in}
 use Rattle.binfarce_jobs.specs.Faults.{failure, list_fault, no_memory_fault, outcome_of}
-use Rattle.binfarce_jobs.specs.Hints.{IsHintOn, count_of, hint_on}
+use Rattle.binfarce_jobs.specs.Hints.{count_of}
 use Rattle.binfarce_jobs.specs.declared.fault.Fault.{Fault}
-use Rattle.binfarce_jobs.specs.declared.hint.Hint.{Hint}
+use Rattle.binfarce_jobs.specs.declared.show.Seen.{Seen}
 
 -- as many function symbols are left as the answer has
 pub counted : (which : SymbolTable) (file : List ℕ) (section : Option (List ℕ)) (selected : Selected) → GetsIn which file section (Ok selected) → length (all_left selected.functions) ≡ count_of (selected_answer which section file)
@@ -56,16 +55,16 @@ module _ (which : SymbolTable) (file name : List ℕ) where
   unfolding AreTablesOf
   are_made list size versions made named = (made.0, made.1, made.2, made.3, named made.0 made.1)
 
-  -- the hint on them is that on the section
-  pub hinted : {T E : Type 0} (given : List SectionFunction) (list : Vec SectionFunction) (size : ℕ) (hint : Option Hint) (result : Result T E) → given ≡ list.items → IsMade which file name list.items size
-      → hint ≡ hint_on (length given) → IfOk result (λ x. IsHintOn which file name hint)
-  hinted given list size hint (Err e) same made is = tt
-  hinted given list size hint (Ok x) same made is =
-      let count : length given ≡ length made.0.entries = sym (length-map given section_function_view) ∙ ap length (ap (map section_function_view) same ∙ made.2) in
-      (made.0, made.1, is ∙ ap hint_on count)
+  -- they are as many as the answer has
+  pub counted_in : (given : SelectedSymbols) (list : Vec SectionFunction) (size : ℕ) → IsMade which file name list.items size → selected_answer which (Some name) file ≡ Some (Ok given) → length list.items ≡ length given.entries
+  counted_in given list size made is =
+      sym (length-map list.items section_function_view) ∙ ap length (made.2 ∙ ap (λ (s : SelectedSymbols). s.entries) (same (sym made.1 ∙ is)))
+    where
+      same : {a b : SelectedSymbols} → Path (Option (Result SelectedSymbols Refusal)) (Some (Ok a)) (Some (Ok b)) → a ≡ b
+      same is = cc
 
   -- an answer was there where an allocation failed after it
-  pub none_left : (Fits : SelectedSymbols → Type 0) (list : Selected) (result : Result (Unit {0}) Fault) → GetsIn which file (Some name) (Ok list) → IsErrAnd result (λ f. f ≡ no_memory_fault) → EndsAs Fits (MemoryIn file (Some name)) (selected_answer which (Some name) file) (outcome_of result)
+  pub none_left : (Fits : SelectedSymbols → Type 0) (list : Selected) (result : Result Seen Fault) → GetsIn which file (Some name) (Ok list) → IsErrAnd result (λ f. f ≡ no_memory_fault) → EndsAs Fits (MemoryIn file (Some name)) (selected_answer which (Some name) file) (outcome_of result)
   none_left Fits list (Ok x) gets is = absurd is
   none_left Fits list (Err f) gets is =
       subst (λ (f : Fault). EndsAs Fits (MemoryIn file (Some name)) (selected_answer which (Some name) file) (failure f)) (sym is) (by_answer (selected_answer which (Some name) file) gets)
@@ -76,7 +75,7 @@ module _ (which : SymbolTable) (file name : List ℕ) where
       by_answer (Some (Ok listed)) gets = inl refl
 
 -- function symbols that can't be had end the work so
-pub unmade : {X : Type 0} (Holds : SelectedSymbols → X → Type 0) (Fits : SelectedSymbols → Type 0) (memory : Result SelectedSymbols Refusal → Type 0) (answer : Option (Result SelectedSymbols Refusal)) (e : ListError) (result : Result (Unit {0}) Fault)
+pub unmade : {X : Type 0} (Holds : SelectedSymbols → X → Type 0) (Fits : SelectedSymbols → Type 0) (memory : Result SelectedSymbols Refusal → Type 0) (answer : Option (Result SelectedSymbols Refusal)) (e : ListError) (result : Result Seen Fault)
     → GetsAs Holds memory answer (Err e) → IsErrAnd result (λ f. f ≡ list_fault e) → EndsAs Fits memory answer (outcome_of result)
 unmade Holds Fits memory answer e (Ok x) gets is = absurd is
 unmade Holds Fits memory answer e (Err f) gets is = subst (λ (f : Fault). EndsAs Fits memory answer (failure f)) (sym is) (by_answer answer gets)
@@ -88,7 +87,7 @@ unmade Holds Fits memory answer e (Err f) gets is = subst (λ (f : Fault). EndsA
     by_answer (Some (Err refusal)) (inr (needs, is)) = let P : ListError → Type 0 = λ e. EndsAs Fits memory (Some (Err refusal)) (failure (list_fault e)) in subst P (sym is) (inr (needs, refl))
 
 -- and nothing is written
-module _ (e : ListError) (result : Result (Unit {0}) Fault) where
+module _ (e : ListError) (result : Result Seen Fault) where
   pub untaken : (IsText : SelectedSymbols → List ℕ → Type 0) (answer : Option (Result SelectedSymbols Refusal)) (old : Option (List ℕ)) → e ≢ listing.Write → IsErrAnd result (λ f. f ≡ list_fault e) → Takes IsText answer old old (outcome_of result)
   untaken IsText answer old other is = by_result result is
     where
@@ -98,7 +97,7 @@ module _ (e : ListError) (result : Result (Unit {0}) Fault) where
       by_error listing.OutOfMemory other = nothing old
       by_error listing.Write other = absurd (other refl)
 
-      by_result : (result : Result (Unit {0}) Fault) → IsErrAnd result (λ f. f ≡ list_fault e) → Takes IsText answer old old (outcome_of result)
+      by_result : (result : Result Seen Fault) → IsErrAnd result (λ f. f ≡ list_fault e) → Takes IsText answer old old (outcome_of result)
       by_result (Ok x) is = absurd is
       by_result (Err f) is = subst (λ (f : Fault). Takes IsText answer old old (failure f)) (sym is) (by_error e other)
 
@@ -111,11 +110,11 @@ module _ (e : ListError) (result : Result (Unit {0}) Fault) where
       by_error listing.OutOfMemory other = refl
       by_error listing.Write other = absurd (other refl)
 
-      by_result : (result : Result (Unit {0}) Fault) → IsErrAnd result (λ f. f ≡ list_fault e) → Fails failed failed (outcome_of result)
+      by_result : (result : Result Seen Fault) → IsErrAnd result (λ f. f ≡ list_fault e) → Fails failed failed (outcome_of result)
       by_result (Ok x) is = absurd is
       by_result (Err f) is = subst (λ (f : Fault). Fails failed failed (failure f)) (sym is) (by_error e other)
 
 -- so where an allocation failed
-pub none_taken : (IsText : SelectedSymbols → List ℕ → Type 0) (answer : Option (Result SelectedSymbols Refusal)) (old : Option (List ℕ)) (result : Result (Unit {0}) Fault) → IsErrAnd result (λ f. f ≡ no_memory_fault) → Takes IsText answer old old (outcome_of result)
+pub none_taken : (IsText : SelectedSymbols → List ℕ → Type 0) (answer : Option (Result SelectedSymbols Refusal)) (old : Option (List ℕ)) (result : Result Seen Fault) → IsErrAnd result (λ f. f ≡ no_memory_fault) → Takes IsText answer old old (outcome_of result)
 none_taken IsText answer old (Ok x) is = absurd is
 none_taken IsText answer old (Err f) is = subst (λ (f : Fault). Takes IsText answer old old (failure f)) (sym is) (nothing old)

@@ -4,8 +4,8 @@ use Rattle.binfarce.specs.Refusal.{Refusal, refusal_of}
 use Rattle.binfarce.specs.SectionEntries.{SelectedSymbols}
 use Rattle.binfarce.specs.Symbol.{Entry}
 use Rattle.binfarce_bytes.specs.Selection.{section_of}
+use Rattle.binfarce_addresses.specs.Lookup.{places_in}
 use Rattle.binfarce_addresses.specs.PlacesViews.{IsMadeOf}
-use Rattle.binfarce_addresses.specs.declared.counts.Counts.{Counts}
 use Rattle.binfarce_tables.specs.declared.error.ReadError.{ReadError}
 use Rattle.binfarce_tables.specs.declared.error.ReadError.TheVariants as reading
 use Rattle.binfarce_tools.specs.Answer.{addresses_are_shared, selected_answer}
@@ -16,6 +16,7 @@ use Rattle.binfarce_tools.specs.Writing.{Fails, Outcome, written, write_failed, 
 use Rattle.binfarce_jobs.specs.At.{HasPlaces, IsShared, share_addresses}
 use Rattle.binfarce_jobs.specs.Faults.{failure, list_fault, outcome_of, read_fault}
 use Rattle.binfarce_jobs.specs.Show.{AreTablesFor, MemoryFor, answer_for}
+use Rattle.binfarce_jobs.specs.declared.at.Answered.{Answered}
 use Rattle.binfarce_jobs.specs.declared.show.Symbols.{Symbols}
 use Rattle.binfarce_jobs.specs.declared.fault.Fault.{Fault}
 
@@ -41,7 +42,7 @@ shared_answer (Some (Err refusal)) shared = absurd cc
 shared_answer (Some (Ok seen)) shared = (seen, refl)
 
 -- so they aren't refused, and where they aren't read it is for another reason
-pub shared_unread : {T : Type 0} (AreTables : T → Type 0) (MayFail : Type 0) (answer : Option (Result SelectedSymbols Refusal)) (e : ReadError) (result : Result Counts Fault)
+pub shared_unread : {T : Type 0} (AreTables : T → Type 0) (MayFail : Type 0) (answer : Option (Result SelectedSymbols Refusal)) (e : ReadError) (result : Result Answered Fault)
     → addresses_are_shared answer ≡ true → ReadsAs AreTables MayFail answer (Err e) → IsErrAnd result (λ f. f ≡ read_fault e) → IsShared MayFail result
 shared_unread AreTables MayFail answer e (Ok x) shared reads is = absurd is
 shared_unread AreTables MayFail answer (reading.Refused p) (Err f) shared reads is =
@@ -51,7 +52,7 @@ shared_unread AreTables MayFail answer reading.Unreadable (Err f) shared reads i
 shared_unread AreTables MayFail answer reading.OutOfMemory (Err f) shared reads is = inr (inr (ap failure is))
 
 -- and their places aren't had
-pub shared_places : (MayFail : Type 0) (memory : Result SelectedSymbols Refusal → Type 0) (answer : Option (Result SelectedSymbols Refusal)) (e : Fault) (result : Result Counts Fault)
+pub shared_places : (MayFail : Type 0) (memory : Result SelectedSymbols Refusal → Type 0) (answer : Option (Result SelectedSymbols Refusal)) (e : Fault) (result : Result Answered Fault)
     → addresses_are_shared answer ≡ true → HasPlaces (addresses_are_shared answer) memory answer (Err e) → IsErrAnd result (λ f. f ≡ e) → IsShared MayFail result
 shared_places MayFail memory answer e (Ok x) shared has is = absurd is
 shared_places MayFail memory answer e (Err f) shared (inl (share, same)) is = inl (is ∙ same)
@@ -64,3 +65,12 @@ shared_places MayFail memory answer e (Err f) shared (inr (error, made, same)) i
 pub places_for : (symbols : Symbols) (file : List ℕ) (tables : Tables) (result : Result (List Entry) Fault) → AreTablesFor symbols file tables
     → (let answer = selected_answer symbols.which (section_of symbols.selection) file in HasPlaces (addresses_are_shared answer) (MemoryFor symbols file) answer result) → HasPlaces (share_addresses symbols file) (MemoryFor symbols file) (answer_for symbols file) result
 places_for symbols file tables result are has = subst (λ (answer : Option (Result SelectedSymbols Refusal)). HasPlaces (addresses_are_shared answer) (MemoryFor symbols file) answer result) (sym are.1) has
+
+-- the entries that are made of a file's answer are its places
+pub made_of : (memory : Result SelectedSymbols Refusal → Type 0) (answer : Option (Result SelectedSymbols Refusal)) (entries : List Entry) (selected : SelectedSymbols) → IsMadeOf memory answer (Ok entries) → answer ≡ Some (Ok selected) → entries ≡ places_in selected
+made_of memory None entries selected made is = absurd made
+made_of memory (Some (Err refusal)) entries selected made is = absurd made
+made_of memory (Some (Ok other)) entries selected made is = made ∙ ap places_in (same is)
+  where
+    same : {a b : SelectedSymbols} → Path (Option (Result SelectedSymbols Refusal)) (Some (Ok a)) (Some (Ok b)) → a ≡ b
+    same is = cc

@@ -1,7 +1,7 @@
 -- What is read and written part after part.
-use Rattle.std.proofs.Common.{◌≡◌, ◌⊎◌, ◌∙◌, inl, inr, ℕ, ◌+◌, Bool, true, false, List, [], ◌++◌, length, take, drop, ◌-◌, length-drop, Option, Some, None, Result, Ok, Err, IsErrAnd, ◌<◌, ◌≤◌, append_assoc, append-nil, refl, sym, ap, subst, arith}
+use Rattle.std.proofs.Common.{◌≡◌, ◌≢◌, ◌⊎◌, ◌∙◌, inl, inr, ℕ, ◌+◌, Bool, List, [], ◌++◌, length, take, drop, ◌-◌, length-drop, Option, Some, None, Result, Ok, Err, IsErrAnd, ◌≤◌, append_assoc, append-nil, refl, sym, ap, subst, arith}
 use Rattle.std.specs.Global.{Vec}
-use Rattle.std.specs.Prelude.{IfErr, IfSome}
+use Rattle.std.specs.Prelude.{IfSome}
 use Rattle.std.specs.Io.KnownBytes.{append_known, Appends, Consumes, IsAtEnd, Keeps}
 use Rattle.std.proofs.KnownBytes.{append_known-moved}
 use Rattle.std.proofs.lemmas.List.{take-append-drop, take-take, take_all}
@@ -9,12 +9,8 @@ use Rattle.std.proofs.Math.Seq.{drop-drop, take-append_seam}
 use Rattle.binfarce_bytes.specs.Format.{format_of}
 use Rattle.binfarce_bytes.specs.declared.format.Format.TheVariants.{Unknown}
 use Rattle.binfarce_tables.proofs.FirstBytes.{format_of_first}
-use Rattle.binfarce_tables.specs.Reading.{Reads}
-use Rattle.binfarce_tables.specs.declared.error.ReadError.{ReadError}
-use Rattle.binfarce_tables.specs.declared.error.ReadError.TheVariants.{Refused, Unreadable, OutOfMemory}
-use Rattle.binfarce_jobs.specs.Faults.{failure, read_fault}
 use Rattle.binfarce_jobs.specs.Foreign.{first_bytes, foreign_in, named_by}
-use Rattle.binfarce_jobs.specs.Input.{IsForeign, IsReadOf, IsUnread, IsUnreadable, Judges, Loads, ReadsJudged}
+use Rattle.binfarce_jobs.specs.Input.{IsForeign, IsReadOf, IsJudged, IsUnread, Judges, Loads, ReadsJudged, ReadsRest}
 use Rattle.binfarce_jobs.specs.declared.fault.Fault.{Fault}
 
 -- what of a heading was written is no longer left of it
@@ -42,28 +38,53 @@ short_are (Some xs) (Some ys) (Some zs) bytes short read none end =
     let file : xs ≡ bytes = read ∙ ap (λ (z : List ℕ). bytes ++ z) (none ∙ end) ∙ append-nil bytes in
     (sym (take_all 512 bytes short) ∙ ap (take 512) (sym file), read ∙ ap (λ (z : List ℕ). bytes ++ z) none)
 
--- one byte more is read
-pub byte_more : (old mid new : Option (List ℕ)) (bytes byte items : List ℕ) (n : ℕ) → Consumes old mid bytes → Consumes mid new (take n byte) → length byte ≡ 1 → 0 < n → items ≡ bytes ++ byte → Consumes old new items
-byte_more None mid new bytes byte items n read got one some is = tt
-byte_more (Some xs) None new bytes byte items n read got one some is = absurd read
-byte_more (Some xs) (Some ys) None bytes byte items n read got one some is = absurd got
-byte_more (Some xs) (Some ys) (Some zs) bytes byte items n read got one some is =
-    read ∙ ap (λ (z : List ℕ). bytes ++ z) (got ∙ ap (λ (b : List ℕ). b ++ zs) (take_all n byte (omega (arith, one, some)))) ∙ sym (append_assoc bytes byte zs) ∙ ap (λ (z : List ℕ). z ++ zs) (sym is)
+-- more bytes are read
+pub bytes_more : (old mid new : Option (List ℕ)) (bytes part items : List ℕ) → Consumes old mid bytes → Consumes mid new part → items ≡ bytes ++ part → Consumes old new items
+bytes_more None mid new bytes part items read got is = tt
+bytes_more (Some xs) None new bytes part items read got is = absurd read
+bytes_more (Some xs) (Some ys) None bytes part items read got is = absurd got
+bytes_more (Some xs) (Some ys) (Some zs) bytes part items read got is =
+    read ∙ ap (λ (z : List ℕ). bytes ++ z) got ∙ sym (append_assoc bytes part zs) ∙ ap (λ (z : List ℕ). z ++ zs) (sym is)
 
 -- the first bytes name the file's format
 pub format_of_beginning : (file : List ℕ) → format_of (first_bytes file) ≡ format_of file
 format_of_beginning file = sym (format_of_first (first_bytes file)) ∙ ap format_of (take-take 8 512 file (omega arith)) ∙ format_of_first file
 
 -- of a file whose first bytes name no format, and nothing that no reader reads, these are what is read
-pub unknown_read : (old : Option (List ℕ)) (bytes : List ℕ) → Unknown ≡ format_of bytes → named_by bytes ≡ None → IfSome old (λ file. bytes ≡ first_bytes file) → IfSome old (λ file. IsReadOf file bytes × (foreign_in file ≡ None))
+pub unknown_read : (old : Option (List ℕ)) (bytes : List ℕ) → Unknown ≡ format_of bytes → named_by bytes ≡ None → IfSome old (λ file. bytes ≡ first_bytes file) → IfSome old (λ file. IsJudged file bytes × (foreign_in file ≡ None))
 unknown_read None bytes is native first = tt
 unknown_read (Some file) bytes is native first = (inr (sym (is ∙ ap format_of first ∙ format_of_beginning file), first), ap named_by (sym first) ∙ native)
 
 -- of another file that a reader reads, all is
-pub all_read : (old mid : Option (List ℕ)) (bytes items : List ℕ) → named_by bytes ≡ None → IfSome old (λ file. bytes ≡ first_bytes file) → Consumes old mid bytes → IfSome mid (λ rest. items ≡ bytes ++ rest) → IfSome old (λ file. IsReadOf file items × (foreign_in file ≡ None))
-all_read None mid bytes items native first is rest = tt
-all_read (Some file) None bytes items native first is rest = absurd is
-all_read (Some file) (Some others) bytes items native first is rest = (inl (rest ∙ sym is), ap named_by (sym first) ∙ native)
+pub all_read : (old mid : Option (List ℕ)) (bytes items : List ℕ) → format_of bytes ≢ Unknown → named_by bytes ≡ None → IfSome old (λ file. bytes ≡ first_bytes file) → Consumes old mid bytes → IfSome mid (λ rest. items ≡ bytes ++ rest)
+    → IfSome old (λ file. IsJudged file items × (foreign_in file ≡ None))
+all_read None mid bytes items known native first is rest = tt
+all_read (Some file) None bytes items known native first is rest = absurd is
+all_read (Some file) (Some others) bytes items known native first is rest =
+    (inl ((λ unknown. known (ap format_of first ∙ format_of_beginning file ∙ unknown)), rest ∙ sym is), ap named_by (sym first) ∙ native)
+
+-- the rest of it is read after them
+pub rest_read : (old mid new : Option (List ℕ)) (bytes : List ℕ) (result : Result (Vec ℕ) Fault) → format_of bytes ≢ Unknown → named_by bytes ≡ None → IfSome old (λ file. bytes ≡ first_bytes file) → Consumes old mid bytes → ReadsRest mid new bytes result → ReadsJudged old new result
+rest_read None mid new bytes (Ok v) known native first read rest = (tt, tt)
+rest_read (Some xs) None new bytes (Ok v) known native first read rest = absurd read
+rest_read (Some xs) (Some ys) None bytes (Ok v) known native first read (items, consumed, end) = absurd consumed
+rest_read (Some xs) (Some ys) (Some zs) bytes (Ok v) known native first read (items, consumed, end) =
+    (all_read (Some xs) (Some ys) bytes v.items known native first read items, read ∙ sym items ∙ sym (append-nil v.items) ∙ ap (λ (z : List ℕ). v.items ++ z) (sym end))
+rest_read None mid new bytes (Err e) known native first read rest = tt
+rest_read (Some xs) mid new bytes (Err e) known native first read rest = inr rest
+
+-- a reader that is refused for what it is was read for its first bytes alone
+pub foreign_read : (old new : Option (List ℕ)) (bytes : List ℕ) (e : Fault) (result : Result (Vec ℕ) Fault) → IfSome old (λ file. bytes ≡ first_bytes file) → Consumes old new bytes → Judges (named_by bytes) (Err e) → IsErrAnd result (λ f. f ≡ e) → ReadsJudged old new result
+foreign_read old new bytes e (Ok v) first read judges is = absurd is
+foreign_read None new bytes e (Err f) first read judges is = tt
+foreign_read (Some file) new bytes e (Err f) first read judges is =
+    subst (λ (f : Fault). (IsForeign file f × Consumes (Some file) new (first_bytes file)) ⊎ IsUnread f) (sym is)
+    (inl (subst (λ (bs : List ℕ). Judges (named_by bs) (Err e)) first judges, subst (Consumes (Some file) new) first read))
+
+-- what is read in order of a file is what is read of it
+pub judged_is_read : (file bytes : List ℕ) → IsJudged file bytes → IsReadOf file bytes
+judged_is_read file bytes (inl (known, is)) = inl is
+judged_is_read file bytes (inr first) = inr first
 
 -- a file that is read at offsets is judged by its first bytes
 pub judged : (may_fail : Bool) (file first : List ℕ) (new : Option (List ℕ)) (result : Result (Unit {0}) Fault) → new ≡ Some file → first ≡ first_bytes file → Judges (named_by first) result → Loads may_fail file new may_fail result

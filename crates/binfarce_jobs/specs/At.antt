@@ -1,5 +1,5 @@
 -- The requested addresses, and the answers to those of standard input.
-use Rattle.std.specs.Prelude.{◌≡◌, ◌⊎◌, ℕ, Bool, true, false, List, [], ◌∷◌, Option, Some, None, unwrap_or, Result, Ok, Err, if◌then◌else◌}
+use Rattle.std.specs.Prelude.{◌≡◌, ◌⊎◌, ℕ, Bool, true, false, List, [], ◌∷◌, length, Option, Some, None, unwrap_or, Result, Ok, Err, if◌then◌else◌}
 use Rattle.std.specs.Io.KnownBytes.{Appends, Consumes}
 use Rattle.binfarce.specs.Format.{format_of}
 use Rattle.binfarce_bytes.specs.declared.format.Format.{Format}
@@ -19,9 +19,10 @@ use Rattle.binfarce_tables.specs.Loading.{load_address}
 use Rattle.binfarce_tools.specs.ListWords as list
 use Rattle.binfarce_tools.specs.declared.list.ListError.{ListError}
 use Rattle.binfarce_tools.specs.Answer.{addresses_are_shared}
-use Rattle.binfarce_tools.specs.Writing.{Outcome, no_memory, unreadable, written}
+use Rattle.binfarce_tools.specs.Writing.{no_memory, unreadable}
 use Rattle.binfarce_jobs.specs.Faults.{failure, list_fault}
 use Rattle.binfarce_jobs.specs.Show.{answer_for}
+use Rattle.binfarce_jobs.specs.declared.at.Answered.{Answered}
 use Rattle.binfarce_jobs.specs.declared.show.Symbols.{Symbols}
 use Rattle.binfarce_words.specs.Words.{Wrong, no_address}
 use Rattle.binfarce_jobs.specs.declared.fault.Fault.{Fault}
@@ -61,10 +62,10 @@ loaded_and_origin file =
 abbrev pub IsUntouched : Option (List ℕ) → Option (List ℕ) → Option (List ℕ) → Option (List ℕ) → Type 0
 IsUntouched given left old new = Consumes given left [] × Appends old new []
 
--- the result of answering lines
-abbrev pub lines_end : Result Counts StreamError → Result Counts Fault
-lines_end (Ok counts) = Ok counts
-lines_end (Err e) = Err (Stream e)
+-- the result of answering lines by so many function symbols
+abbrev pub lines_end : (symbols : ℕ) → Result Counts StreamError → Result Answered Fault
+lines_end symbols (Ok counts) = Ok (record { counts = counts; symbols = symbols })
+lines_end symbols (Err e) = Err (Stream e)
 
 -- the function symbols that are taken share addresses: those of all sections of an object file
 abbrev pub share_addresses : Symbols → (file : List ℕ) → Bool
@@ -89,7 +90,7 @@ IsWhyNot MayFail share NeedsMemory answer fault =
     ⊎ ((e : ListError) × IsMadeOf NeedsMemory answer (Err e) × (failure fault ≡ list.outcome_of (Err e)))
 
 -- how standard input is answered of a file whose answer is this: not at all for such a fault; or its places answer the lines
-abbrev pub AnswersInput : Type 0 → (share : Bool) → (Result SelectedSymbols Refusal → Type 0) → Option (Result SelectedSymbols Refusal) → Lookup → Option (List ℕ) → Option (List ℕ) → Option (List ℕ) → Option (List ℕ) → Result Counts Fault → Type 0
+abbrev pub AnswersInput : Type 0 → (share : Bool) → (Result SelectedSymbols Refusal → Type 0) → Option (Result SelectedSymbols Refusal) → Lookup → Option (List ℕ) → Option (List ℕ) → Option (List ℕ) → Option (List ℕ) → Result Answered Fault → Type 0
 AnswersInput MayFail share NeedsMemory answer lookup given left old new result =
     ((fault : Fault) × (result ≡ Err fault) × IsWhyNot MayFail share NeedsMemory answer fault × IsUntouched given left old new)
-    ⊎ ((share ≡ false) × (selected : SelectedSymbols) × (ended : Result Counts StreamError) × (answer ≡ Some (Ok selected)) × Streams (places_in selected) lookup given left old new ended × (result ≡ lines_end ended))
+    ⊎ ((share ≡ false) × (selected : SelectedSymbols) × (ended : Result Counts StreamError) × (answer ≡ Some (Ok selected)) × Streams (places_in selected) lookup given left old new ended × (result ≡ lines_end (length (places_in selected)) ended))

@@ -1,7 +1,6 @@
 -- Hints on files.
-use Rattle.std.specs.Prelude.{◌≡◌, ℕ, zero, suc, ◌*◌, Bool, true, false, ◌&&◌, List, ◌++◌, length, codes, nat_eq, nat_le, nat_lt, Option, Some, None, unwrap_or, Result, Ok, Err, if◌then◌else◌}
+use Rattle.std.specs.Prelude.{◌≡◌, ℕ, zero, suc, ◌*◌, true, false, ◌&&◌, List, ◌++◌, length, codes, nat_le, nat_lt, Option, Some, None, IfSome, Result, Ok, Err, if◌then◌else◌}
 use Rattle.std.specs.Fmt.{decimal}
-use Rattle.std.specs.List.{sum_by}
 use Rattle.std.specs.String.{string_bytes}
 use Rattle.binfarce.specs.Refusal.{Refusal}
 use Rattle.binfarce.specs.SectionEntries.{SelectedSymbols}
@@ -10,11 +9,13 @@ use Rattle.binfarce.specs.declared.SymbolTable.TheVariants.{Symtab, Dynsym}
 use Rattle.binfarce_bytes.specs.Format.{format_of}
 use Rattle.binfarce_bytes.specs.declared.format.Format.{Format}
 use Rattle.binfarce_bytes.specs.declared.format.Format.TheVariants as formats
-use Rattle.binfarce_tools.specs.Answer.{entries_of, selected_answer}
+use Rattle.binfarce_tools.specs.Answer.{selected_answer}
 use Rattle.binfarce_figures.specs.declared.key.Key.{Key}
 use Rattle.binfarce_figures.specs.declared.key.Key.TheVariants.{Crate}
 use Rattle.binfarce_figures.specs.declared.sums.Sums.{Sums}
 use Rattle.binfarce_words.specs.WordViews.{limit_words}
+use Rattle.binfarce_bytes.specs.Selection.{section_of}
+use Rattle.binfarce_jobs.specs.declared.show.Symbols.{Symbols}
 use Rattle.binfarce_jobs.specs.declared.hint.Hint.{Hint}
 use Rattle.binfarce_jobs.specs.declared.hint.Hint.TheVariants as hints
 use Rattle.binfarce_jobs.specs.declared.hint.Loaded.{Loaded}
@@ -44,14 +45,6 @@ hint_words (hints.NoAddress false) = codes "no address in the text; --bare takes
 hint_words (hints.Offsets count) = codes "offsets (" ++ (decimal count ++ codes ") behind other names than the file's; --as=NAME takes those behind one of these")
 hint_words (hints.Unclear count) = codes "offsets (" ++ (decimal count ++ codes ") behind a name that several files have; --as=PATH tells them apart")
 
--- the hint on a section with so many function symbols: it has none
-abbrev pub hint_on : (count : ℕ) → Option Hint
-hint_on count = if nat_eq count 0 then Some hints.None else None
-
--- the hint is that on this section of a file, which has an answer
-abbrev pub IsHintOn : SymbolTable → (file section : List ℕ) → Option Hint → Type 0
-IsHintOn which file section hint = (selected : SelectedSymbols) × (selected_answer which (Some section) file ≡ Some (Ok selected)) × (hint ≡ hint_on (length selected.entries))
-
 -- the hint on sums by crate: at least half of the bytes have none
 abbrev pub unknown_in : Key → Sums → Option Hint
 unknown_in Crate sums = if nat_lt 0 sums.unknown && nat_le sums.total (2 * sums.unknown) then Some (hints.Unknown sums.unknown sums.total) else None
@@ -78,6 +71,10 @@ lack_by which format (suc n) all = None
 
 abbrev pub lack_in : SymbolTable → (file : List ℕ) → (section : Option (List ℕ)) → Option Hint
 lack_in which file section = lack_by which (format_of file) (count_of (selected_answer which section file)) (count_of (selected_answer which None file))
+
+-- so many of the function symbols that are taken are in the file, where that is known
+abbrev pub IsCountIn : Symbols → (file : List ℕ) → (count : Option ℕ) → Type 0
+IsCountIn symbols file count = IfSome count (λ n. n ≡ count_of (selected_answer symbols.which (section_of symbols.selection) file))
 
 -- the hint where a file has dynamic function symbols
 abbrev pub dynamic_by : (count : ℕ) → Option Hint

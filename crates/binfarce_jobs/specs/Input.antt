@@ -1,5 +1,5 @@
 -- The views of the input of a command that clauses use.
-use Rattle.std.specs.Prelude.{◌≡◌, ◌⊎◌, ℕ, Bool, true, false, List, [], ◌++◌, Option, Some, None, IfSome, Result, Ok, Err}
+use Rattle.std.specs.Prelude.{◌≡◌, ◌≢◌, ◌⊎◌, ℕ, Bool, true, false, List, [], ◌++◌, Option, Some, None, IfSome, Result, Ok, Err}
 use Rattle.std.specs.Global.{Vec}
 use Rattle.std.specs.Io.{appended_bytes}
 use Rattle.std.specs.Io.KnownBytes.{Consumes, IsAtEnd}
@@ -62,10 +62,14 @@ Loads may_fail file new may_fail_now (Err e) = IsForeign file e ⊎ IsUnreadable
 abbrev pub IsUnread : Fault → Type 0
 IsUnread fault = (failure fault ≡ unreadable) ⊎ (failure fault ≡ no_memory)
 
--- the bytes of a reader that is read to its end, or of which only the first ones are read; it is refused for what it is by these alone
+-- the bytes that are read of a file in order: all where the first ones name a format, and else these alone
+abbrev pub IsJudged : (file bytes : List ℕ) → Type 0
+IsJudged file bytes = ((format_of file ≢ Unknown) × (bytes ≡ file)) ⊎ ((format_of file ≡ Unknown) × (bytes ≡ first_bytes file))
+
+-- a reader is read to its end, or only its first bytes are, which alone are read of one that is refused for what it is
 abbrev pub ReadsJudged : Option (List ℕ) → Option (List ℕ) → Result (Vec ℕ) Fault → Type 0
-ReadsJudged old new (Ok v) = IfSome old (λ file. IsReadOf file v.items × (foreign_in file ≡ None)) × Consumes old new v.items
-ReadsJudged old new (Err e) = IfSome old (λ file. IsForeign file e ⊎ IsUnread e)
+ReadsJudged old new (Ok v) = IfSome old (λ file. IsJudged file v.items × (foreign_in file ≡ None)) × Consumes old new v.items
+ReadsJudged old new (Err e) = IfSome old (λ file. (IsForeign file e × Consumes old new (first_bytes file)) ⊎ IsUnread e)
 
 -- the first bytes of a reader are read
 abbrev pub ReadsFirst : Option (List ℕ) → Option (List ℕ) → List ℕ → Result (Unit {0}) Fault → Type 0

@@ -1,10 +1,15 @@
--- Limits on sums.
-use Rattle.std.specs.Prelude.{ℕ, ◌-◌, ◌*◌, nat_lt, Bool, Option, Some, None, if◌then◌else◌}
+-- Limits on sums, and what work on files came to.
+use Rattle.std.specs.Prelude.{ℕ, ◌-◌, ◌*◌, ◌&&◌, ◌||◌, nat_lt, Bool, Option, Some, None, if◌then◌else◌}
 use Rattle.binfarce_jobs.specs.declared.hint.Hint.{Hint}
 use Rattle.binfarce_jobs.specs.declared.hint.Hint.TheVariants.{Above, Grown}
 use Rattle.binfarce_figures.specs.declared.diff.Growth.{Growth}
 use Rattle.binfarce_words.specs.declared.words.Limit.{Limit}
 use Rattle.binfarce_words.specs.declared.words.Limit.TheVariants.{Bytes, Percent}
+use Rattle.binfarce_jobs.specs.declared.limit.Verdict.{Verdict}
+
+-- what work and other work came to: all is done where both are, and a sum exceeds its limit where one does in either
+abbrev pub and_then : Verdict → Verdict → Verdict
+and_then a b = record { is_done = a.is_done && b.is_done; is_above = a.is_above || b.is_above }
 
 -- a sum is more than this limit; a limit in per cent is one on growth
 abbrev pub above : (sum : ℕ) → (limit : Option Limit) → Option Hint

@@ -1,5 +1,5 @@
 -- How function symbols are shown.
-use Rattle.std.specs.Prelude.{◌≡◌, ℕ, Bool, true, false, List, [], codes, Option, Some, None, Result, Err, if◌then◌else◌}
+use Rattle.std.specs.Prelude.{◌≡◌, ℕ, Bool, true, false, List, [], codes, length, Option, Some, None, IfSome, is_some, Result, Ok, Err, if◌then◌else◌}
 use Rattle.std.specs.Str.{bytes_eq}
 use Rattle.binfarce.specs.Format.{format_of}
 use Rattle.binfarce.specs.declared.Format.{Format}
@@ -22,7 +22,10 @@ use Rattle.binfarce_tools.specs.declared.tables.Tables.{Tables}
 use Rattle.binfarce_jobs.specs.declared.show.Request.{Request}
 use Rattle.binfarce_jobs.specs.declared.show.Kind.{Kind}
 use Rattle.binfarce_jobs.specs.declared.show.Kind.TheVariants.{Listing, Rows, Figures, Picture, Stacks}
+use Rattle.binfarce_jobs.specs.declared.show.Seen.{Seen}
 use Rattle.binfarce_jobs.specs.declared.show.Symbols.{Symbols}
+use Rattle.binfarce_jobs.specs.Limit.{above}
+use Rattle.binfarce_words.specs.declared.words.Limit.{Limit}
 
 -- text shows the answer of the file at a path for a section, or for all sections
 abbrev pub IsTextOf : Kind → (path : List ℕ) → Style → SelectedSymbols → List ℕ → Type 0
@@ -32,10 +35,15 @@ IsTextOf (Figures figures) path style = AreFiguresBy figures style
 IsTextOf (Picture grouping first) path style = IsPictureBy path grouping first
 IsTextOf (Stacks joins_std) path style = AreStacksIn joins_std
 
--- the sums that were seen are those of a file's answer, where sums are shown
+-- the sums of a file's answer, where sums are shown
 abbrev pub HasSums : Kind → SelectedSymbols → Option Sums → Type 0
 HasSums (Figures figures) selected seen = (sums : Sums) × (seen ≡ Some sums) × AreSumsBy figures.grouping selected sums
-HasSums kind selected seen = Unit {0}
+HasSums kind selected seen = seen ≡ None
+
+-- what was found is that of a file's answer: how many function symbols it has, where that is known, and the sums, where sums are shown
+pub record IsSeenOf (kind : Kind) (selected : SelectedSymbols) (seen : Seen) : Type 0 where
+  pub count_is : IfSome seen.count (λ count. count ≡ length selected.entries)
+  pub sums_are : HasSums kind selected seen.sums
 
 -- the name of the section that is selected; empty for all sections
 abbrev pub selected_name : Option (List ℕ) → List ℕ
@@ -91,3 +99,16 @@ IsShownText asked path file text = IsDue (IsAskedText asked path) (answer_for as
 -- the showing of a file may end so; that the file can't be read is reported only where MayFail says so, and that an allocation failed of any file
 abbrev pub MayEnd : (MayFail : Type 0) → Request → (file : List ℕ) → Outcome → Type 0
 MayEnd MayFail asked file outcome = ProgramEndsAs MayFail (Fits asked.kind) (MemoryFor asked.symbols file) (answer_for asked.symbols file) outcome
+
+-- the sum of all sizes exceeds the limit, where sums are shown
+abbrev pub exceeds : Option Limit → Option Sums → Bool
+exceeds limit (Some sums) = is_some (above sums.total limit)
+exceeds limit None = false
+
+-- the sums are those of a file's answer
+abbrev pub HasSumsOf : Request → (file : List ℕ) → Option Sums → Type 0
+HasSumsOf asked file sums = (selected : SelectedSymbols) × (answer_for asked.symbols file ≡ Some (Ok selected)) × HasSums asked.kind selected sums
+
+-- whether a sum of the file exceeds its limit
+abbrev pub IsAboveIn : Request → (file : List ℕ) → Bool → Type 0
+IsAboveIn asked file is_above = (sums : Option Sums) × HasSumsOf asked file sums × (is_above ≡ exceeds asked.limit sums)

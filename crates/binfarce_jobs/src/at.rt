@@ -1,6 +1,6 @@
 //! `binfarce at [OPTION..] FILE [ADDRESS..]`: the function symbol at each address.
 
-ghost use Rattle.std.specs.Prelude.{◌≡◌, ◌≢◌, ℕ, List, Option, true, false, map, Some, Ok, IfErr, IfOk};
+ghost use Rattle.std.specs.Prelude.{◌≡◌, ◌≢◌, ℕ, List, Option, true, false, length, map, Some, Ok, IfErr, IfOk};
 ghost use Rattle.binfarce.specs.SectionEntries.{SelectedSymbols};
 ghost use Rattle.binfarce_addresses.specs.Counts.{AreCountsOf, answers_at};
 ghost use Rattle.binfarce_addresses.specs.Lines.{AreLinesAt};
@@ -53,8 +53,17 @@ pub fn read_addresses<'a>(alloc: Global, words: &[&'a str]) -> Result<Vec<u64>, 
     Ok(addresses)
 }
 
-/// Symbolizes the addresses, by this lookup and these function symbols, and counts them. Of the source it reads the headers, the symbol
-/// table and the names alone.
+/// What addresses came to.
+#[derive(Debug, Clone, Copy, PartialEq)]
+pub struct Answered {
+    /// How many there are, and how many were found.
+    pub counts: Counts,
+    /// How many function symbols they were looked up in.
+    pub symbols: usize,
+}
+
+/// Symbolizes the addresses, by this lookup and these function symbols, and counts them. Of the source it reads the
+/// headers, the symbol table and the names alone.
 ///
 /// # Errors
 ///
@@ -67,7 +76,7 @@ pub fn answer_all<S: Source<Log = ()>, K: Sink>(
     lookup: Lookup<'_>,
     addresses: &[u64],
     out: &mut K,
-) -> Result<Counts, Fault>
+) -> Result<Answered, Fault>
     ensures outcome { (file : List ℕ) → S.bytes source.now ≡ Some file
         → share_addresses symbols.now file ≡ false
         → ProgramEndsAs (S.may_fail source.now ≡ true) ListingFits
@@ -80,13 +89,18 @@ pub fn answer_all<S: Source<Log = ()>, K: Sink>(
         (answer_for symbols.now file) (K.taken out.old) (K.taken out.new) (outcome_of result) }
     ensures counts { (file : List ℕ) (selected : SelectedSymbols) → S.bytes source.now ≡ Some file
         → answer_for symbols.now file ≡ Some (Ok selected)
-        → IfOk result (AreCountsOf (answers_at (places_in selected) lookup.entry addresses.now)) }
+        → IfOk result (λ a. AreCountsOf (answers_at (places_in selected) lookup.entry addresses.now) a.counts) }
+    ensures symbols { (file : List ℕ) (selected : SelectedSymbols) → S.bytes source.now ≡ Some file
+        → answer_for symbols.now file ≡ Some (Ok selected)
+        → IfOk result (λ a. a.symbols ≡ length (places_in selected)) }
     ensures fails { Fails (K.has_failed out.old) (K.has_failed out.new) (outcome_of result) }
     ensures leaves { Leaves out.old out.new (outcome_of result) }
 {
     let tables = tables_of(alloc, source, symbols)?;
     let places = places_of(alloc, &tables)?;
-    Ok(write_lines(alloc, &places, lookup, addresses, out)?)
+    let counts = write_lines(alloc, &places, lookup, addresses, out)?;
+    let symbols = places.len();
+    Ok(Answered { counts, symbols })
 }
 
 /// Where the file itself says that it is loaded, which is the address of the base, at 0 if it doesn't say it; and the
@@ -140,8 +154,7 @@ pub fn places_of<'a>(alloc: Global, tables: &'a Tables<'_>) -> Result<Places<'a>
     Ok(places)
 }
 
-/// Symbolizes the addresses in the lines of `input`, each as soon as its line feed has come, and returns how many there
-/// are, how many were found, and how many lines have none.
+/// Symbolizes the addresses in the lines of `input`, each as soon as its line feed has come, and counts them.
 ///
 /// # Errors
 ///
@@ -153,7 +166,7 @@ pub fn answer_input<S: Source<Log = ()>, I: Read, K: Sink>(
     lookup: Lookup<'_>,
     input: &mut I,
     out: &mut K,
-) -> Result<Counts, Fault>
+) -> Result<Answered, Fault>
     ensures answers { (file : List ℕ) → S.bytes source.now ≡ Some file
         → AnswersInput (S.may_fail source.now ≡ true)
         (share_addresses symbols.now file) (MemoryFor symbols.now file)
@@ -164,5 +177,6 @@ pub fn answer_input<S: Source<Log = ()>, I: Read, K: Sink>(
     let tables = tables_of(alloc, source, symbols)?;
     let places = places_of(alloc, &tables)?;
     let counts = answer_lines(alloc, &places, lookup, input, out)?;
-    Ok(counts)
+    let symbols = places.len();
+    Ok(Answered { counts, symbols })
 }

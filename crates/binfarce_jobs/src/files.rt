@@ -1,19 +1,22 @@
 //! Runs a command on files, one after the other.
 
 ghost use Rattle.std.specs.Prelude.{◌≡◌, ◌⊎◌, [], ◌∷◌, ℕ, Bool, List, true, Option, Some, None, map, nat_lt, length, IfErr, IfOk, IfSome, MatchOption};
-ghost use Rattle.binfarce_jobs.specs.Files.{Refused, Reports, AreHeld, asked_files, ReportsWhy, ShowsAll, ShowsSource, ShowsOne, heading};
+ghost use Rattle.binfarce_jobs.specs.Faults.{is_of_file};
+ghost use Rattle.binfarce_jobs.specs.Files.{Refused, Reports, ReportsFault, AreHeld, asked_files, ShowsAll, ShowsSource, ShowsOne, heading};
 ghost use Rattle.binfarce_jobs.specs.Output.{pending, state_of, taken, writer_of};
 ghost use Rattle.binfarce_jobs.specs.Foreign.{foreign_in};
 ghost use Rattle.binfarce_jobs.specs.Input.{IsForeign, IsReadOf, IsUnreadable, bytes_of, may_fail_of};
+ghost use Rattle.binfarce_jobs.specs.Show.{exceeds};
 
 use crate::fault::Fault;
-use crate::hint::{Hint, completed, refusal_hints, unknown_in};
+use crate::hint::{Hint, lack, refusal_hints, unknown_in};
 use crate::input::OpenFile;
-use crate::limit::above;
+use crate::limit::{Verdict, above};
 use crate::output::Output;
 use crate::show::{Kind, Request, Seen, show};
 use binfarce_bytes::source::Source;
 use binfarce_sections::error::SectionError;
+use binfarce_tools::tables::Selection;
 use std::alloc::{AllocError, Global};
 use std::io::{self, Error, Read, Write};
 
@@ -49,7 +52,7 @@ pub trait System<F: Read + Source<Log = ()>> {
 }
 
 /// Shows each file, in order. Of several, each is shown under a line with its name. A file that is refused is reported,
-/// and the others follow; the result is then `false`.
+/// and the others follow. A sum that exceeds its limit is reported, too.
 ///
 /// # Errors
 ///
@@ -60,7 +63,7 @@ pub fn show_files<F: Read + Source<Log = ()> + Drop, Y: System<F>, W: Write>(
     asked: &Request<'_>,
     files: &[&str],
     out: &mut Output<W>,
-) -> Result<bool, Fault>
+) -> Result<Verdict, Fault>
     ensures { (held : List ℕ → List ℕ) → AreHeld (Y.bytes_at system.old) held (map (λ t. t.now) files.now)
         → ShowsAll
         (asked_files asked.now (nat_lt 1 (length files.now)) (Y.may_fail_at system.old) held)
@@ -69,15 +72,15 @@ pub fn show_files<F: Read + Source<Log = ()> + Drop, Y: System<F>, W: Write>(
         (state_of W.contents out.new (Y.reports system.new)) result }
 {
     let are_several = files.len() > 1;
-    let mut are_shown = true;
+    let mut all = Verdict::done();
     for path in files {
-        let is_shown = show_file(alloc, system, asked, path, are_several, out)?;
-        are_shown &= is_shown;
+        let shown = show_file(alloc, system, asked, path, are_several, out)?;
+        all = all.and_then(shown);
     }
-    Ok(are_shown)
+    Ok(all)
 }
 
-// Shows a file, under its heading. `false` where it is refused.
+// Shows a file, under its heading, or reports why it is refused.
 fn show_file<F: Read + Source<Log = ()> + Drop, Y: System<F>, W: Write>(
     alloc: Global,
     system: &mut Y,
@@ -85,7 +88,7 @@ fn show_file<F: Read + Source<Log = ()> + Drop, Y: System<F>, W: Write>(
     path: &str,
     are_several: bool,
     out: &mut Output<W>,
-) -> Result<bool, Fault>
+) -> Result<Verdict, Fault>
     ensures shows { (held : List ℕ → List ℕ) → Y.bytes_at system.old path.now ≡ Some (held path.now)
         → ShowsOne (asked_files asked.now are_several (Y.may_fail_at system.old) held) path.now
         (state_of W.contents out.old (Y.reports system.old))
@@ -95,34 +98,59 @@ fn show_file<F: Read + Source<Log = ()> + Drop, Y: System<F>, W: Write>(
 {
     out.begin(heading(alloc, path, are_several)?);
     let Some(input) = open_input(alloc, system, path) else {
-        return Ok(false);
+        return Ok(Verdict::refused());
     };
-    let mut seen = Seen {
-        hint: None,
-        sums: None,
-    };
-    let shown = show_source(alloc, asked, path, &input, &mut seen, out);
-    let Seen { hint, sums } = seen;
-    let hint = completed(
-        alloc,
-        &input,
-        &asked.symbols,
-        hint,
-        shown.is_ok(),
-        matches!(asked.kind, Kind::Picture(..)),
-        out.len(),
-    );
+    match show_source(alloc, asked, path, &input, out) {
+        Ok(seen) => {
+            let is_above = hint_on(alloc, system, asked, path, &input, seen, out.len());
+            Ok(Verdict {
+                is_done: true,
+                is_above,
+            })
+        }
+        Err(fault) => refuse(alloc, system, path, &input, fault),
+    }
+}
+
+// Gives the hints on a file that was shown, of which so many bytes were written, and returns whether its sum exceeds the
+// limit.
+fn hint_on<F: Read + Source<Log = ()>, Y: System<F>>(
+    alloc: Global,
+    system: &mut Y,
+    asked: &Request<'_>,
+    path: &str,
+    input: &OpenFile<F>,
+    seen: Seen,
+    len: u64,
+) -> bool
+    ensures above { result ≡ exceeds asked.now.limit seen.sums }
+    ensures reports { Y.reports system.new ≡ Y.reports system.old }
+    ensures bytes { Y.bytes_at system.new ≡ Y.bytes_at system.old }
+    ensures may_fail { Y.may_fail_at system.new ≡ Y.may_fail_at system.old }
+{
+    let count = counted(asked, seen.count, len);
+    let hint = lack(alloc, input, &asked.symbols, count).unwrap_or(None);
     give(system, path, hint);
-    let (unknown, excess) = match (asked.kind, sums) {
-        (Kind::Figures(figures), Some(sums)) => (
-            unknown_in(figures.grouping.key, sums),
-            above(sums.total, asked.limit),
-        ),
-        _ => (None, None),
+    let Some(sums) = seen.sums else {
+        return false;
     };
-    give(system, path, unknown);
+    if let Kind::Figures(figures) = asked.kind {
+        give(system, path, unknown_in(figures.grouping.key, sums));
+    }
+    let excess = above(sums.total, asked.limit);
+    let is_above = excess.is_some();
     give(system, path, excess);
-    reported(alloc, system, path, &input, shown)
+    is_above
+}
+
+// How many function symbols were shown, where that is known, or at least that there are some: a listing of all sections
+// has a line for each, and nothing else.
+fn counted(asked: &Request<'_>, count: Option<usize>, len: u64) -> Option<usize> {
+    match (count, asked.kind, asked.symbols.selection) {
+        (None, _, _) if len > 0 => Some(1),
+        (None, Kind::Listing, Selection::All) => Some(0),
+        _ => count,
+    }
 }
 
 /// What precedes a file's text: of several files, its name in a line.
@@ -146,15 +174,15 @@ fn show_source<S: Source<Log = ()>, W: Write>(
     asked: &Request<'_>,
     path: &str,
     source: &S,
-    seen: &mut Seen,
     out: &mut Output<W>,
-) -> Result<(), Fault>
+) -> Result<Seen, Fault>
     ensures { (file : List ℕ) → S.bytes source.now ≡ Some file
         → ShowsSource asked.now path.now (S.may_fail source.now ≡ true) file (pending out.old)
         (W.contents (writer_of out.old)) (W.contents (writer_of out.new)) (taken W.contents out.new) result }
 {
-    show(alloc, asked, path, source, seen, out)?;
-    out.end()
+    let seen = show(alloc, asked, path, source, out)?;
+    out.end()?;
+    Ok(seen)
 }
 
 /// Opens the file at this path, and loads it. `None` where it can't be opened or read, or where its first bytes name
@@ -170,6 +198,9 @@ pub fn open_input<F: Read + Source<Log = ()> + Drop, Y: System<F>>(
         (λ input. (bytes : List ℕ) × IsReadOf file bytes × (bytes_of F.bytes input ≡ Some bytes)
         × (may_fail_of F.may_fail input ≡ true → Y.may_fail_at system.old path.now ≡ true)
         × (foreign_in file ≡ None)) }
+    ensures reported { MatchOption result
+        ((fault : Fault) × Reports (Y.reports system.old) (Y.reports system.new) ((path.now, fault) ∷ []))
+        (λ _. Y.reports system.new ≡ Y.reports system.old) }
     ensures unchanged { IfSome result (λ _. system.new ≡ system.old) }
     ensures bytes { Y.bytes_at system.new ≡ Y.bytes_at system.old }
     ensures may_fail { Y.may_fail_at system.new ≡ Y.may_fail_at system.old }
@@ -188,8 +219,12 @@ pub fn open_input<F: Read + Source<Log = ()> + Drop, Y: System<F>>(
     Some(input)
 }
 
-// Gives the hint, if there is one.
-fn give<F: Read + Source<Log = ()>, Y: System<F>>(system: &mut Y, path: &str, hint: Option<Hint>)
+/// Gives the hint, if there is one.
+pub fn give<F: Read + Source<Log = ()>, Y: System<F>>(
+    system: &mut Y,
+    path: &str,
+    hint: Option<Hint>,
+)
     ensures reports { Y.reports system.new ≡ Y.reports system.old }
     ensures bytes { Y.bytes_at system.new ≡ Y.bytes_at system.old }
     ensures may_fail { Y.may_fail_at system.new ≡ Y.may_fail_at system.old }
@@ -200,31 +235,28 @@ fn give<F: Read + Source<Log = ()>, Y: System<F>>(system: &mut Y, path: &str, hi
     }
 }
 
-/// Whether the work on a file is done. Why the file is refused is reported.
+/// Reports why the file at this path is refused, with hints on what would help.
 ///
 /// # Errors
 ///
-/// Faults that aren't the file's.
-pub fn reported<F: Read + Source<Log = ()>, Y: System<F>>(
+/// A fault that isn't the file's: a failed write, or one of the whole call.
+pub fn refuse<F: Read + Source<Log = ()>, Y: System<F>>(
     alloc: Global,
     system: &mut Y,
     path: &str,
     input: &OpenFile<F>,
-    done: Result<(), Fault>,
-) -> Result<bool, Fault>
-    ensures reports { ReportsWhy path.now (Y.reports system.old) (Y.reports system.new) done result }
+    fault: Fault,
+) -> Result<Verdict, Fault>
+    ensures reports { ReportsFault path.now (Y.reports system.old) (Y.reports system.new) fault (is_of_file fault) result }
     ensures bytes { Y.bytes_at system.new ≡ Y.bytes_at system.old }
     ensures may_fail { Y.may_fail_at system.new ≡ Y.may_fail_at system.old }
 {
-    match done {
-        Ok(()) => Ok(true),
-        Err(fault) if fault.is_of_file() => {
-            let (dynamic, debug) = refusal_hints(alloc, input, &fault);
-            system.report(path, fault, input.take_reason());
-            give(system, path, dynamic);
-            give(system, path, debug);
-            Ok(false)
-        }
-        Err(fault) => Err(fault),
+    if !fault.is_of_file() {
+        return Err(fault);
     }
+    let (dynamic, debug) = refusal_hints(alloc, input, &fault);
+    system.report(path, fault, input.take_reason());
+    give(system, path, dynamic);
+    give(system, path, debug);
+    Ok(Verdict::refused())
 }

@@ -1,10 +1,10 @@
 //! Hints on files: what a person may want to know beside the result. Standard output doesn't depend on them, and the
 //! status on those alone that say that a limit is exceeded.
 
-ghost use Rattle.std.specs.Prelude.{◌≡◌, ℕ, List, Some, IfOk, length};
+ghost use Rattle.std.specs.Prelude.{◌≡◌, ℕ, List, Some, IfOk};
 ghost use Rattle.binfarce_bytes.specs.Selection.{section_of};
 ghost use Rattle.binfarce_tools.specs.Answer.{selected_answer};
-ghost use Rattle.binfarce_jobs.specs.Hints.{count_of, dynamic_by, dynamic_in, hint_on, lack_by, lack_in, lack_of, loaded_words, unknown_in};
+ghost use Rattle.binfarce_jobs.specs.Hints.{IsCountIn, count_of, dynamic_by, dynamic_in, lack_by, lack_in, lack_of, loaded_words, unknown_in};
 
 use crate::fault::Fault;
 use crate::show::Symbols;
@@ -134,16 +134,6 @@ impl Loaded {
     }
 }
 
-/// The hint on a section with these function symbols, which is shown: it has none.
-pub fn hint_on(functions: &[SectionFunction<'_>]) -> Option<Hint>
-    ensures { result ≡ hint_on (length functions.now) }
-{
-    if functions.is_empty() {
-        return Some(Hint::None);
-    }
-    None
-}
-
 /// The hint on sums by crate of which at least half is that of `[unknown]`.
 pub(crate) fn unknown_in(key: Key, sums: Sums) -> Option<Hint>
     ensures { result ≡ unknown_in key sums }
@@ -156,33 +146,8 @@ pub(crate) fn unknown_in(key: Key, sums: Sums) -> Option<Hint>
     }
 }
 
-// As many bytes are written at least of a file that has function symbols, where it is shown whole.
-const LEAST: u64 = 20;
-
-/// The hint on a file of which so many bytes are written, if it was shown: the reason that it has no function symbol,
-/// if it has none, or that hint. Of all sections, whose function symbols aren't counted before, few bytes are written
-/// where there is none, but a picture in any case. It is left out where a read or an allocation fails.
-pub fn completed<S: Source<Log = ()>>(
-    alloc: Global,
-    source: &S,
-    symbols: &Symbols<'_>,
-    hint: Option<Hint>,
-    is_shown: bool,
-    is_picture: bool,
-    len: u64,
-) -> Option<Hint> {
-    let are_all = matches!(symbols.selection, Selection::All);
-    match hint {
-        _ if !is_shown => None,
-        Some(Hint::None) => lack(alloc, source, symbols).unwrap_or(None),
-        None if are_all && (is_picture || len < LEAST) => {
-            lack(alloc, source, symbols).unwrap_or(None)
-        }
-        hint => hint,
-    }
-}
-
-/// The reason that a file has none of the function symbols that are taken: exactly where it has none.
+/// The reason that a file has none of the function symbols that are taken: exactly where it has none. It has so many of
+/// them, where that is known.
 ///
 /// # Errors
 ///
@@ -191,17 +156,27 @@ pub fn lack<S: Source<Log = ()>>(
     alloc: Global,
     source: &S,
     symbols: &Symbols<'_>,
+    count: Option<usize>,
 ) -> Result<Option<Hint>, Fault>
-    ensures { (file : List ℕ) → S.bytes source.now ≡ Some file
+    ensures { (file : List ℕ) → S.bytes source.now ≡ Some file → IsCountIn symbols.now file count
         → IfOk result (λ hint. hint ≡ lack_in symbols.now.which file (section_of symbols.now.selection)) }
 {
-    let count = count_in(alloc, source, symbols.which, symbols.selection)?;
-    let all = count_in(alloc, source, symbols.which, Selection::All)?;
+    let count = match count {
+        Some(count) => count,
+        None => count_in(alloc, source, symbols.which, symbols.selection)?,
+    };
+    if count > 0 {
+        return Ok(None);
+    }
+    let all = match symbols.selection {
+        Selection::All => 0,
+        Selection::Section(_) => count_in(alloc, source, symbols.which, Selection::All)?,
+    };
     let format = read_format(alloc, source, &mut ())?;
     Ok(lack_by(symbols.which, &format, count, all))
 }
 
-// The same of a file of this format, by how many of these function symbols it has, and how many of all sections.
+// The reason of a file of this format, by how many of these function symbols it has, and how many of all sections.
 fn lack_by(which: SymbolTable, format: &Format, count: usize, all: usize) -> Option<Hint>
     ensures { result ≡ lack_by which format.now count all }
 {

@@ -217,19 +217,20 @@ fn read_rest<R: Read>(reader: &mut R, mut bytes: Vec<u8>) -> Result<Vec<u8>, Fau
 }
 
 // Reads the first `FIRST_LENGTH` bytes, or all where there are fewer.
-#[tactic(auto, using(crate::proofs::Streams::short_are, crate::proofs::Streams::byte_more))]
+#[tactic(auto, using(crate::proofs::Streams::short_are))]
 fn read_first<R: Read>(reader: &mut R, bytes: &mut Vec<u8>) -> Result<(), Fault>
     requires { bytes.old.items ≡ [] }
     ensures { ReadsFirst (R.remaining reader.old) (R.remaining reader.new) bytes.new.items result }
 {
-    let mut byte = [0; 1];
+    let mut part = [0; FIRST_LENGTH];
     for _ in 0..u64::MAX {
-        if bytes.len() >= FIRST_LENGTH {
+        let left = FIRST_LENGTH.saturating_sub(bytes.len());
+        if left == 0 {
             return Ok(());
         }
-        match reader.read(&mut byte) {
+        match reader.read(&mut part[..left]) {
             Ok(0) => return Ok(()),
-            Ok(_) => bytes.extend_from_slice(&byte)?,
+            Ok(count) => bytes.extend_from_slice(&part[..count])?,
             Err(e) if e.kind() == ErrorKind::Interrupted => {}
             Err(e) => return Err(Fault::from(e)),
         }

@@ -1,11 +1,52 @@
-//! Limits on sums.
+//! Limits on sums, and what work on files came to.
 
-ghost use Rattle.std.specs.Prelude.{◌≡◌};
-ghost use Rattle.binfarce_jobs.specs.Limit.{above, grown, is_above};
+ghost use Rattle.std.specs.Prelude.{◌≡◌, true, false};
+ghost use Rattle.binfarce_jobs.specs.Limit.{above, and_then, grown, is_above};
 
 use crate::hint::Hint;
 use binfarce_figures::diff::Growth;
 use binfarce_words::words::Limit;
+
+/// What work on files came to.
+#[derive(Debug, Clone, Copy, PartialEq)]
+pub struct Verdict {
+    /// Whether no file was refused.
+    pub is_done: bool,
+    /// Whether a sum exceeds its limit.
+    pub is_above: bool,
+}
+
+impl Verdict {
+    /// The work is done, and no sum exceeds its limit.
+    pub fn done() -> Verdict
+        ensures { result ≡ record { is_done = true; is_above = false } }
+    {
+        Verdict {
+            is_done: true,
+            is_above: false,
+        }
+    }
+
+    /// A file was refused.
+    pub fn refused() -> Verdict
+        ensures { result ≡ record { is_done = false; is_above = false } }
+    {
+        Verdict {
+            is_done: false,
+            is_above: false,
+        }
+    }
+
+    /// What this work and other work came to.
+    pub fn and_then(self, other: Verdict) -> Verdict
+        ensures { result ≡ and_then self other }
+    {
+        Verdict {
+            is_done: self.is_done && other.is_done,
+            is_above: self.is_above || other.is_above,
+        }
+    }
+}
 
 /// The hint on a sum that is more than this limit, if there is one; a limit in per cent is one on growth.
 pub fn above(sum: u64, limit: Option<Limit>) -> Option<Hint>

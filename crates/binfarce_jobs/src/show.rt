@@ -1,6 +1,6 @@
 //! Shows the function symbols of a file: as a listing, as sums, or as a picture.
 
-ghost use Rattle.std.specs.Prelude.{◌≡◌, ℕ, List, Option, true, Ok, Some, IfOk};
+ghost use Rattle.std.specs.Prelude.{◌≡◌, ℕ, List, Option, true, Ok, Some, IfOk, IfSome, length};
 ghost use Rattle.binfarce_bytes.specs.Selection.{section_of};
 ghost use Rattle.binfarce_tools.specs.Json.{style_of};
 ghost use Rattle.binfarce.specs.SectionEntries.{SelectedSymbols};
@@ -9,19 +9,18 @@ ghost use Rattle.binfarce_tools.specs.Tables.{AreTablesOf, ReadsAs};
 ghost use Rattle.binfarce_tools.specs.declared.SymbolTable.{SymbolTable};
 ghost use Rattle.binfarce_tools.specs.Writing.{EndsAs, Takes, Fails, Leaves};
 ghost use Rattle.binfarce_jobs.specs.Faults.{outcome_of};
-ghost use Rattle.binfarce_jobs.specs.Hints.{IsHintOn};
-ghost use Rattle.binfarce_jobs.specs.Show.{AreTablesFor, Fits, HasSums, IsTextOf, MayEnd, TakesText, answer_for, is_taken, style_for};
+ghost use Rattle.binfarce_jobs.specs.Show.{AreTablesFor, Fits, IsSeenOf, IsTextOf, MayEnd, TakesText, answer_for, is_taken, style_for};
 
 use crate::fault::Fault;
-use crate::hint::{Hint, hint_on};
 use binfarce_bytes::ParseError;
 use binfarce_bytes::format::Format;
 use binfarce_bytes::functions::SectionFunction;
 use binfarce_bytes::source::Source;
+use binfarce_figures::claims::Claims;
 use binfarce_figures::key::Grouping;
 use binfarce_figures::map::map_by;
 use binfarce_figures::rows::{Shown, list_by};
-use binfarce_figures::stacks::fold_tables;
+use binfarce_figures::stacks::fold_claims;
 use binfarce_figures::sums::{Figures, Sums, sum_by};
 use binfarce_tables::ReadError;
 use binfarce_tables::format::read_format;
@@ -69,11 +68,11 @@ pub struct Request<'a> {
     pub limit: Option<Limit>,
 }
 
-/// What was seen of a file while it was shown.
-#[derive(Debug, Drop)]
+/// What was found in a file that was shown.
+#[derive(Debug, Clone, Copy, PartialEq)]
 pub struct Seen {
-    /// The hint on its function symbols, if there is one.
-    pub hint: Option<Hint>,
+    /// How many function symbols are taken, where that is known.
+    pub count: Option<usize>,
     /// The sum of all sizes, each byte counted once, and that of `[unknown]`, where sums are shown.
     pub sums: Option<Sums>,
 }
@@ -130,8 +129,8 @@ fn form_for<'a>(asked: &Request<'a>, path: &'a str) -> Form<'a>
     }
 }
 
-/// Writes the requested function symbols of the source, and sets `seen` to the hint on them, if any, and their sums; a
-/// picture's title is the path. Of the source it reads the headers, the symbol table and the names alone.
+/// Writes the requested function symbols of the source, and returns what was found; a picture's title is the path. Of
+/// the source it reads the headers, the symbol table and the names alone.
 ///
 /// # Errors
 ///
@@ -142,74 +141,69 @@ pub fn show<S: Source<Log = ()>, K: Sink>(
     asked: &Request<'_>,
     path: &str,
     source: &S,
-    seen: &mut Seen,
     out: &mut K,
-) -> Result<(), Fault>
+) -> Result<Seen, Fault>
     ensures outcome { (file : List ℕ) → S.bytes source.now ≡ Some file
         → MayEnd (S.may_fail source.now ≡ true) asked.now file (outcome_of result) }
     ensures takes { (file : List ℕ) → S.bytes source.now ≡ Some file
         → TakesText asked.now path.now file (K.taken out.old) (K.taken out.new) (outcome_of result) }
-    ensures sums { (file : List ℕ) (selected : SelectedSymbols) → S.bytes source.now ≡ Some file
+    ensures seen { (file : List ℕ) (selected : SelectedSymbols) → S.bytes source.now ≡ Some file
         → answer_for asked.now.symbols file ≡ Some (Ok selected)
-        → IfOk result (λ _. HasSums asked.now.kind selected seen.new.sums) }
+        → IfOk result (IsSeenOf asked.now.kind selected) }
     ensures fails { Fails (K.has_failed out.old) (K.has_failed out.new) (outcome_of result) }
     ensures leaves { Leaves out.old out.new (outcome_of result) }
 {
     let tables = tables_of(alloc, source, &asked.symbols)?;
     let form = form_for(asked, path);
     match asked.symbols.selection {
-        Selection::Section(_) => show_section(alloc, asked.kind, path, form, &tables, seen, out),
-        Selection::All => show_tables(alloc, asked.kind, path, form, &tables, seen, out),
+        Selection::Section(_) => show_section(alloc, asked.kind, path, form, &tables, out),
+        Selection::All => show_tables(alloc, asked.kind, path, form, &tables, None, out),
     }
 }
 
-// Shows the function symbols of a section, which are made once, and sets `seen` to the hint on them, if any, and their
-// sums.
+// Shows the function symbols of a section, which are made once, and counts them.
 fn show_section<K: Sink>(
     alloc: Global,
     kind: Kind,
     path: &str,
     form: Form<'_>,
     tables: &Tables<'_>,
-    seen: &mut Seen,
     out: &mut K,
-) -> Result<(), Fault>
+) -> Result<Seen, Fault>
     ensures outcome { (which : SymbolTable) (file name : List ℕ) → AreTablesOf which file (Some name) tables.now
         → EndsAs (Fits kind) (MemoryIn file (Some name)) (selected_answer which (Some name) file) (outcome_of result) }
     ensures takes { (which : SymbolTable) (file name : List ℕ) → AreTablesOf which file (Some name) tables.now
         → Takes (IsTextOf kind path.now (style_of form.entry))
         (selected_answer which (Some name) file) (K.taken out.old) (K.taken out.new) (outcome_of result) }
-    ensures hint { (which : SymbolTable) (file name : List ℕ) → AreTablesOf which file (Some name) tables.now
-        → IfOk result (λ _. IsHintOn which file name seen.new.hint) }
-    ensures sums { (which : SymbolTable) (file name : List ℕ) (selected : SelectedSymbols)
+    ensures seen { (which : SymbolTable) (file name : List ℕ) (selected : SelectedSymbols)
         → AreTablesOf which file (Some name) tables.now
         → selected_answer which (Some name) file ≡ Some (Ok selected)
-        → IfOk result (λ _. HasSums kind selected seen.new.sums) }
+        → IfOk result (IsSeenOf kind selected) }
     ensures fails { Fails (K.has_failed out.old) (K.has_failed out.new) (outcome_of result) }
     ensures leaves { Leaves out.old out.new (outcome_of result) }
 {
     let (functions, size) = tables.functions(alloc)?.into_list();
     let list: Vec<SectionFunction<'_>> = functions.all.collect(alloc)?;
     let size = size.unwrap_or(0);
-    seen.hint = hint_on(&list);
+    let count = list.len();
     let made = Tables::Made {
         functions: list,
         size,
         versions: tables.version_names(),
     };
-    show_tables(alloc, kind, path, form, &made, seen, out)
+    show_tables(alloc, kind, path, form, &made, Some(count), out)
 }
 
-// Shows the function symbols of these tables, and sets the sums that were seen.
+// Shows the function symbols of these tables, which are so many, where that is known.
 fn show_tables<K: Sink>(
     alloc: Global,
     kind: Kind,
     path: &str,
     form: Form<'_>,
     tables: &Tables<'_>,
-    seen: &mut Seen,
+    count: Option<usize>,
     out: &mut K,
-) -> Result<(), Fault>
+) -> Result<Seen, Fault>
     ensures outcome { (which : SymbolTable) (file : List ℕ) (section : Option (List ℕ))
         → AreTablesOf which file section tables.now
         → EndsAs (Fits kind) (MemoryIn file section) (selected_answer which section file) (outcome_of result) }
@@ -217,22 +211,43 @@ fn show_tables<K: Sink>(
         → AreTablesOf which file section tables.now
         → Takes (IsTextOf kind path.now (style_of form.entry))
         (selected_answer which section file) (K.taken out.old) (K.taken out.new) (outcome_of result) }
-    ensures sums { (which : SymbolTable) (file : List ℕ) (section : Option (List ℕ)) (selected : SelectedSymbols)
+    ensures seen { (which : SymbolTable) (file : List ℕ) (section : Option (List ℕ)) (selected : SelectedSymbols)
         → AreTablesOf which file section tables.now
         → selected_answer which section file ≡ Some (Ok selected)
-        → IfOk result (λ _. HasSums kind selected seen.new.sums) }
-    ensures hint { seen.new.hint ≡ seen.old.hint }
+        → IfSome count (λ n. n ≡ length selected.entries)
+        → IfOk result (IsSeenOf kind selected) }
     ensures fails { Fails (K.has_failed out.old) (K.has_failed out.new) (outcome_of result) }
     ensures leaves { Leaves out.old out.new (outcome_of result) }
 {
     match kind {
-        Kind::Listing => Ok(list_tables(alloc, tables, out)?),
-        Kind::Rows(shown) => Ok(list_by(alloc, tables, &shown, form, out)?),
-        Kind::Figures(figures) => {
-            seen.sums = Some(sum_by(alloc, tables, &figures, form, out)?);
-            Ok(())
+        Kind::Listing => {
+            list_tables(alloc, tables, out)?;
+            Ok(seen_of(count, None))
         }
-        Kind::Picture(grouping, first) => Ok(map_by(alloc, path, tables, grouping, first, out)?),
-        Kind::Stacks(joins_std) => Ok(fold_tables(alloc, tables, joins_std, out)?),
+        Kind::Rows(shown) => {
+            list_by(alloc, tables, &shown, form, out)?;
+            Ok(seen_of(count, None))
+        }
+        Kind::Figures(figures) => {
+            let claims = Claims::of_tables(alloc, tables)?;
+            let sums = sum_by(alloc, &claims, &figures, form, out)?;
+            Ok(seen_of(Some(claims.len()), Some(sums)))
+        }
+        Kind::Picture(grouping, first) => {
+            let claims = Claims::of_tables(alloc, tables)?;
+            map_by(alloc, path, &claims, grouping, first, out)?;
+            Ok(seen_of(Some(claims.len()), None))
+        }
+        Kind::Stacks(joins_std) => {
+            let claims = Claims::of_tables(alloc, tables)?;
+            fold_claims(alloc, &claims, joins_std, out)?;
+            Ok(seen_of(Some(claims.len()), None))
+        }
     }
+}
+
+fn seen_of(count: Option<usize>, sums: Option<Sums>) -> Seen
+    ensures { result ≡ record { count = count; sums = sums } }
+{
+    Seen { count, sums }
 }

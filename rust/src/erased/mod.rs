@@ -30,6 +30,8 @@ pub mod binfarce_words;
 pub mod binfarce_sections;
 #[cfg(any(test, feature = "programs"))]
 pub mod binfarce_jobs;
+#[cfg(any(test, feature = "programs"))]
+pub mod binfarce_calls;
 #[cfg(any(test, feature = "c"))]
 pub mod binfarce_c;
 #[cfg(any(test, feature = "programs"))]

@@ -4,6 +4,7 @@
 
 use crate::shim::HostRuntime;
 use crate::erased::binfarce_jobs::fault::Fault;
+use crate::erased::binfarce_jobs::limit::Verdict;
 use crate::erased::binfarce_jobs::message::{Message, message_of};
 use crate::erased::binfarce_words::words::Wrong;
 use crate::shim::io::{Error, ErrorKind};
@@ -21,14 +22,18 @@ pub fn refuse(rt: &HostRuntime, wrong: &Wrong<'_>) -> u8 {
 /// failure, unless sums have a limit: whether they exceed it isn't known then.
 pub fn ended(
     rt: &HostRuntime,
-    done: Result<bool, Fault>,
-    is_above: bool,
+    done: Result<Verdict, Fault>,
     has_limit: bool,
     reason: Option<Error>,
 ) -> u8 {
     match done {
-        Ok(true) if is_above => 3,
-        Ok(is_done) => u8::from(!is_done),
+        Ok(
+            Verdict {
+                is_done: true,
+                is_above: true,
+            },
+        ) => 3,
+        Ok(verdict) => u8::from(!verdict.is_done),
         Err(fault) if !fault.is_write() => {
             let _ = rt.eprintln(format_args!("binfarce: {fault}"));
             status(&fault)

@@ -38,8 +38,17 @@ pub fn read_addresses<'a>(alloc: Global, words: &[&'a str]) -> Result<Vec<u64>, 
     Ok(addresses)
 }
 
-/// Symbolizes the addresses, by this lookup and these function symbols, and counts them. Of the source it reads the headers, the symbol
-/// table and the names alone.
+/// What addresses came to.
+#[derive(Debug, Clone, Copy, PartialEq)]
+pub struct Answered {
+    /// How many there are, and how many were found.
+    pub counts: Counts,
+    /// How many function symbols they were looked up in.
+    pub symbols: usize,
+}
+
+/// Symbolizes the addresses, by this lookup and these function symbols, and counts them. Of the source it reads the
+/// headers, the symbol table and the names alone.
 ///
 /// # Errors
 ///
@@ -52,10 +61,12 @@ pub fn answer_all<S: Source<Log = ()>, K: Sink>(
     lookup: Lookup<'_>,
     addresses: &[u64],
     out: &mut K,
-) -> Result<Counts, Fault> {
+) -> Result<Answered, Fault> {
     let tables = tables_of(alloc, source, symbols)?;
     let places = places_of(alloc, &tables)?;
-    Ok(write_lines(alloc, &places, lookup, addresses, out)?)
+    let counts = write_lines(alloc, &places, lookup, addresses, out)?;
+    let symbols = places.len();
+    Ok(Answered { counts, symbols })
 }
 
 /// Where the file itself says that it is loaded, which is the address of the base, at 0 if it doesn't say it; and the
@@ -98,8 +109,7 @@ pub fn places_of<'a>(alloc: Global, tables: &'a Tables<'_>) -> Result<Places<'a>
     Ok(places)
 }
 
-/// Symbolizes the addresses in the lines of `input`, each as soon as its line feed has come, and returns how many there
-/// are, how many were found, and how many lines have none.
+/// Symbolizes the addresses in the lines of `input`, each as soon as its line feed has come, and counts them.
 ///
 /// # Errors
 ///
@@ -111,9 +121,10 @@ pub fn answer_input<S: Source<Log = ()>, I: Read, K: Sink>(
     lookup: Lookup<'_>,
     input: &mut I,
     out: &mut K,
-) -> Result<Counts, Fault> {
+) -> Result<Answered, Fault> {
     let tables = tables_of(alloc, source, symbols)?;
     let places = places_of(alloc, &tables)?;
     let counts = answer_lines(alloc, &places, lookup, input, out)?;
-    Ok(counts)
+    let symbols = places.len();
+    Ok(Answered { counts, symbols })
 }

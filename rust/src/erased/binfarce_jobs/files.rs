@@ -4,13 +4,14 @@
 
 use crate::shim::{String, Vec};
 use crate::erased::binfarce_jobs::fault::Fault;
-use crate::erased::binfarce_jobs::hint::{Hint, completed, refusal_hints, unknown_in};
+use crate::erased::binfarce_jobs::hint::{Hint, lack, refusal_hints, unknown_in};
 use crate::erased::binfarce_jobs::input::OpenFile;
-use crate::erased::binfarce_jobs::limit::above;
+use crate::erased::binfarce_jobs::limit::{Verdict, above};
 use crate::erased::binfarce_jobs::output::Output;
 use crate::erased::binfarce_jobs::show::{Kind, Request, Seen, show};
 use crate::erased::binfarce_bytes::source::Source;
 use crate::erased::binfarce_sections::error::SectionError;
+use crate::erased::binfarce_tools::tables::Selection;
 use crate::shim::alloc::{AllocError, Global};
 use crate::shim::io::{self, Error, Read, Write};
 
@@ -27,7 +28,7 @@ pub trait System<F: Read + Source<Log = ()>> {
 }
 
 /// Shows each file, in order. Of several, each is shown under a line with its name. A file that is refused is reported,
-/// and the others follow; the result is then `false`.
+/// and the others follow. A sum that exceeds its limit is reported, too.
 ///
 /// # Errors
 ///
@@ -38,17 +39,17 @@ pub fn show_files<F: Read + Source<Log = ()>, Y: System<F>, W: Write>(
     asked: &Request<'_>,
     files: &[&str],
     out: &mut Output<W>,
-) -> Result<bool, Fault> {
+) -> Result<Verdict, Fault> {
     let are_several = files.len() > 1;
-    let mut are_shown = true;
+    let mut all = Verdict::done();
     for path in files {
-        let is_shown = show_file(alloc, system, asked, path, are_several, out)?;
-        are_shown &= is_shown;
+        let shown = show_file(alloc, system, asked, path, are_several, out)?;
+        all = all.and_then(shown);
     }
-    Ok(are_shown)
+    Ok(all)
 }
 
-// Shows a file, under its heading. `false` where it is refused.
+// Shows a file, under its heading, or reports why it is refused.
 fn show_file<F: Read + Source<Log = ()>, Y: System<F>, W: Write>(
     alloc: Global,
     system: &mut Y,
@@ -56,37 +57,57 @@ fn show_file<F: Read + Source<Log = ()>, Y: System<F>, W: Write>(
     path: &str,
     are_several: bool,
     out: &mut Output<W>,
-) -> Result<bool, Fault> {
+) -> Result<Verdict, Fault> {
     out.begin(heading(alloc, path, are_several)?);
     let Some(input) = open_input(alloc, system, path) else {
-        return Ok(false);
+        return Ok(Verdict::refused());
     };
-    let mut seen = Seen {
-        hint: None,
-        sums: None,
-    };
-    let shown = show_source(alloc, asked, path, &input, &mut seen, out);
-    let Seen { hint, sums } = seen;
-    let hint = completed(
-        alloc,
-        &input,
-        &asked.symbols,
-        hint,
-        shown.is_ok(),
-        matches!(asked.kind, Kind::Picture(..)),
-        out.len(),
-    );
+    match show_source(alloc, asked, path, &input, out) {
+        Ok(seen) => {
+            let is_above = hint_on(alloc, system, asked, path, &input, seen, out.len());
+            Ok(Verdict {
+                is_done: true,
+                is_above,
+            })
+        }
+        Err(fault) => refuse(alloc, system, path, &input, fault),
+    }
+}
+
+// Gives the hints on a file that was shown, of which so many bytes were written, and returns whether its sum exceeds the
+// limit.
+fn hint_on<F: Read + Source<Log = ()>, Y: System<F>>(
+    alloc: Global,
+    system: &mut Y,
+    asked: &Request<'_>,
+    path: &str,
+    input: &OpenFile<F>,
+    seen: Seen,
+    len: u64,
+) -> bool {
+    let count = counted(asked, seen.count, len);
+    let hint = lack(alloc, input, &asked.symbols, count).unwrap_or(None);
     give(system, path, hint);
-    let (unknown, excess) = match (asked.kind, sums) {
-        (Kind::Figures(figures), Some(sums)) => (
-            unknown_in(figures.grouping.key, sums),
-            above(sums.total, asked.limit),
-        ),
-        _ => (None, None),
+    let Some(sums) = seen.sums else {
+        return false;
     };
-    give(system, path, unknown);
+    if let Kind::Figures(figures) = asked.kind {
+        give(system, path, unknown_in(figures.grouping.key, sums));
+    }
+    let excess = above(sums.total, asked.limit);
+    let is_above = excess.is_some();
     give(system, path, excess);
-    reported(alloc, system, path, &input, shown)
+    is_above
+}
+
+// How many function symbols were shown, where that is known, or at least that there are some: a listing of all sections
+// has a line for each, and nothing else.
+fn counted(asked: &Request<'_>, count: Option<usize>, len: u64) -> Option<usize> {
+    match (count, asked.kind, asked.symbols.selection) {
+        (None, _, _) if len > 0 => Some(1),
+        (None, Kind::Listing, Selection::All) => Some(0),
+        _ => count,
+    }
 }
 
 /// What precedes a file's text: of several files, its name in a line.
@@ -108,11 +129,11 @@ fn show_source<S: Source<Log = ()>, W: Write>(
     asked: &Request<'_>,
     path: &str,
     source: &S,
-    seen: &mut Seen,
     out: &mut Output<W>,
-) -> Result<(), Fault> {
-    show(alloc, asked, path, source, seen, out)?;
-    out.end()
+) -> Result<Seen, Fault> {
+    let seen = show(alloc, asked, path, source, out)?;
+    out.end()?;
+    Ok(seen)
 }
 
 /// Opens the file at this path, and loads it. `None` where it can't be opened or read, or where its first bytes name
@@ -136,35 +157,36 @@ pub fn open_input<F: Read + Source<Log = ()>, Y: System<F>>(
     Some(input)
 }
 
-// Gives the hint, if there is one.
-fn give<F: Read + Source<Log = ()>, Y: System<F>>(system: &mut Y, path: &str, hint: Option<Hint>) {
+/// Gives the hint, if there is one.
+pub fn give<F: Read + Source<Log = ()>, Y: System<F>>(
+    system: &mut Y,
+    path: &str,
+    hint: Option<Hint>,
+) {
     match hint {
         Some(hint) => system.hint(path, hint),
         None => {}
     }
 }
 
-/// Whether the work on a file is done. Why the file is refused is reported.
+/// Reports why the file at this path is refused, with hints on what would help.
 ///
 /// # Errors
 ///
-/// Faults that aren't the file's.
-pub fn reported<F: Read + Source<Log = ()>, Y: System<F>>(
+/// A fault that isn't the file's: a failed write, or one of the whole call.
+pub fn refuse<F: Read + Source<Log = ()>, Y: System<F>>(
     alloc: Global,
     system: &mut Y,
     path: &str,
     input: &OpenFile<F>,
-    done: Result<(), Fault>,
-) -> Result<bool, Fault> {
-    match done {
-        Ok(()) => Ok(true),
-        Err(fault) if fault.is_of_file() => {
-            let (dynamic, debug) = refusal_hints(alloc, input, &fault);
-            system.report(path, fault, input.take_reason());
-            give(system, path, dynamic);
-            give(system, path, debug);
-            Ok(false)
-        }
-        Err(fault) => Err(fault),
+    fault: Fault,
+) -> Result<Verdict, Fault> {
+    if !fault.is_of_file() {
+        return Err(fault);
     }
+    let (dynamic, debug) = refusal_hints(alloc, input, &fault);
+    system.report(path, fault, input.take_reason());
+    give(system, path, dynamic);
+    give(system, path, debug);
+    Ok(Verdict::refused())
 }

@@ -126,14 +126,6 @@ impl Loaded {
     }
 }
 
-/// The hint on a section with these function symbols, which is shown: it has none.
-pub fn hint_on(functions: &[SectionFunction<'_>]) -> Option<Hint> {
-    if functions.is_empty() {
-        return Some(Hint::None);
-    }
-    None
-}
-
 /// The hint on sums by crate of which at least half is that of `[unknown]`.
 pub(crate) fn unknown_in(key: Key, sums: Sums) -> Option<Hint> {
     let Sums { total, unknown } = sums;
@@ -144,33 +136,8 @@ pub(crate) fn unknown_in(key: Key, sums: Sums) -> Option<Hint> {
     }
 }
 
-// As many bytes are written at least of a file that has function symbols, where it is shown whole.
-const LEAST: u64 = 20;
-
-/// The hint on a file of which so many bytes are written, if it was shown: the reason that it has no function symbol,
-/// if it has none, or that hint. Of all sections, whose function symbols aren't counted before, few bytes are written
-/// where there is none, but a picture in any case. It is left out where a read or an allocation fails.
-pub fn completed<S: Source<Log = ()>>(
-    alloc: Global,
-    source: &S,
-    symbols: &Symbols<'_>,
-    hint: Option<Hint>,
-    is_shown: bool,
-    is_picture: bool,
-    len: u64,
-) -> Option<Hint> {
-    let are_all = matches!(symbols.selection, Selection::All);
-    match hint {
-        _ if !is_shown => None,
-        Some(Hint::None) => lack(alloc, source, symbols).unwrap_or(None),
-        None if are_all && (is_picture || len < LEAST) => {
-            lack(alloc, source, symbols).unwrap_or(None)
-        }
-        hint => hint,
-    }
-}
-
-/// The reason that a file has none of the function symbols that are taken: exactly where it has none.
+/// The reason that a file has none of the function symbols that are taken: exactly where it has none. It has so many of
+/// them, where that is known.
 ///
 /// # Errors
 ///
@@ -179,14 +146,24 @@ pub fn lack<S: Source<Log = ()>>(
     alloc: Global,
     source: &S,
     symbols: &Symbols<'_>,
+    count: Option<usize>,
 ) -> Result<Option<Hint>, Fault> {
-    let count = count_in(alloc, source, symbols.which, symbols.selection)?;
-    let all = count_in(alloc, source, symbols.which, Selection::All)?;
+    let count = match count {
+        Some(count) => count,
+        None => count_in(alloc, source, symbols.which, symbols.selection)?,
+    };
+    if count > 0 {
+        return Ok(None);
+    }
+    let all = match symbols.selection {
+        Selection::All => 0,
+        Selection::Section(_) => count_in(alloc, source, symbols.which, Selection::All)?,
+    };
     let format = read_format(alloc, source, &mut ())?;
     Ok(lack_by(symbols.which, &format, count, all))
 }
 
-// The same of a file of this format, by how many of these function symbols it has, and how many of all sections.
+// The reason of a file of this format, by how many of these function symbols it has, and how many of all sections.
 fn lack_by(which: SymbolTable, format: &Format, count: usize, all: usize) -> Option<Hint> {
     match (count, all) {
         (0, 0) => Some(lack_of(which, format)),

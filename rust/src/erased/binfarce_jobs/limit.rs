@@ -1,10 +1,45 @@
 // From crates/binfarce_jobs/src/limit.rt, by tools/erase.
 
-//! Limits on sums.
+//! Limits on sums, and what work on files came to.
 
 use crate::erased::binfarce_jobs::hint::Hint;
 use crate::erased::binfarce_figures::diff::Growth;
 use crate::erased::binfarce_words::words::Limit;
+
+/// What work on files came to.
+#[derive(Debug, Clone, Copy, PartialEq)]
+pub struct Verdict {
+    /// Whether no file was refused.
+    pub is_done: bool,
+    /// Whether a sum exceeds its limit.
+    pub is_above: bool,
+}
+
+impl Verdict {
+    /// The work is done, and no sum exceeds its limit.
+    pub fn done() -> Verdict {
+        Verdict {
+            is_done: true,
+            is_above: false,
+        }
+    }
+
+    /// A file was refused.
+    pub fn refused() -> Verdict {
+        Verdict {
+            is_done: false,
+            is_above: false,
+        }
+    }
+
+    /// What this work and other work came to.
+    pub fn and_then(self, other: Verdict) -> Verdict {
+        Verdict {
+            is_done: self.is_done && other.is_done,
+            is_above: self.is_above || other.is_above,
+        }
+    }
+}
 
 /// The hint on a sum that is more than this limit, if there is one; a limit in per cent is one on growth.
 pub fn above(sum: u64, limit: Option<Limit>) -> Option<Hint> {

@@ -4,15 +4,15 @@
 
 use crate::shim::{CollectIn, Vec};
 use crate::erased::binfarce_jobs::fault::Fault;
-use crate::erased::binfarce_jobs::hint::{Hint, hint_on};
 use crate::erased::binfarce_bytes::ParseError;
 use crate::erased::binfarce_bytes::format::Format;
 use crate::erased::binfarce_bytes::functions::SectionFunction;
 use crate::erased::binfarce_bytes::source::Source;
+use crate::erased::binfarce_figures::claims::Claims;
 use crate::erased::binfarce_figures::key::Grouping;
 use crate::erased::binfarce_figures::map::map_by;
 use crate::erased::binfarce_figures::rows::{Shown, list_by};
-use crate::erased::binfarce_figures::stacks::fold_tables;
+use crate::erased::binfarce_figures::stacks::fold_claims;
 use crate::erased::binfarce_figures::sums::{Figures, Sums, sum_by};
 use crate::erased::binfarce_tables::ReadError;
 use crate::erased::binfarce_tables::format::read_format;
@@ -60,11 +60,11 @@ pub struct Request<'a> {
     pub limit: Option<Limit>,
 }
 
-/// What was seen of a file while it was shown.
-#[derive(Debug)]
+/// What was found in a file that was shown.
+#[derive(Debug, Clone, Copy, PartialEq)]
 pub struct Seen {
-    /// The hint on its function symbols, if there is one.
-    pub hint: Option<Hint>,
+    /// How many function symbols are taken, where that is known.
+    pub count: Option<usize>,
     /// The sum of all sizes, each byte counted once, and that of `[unknown]`, where sums are shown.
     pub sums: Option<Sums>,
 }
@@ -114,8 +114,8 @@ fn form_for<'a>(asked: &Request<'a>, path: &'a str) -> Form<'a> {
     }
 }
 
-/// Writes the requested function symbols of the source, and sets `seen` to the hint on them, if any, and their sums; a
-/// picture's title is the path. Of the source it reads the headers, the symbol table and the names alone.
+/// Writes the requested function symbols of the source, and returns what was found; a picture's title is the path. Of
+/// the source it reads the headers, the symbol table and the names alone.
 ///
 /// # Errors
 ///
@@ -126,58 +126,74 @@ pub fn show<S: Source<Log = ()>, K: Sink>(
     asked: &Request<'_>,
     path: &str,
     source: &S,
-    seen: &mut Seen,
     out: &mut K,
-) -> Result<(), Fault> {
+) -> Result<Seen, Fault> {
     let tables = tables_of(alloc, source, &asked.symbols)?;
     let form = form_for(asked, path);
     match asked.symbols.selection {
-        Selection::Section(_) => show_section(alloc, asked.kind, path, form, &tables, seen, out),
-        Selection::All => show_tables(alloc, asked.kind, path, form, &tables, seen, out),
+        Selection::Section(_) => show_section(alloc, asked.kind, path, form, &tables, out),
+        Selection::All => show_tables(alloc, asked.kind, path, form, &tables, None, out),
     }
 }
 
-// Shows the function symbols of a section, which are made once, and sets `seen` to the hint on them, if any, and their
-// sums.
+// Shows the function symbols of a section, which are made once, and counts them.
 fn show_section<K: Sink>(
     alloc: Global,
     kind: Kind,
     path: &str,
     form: Form<'_>,
     tables: &Tables<'_>,
-    seen: &mut Seen,
     out: &mut K,
-) -> Result<(), Fault> {
+) -> Result<Seen, Fault> {
     let (functions, size) = tables.functions(alloc)?.into_list();
     let list: Vec<SectionFunction<'_>> = functions.all.collect_in(alloc)?;
     let size = size.unwrap_or(0);
-    seen.hint = hint_on(&list);
+    let count = list.len();
     let made = Tables::Made {
         functions: list,
         size,
         versions: tables.version_names(),
     };
-    show_tables(alloc, kind, path, form, &made, seen, out)
+    show_tables(alloc, kind, path, form, &made, Some(count), out)
 }
 
-// Shows the function symbols of these tables, and sets the sums that were seen.
+// Shows the function symbols of these tables, which are so many, where that is known.
 fn show_tables<K: Sink>(
     alloc: Global,
     kind: Kind,
     path: &str,
     form: Form<'_>,
     tables: &Tables<'_>,
-    seen: &mut Seen,
+    count: Option<usize>,
     out: &mut K,
-) -> Result<(), Fault> {
+) -> Result<Seen, Fault> {
     match kind {
-        Kind::Listing => Ok(list_tables(alloc, tables, out)?),
-        Kind::Rows(shown) => Ok(list_by(alloc, tables, &shown, form, out)?),
-        Kind::Figures(figures) => {
-            seen.sums = Some(sum_by(alloc, tables, &figures, form, out)?);
-            Ok(())
+        Kind::Listing => {
+            list_tables(alloc, tables, out)?;
+            Ok(seen_of(count, None))
         }
-        Kind::Picture(grouping, first) => Ok(map_by(alloc, path, tables, grouping, first, out)?),
-        Kind::Stacks(joins_std) => Ok(fold_tables(alloc, tables, joins_std, out)?),
+        Kind::Rows(shown) => {
+            list_by(alloc, tables, &shown, form, out)?;
+            Ok(seen_of(count, None))
+        }
+        Kind::Figures(figures) => {
+            let claims = Claims::of_tables(alloc, tables)?;
+            let sums = sum_by(alloc, &claims, &figures, form, out)?;
+            Ok(seen_of(Some(claims.len()), Some(sums)))
+        }
+        Kind::Picture(grouping, first) => {
+            let claims = Claims::of_tables(alloc, tables)?;
+            map_by(alloc, path, &claims, grouping, first, out)?;
+            Ok(seen_of(Some(claims.len()), None))
+        }
+        Kind::Stacks(joins_std) => {
+            let claims = Claims::of_tables(alloc, tables)?;
+            fold_claims(alloc, &claims, joins_std, out)?;
+            Ok(seen_of(Some(claims.len()), None))
+        }
     }
+}
+
+fn seen_of(count: Option<usize>, sums: Option<Sums>) -> Seen {
+    Seen { count, sums }
 }

@@ -1,6 +1,6 @@
-use Rattle.std.proofs.Common.{Ok, Err}
+use Rattle.std.proofs.Common.{◌≡◌, ℕ, true, Ok, Err, subst, sym}
 use Rattle.binfarce_bytes.specs.Selection.{section_of}
-use Rattle.binfarce_jobs.specs.At.{share_addresses}
+use Rattle.binfarce_jobs.specs.At.{AnswersInput, lines_end, share_addresses}
 use Rattle.binfarce_jobs.specs.Show.{AreTablesFor, MemoryFor, answer_for}
 use Rattle.binfarce_jobs.proofs.Outcomes.{still_so, places_for}
 use Rattle.binfarce_jobs.proofs.Lines.{answered_less, answered_lines, unread, without_places}
@@ -34,4 +34,6 @@ returns-clause-answers g c = λ file is.
     let symbols = c.args.symbols.now in
     let are = c.in_ok-tables.ensures file is in
     let has = places_for symbols file c.in_ok-tables.tables (Ok c.in_ok-places.places) are (c.in_ok-places.ensures.has symbols.which file (section_of symbols.selection) are.0) in
-    answered_lines _ (share_addresses symbols file) (MemoryFor symbols file) (answer_for symbols file) c.in_ok-places.places c.args.lookup _ _ _ _ (Ok c.in_ok-counts.counts) has.0 has.1 c.in_ok-counts.ensures.answers
+    subst (λ (n : ℕ). AnswersInput (g.S.Source.may_fail c.args.source.now ≡ true) (share_addresses symbols file) (MemoryFor symbols file) (answer_for symbols file) c.args.lookup (g.I.Read.remaining c.args.input.now) (g.I.Read.remaining c.answer_lines.new.input)
+    (g.K.Sink.taken c.args.out.now) (g.K.Sink.taken c.answer_lines.new.out) (lines_end n (Ok c.in_ok-counts.counts))) (sym c.len-symbols.ensures)
+    (answered_lines _ (share_addresses symbols file) (MemoryFor symbols file) (answer_for symbols file) c.in_ok-places.places c.args.lookup _ _ _ _ (Ok c.in_ok-counts.counts) has.0 has.1 c.in_ok-counts.ensures.answers)

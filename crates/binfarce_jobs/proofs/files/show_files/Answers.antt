@@ -1,19 +1,23 @@
-use Rattle.std.proofs.Common.{◌∙◌, ℕ, Bor, List, [], Err, Ok, length, ltb, get_or, refl, subst}
+use Rattle.std.proofs.Common.{◌∙◌, ◌+◌, ℕ, Bor, List, [], Err, Ok, length, ltb, get_or, refl, subst, sym, take}
 use Rattle.std.proofs.lemmas.List.{take_all}
 use Rattle.binfarce_jobs.specs.Files.{Shows, asked_files}
 use Rattle.binfarce_jobs.specs.Output.{state_of}
+use Rattle.binfarce_jobs.specs.declared.limit.Verdict.{Verdict}
 use Rattle.binfarce_jobs.proofs.FileLoop.{none_shown, goes_on, ends, held_there, one_at, passed_on, paths_of}
 use Rattle.binfarce_jobs.proofs.files.show_files.Goals as goal
 
 pub loop-path-init : goal.loop-path-init
 loop-path-init g c = record {
-  shows = λ held are. none_shown (asked_files c.args.asked.now (ltb 1 (length c.args.files.now)) (g.Y.System.may_fail_at c.args.system.now) held) (state_of g.W.Write.contents c.args.out.now (g.Y.System.reports c.args.system.now));
+  shows = λ held are.
+      let start = state_of g.W.Write.contents c.args.out.now (g.Y.System.reports c.args.system.now) in
+      let asked = asked_files c.args.asked.now (ltb 1 (length c.args.files.now)) (g.Y.System.may_fail_at c.args.system.now) held in
+      subst (λ (v : Verdict). Shows asked [] start start v) (sym c.done-all.ensures) (none_shown asked start);
   bytes = refl;
   may_fail = refl;
 }
 
-pub returns-in_err-is_shown : goal.returns-in_err-is_shown
-returns-in_err-is_shown g c = λ held are.
+pub returns-in_err-shown : goal.returns-in_err-shown
+returns-in_err-shown g c = λ held are.
     let files = c.args.files.now in
     let i = c.loop-path.path-index in
     let d : Bor (List ℕ) = record { ref_ptr = (0, 0); now = [] } in
@@ -22,17 +26,17 @@ returns-in_err-is_shown g c = λ held are.
     let old = state_of g.W.Write.contents c.args.out.now (g.Y.System.reports c.args.system.now) in
     let mid = state_of g.W.Write.contents c.loop-path.out (g.Y.System.reports c.loop-path.system) in
     let new = state_of g.W.Write.contents c.show_file.new.out (g.Y.System.reports c.show_file.new.system) in
-    let e = c.in_err-is_shown.field-0.0 in
+    let e = c.in_err-shown.field-0.0 in
     let one = one_at asked bytes (g.Y.System.bytes_at c.loop-path.system) (g.Y.System.may_fail_at c.loop-path.system) (get_or files i d).now mid new (Err e)
-    c.loop-path.invariant.bytes c.loop-path.invariant.may_fail (held_there files i d c.loop-path-test.true bytes held are) c.in_err-is_shown.ensures.shows in
+    c.loop-path.invariant.bytes c.loop-path.invariant.may_fail (held_there files i d c.loop-path-test.true bytes held are) c.in_err-shown.ensures.shows in
     passed_on asked (paths_of files) old new e c.from_residual.result c.from_residual.ensures.1
-    (ends asked files i d c.loop-path-test.true old mid new c.loop-path.are_shown (c.loop-path.invariant.shows held are) e one)
+    (ends asked files i d c.loop-path-test.true old mid new c.loop-path.all (c.loop-path.invariant.shows held are) e one)
 
 pub returns : goal.returns
 returns g c = λ held are.
     let files = c.args.files.now in
     subst (λ (fs : List (Bor (List ℕ))). Shows (asked_files c.args.asked.now (ltb 1 (length files)) (g.Y.System.may_fail_at c.args.system.now) held) (paths_of fs) (state_of g.W.Write.contents c.args.out.now (g.Y.System.reports c.args.system.now))
-    (state_of g.W.Write.contents c.loop-path.out (g.Y.System.reports c.loop-path.system)) c.loop-path.are_shown)
+    (state_of g.W.Write.contents c.loop-path.out (g.Y.System.reports c.loop-path.system)) c.loop-path.all)
     (take_all c.loop-path.path-index files c.loop-path-test.false) (c.loop-path.invariant.shows held are)
 
 pub loop-path-preserved : goal.loop-path-preserved
@@ -46,10 +50,11 @@ loop-path-preserved g c = record {
       let old = state_of g.W.Write.contents c.args.out.now (g.Y.System.reports c.args.system.now) in
       let mid = state_of g.W.Write.contents c.loop-path.out (g.Y.System.reports c.loop-path.system) in
       let new = state_of g.W.Write.contents c.show_file.new.out (g.Y.System.reports c.show_file.new.system) in
-      let this = c.in_ok-is_shown.is_shown in
+      let this = c.in_ok-shown.shown in
       let one = one_at asked bytes (g.Y.System.bytes_at c.loop-path.system) (g.Y.System.may_fail_at c.loop-path.system) (get_or files i d).now mid new (Ok this)
-      c.loop-path.invariant.bytes c.loop-path.invariant.may_fail (held_there files i d c.loop-path-test.true bytes held are) c.in_ok-is_shown.ensures.shows in
-      goes_on asked files i d c.loop-path-test.true old mid new c.loop-path.are_shown (c.loop-path.invariant.shows held are) this one;
-  bytes = c.in_ok-is_shown.ensures.bytes ∙ c.loop-path.invariant.bytes;
-  may_fail = c.in_ok-is_shown.ensures.may_fail ∙ c.loop-path.invariant.may_fail;
+      c.loop-path.invariant.bytes c.loop-path.invariant.may_fail (held_there files i d c.loop-path-test.true bytes held are) c.in_ok-shown.ensures.shows in
+      subst (λ (v : Verdict). Shows asked (paths_of (take (i + 1) files)) old new v) (sym c.and_then-all.ensures)
+      (goes_on asked files i d c.loop-path-test.true old mid new c.loop-path.all (c.loop-path.invariant.shows held are) this one);
+  bytes = c.in_ok-shown.ensures.bytes ∙ c.loop-path.invariant.bytes;
+  may_fail = c.in_ok-shown.ensures.may_fail ∙ c.loop-path.invariant.may_fail;
 }

@@ -9,7 +9,7 @@ abbrev pub invariant-loop-path : goal.invariant-loop-path
 invariant-loop-path g l = record {
   shows : (held : List ℕ → List ℕ) → AreHeld (g.Y.System.bytes_at l.fn.system) held (paths_of l.files)
       → Shows (asked_files l.asked (ltb 1 (length l.files)) (g.Y.System.may_fail_at l.fn.system) held) (paths_of (take l.path-index l.files))
-      (state_of g.W.Write.contents l.fn.out (g.Y.System.reports l.fn.system)) (state_of g.W.Write.contents l.out (g.Y.System.reports l.system)) l.are_shown;
+      (state_of g.W.Write.contents l.fn.out (g.Y.System.reports l.fn.system)) (state_of g.W.Write.contents l.out (g.Y.System.reports l.system)) l.all;
   bytes : g.Y.System.bytes_at l.system ≡ g.Y.System.bytes_at l.fn.system;
   may_fail : g.Y.System.may_fail_at l.system ≡ g.Y.System.may_fail_at l.fn.system;
 }

@@ -1,9 +1,20 @@
-use Rattle.std.proofs.Common.{◌≡◌, length, arith}
+use Rattle.std.proofs.Common.{◌≡◌, ◌<◌, ℕ, length, arith, subst, take}
 use Rattle.std.proofs.lemmas.Grind.{common_steps}
-use Rattle.binfarce_jobs.proofs.Streams.{first_are}
+use Rattle.std.proofs.lemmas.List.{length-take}
+use Rattle.std.specs.Io.KnownBytes.{Consumes, IsAtEnd, ReadConsumes}
+use Rattle.binfarce_jobs.proofs.Streams.{first_are, short_are}
 use Rattle.binfarce_jobs.proofs.input.read_first.Goals as goal
 
-pub returns-then-len-ge-FIRST_LENGTH : goal.returns-then-len-ge-FIRST_LENGTH
-returns-then-len-ge-FIRST_LENGTH g c =
-    let all : length c.loop.bytes.items ≡ 512 = grind (arith, common_steps, c.loop.invariant.short, c.if-len-ge-FIRST_LENGTH.true, c.len.ensures) in
+pub returns-then-left-eq0 : goal.returns-then-left-eq0
+returns-then-left-eq0 g c =
+    let all : length c.loop.bytes.items ≡ 512 = grind (arith, common_steps, c.loop.invariant.short, c.if-left-eq0.true, c.saturating_sub-left.ensures, c.len.ensures) in
     (first_are (g.R.Read.remaining c.args.reader.now) (g.R.Read.remaining c.loop.reader) c.loop.bytes.items all c.loop.invariant.read, c.loop.invariant.read)
+
+pub returns-in-Ok-eq0 : goal.returns-in-Ok-eq0
+returns-in-Ok-eq0 g c =
+    let mid = g.R.Read.remaining c.loop.reader in
+    let new = g.R.Read.remaining c.read.new.self in
+    let some : 0 < length c.read.new.buf = grind (arith, common_steps, c.read.auto.buf, length-take c.saturating_sub-left.result c.loop.part, c.loop.invariant.whole, c.if-left-eq0.false, c.saturating_sub-left.ensures) in
+    let read : Consumes mid new (take c.in-Ok-eq0.field-0 c.read.new.buf) × (c.in-Ok-eq0.field-0 ≡ 0 → 0 < length c.read.new.buf → IsAtEnd new) = subst (λ r. ReadConsumes mid new r c.read.new.buf) c.in-Ok-eq0.is c.read.ensures.bytes in
+    short_are (g.R.Read.remaining c.args.reader.now) mid new c.loop.bytes.items c.loop.invariant.short c.loop.invariant.read
+    (subst (λ (n : ℕ). Consumes mid new (take n c.read.new.buf)) c.in-Ok-eq0.field-0-test read.0) (read.1 c.in-Ok-eq0.field-0-test some)

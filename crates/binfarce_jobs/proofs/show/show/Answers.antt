@@ -7,7 +7,7 @@ use Rattle.binfarce_tools.specs.Answer.{MemoryIn, selected_answer}
 use Rattle.binfarce_tools.specs.Tables.{AreTablesOf}
 use Rattle.binfarce_tools.specs.Writing.{EndsAs, Takes}
 use Rattle.binfarce_jobs.specs.Faults.{outcome_of}
-use Rattle.binfarce_jobs.specs.Show.{AreTablesFor, Fits, HasSums, IsTextOf, MemoryFor, answer_for, style_for}
+use Rattle.binfarce_jobs.specs.Show.{AreTablesFor, Fits, IsSeenOf, IsTextOf, MemoryFor, answer_for, style_for}
 use Rattle.binfarce_jobs.proofs.Shown.{unread}
 use Rattle.binfarce_jobs.proofs.show.show.Goals as goal
 
@@ -53,15 +53,15 @@ returns-clause-takes g c = λ file is.
     subst (took (style_for asked c.args.path.now)) (sym are.1)
     (subst (λ style. took style (selected_answer asked.symbols.which section file)) c.form_for-form.ensures (c.show_tables.ensures.takes asked.symbols.which file section are.0))
 
-pub returns-in-Section-clause-sums : goal.returns-in-Section-clause-sums
-returns-in-Section-clause-sums g c = λ file selected is answer.
+pub returns-in-Section-clause-seen : goal.returns-in-Section-clause-seen
+returns-in-Section-clause-seen g c = λ file selected is answer.
     let symbols = c.args.asked.now.symbols in
     let are = c.in_ok-tables.ensures file is in
-    let shown : Option (List ℕ) → Type 0 = λ s. AreTablesOf symbols.which file s c.in_ok-tables.tables → selected_answer symbols.which s file ≡ Some (Ok selected) → IfOk c.show_section.result (λ _. HasSums c.args.asked.now.kind selected c.show_section.new.seen.sums) in
-    subst shown (sym (ap section_of c.in-Section.is)) (c.show_section.ensures.sums symbols.which file _ selected) are.0 (sym are.1 ∙ answer)
+    let shown : Option (List ℕ) → Type 0 = λ s. AreTablesOf symbols.which file s c.in_ok-tables.tables → selected_answer symbols.which s file ≡ Some (Ok selected) → IfOk c.show_section.result (IsSeenOf c.args.asked.now.kind selected) in
+    subst shown (sym (ap section_of c.in-Section.is)) (c.show_section.ensures.seen symbols.which file _ selected) are.0 (sym are.1 ∙ answer)
 
-pub returns-clause-sums : goal.returns-clause-sums
-returns-clause-sums g c = λ file selected is answer.
+pub returns-clause-seen : goal.returns-clause-seen
+returns-clause-seen g c = λ file selected is answer.
     let symbols = c.args.asked.now.symbols in
     let are = c.in_ok-tables.ensures file is in
-    c.show_tables.ensures.sums symbols.which file (section_of symbols.selection) selected are.0 (sym are.1 ∙ answer)
+    c.show_tables.ensures.seen symbols.which file (section_of symbols.selection) selected are.0 (sym are.1 ∙ answer) tt

@@ -1,0 +1,278 @@
+//! `binfarce diff [OPTION..] OLD NEW`: how two files differ.
+
+ghost use Rattle.std.specs.Prelude.{◌≡◌, is_some};
+ghost use Rattle.binfarce_calls.specs.Compared.{ReportsOf, ReportsRead, ReportsSummed};
+ghost use Rattle.binfarce_jobs.specs.Limit.{grown};
+
+use binfarce_bytes::source::Source;
+use binfarce_figures::claims::Claims;
+use binfarce_figures::diff::{Growth, diff};
+use binfarce_figures::sums::Figures;
+use binfarce_jobs::fault::Fault;
+use binfarce_jobs::files::{System, give, open_input, refuse};
+use binfarce_jobs::hint::lack;
+use binfarce_jobs::input::OpenFile;
+use binfarce_jobs::limit::{Verdict, grown};
+use binfarce_jobs::output::Output;
+use binfarce_jobs::show::{Symbols, tables_of};
+use binfarce_sections::changes::diff_sections;
+use binfarce_sections::sums::SectionSums;
+use binfarce_sections::tables::{Tables as SectionTables, read};
+use binfarce_tools::json::Form;
+use binfarce_tools::tables::Tables;
+use binfarce_words::words::Limit;
+use std::alloc::Global;
+use std::io::{Read, Write};
+
+/// Two files that are compared.
+#[derive(Debug, Clone, Copy)]
+pub struct Pair<'a> {
+    /// The path of the old one.
+    pub old: &'a str,
+    /// The path of the new one.
+    pub new: &'a str,
+    /// How rows are written.
+    pub form: Form<'a>,
+    /// The most that the sum may have grown by.
+    pub limit: Option<Limit>,
+}
+
+// A file, and the tables that were read of it.
+#[derive(Drop)]
+struct ReadFile<F, T> {
+    file: OpenFile<F>,
+    tables: T,
+}
+
+// A file that is summed.
+#[derive(Drop)]
+struct Summed<'b, F> {
+    file: &'b OpenFile<F>,
+    claims: Claims<'b, 'static>,
+}
+
+/// What is compared of the function symbols of two files.
+#[derive(Debug, Clone, Copy)]
+pub struct Sizes<'a> {
+    /// Which they are.
+    pub symbols: Symbols<'a>,
+    /// What their sizes are summed by, and how the sums are shown.
+    pub figures: Figures,
+}
+
+/// Writes how the sums of the function symbols of two files differ. A file that is refused is reported, the old one
+/// first; then nothing is written. Growth above the limit is reported, too.
+///
+/// # Errors
+///
+/// `Write` where a write fails, and `OutOfMemory` where an allocation for the text fails.
+pub fn compare<F: Read + Source<Log = ()> + Drop, Y: System<F>, W: Write>(
+    alloc: Global,
+    system: &mut Y,
+    pair: &Pair<'_>,
+    asked: &Sizes<'_>,
+    out: &mut Output<W>,
+) -> Result<Verdict, Fault>
+    ensures { ReportsOf pair.now.old.now pair.now.new.now (Y.reports system.old) (Y.reports system.new) result }
+{
+    let old = read_at(alloc, system, pair.old, &asked.symbols)?;
+    let before = sums_of(alloc, system, pair.old, &old)?;
+    let new = read_at(alloc, system, pair.new, &asked.symbols)?;
+    let after = sums_of(alloc, system, pair.new, &new)?;
+    let is_done = before.is_some() & after.is_some();
+    let is_above = write_changes(alloc, system, pair, asked, &before, &after, out)?;
+    Ok(Verdict { is_done, is_above })
+}
+
+// Writes how the sums of two files differ, if both have them, and gives the hints on these. Returns whether the growth is
+// above the limit.
+fn write_changes<F: Read + Source<Log = ()> + Drop, Y: System<F>, W: Write>(
+    alloc: Global,
+    system: &mut Y,
+    pair: &Pair<'_>,
+    asked: &Sizes<'_>,
+    before: &Option<Summed<'_, F>>,
+    after: &Option<Summed<'_, F>>,
+    out: &mut Output<W>,
+) -> Result<bool, Fault>
+    ensures { Y.reports system.new ≡ Y.reports system.old }
+{
+    let (Some(before), Some(after)) = (before, after) else {
+        return Ok(false);
+    };
+    let growth = diff(
+        alloc,
+        &before.claims,
+        &after.claims,
+        &asked.figures,
+        pair.form,
+        out,
+    )?;
+    hint_on_none(alloc, system, pair.old, &asked.symbols, before);
+    hint_on_none(alloc, system, pair.new, &asked.symbols, after);
+    Ok(is_above(system, pair, growth))
+}
+
+/// Writes how the bytes of the sections of two files differ, in this number of rows, and reports as `compare` does.
+///
+/// # Errors
+///
+/// Those of `compare`.
+pub fn compare_sections<F: Read + Source<Log = ()> + Drop, Y: System<F>, W: Write>(
+    alloc: Global,
+    system: &mut Y,
+    pair: &Pair<'_>,
+    figures: &Figures,
+    out: &mut Output<W>,
+) -> Result<Verdict, Fault>
+    ensures { ReportsOf pair.now.old.now pair.now.new.now (Y.reports system.old) (Y.reports system.new) result }
+{
+    let old = sections_at(alloc, system, pair.old)?;
+    let before = section_sums(alloc, system, pair.old, &old)?;
+    let new = sections_at(alloc, system, pair.new)?;
+    let after = section_sums(alloc, system, pair.new, &new)?;
+    let is_done = before.is_some() & after.is_some();
+    let is_above = write_section_changes(alloc, system, pair, figures, &before, &after, out)?;
+    Ok(Verdict { is_done, is_above })
+}
+
+// Writes how the bytes of two files differ, if both are summed. Returns whether the growth is above the limit.
+fn write_section_changes<F: Read + Source<Log = ()>, Y: System<F>, W: Write>(
+    alloc: Global,
+    system: &mut Y,
+    pair: &Pair<'_>,
+    figures: &Figures,
+    before: &Option<SectionSums<'_>>,
+    after: &Option<SectionSums<'_>>,
+    out: &mut Output<W>,
+) -> Result<bool, Fault>
+    ensures { Y.reports system.new ≡ Y.reports system.old }
+{
+    let (Some(before), Some(after)) = (before, after) else {
+        return Ok(false);
+    };
+    let Figures {
+        first,
+        has_percent,
+        ..
+    } = *figures;
+    diff_sections(alloc, before, after, first, has_percent, pair.form, out)?;
+    let growth = Growth {
+        old: before.file_length(),
+        new: after.file_length(),
+    };
+    Ok(is_above(system, pair, growth))
+}
+
+// The file at this path, and its section tables. `None` where it is refused, which is reported.
+fn sections_at<F: Read + Source<Log = ()> + Drop, Y: System<F>>(
+    alloc: Global,
+    system: &mut Y,
+    path: &str,
+) -> Result<Option<ReadFile<F, SectionTables>>, Fault>
+    ensures { ReportsRead path.now (Y.reports system.old) (Y.reports system.new) result }
+{
+    let Some(file) = open_input(alloc, system, path) else {
+        return Ok(None);
+    };
+    match read(alloc, &file, &mut ()) {
+        Ok(tables) => Ok(Some(ReadFile { file, tables })),
+        Err(e) => {
+            refuse(alloc, system, path, &file, Fault::from(e))?;
+            Ok(None)
+        }
+    }
+}
+
+// The bytes of a file by its sections. `None` where it is refused, which is reported, or was before.
+fn section_sums<'b, F: Read + Source<Log = ()> + Drop, Y: System<F>>(
+    alloc: Global,
+    system: &mut Y,
+    path: &str,
+    read: &'b Option<ReadFile<F, SectionTables>>,
+) -> Result<Option<SectionSums<'b>>, Fault>
+    ensures { ReportsSummed path.now (is_some read.entry.now) (Y.reports system.old) (Y.reports system.new) result }
+{
+    let Some(ReadFile { file, tables }) = read else {
+        return Ok(None);
+    };
+    match SectionSums::of_tables(alloc, tables) {
+        Ok(sums) => Ok(Some(sums)),
+        Err(e) => {
+            refuse(alloc, system, path, file, Fault::from(e))?;
+            Ok(None)
+        }
+    }
+}
+
+// The file at this path, and its tables. `None` where it is refused, which is reported.
+fn read_at<F: Read + Source<Log = ()> + Drop, Y: System<F>>(
+    alloc: Global,
+    system: &mut Y,
+    path: &str,
+    symbols: &Symbols<'_>,
+) -> Result<Option<ReadFile<F, Tables<'static>>>, Fault>
+    ensures { ReportsRead path.now (Y.reports system.old) (Y.reports system.new) result }
+{
+    let Some(file) = open_input(alloc, system, path) else {
+        return Ok(None);
+    };
+    match tables_of(alloc, &file, symbols) {
+        Ok(tables) => Ok(Some(ReadFile { file, tables })),
+        Err(e) => {
+            refuse(alloc, system, path, &file, Fault::from(e))?;
+            Ok(None)
+        }
+    }
+}
+
+// What the function symbols of a file add. `None` where it is refused, which is reported, or was before.
+fn sums_of<'b, F: Read + Source<Log = ()> + Drop, Y: System<F>>(
+    alloc: Global,
+    system: &mut Y,
+    path: &str,
+    read: &'b Option<ReadFile<F, Tables<'static>>>,
+) -> Result<Option<Summed<'b, F>>, Fault>
+    ensures { ReportsSummed path.now (is_some read.entry.now) (Y.reports system.old) (Y.reports system.new) result }
+{
+    let Some(ReadFile { file, tables }) = read else {
+        return Ok(None);
+    };
+    match Claims::of_tables(alloc, tables) {
+        Ok(claims) => Ok(Some(Summed { file, claims })),
+        Err(e) => {
+            refuse(alloc, system, path, file, Fault::from(e))?;
+            Ok(None)
+        }
+    }
+}
+
+// Gives a hint on a file without function symbols.
+fn hint_on_none<F: Read + Source<Log = ()> + Drop, Y: System<F>>(
+    alloc: Global,
+    system: &mut Y,
+    path: &str,
+    symbols: &Symbols<'_>,
+    summed: &Summed<'_, F>,
+)
+    ensures { Y.reports system.new ≡ Y.reports system.old }
+{
+    let count = summed.claims.len();
+    let hint = lack(alloc, summed.file, symbols, Some(count)).unwrap_or(None);
+    give(system, path, hint);
+}
+
+// Whether the sum grew by more than the limit, which is reported.
+fn is_above<F: Read + Source<Log = ()>, Y: System<F>>(
+    system: &mut Y,
+    pair: &Pair<'_>,
+    growth: Growth,
+) -> bool
+    ensures above { result ≡ is_some (grown growth pair.now.limit) }
+    ensures reports { Y.reports system.new ≡ Y.reports system.old }
+{
+    let excess = grown(growth, pair.limit);
+    let is_above = excess.is_some();
+    give(system, pair.new, excess);
+    is_above
+}

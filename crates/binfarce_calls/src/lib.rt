@@ -1,0 +1,6 @@
+//! What a call of `binfarce` asks for, by its options; two files compared, and the sections of several.
+#![tactic(auto)]
+
+pub mod compare;
+pub mod request;
+pub mod sections;

@@ -1,0 +1,7 @@
+// From crates/binfarce_calls/src/lib.rt, by tools/erase.
+
+//! What a call of `binfarce` asks for, by its options; two files compared, and the sections of several.
+
+pub mod compare;
+pub mod request;
+pub mod sections;

@@ -1,0 +1,105 @@
+// From crates/binfarce_calls/src/request.rt, by tools/erase.
+
+//! What a call asks for, by its options.
+
+use crate::erased::binfarce_figures::key::{Grouping, Key};
+use crate::erased::binfarce_figures::rows::{Naming, Shown};
+use crate::erased::binfarce_figures::sums::Figures;
+use crate::erased::binfarce_jobs::show::{Kind, Request, Symbols};
+use crate::erased::binfarce_tools::SymbolTable::{Dynsym, Symtab};
+use crate::erased::binfarce_tools::json::Form;
+use crate::erased::binfarce_tools::tables::Selection;
+use crate::erased::binfarce_words::words::Flag::{
+    All, Dynamic, First, Folded, Full, Json, NoTotal, Percent, Raw, Section, Sort, Std,
+};
+use crate::erased::binfarce_words::words::{Arguments, Command};
+
+/// What `list`, `size` or `map` shows of each file.
+pub fn request_of<'a>(command: Command, given: &Arguments<'a>) -> Request<'a> {
+    Request {
+        kind: kind_of(command, given),
+        symbols: symbols_of(given, false),
+        is_json: given.has(Json),
+        limit: given.limit(),
+    }
+}
+
+// How the function symbols are shown.
+fn kind_of(command: Command, given: &Arguments<'_>) -> Kind {
+    match command {
+        Command::List => listing_of(given),
+        Command::Map if given.has(Folded) => Kind::Stacks(given.has(Std)),
+        Command::Map => {
+            let figures = figures_of(given);
+            Kind::Picture(figures.grouping, figures.first)
+        }
+        _ => Kind::Figures(figures_of(given)),
+    }
+}
+
+// How function symbols are listed: in their order and whole, unless something else is asked for.
+fn listing_of(given: &Arguments<'_>) -> Kind {
+    let is_cut = given.has(Sort) || given.has(First) || given.has(NoTotal);
+    if !is_cut && !given.has(Raw) && !given.has(Full) && !given.has(Json) {
+        return Kind::Listing;
+    }
+    Kind::Rows(Shown {
+        order: given.order(),
+        first: given.count(First),
+        naming: naming_of(given),
+        has_total: !is_cut,
+    })
+}
+
+// What is shown of a name.
+fn naming_of(given: &Arguments<'_>) -> Naming {
+    if given.has(Raw) {
+        Naming::Stored
+    } else if given.has(Full) {
+        Naming::Complete
+    } else {
+        Naming::Trimmed
+    }
+}
+
+/// What sizes are summed by, and how the sums are shown.
+pub fn figures_of(given: &Arguments<'_>) -> Figures {
+    Figures {
+        grouping: Grouping {
+            key: given.key().unwrap_or(Key::Crate),
+            joins_std: given.has(Std),
+        },
+        first: given.count(First),
+        has_percent: given.has(Percent),
+    }
+}
+
+/// How rows of the file at a path are written.
+pub fn form_of<'a>(given: &Arguments<'_>, path: &'a str) -> Form<'a> {
+    if given.has(Json) {
+        Form::Objects(path, "")
+    } else {
+        Form::Lines
+    }
+}
+
+/// Which function symbols are taken: of the section that is named, or if none is, of `.text`; but of all sections for
+/// sums by section, and where all are the default.
+pub fn symbols_of<'a>(given: &Arguments<'a>, are_all: bool) -> Symbols<'a> {
+    let which = if given.has(Dynamic) { Dynsym } else { Symtab };
+    Symbols {
+        which,
+        selection: selection_of(given, are_all),
+    }
+}
+
+fn selection_of<'a>(given: &Arguments<'a>, are_all: bool) -> Selection<'a> {
+    if given.has(All) {
+        return Selection::All;
+    }
+    match given.value(Section) {
+        Some(section) => Selection::Section(section),
+        None if are_all || matches!(given.key(), Some(Key::Section)) => Selection::All,
+        None => Selection::Section(".text"),
+    }
+}

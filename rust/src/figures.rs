@@ -31,7 +31,7 @@ use crate::erased::binfarce_figures::key;
 #[cfg(feature = "std")]
 use crate::erased::binfarce_figures::{diff, rows, sums};
 #[cfg(feature = "std")]
-use crate::erased::binfarce_tools::json;
+use crate::erased::binfarce_rows::json;
 
 pub use crate::erased::binfarce_figures::key::Key;
 pub use crate::erased::binfarce_figures::order::Order;

@@ -259,7 +259,9 @@ impl Tables<'_> {
     /// # Ok::<(), Box<dyn std::error::Error>>(())
     /// ```
     pub fn rows_to<W: Write>(&self, shown: &Shown, layout: Layout<'_>, output: W) -> io::Result<()> {
-        write_to(output, |sink| Ok(list_by(Global, &self.0, &shown.into_erased(), layout.into_erased(), sink)?))
+        let (shown, form) = (shown.into_erased(), layout.into_erased());
+        write_to(output, |sink| Ok(list_by(Global, &self.0, &shown, form, sink)?))?;
+        Ok(())
     }
 
     /// Writes sums by a key, the greatest first, as lines or as JSON objects, and returns the sum of all sizes. A byte of several

@@ -2,11 +2,10 @@
 use Rattle.std.proofs.Common.{◌≡◌, inl, inr, ℕ, ◌+◌, Bool, false, ◌<◌, List, [], ◌∷◌, ◌++◌, length, get_or, take, Option, Some, None, Result, Ok, Err, refl, sym, ap, subst, ◌∙◌, append-nil, append_assoc}
 use Rattle.std.specs.List.{AllZip, concat}
 use Rattle.std.proofs.lemmas.List.{map-append, take_more}
-use Rattle.binfarce_addresses.specs.Counts.{AreCountsOf, answers_at, answers_to, is_held, reply_to}
+use Rattle.binfarce_addresses.specs.Counts.{AreCountsOf, answers_at, answers_to, is_held, reply_to, AddsUp}
 use Rattle.binfarce_addresses.specs.declared.counts.Counts.{Counts}
 use Rattle.binfarce_addresses.specs.declared.counts.Reply.{Reply}
 use Rattle.binfarce_addresses.specs.declared.counts.Reply.TheVariants.{Held}
-use Rattle.binfarce_addresses.specs.machine.Counting.{AddsUp}
 use Rattle.binfarce_addresses.proofs.Counting.{adds_both}
 use Rattle.std.proofs.lemmas.List.Folds.{concat-append}
 use Rattle.std.specs.Bool.{if◌then◌else◌}
@@ -15,8 +14,9 @@ use Rattle.std.specs.Fmt.{digits}
 use Rattle.std.specs.Prelude.{codes, IfOk}
 use Rattle.binfarce.specs.Named.{IsShown}
 use Rattle.binfarce.specs.Refusal.{Refusal}
-use Rattle.binfarce_tools.specs.Json as json
-use Rattle.binfarce_tools.specs.Listing.{address_text, ListingFits}
+use Rattle.binfarce_rows.specs.Json as json
+use Rattle.binfarce_rows.specs.Columns.{address_text}
+use Rattle.binfarce_tools.specs.Listing.{ListingFits}
 use Rattle.binfarce.specs.SectionEntries.{SelectedSymbols}
 use Rattle.binfarce.specs.Symbol.{Entry}
 use Rattle.binfarce_tools.specs.declared.list.ListError.{ListError}

@@ -8,10 +8,9 @@ use Rattle.std.proofs.lemmas.List.Folds.{concat-append}
 use Rattle.std.proofs.lemmas.List.{map-append}
 use Rattle.binfarce.specs.Symbol.{Entry}
 use Rattle.binfarce_addresses.specs.Answered.{AnswersOf}
-use Rattle.binfarce_addresses.specs.Counts.{AreCountsOf, answers_to, reply_to}
+use Rattle.binfarce_addresses.specs.Counts.{AreCountsOf, answers_to, reply_to, AddsUp}
 use Rattle.binfarce_addresses.specs.declared.counts.Counts.{Counts}
 use Rattle.binfarce_addresses.specs.declared.counts.Reply.{Reply}
-use Rattle.binfarce_addresses.specs.machine.Counting.{AddsUp}
 use Rattle.binfarce_addresses.specs.Stream.{line_address, with_line_feeds, AnswersAll, AnswersSome, AnswersWhole, AreAnswersOf, Begins, HasNoLineFeed, IsAnswerOf, Writes}
 use Rattle.binfarce_addresses.specs.machine.Answering.{Answers, AnswersLines, AnswersPart, HasAnswered, Holds, IsDone, IsKeptOf, MayBreakOff}
 use Rattle.binfarce_addresses.proofs.AddressLines.{all_zip_both}

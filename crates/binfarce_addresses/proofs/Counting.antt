@@ -3,8 +3,7 @@ use Rattle.std.proofs.Common.{◌≡◌, ◌+◌, ◌-◌, ◌^◌, min, Bool, t
 use Rattle.std.specs.Prelude.{count_by}
 use Rattle.std.specs.Int.{from_bool}
 use Rattle.std.proofs.lemmas.List.Sums.{sum_by_push}
-use Rattle.binfarce_addresses.specs.Counts.{AreCountsOf, is_asked, is_unasked, is_unclear, is_yes}
-use Rattle.binfarce_addresses.specs.machine.Counting.{AddsUp}
+use Rattle.binfarce_addresses.specs.Counts.{AreCountsOf, is_asked, is_unasked, is_unclear, is_yes, AddsUp}
 use Rattle.binfarce_addresses.specs.declared.counts.Counts.{Counts}
 use Rattle.binfarce_addresses.specs.declared.counts.Reply.{Reply}
 use Rattle.binfarce_addresses.specs.declared.counts.Reply.TheVariants.{Unasked, Unclear, Held}

@@ -8,7 +8,8 @@ use Rattle.std.proofs.lemmas.Grind.{get_or-set_at}
 use Rattle.std.proofs.lemmas.List.{drop-append-le, get_or_default, get_or-set_other, take-append-le, take_all}
 use Rattle.binfarce.specs.Named.{IsShown}
 use Rattle.binfarce.specs.Symbol.{Entry}
-use Rattle.binfarce_addresses.specs.machine.Places.{AreKept, IsAtPlace, IsNamedAt}
+use Rattle.binfarce_addresses.specs.Places.{IsAtPlace, IsNamedAt}
+use Rattle.binfarce_addresses.specs.machine.Places.{AreKept}
 
 -- the name of an entry that is at the place
 pub named : (entries : List Entry) (place : ℕ) (entry : Entry) (name : List ℕ) → IsAtPlace entries place entry → IsShown entry.name name → IsNamedAt entries place name

@@ -6,13 +6,7 @@ pub mod AddressLines
 pub mod Trimmed
 pub mod Streams
 pub mod Answering
-pub mod Among
-pub mod Annotating
-pub mod Outputs
 pub mod Rows
 pub mod Kept
 pub mod Sweep
 pub mod Spans
-pub mod Contexts
-pub mod Mapped
-pub mod Words

@@ -7,7 +7,7 @@ use Rattle.std.proofs.Math.Seq.{drop-append_seam}
 use Rattle.std.proofs.lemmas.Bool.{cond-true, cond-false, eq-eqb, ne_eqb}
 use Rattle.std.proofs.lemmas.List.{length-replicate}
 use Rattle.std.proofs.lemmas.Nat.{leading_length}
-use Rattle.binfarce_tools.specs.Listing.{address_text}
+use Rattle.binfarce_rows.specs.Columns.{address_text}
 
 -- 16 is four bits
 hex : (k : ℕ) → 16 ^ k ≡ 2 ^ (4 * k)

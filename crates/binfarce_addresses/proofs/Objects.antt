@@ -1,7 +1,7 @@
 -- The answers of addresses as objects.
 use Rattle.std.proofs.Common.{◌≡◌, ℕ, ◌++◌, [], List, Option, Some, None, sym, ap, subst, ◌∙◌, append-nil, append_assoc}
 use Rattle.binfarce.specs.Symbol.{Entry}
-use Rattle.binfarce_tools.specs.Json as json
+use Rattle.binfarce_rows.specs.Json as json
 use Rattle.binfarce_addresses.specs.Lines.{answer_object, IsSymbolOf}
 use Rattle.binfarce_addresses.specs.Stream.{IsAnswerIn}
 use Rattle.binfarce_addresses.specs.declared.lookup.Lookup.{Lookup}

@@ -16,7 +16,8 @@ use Rattle.binfarce_addresses.specs.Counts.{reply_to}
 use Rattle.binfarce_addresses.specs.declared.counts.Reply.TheVariants.{Held}
 use Rattle.binfarce_addresses.specs.declared.lookup.Lookup.{Lookup}
 use Rattle.binfarce_addresses.specs.machine.Answers.{reply_by}
-use Rattle.binfarce_addresses.specs.machine.Places.{range_of, ranges_of, IsAtPlace, IsFoundFor, IsFoundIn, IsPlaceFor}
+use Rattle.binfarce_addresses.specs.Places.{IsAtPlace, IsFoundIn}
+use Rattle.binfarce_addresses.specs.machine.Places.{range_of, ranges_of, IsFoundFor, IsPlaceFor}
 
 -- the test says whether the range holds the address
 held : (address : ℕ) (entry : Entry) → Holds (range_of entry) address → holds address entry ≡ true

@@ -1,5 +1,5 @@
 -- How many addresses were asked for, and how many of them a function symbol holds.
-use Rattle.std.specs.Prelude.{◌≡◌, ℕ, ◌-◌, ◌^◌, min, Bool, true, false, List, map, Option, Some, None, is_some}
+use Rattle.std.specs.Prelude.{◌≡◌, ℕ, ◌-◌, ◌^◌, ◌++◌, min, Bool, true, false, List, map, Option, Some, None, is_some}
 use Rattle.std.specs.List.{count_by}
 use Rattle.binfarce.specs.Symbol.{Entry}
 use Rattle.binfarce_addresses.specs.Lookup.{found_at}
@@ -33,6 +33,10 @@ pub record AreCountsOf (replies : List Reply) (counts : Counts) : Type 0 where
   pub found : counts.found ≡ min (count_by is_yes replies) (2 ^ 64 - 1)
   pub unclear : counts.unclear ≡ min (count_by is_unclear replies) (2 ^ 64 - 1)
   pub missing : counts.missing ≡ min (count_by is_unasked replies) (2 ^ 64 - 1)
+
+-- the counts grow by those of more replies
+abbrev pub AddsUp : (old new : Counts) (replies : List Reply) → Type 0
+AddsUp old new replies = (before : List Reply) → AreCountsOf before old → AreCountsOf (before ++ replies) new
 
 -- whether a function symbol holds an address
 abbrev pub is_held : List Entry → Lookup → ℕ → Bool

@@ -1,13 +1,10 @@
 pub mod Lookup
 pub mod Counts
 pub mod Lines
+pub mod Places
 pub mod PlacesViews
 pub mod Stream
 pub mod Answered
-pub mod Annotated
-pub mod Maps
-pub mod Module
-pub mod Word
 pub mod machine
 pub mod Address
 pub mod Range

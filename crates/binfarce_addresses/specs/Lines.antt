@@ -5,10 +5,10 @@ use Rattle.std.specs.List.{AllZip, concat}
 use Rattle.binfarce.specs.Named.{IsShown}
 use Rattle.binfarce.specs.SectionEntries.{SelectedSymbols}
 use Rattle.binfarce.specs.Symbol.{Entry}
-use Rattle.binfarce_tools.specs.Json as json
-use Rattle.binfarce_tools.specs.Json.{Style, style_of, address_member, number_member, object_start, text_member}
+use Rattle.binfarce_rows.specs.Json as json
+use Rattle.binfarce_rows.specs.Json.{Style, style_of, address_member, number_member, object_start, text_member}
 use Rattle.binfarce_tools.specs.ListWords as list
-use Rattle.binfarce_tools.specs.Listing.{address_text}
+use Rattle.binfarce_rows.specs.Columns.{address_text}
 use Rattle.binfarce_tools.specs.Writing.{Outcome, written}
 use Rattle.binfarce_tools.specs.declared.list.ListError.{ListError}
 use Rattle.binfarce_addresses.specs.declared.counts.Counts.{Counts}

@@ -58,3 +58,7 @@ found_in entries is_return (Some address) = option_map (λ entry. (entry, addres
 -- the same of an address by this lookup
 abbrev pub found_at : List Entry → Lookup → ℕ → Option (Entry × ℕ)
 found_at entries lookup address = found_in entries lookup.is_return (in_file lookup address)
+
+-- an offset from the file's origin, as an address in the file
+abbrev pub at_offset : Lookup → (offset : ℕ) → Option ℕ
+at_offset lookup offset = in_64_bits (offset + lookup.origin)

@@ -8,8 +8,8 @@ use Rattle.binfarce_addresses.specs.Address.{address_of}
 use Rattle.binfarce_addresses.specs.Counts.{AreCountsOf, answers_to}
 use Rattle.binfarce_addresses.specs.declared.counts.Counts.{Counts}
 use Rattle.binfarce_addresses.specs.Lines.{IsLineIn, answer_object}
-use Rattle.binfarce_tools.specs.Json as json
-use Rattle.binfarce_tools.specs.Json.{Style, style_of}
+use Rattle.binfarce_rows.specs.Json as json
+use Rattle.binfarce_rows.specs.Json.{Style, style_of}
 use Rattle.binfarce_text.specs.Streams as streams
 use Rattle.binfarce_text.specs.declared.streams.StreamError.{StreamError}
 

@@ -12,8 +12,8 @@ pub fn parse_address(word: &[u8]) -> Option<u64>
     hex_number(digits.unwrap_or(word))
 }
 
-// The number that 1 to 16 digits write.
-pub(crate) fn hex_number(digits: &[u8]) -> Option<u64>
+/// The number that 1 to 16 hexadecimal digits write. `None` for anything else. Nothing is allocated.
+pub fn hex_number(digits: &[u8]) -> Option<u64>
     ensures { result ≡ hexadecimal digits.now }
 {
     if digits.is_empty() || digits.len() > 16 {
@@ -27,7 +27,7 @@ pub(crate) fn hex_number(digits: &[u8]) -> Option<u64>
 }
 
 /// Whether the word begins with `0x` or `0X`.
-pub(crate) fn has_prefix(word: &[u8]) -> bool
+pub fn has_prefix(word: &[u8]) -> bool
     ensures { result ≡ has_prefix word.now }
 {
     word.starts_with(b"0x") || word.starts_with(b"0X")

@@ -17,7 +17,8 @@ ghost use Rattle.binfarce_addresses.specs.Counts.{AreCountsOf, answers_at, is_he
 ghost use Rattle.binfarce_addresses.specs.Lines.{IsLineAt, AreLinesAt, outcome_of};
 ghost use Rattle.binfarce_addresses.specs.PlacesViews.{IsMadeOf};
 ghost use Rattle.binfarce_addresses.specs.Stream.{AreAnswersOf, IsAnswerOf};
-ghost use Rattle.binfarce_addresses.specs.machine.Places.{ArePlacesOf, IsAtPlace, IsFoundFor, IsFoundIn, IsPlaceFor, ranges_of};
+ghost use Rattle.binfarce_addresses.specs.Places.{IsAtPlace, IsFoundIn};
+ghost use Rattle.binfarce_addresses.specs.machine.Places.{ArePlacesOf, IsFoundFor, IsPlaceFor, ranges_of};
 
 use crate::counts::{Counts, Reply};
 use crate::lookup::Lookup;
@@ -40,8 +41,8 @@ pub struct Places<'a> {
     ranges: Ranges,
 }
 
-// What an address symbolizes to: the place of a function symbol, and the offset of the address into it.
-pub(crate) type Found = (usize, u64);
+/// What an address symbolizes to: the place of a function symbol, and the offset of the address into it.
+pub type Found = (usize, u64);
 
 impl<'a> Model for Places<'a> {
     ghost Value = { List Entry };
@@ -154,8 +155,8 @@ impl<'a> Places<'a> {
         self.functions[place]
     }
 
-    // Whether a function symbol has this name, as it is stored.
-    pub(crate) fn has(&self, name: &[u8]) -> bool
+    /// Whether a function symbol has this name, as it is stored.
+    pub fn has(&self, name: &[u8]) -> bool
         ensures { result ≡ has_symbol self.now name.now }
     {
         self.functions

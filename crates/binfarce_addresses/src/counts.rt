@@ -1,8 +1,7 @@
 //! How many addresses were asked for, and how many of them a function symbol holds.
 
 ghost use Rattle.std.specs.Prelude.{◌≡◌, ◌∷◌, []};
-ghost use Rattle.binfarce_addresses.specs.Counts.{AreCountsOf};
-ghost use Rattle.binfarce_addresses.specs.machine.Counting.{AddsUp};
+ghost use Rattle.binfarce_addresses.specs.Counts.{AreCountsOf, AddsUp};
 
 /// How many addresses were asked for, and how many were found. Each is at most `u64::MAX`.
 #[derive(Debug, Clone, Copy, PartialEq)]
@@ -18,20 +17,20 @@ pub struct Counts {
     pub missing: u64,
 }
 
-// What is replied to a line, or to a number in a text.
+/// What is replied to a line, or to a number in a text.
 #[derive(Debug, Clone, Copy, PartialEq)]
-pub(crate) enum Reply {
-    // It isn't asked for: a line has no address; an offset is into another file or a function.
+pub enum Reply {
+    /// It isn't asked for: a line has no address; an offset is into another file or a function.
     Unasked,
-    // Several files have the name that is before an offset.
+    /// Several files have the name that is before an offset.
     Unclear,
-    // Whether a function symbol holds the address.
+    /// Whether a function symbol holds the address.
     Held(bool),
 }
 
 impl Counts {
-    // Nothing was asked for.
-    pub(crate) fn new() -> Counts
+    /// Nothing was asked for.
+    pub fn new() -> Counts
         ensures { AreCountsOf [] result }
     {
         Counts {
@@ -42,9 +41,9 @@ impl Counts {
         }
     }
 
-    // Counts a reply.
+    /// Counts a reply.
     #[inline(always)]
-    pub(crate) fn add(&mut self, reply: Reply)
+    pub fn add(&mut self, reply: Reply)
         ensures { AddsUp self.old self.new (reply ∷ []) }
     {
         match reply {

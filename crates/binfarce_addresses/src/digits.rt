@@ -2,7 +2,7 @@
 
 ghost use Rattle.std.specs.Prelude.{◌≡◌, ◌++◌, ◌∷◌, [], OnOk, false, codes};
 ghost use Rattle.std.specs.Fmt.{digits};
-ghost use Rattle.binfarce_tools.specs.Listing.{address_text};
+ghost use Rattle.binfarce_rows.specs.Columns.{address_text};
 
 use binfarce_text::digits::hex_digit;
 use std::alloc::AllocError;
@@ -15,9 +15,13 @@ pub(crate) fn push_address(text: &mut Vec<u8>, address: u64) -> Result<(), Alloc
     Ok(text.push(b' ')?)
 }
 
-/// Appends an offset and a byte to the text.
+/// Appends an offset, as `+0x` and hexadecimal digits, and a byte to the text.
+///
+/// # Errors
+///
+/// `AllocError` where an allocation failed: the text is then unspecified.
 #[inline(always)]
-pub(crate) fn push_offset(text: &mut Vec<u8>, offset: u64, end: u8) -> Result<(), AllocError>
+pub fn push_offset(text: &mut Vec<u8>, offset: u64, end: u8) -> Result<(), AllocError>
     ensures { OnOk result (text.new.items ≡ text.old.items
         ++ (codes "+0x" ++ (digits 16 false offset ++ end ∷ []))) }
 {

@@ -3,7 +3,7 @@
 ghost use Rattle.std.specs.Prelude.{◌≡◌};
 ghost use Rattle.binfarce_addresses.specs.Lookup.{in_file};
 
-use binfarce_tools::json::Form;
+use binfarce_rows::json::Form;
 
 /// How addresses are looked up and answered.
 #[derive(Debug, Clone, Copy, PartialEq)]

@@ -3,12 +3,14 @@
 ghost use Rattle.std.specs.Prelude.{◌≡◌, ◌<◌, ◌+◌, ◌++◌, [], ℕ, List, Option, Some, codes, length, slice_set, IfOk, IfSome, OnOk};
 ghost use Rattle.std.specs.String.{string_bytes};
 ghost use Rattle.binfarce.specs.Symbol.{Entry};
-ghost use Rattle.binfarce_tools.specs.Json.{lines, objects, text_member};
+ghost use Rattle.binfarce_rows.specs.Json.{lines, objects, text_member};
 ghost use Rattle.binfarce_addresses.specs.Counts.{is_held};
 ghost use Rattle.binfarce_addresses.specs.Lines.{IsLineAt, address_value, symbol_members};
 ghost use Rattle.binfarce_addresses.specs.Stream.{IsAnswerIn, IsAnswerOf};
 ghost use Rattle.binfarce_addresses.specs.declared.lookup.Lookup.{Lookup};
-ghost use Rattle.binfarce_addresses.specs.machine.Places.{AreKept, IsNamedAt, IsSymbolAt};
+ghost use Rattle.binfarce_addresses.specs.Lookup.{at_offset};
+ghost use Rattle.binfarce_addresses.specs.Places.{IsFoundIn, IsNamedAt, IsShownAt};
+ghost use Rattle.binfarce_addresses.specs.machine.Places.{AreKept, IsSymbolAt};
 ghost use Rattle.binfarce_addresses.specs.machine.Answers.{AreAnswersTo, IsAnswerTo, reply_of};
 
 use crate::at::{Found, Places};
@@ -16,16 +18,21 @@ use crate::counts::Reply;
 use crate::digits::{push_address, push_offset};
 use crate::lookup::Lookup;
 use binfarce::demangle::Demangler;
-use binfarce_tools::json::{
+use binfarce_rows::json::{
     Form, push_address_member, push_number_member, push_start, push_text_member,
 };
 use std::alloc::{AllocError, Global};
 use std::marker::Model;
 
+// The most bytes of names that are kept before one more: 32 MiB.
+const MOST_KEPT: usize = 1 << 25;
+
 /// The readable names of the function symbols of places that were needed so far, and what answers the addresses of one
 /// lookup with them.
+///
+/// Contracts speak of the entries and of the lookup.
 #[derive(Drop)]
-pub(crate) struct Names<'b, 'a> {
+pub struct Names<'b, 'a> {
     pub(crate) alloc: Global,
     pub(crate) places: &'b Places<'a>,
     pub(crate) lookup: Lookup<'b>,
@@ -85,7 +92,11 @@ impl<'b, 'a> Names<'b, 'a> {
     }
 
     /// No name so far, with room for all.
-    pub(crate) fn with_room(
+    ///
+    /// # Errors
+    ///
+    /// `AllocError` where an allocation failed.
+    pub fn with_room(
         alloc: Global,
         places: &'b Places<'a>,
         lookup: Lookup<'b>,
@@ -93,6 +104,28 @@ impl<'b, 'a> Names<'b, 'a> {
         ensures { IfOk result (λ n. n ≡ (places.entry.now, lookup.entry)) }
     {
         Names::new(alloc, places, lookup, places.functions.len())
+    }
+
+    /// The file's path in a text; nothing is copied.
+    pub fn path(&self) -> &'b [u8]
+        ensures { result.now ≡ self.now.1.path.now }
+    {
+        self.lookup.path
+    }
+
+    /// What an address symbolizes to.
+    pub fn find_address(&self, address: u64) -> Option<Found>
+        ensures { IsShownAt self.now.0 self.now.1 address result }
+    {
+        self.places.find_place(self.lookup, Some(address))
+    }
+
+    /// What an offset from the file's origin symbolizes to; nothing where the address passes 64 bits.
+    pub fn find_offset(&self, offset: u64) -> Option<Found>
+        ensures { IsFoundIn self.now.0 self.now.1.is_return (at_offset self.now.1 offset) result }
+    {
+        let address = offset.checked_add(self.lookup.origin);
+        self.places.find_in(self.lookup.is_return, address)
     }
 
     // The answer to a line with the address, or with none.
@@ -226,6 +259,7 @@ impl<'b, 'a> Names<'b, 'a> {
         if let Some(name) = self.name_at(place) {
             return push_text_member(text, "name", Some(name));
         }
+        self.make_room();
         let mut name = String::new(self.alloc);
         self.demangler
             .push_shown(&mut name, self.places.at(place).name)?;
@@ -236,9 +270,13 @@ impl<'b, 'a> Names<'b, 'a> {
         push_text_member(text, "name", Some(name.as_str()))
     }
 
-    // Appends the readable name of the function symbol at a place to the text, and keeps it, if there is room for it.
+    /// Appends the readable name of the function symbol at a place to the text, and keeps it, if there is room for it.
+    ///
+    /// # Errors
+    ///
+    /// `AllocError` where an allocation failed: the text is then unspecified.
     #[inline(always)]
-    pub(crate) fn push_name(&mut self, text: &mut Vec<u8>, place: usize) -> Result<(), AllocError>
+    pub fn push_name(&mut self, text: &mut Vec<u8>, place: usize) -> Result<(), AllocError>
         requires { place < length self.old.0 }
         ensures name { OnOk result
             ((name : List ℕ) × IsNamedAt self.old.0 place name
@@ -248,12 +286,24 @@ impl<'b, 'a> Names<'b, 'a> {
         if let Some(name) = self.name_at(place) {
             return text.extend_from_slice(name.as_bytes());
         }
+        self.make_room();
         let from = self.text.as_str().len();
         self.demangler
             .push_shown(&mut self.text, self.places.at(place).name)?;
         let to = self.text.as_str().len();
         keep(&mut self.kept, place, (from, to));
         text.extend_from_slice(&self.text.as_bytes()[from..])
+    }
+
+    // Drops the names that are kept once they pass the most that may be: names that share an end take much more memory
+    // than the file that has them.
+    fn make_room(&mut self)
+        ensures { self.new ≡ self.old }
+    {
+        if self.text.as_str().len() > MOST_KEPT {
+            self.text.clear();
+            self.kept.fill((0, 0));
+        }
     }
 
     // The name that is kept at a place.

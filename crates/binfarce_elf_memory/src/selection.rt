@@ -1,6 +1,6 @@
 //! The function symbols of a selection: of one section, or of all sections with their addresses and sizes in memory.
 
-ghost use Rattle.std.specs.Prelude.{◌≡◌, List, [], ◌∷◌, map, Some, None, IfOk, MatchOption, MatchResult, slice_index_or};
+ghost use Rattle.std.specs.Prelude.{◌≡◌, List, [], ◌∷◌, length, map, nat_eq, Some, None, IfOk, MatchOption, MatchResult, slice_index_or};
 ghost use Rattle.std.specs.Result.{IsOk};
 ghost use Rattle.std.specs.Option.{option_map};
 ghost use Rattle.std.specs.List.{range_with_len, filter_map};
@@ -282,6 +282,13 @@ impl<'a> Functions<'a> {
         ensures { result ≡ size_taken (selected_view self.now).taken }
     {
         self.taken.size()
+    }
+
+    /// Whether none is left. Rows are read up to the first one that is a function's.
+    pub fn is_empty(&self) -> bool
+        ensures { result ≡ nat_eq (length (functions_left self.now)) 0 }
+    {
+        self.first_left().is_none()
     }
 
     /// The function symbol that an address symbolizes to, among those that are left: of those whose range holds it the

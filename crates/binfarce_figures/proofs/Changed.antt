@@ -6,15 +6,16 @@ use denote.Ref.{Bor}
 use Rattle.std.specs.Prelude.{if◌then◌else◌}
 use Rattle.std.specs.Str.{bytes_eq}
 use Rattle.std.proofs.lemmas.List.{map-append}
-use Rattle.binfarce_tools.specs.Json.{style_of}
-use Rattle.binfarce_tools.specs.declared.json.Form.{Form}
+use Rattle.binfarce_rows.specs.Json.{style_of}
+use Rattle.binfarce_rows.specs.declared.json.Form.{Form}
 use Rattle.binfarce_tools.specs.Report.{Share, AreCratesOf, sum_of, total}
 use Rattle.binfarce_tools.proofs.CrateSums.{sum_of-cons, total-cons}
+use Rattle.binfarce_rows.specs.Columns.{difference}
 use Rattle.binfarce_figures.specs.declared.figures.Columns.TheVariants.{Changes}
 use Rattle.binfarce_figures.specs.declared.sums.Counting.TheVariants.{Old, New}
 use Rattle.binfarce_figures.specs.declared.sums.Figures.{Figures}
 use Rattle.binfarce_figures.specs.declared.sums.Numbers.{Numbers}
-use Rattle.binfarce_figures.specs.Changes.{IsTextOfChanges, change_row, differ, difference}
+use Rattle.binfarce_figures.specs.Changes.{IsTextOfChanges, change_row, differ}
 use Rattle.binfarce_figures.specs.Figures.{AreRowsOf, numbers_of}
 use Rattle.binfarce_figures.specs.machine.Columns.{AreRowsFor}
 use Rattle.binfarce_figures.specs.machine.Counts.{AddsShares, AreNumbersOf, firsts, seconds}

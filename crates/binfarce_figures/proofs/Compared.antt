@@ -7,7 +7,7 @@ use Rattle.binfarce.specs.SectionEntries.{SelectedSymbols}
 use Rattle.binfarce_tools.specs.Writing.{Outcome, Takes, WritesMade}
 use Rattle.binfarce_figures.specs.declared.diff.Growth.{Growth}
 use Rattle.binfarce_figures.specs.declared.sums.Figures.{Figures}
-use Rattle.binfarce_tools.specs.Json.{Style}
+use Rattle.binfarce_rows.specs.Json.{Style}
 use Rattle.binfarce_figures.specs.Claimed.{Claimed}
 use Rattle.binfarce_figures.specs.Claims.{sum_of_sizes}
 use Rattle.binfarce_figures.specs.Changes.{AreChangesBy, AreClaimsAsked, Asked, IsGrowthBy, answer_for, both}

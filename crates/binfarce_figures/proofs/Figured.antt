@@ -40,9 +40,9 @@ none_taken IsText answer old (Ok value) is = absurd is
 none_taken IsText answer old (Err f) is = subst (λ (e : ReportError). Takes IsText answer old old (outcome_of (Err e))) (sym is) (nothing old)
 
 -- a result that passes an error on ends as it
-pub passed_on : {A : Type 0} (result : Result A ReportError) (e : ReportError) → IsErrAnd result (λ f. f ≡ e) → outcome_of (Err e) ≡ outcome_of (ended result)
-passed_on (Ok value) e is = absurd is
-passed_on (Err f) e is = ap (λ (x : ReportError). outcome_of (Err x)) (sym is)
+pub passed_on : {A E : Type 0} (outcome : Result (Unit {0}) E → Outcome) (result : Result A E) (e : E) → IsErrAnd result (λ f. f ≡ e) → outcome (Err e) ≡ outcome (ended result)
+passed_on outcome (Ok value) e is = absurd is
+passed_on {E = E} outcome (Err f) e is = ap (λ (x : E). outcome (Err x)) (sym is)
 
 -- a call that writes what claims show ends as their file's answer says
 pub ends_in : {A : Type 0} (which : SymbolTable) (file : List ℕ) (section : Option (List ℕ)) (claims : Claimed) (result : Result A ReportError) → AreClaimsIn which file section claims → IfErr result (λ e. (e ≡ OutOfMemory) ⊎ (e ≡ Write))

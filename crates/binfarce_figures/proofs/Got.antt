@@ -22,6 +22,9 @@ use Rattle.binfarce_figures.proofs.Once.{bytes_are}
 abbrev pub IsListOf : Selected → List SectionEntry → Option ℕ → Type 0
 IsListOf selected entries size = (entries ≡ all_left selected.functions) × (size ≡ selected.size)
 
+same_answer : (a b : SelectedSymbols) → Path (Option (Result SelectedSymbols Refusal)) (Some (Ok a)) (Some (Ok b)) → a ≡ b
+same_answer a b e = cc
+
 module _ (which : SymbolTable) (file : List ℕ) (section : Option (List ℕ)) (selected : Selected) (entries : List SectionEntry) (size : Option ℕ) (gets : GetsIn which file section (Ok selected)) (list : IsListOf selected entries size) where
   seen : (seen : SelectedSymbols) × (selected_answer which section file ≡ Some (Ok seen)) × HoldsLeft seen selected
   seen = reports.got HoldsLeft (MemoryIn file section) (selected_answer which section file) selected gets
@@ -42,15 +45,16 @@ module _ (which : SymbolTable) (file : List ℕ) (section : Option (List ℕ)) (
     },
   )
 
+  -- they are as many as the function symbols of the file's answer
+  pub as_many : (answered : SelectedSymbols) → selected_answer which section file ≡ Some (Ok answered) → length entries ≡ length answered.entries
+  as_many answered answer = ap length (list.0 ∙ seen.2.0) ∙ ap (λ (s : SelectedSymbols). length s.entries) (same_answer seen.0 answered (sym seen.1 ∙ answer))
+
   -- it has too many bytes
   pub too_large_got : 2 ^ 64 ≤ bytes_of entries → IsFaultOf which file section TooLarge
   too_large_got over =
       let not_fits : ¬ (SumFits seen.0) = λ fit. absurd (omega (arith, bytes, fit, over)) in
       let Q : Option (Result SelectedSymbols Refusal) → Type 0 = λ a. EndsAs SumFits (MemoryIn file section) a (outcome_of (Err TooLarge)) in
       subst Q (sym seen.1) (inr (inr (not_fits, refl)))
-
-same_answer : (a b : SelectedSymbols) → Path (Option (Result SelectedSymbols Refusal)) (Some (Ok a)) (Some (Ok b)) → a ≡ b
-same_answer a b e = cc
 
 -- claims are those of the one answer that a file has
 pub claims_for : (which : SymbolTable) (file : List ℕ) (section : Option (List ℕ)) (claims : Claimed) (selected : SelectedSymbols) → AreClaimsIn which file section claims → selected_answer which section file ≡ Some (Ok selected) → AreClaimsFor selected claims

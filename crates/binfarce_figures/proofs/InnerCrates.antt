@@ -5,6 +5,7 @@ use Rattle.std.specs.Option.{is_some, unwrap_or}
 use Rattle.binfarce_legacy.specs.Legacy.{Element, IsLegacy}
 use Rattle.binfarce_names.specs.Crates.{GrowsByCrate, crate_of}
 use Rattle.binfarce_names.specs.Name.{Name}
+use Rattle.binfarce_names.specs.declared.demangle.Kind.TheVariants.{Legacy}
 use Rattle.binfarce_names.specs.Named.{IsNamed, legacy}
 use Rattle.binfarce_names.proofs.NameLemmas.{answers_same}
 use Rattle.binfarce_names.proofs.Trimmed.{named_legacy}
@@ -57,3 +58,14 @@ no_text (c ∷ others) none = absurd (omega (arith, eqb-true (length (c ∷ othe
 pub none : (n : Name) (crate_found : Bool) (old new text pushed : List ℕ) → GrowsByCrate (crate_of n) crate_found old new → crate_found ≡ false → text ≡ inner_crate_of n.kind n.trimmed → (length text == 0) ≡ true → pushed ≡ text ++ unknown_crate → pushed ≡ counted_crate n
 none n crate_found old new text pushed (is, grown) false_is text_is empty is_pushed =
     is_pushed ∙ ap (λ (t : List ℕ). t ++ unknown_crate) (no_text text empty) ∙ ap or_unknown (sym (no_text text empty) ∙ text_is) ∙ by_none (crate_of n) (or_unknown (inner_crate_of n.kind n.trimmed)) (sym false_is ∙ is)
+
+-- the answer of a name that isn't a legacy one has the crate that it counts for, or it is unknown
+pub by_answer : (text : List ℕ) (n : Name) → IsNamed text n → ¬ (n.kind ≡ Legacy) → unwrap_or n.crate_name unknown_crate ≡ counted_crate n
+unfolding IsNamed crate_of
+by_answer text n named other = elim named [
+  | inl m ↦ absurd (other (ap (λ (m : Name). m.kind) m.name_is))
+  | inr rest ↦ elim rest [
+    | inl v ↦ subst (λ (m : Name). unwrap_or m.crate_name unknown_crate ≡ counted_crate m) (sym v.name_is) refl
+    | inr u ↦ subst (λ (m : Name). unwrap_or m.crate_name unknown_crate ≡ counted_crate m) (sym u.name_is) refl
+  ]
+]

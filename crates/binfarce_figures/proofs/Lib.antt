@@ -1,3 +1,4 @@
+pub mod Totals
 pub mod Growing
 pub mod Ordered
 pub mod RowListings
@@ -8,8 +9,7 @@ pub mod InnerCrates
 pub mod Spans
 pub mod Places
 pub mod Once
-pub mod Arguments
-pub mod Widths
+pub mod Runs
 pub mod Numbers
 pub mod Counted
 pub mod Entries

@@ -1,5 +1,5 @@
 -- Rows with the texts of their names, of which long ones are kept once.
-use Rattle.std.proofs.Common.{◌≡◌, ◌∙◌, ◌⊎◌, ℕ, zero, suc, ◌<◌, Bool, true, false, cond, List, [], ◌∷◌, ◌++◌, Some, String, BTreeMap, inl, inr, ap, arith, get_or, length, map, refl, string_bytes, subst, sym}
+use Rattle.std.proofs.Common.{◌≡◌, ◌∙◌, ◌⊎◌, ℕ, zero, suc, ◌<◌, Bool, true, false, cond, List, [], ◌∷◌, ◌++◌, Option, Some, None, String, BTreeMap, inl, inr, ap, arith, get_or, length, map, refl, string_bytes, subst, sym}
 use Rattle.std.proofs.lemmas.List.{get_or_append_left, get_or_push, length-append}
 use Rattle.std.proofs.lemmas.List.Elements.{All-map}
 use Rattle.std.proofs.lemmas.Simd.{map-map}
@@ -9,15 +9,13 @@ use Rattle.std.specs.Global.{Global}
 use Rattle.std.specs.List.{All, AllZip}
 use Rattle.std.specs.Map.{update}
 use Rattle.std.specs.Str.{bytes_eq}
-use Rattle.binfarce.specs.SectionEntries.{SectionEntry}
-use Rattle.binfarce.specs.SymbolViews.{section_function_view}
 use Rattle.binfarce_figures.specs.Order.{AreNamed, Named}
 use Rattle.binfarce_figures.specs.Rows.{IsNameText}
 use Rattle.binfarce_bytes.specs.declared.functions.SectionFunction.{SectionFunction}
 use Rattle.binfarce_figures.specs.declared.order.Row.{Row}
 use Rattle.binfarce_figures.specs.declared.rows.Naming.{Naming}
 use Rattle.binfarce_figures.specs.declared.rows.Texts.{Texts}
-use Rattle.binfarce_figures.specs.machine.Listings.{AreTexts, HasName, IsTextAt, Notes, entry_of, name_of}
+use Rattle.binfarce_figures.specs.machine.Listings.{AreTexts, HasName, IsShownBy, IsTextAt, Notes, entry_of, name_of}
 use Rattle.binfarce_figures.proofs.Ordered.{named_of}
 
 -- what is found after an index was noted
@@ -55,11 +53,12 @@ texts_more naming old new name index text are notes grown at stored i found = by
     by_place (inr before) = subst (λ (ts : List (String Global)). IsTextAt naming ts stored i) (sym grown) (still_at naming old.texts.items (text ∷ []) stored i (are stored i before))
 
 -- all texts are where they were
-pub all_still_at : (naming : Naming) (texts more : List (String Global)) (names : List (List ℕ)) (indices : List ℕ) → AllZip (IsTextAt naming texts) names indices → AllZip (IsTextAt naming (texts ++ more)) names indices
-all_still_at naming texts more [] [] at = tt
-all_still_at naming texts more [] (i ∷ indices) at = absurd at
-all_still_at naming texts more (n ∷ names) [] at = absurd at
-all_still_at naming texts more (n ∷ names) (i ∷ indices) at = (still_at naming texts more n i at.0, all_still_at naming texts more names indices at.1)
+pub all_still_shown : (naming : Naming) (texts more : List (String Global)) (names : List (List ℕ)) (indices : List (Option ℕ)) → AllZip (IsShownBy naming texts) names indices → AllZip (IsShownBy naming (texts ++ more)) names indices
+all_still_shown naming texts more [] [] at = tt
+all_still_shown naming texts more [] (i ∷ indices) at = absurd at
+all_still_shown naming texts more (n ∷ names) [] at = absurd at
+all_still_shown naming texts more (n ∷ names) (Some i ∷ indices) at = (still_at naming texts more n i at.0, all_still_shown naming texts more names indices at.1)
+all_still_shown naming texts more (n ∷ names) (None ∷ indices) at = (at.0, all_still_shown naming texts more names indices at.1)
 
 -- rows that have their names, as entries with these names
 pub are_named : (naming : Naming) (rows : List Row) → All (HasName naming) rows → AreNamed naming (map entry_of rows) (map named_of rows)
@@ -72,24 +71,10 @@ index_below R f (x ∷ xs) [] i are lt = absurd are
 index_below R f (x ∷ xs) (y ∷ ys) zero are lt = omega arith
 index_below R f (x ∷ xs) (y ∷ ys) (suc i) are lt = let next = index_below R f xs ys i are.1 (omega (arith, lt)) in omega (arith, next)
 
--- which is that of a text
-pub below_texts : (naming : Naming) (texts : List (String Global)) (functions : List SectionFunction) (indices : List ℕ) (i e : ℕ) → AllZip (IsTextAt naming texts) (map name_of functions) indices → i < length functions → get_or indices i e < length texts
-below_texts naming texts [] indices i e at lt = absurd (omega (arith, lt))
-below_texts naming texts (f ∷ functions) [] i e at lt = absurd at
-below_texts naming texts (f ∷ functions) (index ∷ indices) zero e at lt = at.0.below
-below_texts naming texts (f ∷ functions) (index ∷ indices) (suc i) e at lt = below_texts naming texts functions indices i e at.1 (omega (arith, lt))
-
--- the text at the index of a function symbol
-text_at : (naming : Naming) (texts : List (String Global)) (functions : List SectionFunction) (indices : List ℕ) (i : ℕ) (d : SectionFunction) (e : ℕ) → AllZip (IsTextAt naming texts) (map name_of functions) indices → i < length functions
-    → IsTextAt naming texts (name_of (get_or functions i d)) (get_or indices i e)
-text_at naming texts [] indices i d e at lt = absurd (omega (arith, lt))
-text_at naming texts (f ∷ functions) [] i d e at lt = absurd at
-text_at naming texts (f ∷ functions) (index ∷ indices) zero d e at lt = at.0
-text_at naming texts (f ∷ functions) (index ∷ indices) (suc i) d e at lt = text_at naming texts functions indices i d e at.1 (omega (arith, lt))
-
--- the row of a function symbol with the text at its index has its name
-pub has_name : (naming : Naming) (texts : List (String Global)) (functions : List SectionFunction) (indices : List ℕ) (i : ℕ) (d : SectionFunction) (row : Row) (text e : String Global) → AllZip (IsTextAt naming texts) (map name_of functions) indices → i < length functions
-    → entry_of row ≡ section_function_view (get_or functions i d) → row.name.now ≡ string_bytes text → text ≡ get_or texts (get_or indices i 0) e → HasName naming row
-has_name naming texts functions indices i d row text e at lt is name found =
-    subst (λ (n : List ℕ). IsNameText naming n row.name.now) (sym (ap (λ (e : SectionEntry). e.entry.name) is))
-    (subst (IsNameText naming (name_of (get_or functions i d))) (sym (name ∙ ap (λ (t : String Global). string_bytes t) found)) ((text_at naming texts functions indices i d 0 at lt).is e))
+-- what is shown of a function symbol's name, by its index
+pub shown_at : (naming : Naming) (texts : List (String Global)) (functions : List SectionFunction) (indices : List (Option ℕ)) (i : ℕ) (d : SectionFunction) (e : Option ℕ) → AllZip (IsShownBy naming texts) (map name_of functions) indices → i < length functions
+    → IsShownBy naming texts (name_of (get_or functions i d)) (get_or indices i e)
+shown_at naming texts [] indices i d e at lt = absurd (omega (arith, lt))
+shown_at naming texts (f ∷ functions) [] i d e at lt = absurd at
+shown_at naming texts (f ∷ functions) (index ∷ indices) zero d e at lt = at.0
+shown_at naming texts (f ∷ functions) (index ∷ indices) (suc i) d e at lt = shown_at naming texts functions indices i d e at.1 (omega (arith, lt))

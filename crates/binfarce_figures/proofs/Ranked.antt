@@ -11,7 +11,7 @@ use Rattle.std.proofs.lemmas.List.Sums.{sum_by-append, sum_by-cons}
 use Rattle.std.proofs.lemmas.List.Sorted.{sum_by-IsPermutation}
 use Rattle.binfarce_chart.specs.Chart.{Row as Bar}
 use Rattle.binfarce_tools.specs.Report.{Share, AreCratesOf, sum_of}
-use Rattle.binfarce_tools.proofs.Totals.{add_up}
+use Rattle.binfarce_figures.proofs.Totals.{add_up}
 use Rattle.binfarce_figures.specs.declared.figures.Columns.{Columns}
 use Rattle.binfarce_figures.specs.declared.figures.Figure.{Figure}
 use Rattle.binfarce_figures.specs.Figures.{figure_view, numbers_of}

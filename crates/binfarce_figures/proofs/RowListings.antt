@@ -1,19 +1,23 @@
 -- The listing of a selection.
-use Rattle.std.proofs.Common.{◌≡◌, ◌∙◌, ℕ, ◌+◌, ◌<◌, ◌≤◌, List, [], ◌∷◌, ◌++◌, Option, Some, None, Ok, true, false, ap, append-nil, get_or, length, map, nat_cmp, refl, subst, sym, take}
+use Rattle.std.proofs.Common.{◌≡◌, ◌∙◌, ℕ, ◌+◌, ◌<◌, ◌≤◌, List, [], ◌∷◌, ◌++◌, Option, Some, None, Result, Ok, true, false, ap, append-nil, get_or, length, map, nat_cmp, refl, subst, sym, take}
 use Rattle.std.proofs.lemmas.List.{length-map, take-map, take_all}
 use Rattle.std.proofs.lemmas.List.Folds.{concat-append}
 use Rattle.std.specs.Cmp.Lexicographic.{slice_cmp}
 use Rattle.std.specs.List.{concat}
 use Rattle.binfarce.specs.SectionEntries.{SectionEntry, SelectedSymbols}
 use Rattle.binfarce.specs.declared.SymbolTable.{SymbolTable}
-use Rattle.binfarce_tools.specs.Answer.{selected_answer}
-use Rattle.binfarce_tools.specs.Entries.{HoldsLeft}
-use Rattle.binfarce_tools.specs.Json.{Style, lines, objects, style_of}
+use Rattle.binfarce_tools.specs.Answer.{MemoryIn, selected_answer}
+use Rattle.binfarce_tools.specs.Entries.{GetsIn, HoldsLeft}
+use Rattle.binfarce_rows.specs.Json.{Style, lines, objects, style_of}
 use Rattle.binfarce_tools.specs.Tables.{AreTablesOf, section_names, version_names_of}
+use Rattle.binfarce_tools.specs.ListWords.{Writes, outcome_of}
+use Rattle.binfarce_tools.specs.Writing.{Takes}
+use Rattle.binfarce_tools.specs.declared.list.ListError.{ListError}
 use Rattle.binfarce_tools.specs.declared.functions.Selected.{Selected}
 use Rattle.binfarce_tools.specs.declared.tables.Tables.{Tables}
-use Rattle.binfarce_tools.proofs.Lines.{AreLines}
+use Rattle.binfarce_tools.proofs.Lines.{AreLines, takes}
 use Rattle.binfarce_tools.proofs.TablesGive.{as_answered}
+use Rattle.binfarce_rows.specs.Columns.{count_of}
 use Rattle.binfarce_figures.specs.declared.order.Order.{Order}
 use Rattle.binfarce_figures.specs.declared.order.Order.TheVariants.{Address, Size, Name}
 use Rattle.binfarce_figures.specs.declared.rows.Listing.{Listing}
@@ -21,7 +25,6 @@ use Rattle.binfarce_figures.specs.declared.rows.Naming.{Naming}
 use Rattle.binfarce_figures.specs.declared.rows.Shown.{Shown}
 use Rattle.binfarce_figures.specs.Order.{AreNamed, IsByKey, IsInOrder, Named}
 use Rattle.binfarce_figures.specs.RowListing.{AreFirstRows, IsListingBy, IsListingOf, IsRowOf}
-use Rattle.binfarce_figures.specs.Rows.{count_of}
 use Rattle.binfarce_figures.specs.machine.Listings.{IsPlaced, is_by_name}
 use Rattle.binfarce_figures.proofs.Got.{IsListOf}
 use Rattle.binfarce_figures.proofs.Growing.{zip_more}
@@ -37,6 +40,14 @@ listing_of shown style which file section tables selected seen entries size text
     unnamed : (shown : Shown) (style : Style) (entries : List SectionEntry) (size : ℕ) (names other versions : ℕ → Option (List ℕ)) (text : List ℕ) → IsListingOf shown style names versions (Some size) entries text → IsListingOf shown style other versions (Some size) entries text
     unnamed shown lines entries size names other versions text is = is
     unnamed shown (objects file name) entries size names other versions text is = is
+
+-- that listing was written, or a beginning of it
+pub listing_taken : (shown : Shown) (style : Style) (which : SymbolTable) (file : List ℕ) (section : Option (List ℕ)) (tables : Tables) (selected : Selected) (entries : List SectionEntry) (size : Option ℕ) (text bytes : List ℕ)
+    (old new : Option (List ℕ)) (result : Result (Unit {0}) ListError) → AreTablesOf which file section tables → GetsIn which file section (Ok selected) → IsListOf selected entries size
+    → IsListingOf shown style (section_names tables) (version_names_of tables) size entries text → bytes ≡ text → Writes old new bytes result → Takes (IsListingBy shown style) (selected_answer which section file) old new (outcome_of result)
+listing_taken shown style which file section tables selected entries size text bytes old new result are gets list is same wrote =
+    takes (IsListingBy shown style) HoldsLeft (MemoryIn file section) (selected_answer which section file) selected bytes old new result gets
+    (λ seen answer held. listing_of shown style which file section tables selected seen entries size bytes are answer held list (subst (IsListingOf shown style (section_names tables) (version_names_of tables) size entries) (sym same) is)) wrote
 
 -- a row of a listing
 abbrev pub IsRow : Listing → SectionEntry → List ℕ → Type 0

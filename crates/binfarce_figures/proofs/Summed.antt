@@ -19,9 +19,9 @@ use Rattle.binfarce_figures.specs.Claimed.{AreClaimsFor, Claimed}
 use Rattle.binfarce_figures.specs.Claims.{sum_of_sizes}
 use Rattle.binfarce_figures.specs.Figures.{AreRowsOf, AreSharesIn, AreSumsBy, IsShareOf, IsTextOfShares, copies_of, numbers_of, sum_row, whole_text}
 use Rattle.binfarce_figures.specs.Keys.{section_keys}
-use Rattle.binfarce_tools.specs.Json.{style_of}
+use Rattle.binfarce_rows.specs.Json.{style_of}
 use Rattle.binfarce_tools.specs.Tables.{section_names}
-use Rattle.binfarce_tools.specs.declared.json.Form.{Form}
+use Rattle.binfarce_rows.specs.declared.json.Form.{Form}
 use Rattle.binfarce_tools.specs.declared.tables.Tables.{Tables}
 use Rattle.binfarce_figures.specs.machine.Columns.{AreRowsFor}
 use Rattle.binfarce_figures.specs.machine.Counts.{AddsShares, AreNumbersFor, AreNumbersOf, numbers_at}

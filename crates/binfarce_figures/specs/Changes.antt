@@ -1,68 +1,25 @@
 -- The text of how the sums of two files differ.
-use Rattle.std.specs.Prelude.{◌≡◌, ℕ, zero, suc, ◌+◌, ◌-◌, ◌/◌, ◌%◌, Bool, true, false, not, List, [], ◌++◌, filter, Option, Some, None, Result, Ok, Err, codes, nat_eq, nat_lt, if◌then◌else◌}
-use Rattle.std.specs.Fmt.{decimal}
+use Rattle.std.specs.Prelude.{◌≡◌, ℕ, Bool, not, List, ◌++◌, filter, Option, Some, None, Result, Ok, Err, codes, nat_eq}
 use Rattle.binfarce.specs.Refusal.{Refusal}
 use Rattle.binfarce.specs.SectionEntries.{SelectedSymbols}
 use Rattle.binfarce.specs.declared.SymbolTable.{SymbolTable}
-use Rattle.binfarce_tools.specs.Json.{Style, number_member}
-use Rattle.binfarce_tools.specs.Listing.{pad_left, size_text}
+use Rattle.binfarce_rows.specs.Json.{Style, number_member}
+use Rattle.binfarce_rows.specs.Columns.{change_column, difference, growth_column, growth_member, signed_member, size_column}
 use Rattle.binfarce_tools.specs.Report.{Share, AreCratesOf, sum_of, total}
 use Rattle.binfarce_tools.specs.Answer.{selected_answer}
 use Rattle.binfarce_figures.specs.declared.diff.Growth.{Growth}
 use Rattle.binfarce_figures.specs.declared.sums.Figures.{Figures}
 use Rattle.binfarce_figures.specs.Claimed.{Claimed, AreClaimsIn}
 use Rattle.binfarce_figures.specs.Claims.{IsSumOf}
-use Rattle.binfarce_figures.specs.Figures.{AreRowsOf, AreSharesIn, hundredths, numbers_of, percent_member, row_of}
-
--- the distance of two numbers
-abbrev pub difference : (old new : ℕ) → ℕ
-difference old new = (old - new) + (new - old)
+use Rattle.binfarce_figures.specs.Figures.{AreRowsOf, AreSharesIn, numbers_of, row_of}
 
 -- the sums of a key differ
 abbrev pub differ : (old new : ℕ) → Bool
 differ old new = not (nat_eq old new)
 
-abbrev pub sign : (old new : ℕ) → List ℕ
-sign old new = if nat_lt new old then codes "-" else codes "+"
-
--- the sign of a number
-abbrev pub minus : (old new : ℕ) → List ℕ
-minus old new = if nat_lt new old then codes "-" else []
-
--- `{change:>11}`, with its sign
-abbrev pub change_text : (old new : ℕ) → List ℕ
-change_text old new = pad_left 32 11 (sign old new ++ decimal (difference old new))
-
--- `{}.{:02}%`, of hundredths
-abbrev pub percent_digits : ℕ → List ℕ
-percent_digits n = decimal (n / 100) ++ (codes "." ++ (decimal (n / 10 % 10) ++ (decimal (n % 10) ++ codes "%")))
-
--- the change in per cent of the old sum, rounded toward zero, with its sign; `new` where there was nothing
-abbrev pub growth_text : (old new : ℕ) → List ℕ
-growth_text zero new = codes "new"
-growth_text (suc n) new = sign (suc n) new ++ percent_digits (hundredths (difference (suc n) new) (suc n))
-
--- that to the right of 10 columns, if it is wanted
-abbrev pub growth_part : (has_percent : Bool) → (old new : ℕ) → List ℕ
-growth_part true old new = pad_left 32 10 (growth_text old new) ++ codes " "
-growth_part false old new = []
-
 -- `{old:>10} {new:>10} {change:>11} {percent:>10} `
 abbrev pub change_columns : Figures → (old new : ℕ) → List ℕ
-change_columns shown old new = size_text old ++ (codes " " ++ (size_text new ++ (codes " " ++ (change_text old new ++ (codes " " ++ growth_part shown.has_percent old new)))))
-
--- a number as JSON has it
-abbrev pub signed_member : (name : List ℕ) → (old new : ℕ) → List ℕ
-signed_member name old new = codes ",\"" ++ (name ++ (codes "\":" ++ (minus old new ++ decimal (difference old new))))
-
--- the change in per cent of the old sum, if it is wanted; `null` where there was nothing
-abbrev pub growth_number : (old new : ℕ) → List ℕ
-growth_number zero new = codes ",\"percent\":null"
-growth_number (suc n) new = percent_member (minus (suc n) new) (hundredths (difference (suc n) new) (suc n))
-
-abbrev pub growth_member : (has_percent : Bool) → (old new : ℕ) → List ℕ
-growth_member true old new = growth_number old new
-growth_member false old new = []
+change_columns shown old new = size_column old ++ (size_column new ++ (change_column old new ++ growth_column shown.has_percent old new))
 
 -- the old sum, the new one and their difference
 abbrev pub change_members : Figures → (old new : ℕ) → List ℕ

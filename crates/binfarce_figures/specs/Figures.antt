@@ -1,15 +1,14 @@
 -- The text of sums by a key.
-use Rattle.std.specs.Prelude.{◌≡◌, ℕ, ◌*◌, ◌/◌, ◌%◌, Bool, true, false, List, [], ◌∷◌, ◌++◌, length, map, take, drop, filter, Option, Some, None, Result, Ok, Err, unwrap_or, codes, nat_eq, nat_lt, if◌then◌else◌}
+use Rattle.std.specs.Prelude.{◌≡◌, ℕ, ◌/◌, ◌%◌, Bool, true, false, List, [], ◌∷◌, ◌++◌, length, map, take, drop, filter, Option, Some, None, Result, Ok, Err, unwrap_or, codes, nat_eq, nat_lt, if◌then◌else◌}
 use Rattle.std.specs.Fmt.{decimal}
 use Rattle.std.specs.List.{AllZip, flat_map, sum_by}
 use Rattle.std.specs.Str.{bytes_eq}
 use Rattle.binfarce.specs.SectionEntries.{SectionEntry, SelectedSymbols}
 use Rattle.binfarce_chart.specs.Chart.{others_label}
-use Rattle.binfarce_tools.specs.Json.{Style, lines, objects, number_member, object_start, text_member}
-use Rattle.binfarce_tools.specs.Listing.{pad_left, size_text}
-use Rattle.binfarce_tools.specs.Map.{IsMapOfShares}
+use Rattle.binfarce_rows.specs.Json.{Style, lines, objects, number_member, object_start, text_member}
+use Rattle.binfarce_rows.specs.Columns.{count_of, hundredths, pad_left, percent_member, size_column}
+use Rattle.binfarce_figures.specs.Picture.{IsPictureOfShares}
 use Rattle.binfarce_tools.specs.Report.{Share, AreCratesOf, sum_of, total, total_line, unknown_crate}
-use Rattle.binfarce_tools.specs.declared.report.ReportError.{ReportError}
 use Rattle.binfarce_figures.specs.declared.key.Grouping.{Grouping}
 use Rattle.binfarce_figures.specs.declared.key.Key.{Key}
 use Rattle.binfarce_figures.specs.declared.key.Key.TheVariants.{Generic, Stack}
@@ -17,7 +16,6 @@ use Rattle.binfarce_figures.specs.declared.figures.Figure.{Figure}
 use Rattle.binfarce_figures.specs.declared.sums.Figures.{Figures}
 use Rattle.binfarce_figures.specs.declared.sums.Sums.{Sums}
 use Rattle.binfarce_figures.specs.Claims.{AreClaimsOf, IsSumOf}
-use Rattle.binfarce_figures.specs.Rows.{count_of}
 use Rattle.binfarce_figures.specs.RowListing.{last_line}
 use Rattle.binfarce_figures.specs.Keys.{IsKeyOf, section_keys}
 use Rattle.binfarce_figures.specs.Order.{IsByKey, falling}
@@ -43,10 +41,6 @@ numbers_of sum other names = map (λ name. (name, (sum name, other name))) names
 abbrev pub AreFiguresOf : (rank : ℕ → ℕ → ℕ) → (numbers : List (List ℕ × (ℕ × ℕ))) → List Figure → Type 0
 AreFiguresOf rank numbers figures = (rising : List Figure) × (map figure_view rising ≡ numbers) × IsByKey (λ f. rank f.sum f.other) falling rising figures
 
--- the share of a size in a whole, in hundredths of a per cent, rounded down
-abbrev pub hundredths : (size whole : ℕ) → ℕ
-hundredths size whole = (10000 * size) / whole
-
 -- `{:>3}.{:02}% `, of hundredths
 abbrev pub percent_text : ℕ → List ℕ
 percent_text n = pad_left 32 3 (decimal (n / 100)) ++ (codes "." ++ (decimal (n / 10 % 10) ++ (decimal (n % 10) ++ codes "% ")))
@@ -68,13 +62,9 @@ row_of (objects file section) columns members name = object_start file ++ (text_
 
 -- `{size:>10} {percent:>6}% {copies:>6} `
 abbrev pub sum_columns : Figures → (whole : ℕ) → (size copies : ℕ) → List ℕ
-sum_columns shown whole size copies = size_text size ++ (codes " " ++ (percent_part shown.has_percent size whole ++ copies_part shown.grouping.key copies))
+sum_columns shown whole size copies = size_column size ++ (percent_part shown.has_percent size whole ++ copies_part shown.grouping.key copies)
 
--- the member of a number of hundredths of a per cent, with its sign
-abbrev pub percent_member : (sign : List ℕ) → ℕ → List ℕ
-percent_member sign n = codes ",\"percent\":" ++ (sign ++ (decimal (n / 100) ++ (codes "." ++ (decimal (n / 10 % 10) ++ decimal (n % 10)))))
-
--- that of the share of a size, if it is wanted
+-- the member of the share of a size, if it is wanted
 abbrev pub share_member : (has_percent : Bool) → (size whole : ℕ) → List ℕ
 share_member true size whole = percent_member [] (hundredths size whole)
 share_member false size whole = []
@@ -138,7 +128,7 @@ AreFiguresBy shown style = IsShownBy shown.grouping (IsTextOfShares shown style)
 
 -- text is the picture of these sums with this title, of the first ones if so many are asked for
 abbrev pub IsPictureBy : (title : List ℕ) → Grouping → (first : Option ℕ) → SelectedSymbols → List ℕ → Type 0
-IsPictureBy title grouping first = IsShownBy grouping (λ size shares text. IsMapOfShares title shares size first text)
+IsPictureBy title grouping first = IsShownBy grouping (λ size shares text. IsPictureOfShares title shares size first text)
 
 -- `{key} {size}`, and a line feed, of those that add bytes
 abbrev pub claim_line : Share → List ℕ
@@ -156,6 +146,6 @@ pub record AreSumsBy (grouping : Grouping) (selected : SelectedSymbols) (sums : 
   pub unknown_is : sums.unknown ≡ sum_of shares unknown_crate
 
 -- a result without its value
-abbrev pub ended : {A : Type 0} → Result A ReportError → Result (Unit {0}) ReportError
+abbrev pub ended : {A E : Type 0} → Result A E → Result (Unit {0}) E
 ended (Ok value) = Ok tt
 ended (Err e) = Err e

@@ -6,6 +6,7 @@ pub mod Claimed
 pub mod Generic
 pub mod Keys
 pub mod Stacks
+pub mod Picture
 pub mod Figures
 pub mod Changes
 pub mod machine

@@ -3,13 +3,14 @@ use Rattle.std.specs.Prelude.{◌≡◌, ℕ, ◌/◌, ◌%◌, Bool, true, List
 use Rattle.std.specs.List.{AllZip, concat}
 use Rattle.std.specs.Option.{option_and_then}
 use Rattle.binfarce.specs.SectionEntries.{SectionEntry, SelectedSymbols}
-use Rattle.binfarce_tools.specs.Json.{Style, lines, objects, address_member, number_member, object_start, text_member}
-use Rattle.binfarce_tools.specs.Listing.{line_head, size_line}
+use Rattle.binfarce_rows.specs.Json.{Style, lines, objects, address_member, number_member, object_start, text_member}
+use Rattle.binfarce_rows.specs.Columns.{count_of, line_head}
+use Rattle.binfarce_tools.specs.Listing.{size_line}
 use Rattle.binfarce_tools.specs.SelectedTexts.{section_part}
 use Rattle.binfarce_figures.specs.declared.rows.Shown.{Shown}
 use Rattle.binfarce_figures.specs.declared.rows.Naming.{Naming}
 use Rattle.binfarce_figures.specs.Keys.{IsCrateOf}
-use Rattle.binfarce_figures.specs.Rows.{IsNameText, count_of}
+use Rattle.binfarce_figures.specs.Rows.{IsNameText}
 use Rattle.binfarce_figures.specs.Order.{IsInOrder}
 
 -- `{address:016x} {size:>10} {name}`, with the section before the name where all sections are listed

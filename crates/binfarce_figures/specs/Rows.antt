@@ -1,5 +1,5 @@
--- What is shown of a name, and how many of all.
-use Rattle.std.specs.Prelude.{◌≡◌, ℕ, List, Option, Some, None, min}
+-- What is shown of a name.
+use Rattle.std.specs.Prelude.{◌≡◌, ℕ, List}
 use Rattle.binfarce_names.specs.Name.{Name}
 use Rattle.binfarce_names.specs.Named.{IsNamed}
 use Rattle.binfarce_figures.specs.declared.rows.Naming.{Naming}
@@ -10,8 +10,3 @@ abbrev pub IsNameText : Naming → (stored text : List ℕ) → Type 0
 IsNameText Trimmed stored text = (name : Name) × IsNamed stored name × (text ≡ name.trimmed)
 IsNameText Complete stored text = (name : Name) × IsNamed stored name × (text ≡ name.complete)
 IsNameText Stored stored text = text ≡ stored
-
--- how many of all are shown
-abbrev pub count_of : Option ℕ → (all : ℕ) → ℕ
-count_of None all = all
-count_of (Some n) all = min n all

@@ -6,3 +6,4 @@ pub mod Columns
 pub mod Listings
 pub mod Spans
 pub mod Falling
+pub mod Runs

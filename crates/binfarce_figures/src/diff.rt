@@ -3,7 +3,7 @@
 ghost use Rattle.std.specs.Prelude.{◌≡◌, ◌⊎◌, Some, Ok, IfErr, IfOk};
 ghost use Rattle.std.specs.String.{string_bytes};
 ghost use Rattle.binfarce.specs.SectionEntries.{SelectedSymbols};
-ghost use Rattle.binfarce_tools.specs.Json.{style_of};
+ghost use Rattle.binfarce_rows.specs.Json.{style_of};
 ghost use Rattle.binfarce_tools.specs.ReportWords.{outcome_of};
 ghost use Rattle.binfarce_tools.specs.Writing.{Takes, Fails, Leaves};
 ghost use Rattle.binfarce_tools.specs.declared.report.ReportError.TheVariants.{OutOfMemory, Write};
@@ -14,7 +14,7 @@ ghost use Rattle.binfarce_figures.specs.machine.Compared.{IsTextWith};
 use crate::claims::Claims;
 use crate::figures::{Columns, Figure, Layout};
 use crate::sums::{Counting, Figures, add_claims};
-use binfarce_tools::json::Form;
+use binfarce_rows::json::Form;
 use binfarce_tools::list::Sink;
 use binfarce_tools::report::{ReportError, write_made};
 use std::alloc::{AllocError, Global};

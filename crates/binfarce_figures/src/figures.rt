@@ -3,17 +3,18 @@
 ghost use Rattle.std.specs.Prelude.{◌≡◌, ◌++◌, ◌<◌, ◌^◌, ℕ, List, codes, filter, map, IfOk, OnOk};
 ghost use Rattle.std.specs.List.{sum_by};
 ghost use Rattle.std.specs.String.{string_bytes};
-ghost use Rattle.binfarce_tools.specs.Listing.{pad_left, size_text};
 ghost use Rattle.binfarce_tools.specs.Report.{Share, AreCratesOf, sum_of};
-ghost use Rattle.binfarce_figures.specs.Changes.{change_text, growth_member, growth_part, growth_text, minus, sign};
-ghost use Rattle.binfarce_figures.specs.Figures.{copies_part, figure_row, figure_rows, figure_view, hundredths, numbers_of, others_row, percent_member, percent_part, share_member};
+ghost use Rattle.binfarce_figures.specs.Figures.{copies_part, figure_row, figure_rows, figure_view, numbers_of, others_row, percent_part, share_member};
 ghost use Rattle.binfarce_figures.specs.machine.Columns.{AreRowsFor, columns_text, has_row, members_text, rank, row_text};
 ghost use Rattle.binfarce_figures.specs.machine.Counts.{AreNumbersOf};
 
 use crate::key::Key;
-use crate::rows::count_of;
 use crate::sums::{Figures, Numbers};
-use binfarce_tools::json::{Form, push_number_member, push_start, push_text_member};
+use binfarce_rows::columns::{
+    count_of, hundredths, push_change, push_growth, push_growth_member, push_percent_member,
+    push_signed_member, push_size,
+};
+use binfarce_rows::json::{Form, push_number_member, push_start, push_text_member};
 use std::alloc::{AllocError, Global};
 use std::cmp::Reverse;
 use std::collections::BTreeMap;
@@ -144,13 +145,14 @@ impl Layout<'_> {
             }
             Columns::Changes => {
                 push_size(text, other)?;
-                self.push_change(text, sum, other)
+                push_change(self.alloc, text, u128::from(sum), u128::from(other))?;
+                push_growth(self.alloc, text, self.figures.has_percent, sum, other)
             }
         }
     }
 
     // Appends the share of a size in the whole, if it is wanted.
-    #[tactic(auto, using(binfarce_tools::proofs::Pads::padded_to))]
+    #[tactic(auto, using(binfarce_rows::proofs::Pads::padded_to))]
     fn push_percent(&self, text: &mut String, size: u64, whole: u64) -> Result<(), AllocError>
         ensures { OnOk result (string_bytes text.new
             ≡ string_bytes text.old ++ percent_part self.now.figures.now.has_percent size whole) }
@@ -177,13 +179,8 @@ impl Layout<'_> {
             Columns::Changes => {
                 push_number_member(text, "old", sum)?;
                 push_number_member(text, "new", other)?;
-                write!(
-                    text,
-                    ",\"change\":{}{}",
-                    minus(sum, other),
-                    sum.abs_diff(other)
-                )?;
-                self.push_growth_member(text, sum, other)
+                push_signed_member(text, "change", u128::from(sum), u128::from(other))?;
+                push_growth_member(text, self.figures.has_percent, sum, other)
             }
         }
     }
@@ -197,34 +194,6 @@ impl Layout<'_> {
             return Ok(());
         }
         push_percent_member(text, "", hundredths(size, whole))
-    }
-
-    // Appends the member of a change in per cent of the old sum, if it is wanted.
-    fn push_growth_member(&self, text: &mut String, old: u64, new: u64) -> Result<(), AllocError>
-        ensures { OnOk result (string_bytes text.new
-            ≡ string_bytes text.old ++ growth_member self.now.figures.now.has_percent old new) }
-    {
-        if !self.figures.has_percent {
-            return Ok(());
-        }
-        if old == 0 {
-            return text.push_str(",\"percent\":null");
-        }
-        push_percent_member(text, minus(old, new), hundredths(old.abs_diff(new), old))
-    }
-
-    // Appends a change with its sign, and if it is wanted, in per cent of the old sum.
-    fn push_change(&self, text: &mut String, old: u64, new: u64) -> Result<(), AllocError>
-        ensures { OnOk result (string_bytes text.new ≡ string_bytes text.old
-            ++ (change_text old new ++ (codes " " ++ growth_part self.now.figures.now.has_percent old new))) }
-    {
-        let mut change = String::new(self.alloc);
-        write!(change, "{}{}", sign(old, new), old.abs_diff(new))?;
-        push_padded(text, change.as_str(), 11)?;
-        if self.figures.has_percent {
-            push_padded(text, growth_label(self.alloc, old, new)?.as_str(), 10)?;
-        }
-        Ok(())
     }
 }
 
@@ -245,16 +214,8 @@ fn rank(columns: Columns, sum: u64, other: u64) -> u64
     }
 }
 
-// Appends a size and a blank.
-#[tactic(auto, using(binfarce_tools::proofs::Pads::size_padded))]
-fn push_size(text: &mut String, size: u64) -> Result<(), AllocError>
-    ensures { OnOk result (string_bytes text.new ≡ string_bytes text.old ++ (size_text size ++ codes " ")) }
-{
-    write!(text, "{size:>10} ")
-}
-
 // Appends the count of copies, where generic functions are summed.
-#[tactic(auto, using(binfarce_tools::proofs::Pads::padded_to))]
+#[tactic(auto, using(binfarce_rows::proofs::Pads::padded_to))]
 fn push_copies(text: &mut String, key: Key, copies: u64) -> Result<(), AllocError>
     ensures { OnOk result (string_bytes text.new ≡ string_bytes text.old ++ copies_part key copies) }
 {
@@ -262,60 +223,4 @@ fn push_copies(text: &mut String, key: Key, copies: u64) -> Result<(), AllocErro
         Key::Generic => write!(text, "{copies:>6} "),
         _ => Ok(()),
     }
-}
-
-// The share of a size in the whole, in hundredths of a per cent, rounded down.
-fn hundredths(size: u64, whole: u64) -> u128
-    ensures { result ≡ hundredths size whole }
-{
-    let size = 10_000 * u128::from(size);
-    size.checked_div(u128::from(whole)).unwrap_or(0)
-}
-
-// The sign of a change.
-fn sign(old: u64, new: u64) -> &'static str
-    ensures { result.now ≡ sign old new }
-{
-    if new < old { "-" } else { "+" }
-}
-
-// The change in per cent of the old sum.
-fn growth_label(alloc: Global, old: u64, new: u64) -> Result<String, AllocError>
-    ensures { IfOk result (λ t. string_bytes t ≡ growth_text old new) }
-{
-    if old == 0 {
-        return String::from_str(alloc, "new");
-    }
-    let share = hundredths(old.abs_diff(new), old);
-    let (sign, per_cent) = (sign(old, new), share / 100);
-    format!(in alloc; "{sign}{per_cent}.{}{}%", share / 10 % 10, share % 10)
-}
-
-// Appends a label to the right of so many columns, and a blank.
-fn push_padded(text: &mut String, label: &str, width: usize) -> Result<(), AllocError>
-    ensures { OnOk result
-        (string_bytes text.new ≡ string_bytes text.old ++ (pad_left 32 width label.now ++ codes " ")) }
-{
-    let blanks = width.saturating_sub(label.len());
-    write!(text, "{:>blanks$}{label} ", "")
-}
-
-// The minus of a change as a number.
-fn minus(old: u64, new: u64) -> &'static str
-    ensures { result.now ≡ minus old new }
-{
-    if new < old { "-" } else { "" }
-}
-
-// Appends the member of a number of hundredths of a per cent.
-fn push_percent_member(text: &mut String, sign: &str, n: u128) -> Result<(), AllocError>
-    ensures { OnOk result (string_bytes text.new ≡ string_bytes text.old ++ percent_member sign.now n) }
-{
-    let per_cent = n / 100;
-    write!(
-        text,
-        ",\"percent\":{sign}{per_cent}.{}{}",
-        n / 10 % 10,
-        n % 10
-    )
 }

@@ -1,20 +1,23 @@
 //! What sizes are summed by.
 
-ghost use Rattle.std.specs.Prelude.{◌≡◌, encode_utf8_all, OnOk};
+ghost use Rattle.std.specs.Prelude.{◌≡◌, ◌++◌, ℕ, List, encode_utf8_all, OnOk};
 ghost use Rattle.std.specs.Str.{chars};
 ghost use Rattle.std.specs.String.{string_bytes};
 ghost use Rattle.binfarce.specs.SymbolViews.{section_function_view};
 ghost use Rattle.binfarce_names.specs.Crates.{first_part};
-ghost use Rattle.binfarce_names.specs.Name.{Name};
+ghost use Rattle.binfarce_names.specs.Name.{Name, name_view};
 ghost use Rattle.binfarce_names.specs.Named.{IsNamed};
 ghost use Rattle.binfarce_tools.specs.Tables.{section_names};
-ghost use Rattle.binfarce_figures.specs.Keys.{IsCrateOf, IsKeyOf, inner_crate_of, last_name, section_keys};
+ghost use Rattle.binfarce_figures.specs.Generic.{rewritten};
+ghost use Rattle.binfarce_figures.specs.Keys.{IsCrateOf, IsKeyOf, IsTrimmedOf, inner_crate_of, last_name, section_keys};
+ghost use Rattle.binfarce_figures.specs.Stacks.{stack};
+ghost use Rattle.binfarce_figures.specs.declared.generic.Shape.TheVariants.{Generic};
 
 use crate::generic::{Shape, is_of_name, push_rewritten};
 use crate::stacks::push_stack;
 use binfarce::SectionFunction;
 use binfarce_legacy::legacy;
-use binfarce_names::demangle::{Demangler, push_crate};
+use binfarce_names::demangle::{Demangler, Kind, SymbolName, push_crate};
 use binfarce_text::suffixes::without_llvm;
 use binfarce_tools::list::push_section;
 use binfarce_tools::tables::Tables;
@@ -43,6 +46,32 @@ pub struct Grouping {
     pub key: Key,
     /// Whether the functions of Rust's standard library have the key `[std]`: those of the crates that it alone has.
     pub joins_std: bool,
+}
+
+/// What keys are made with, one after the other: memory that is kept for the next one.
+#[derive(Drop)]
+pub(crate) struct KeyMaker {
+    alloc: Global,
+    demangler: Demangler,
+    // The crate of a stack.
+    crate_name: String,
+    // That as it is shown.
+    root: String,
+    // The trimmed name, or the parts of a stack.
+    name: String,
+}
+
+impl KeyMaker {
+    /// Without memory. Nothing is allocated.
+    pub(crate) fn new(alloc: Global) -> KeyMaker {
+        KeyMaker {
+            alloc,
+            demangler: Demangler::new(alloc),
+            crate_name: String::new(alloc),
+            root: String::new(alloc),
+            name: String::new(alloc),
+        }
+    }
 }
 
 /// Overwrites the text by the crate that a function of this name is counted for.
@@ -103,10 +132,56 @@ fn put_last_name(text: &mut String, front: &str) -> Result<(), AllocError>
     Ok(())
 }
 
+// Overwrites the text by the crate that a function of this name is counted for, where its answer is known: it has the
+// crate of a v0 name.
+fn put_crate_of(
+    alloc: Global,
+    text: &mut String,
+    name: &str,
+    answer: &SymbolName,
+) -> Result<(), AllocError>
+    requires { IsNamed name.now (name_view answer.now) }
+    ensures { OnOk result (IsCrateOf name.now (string_bytes text.new)) }
+{
+    if answer.kind == Kind::Legacy {
+        return put_crate(alloc, text, name);
+    }
+    text.clear();
+    match &answer.crate_name {
+        Some(crate_name) => text.push_str(crate_name.as_str()),
+        None => text.push_str("[unknown]"),
+    }
+}
+
+// Appends the stack of a stored name. Its answer is made once: its trimmed text, and the crate of a v0 name.
+fn push_stack_of(maker: &mut KeyMaker, text: &mut String, name: &str) -> Result<(), AllocError>
+    ensures { OnOk result ((crate_name : List ℕ) × (trimmed : List ℕ) × IsCrateOf name.now crate_name
+        × IsTrimmedOf name.now trimmed × (string_bytes text.new ≡ string_bytes text.old ++ stack crate_name trimmed)) }
+{
+    let answer = maker.demangler.demangle(name)?;
+    put_crate_of(maker.alloc, &mut maker.crate_name, name, &answer)?;
+    push_stack(
+        text,
+        &mut maker.root,
+        &mut maker.name,
+        maker.crate_name.as_str(),
+        answer.trimmed.as_str(),
+    )
+}
+
+// Appends the name of a stored name without its generic arguments.
+fn push_generic(maker: &mut KeyMaker, text: &mut String, name: &str) -> Result<(), AllocError>
+    ensures { OnOk result ((trimmed : List ℕ) × IsTrimmedOf name.now trimmed
+        × (string_bytes text.new ≡ string_bytes text.old ++ rewritten Generic trimmed)) }
+{
+    maker.name.clear();
+    maker.demangler.push_trimmed(&mut maker.name, name)?;
+    push_rewritten(text, Shape::Generic, maker.name.as_str())
+}
+
 /// Overwrites the text by the key of a function symbol, where one section of this size is selected, or all.
 pub(crate) fn put_key(
-    alloc: Global,
-    demangler: &mut Demangler,
+    maker: &mut KeyMaker,
     text: &mut String,
     tables: &Tables<'_>,
     function: SectionFunction<'_>,
@@ -118,7 +193,7 @@ pub(crate) fn put_key(
 {
     let name = function.function.name;
     if grouping.joins_std {
-        put_crate(alloc, text, name)?;
+        put_crate(maker.alloc, text, name)?;
         if is_std(text.as_str()) {
             text.clear();
             return text.push_str("[std]");
@@ -129,16 +204,12 @@ pub(crate) fn put_key(
     }
     text.clear();
     match grouping.key {
-        Key::Crate => put_crate(alloc, text, name),
-        Key::Function => demangler.push_trimmed(text, name),
-        Key::Generic => {
-            let mut trimmed = String::new(alloc);
-            demangler.push_trimmed(&mut trimmed, name)?;
-            push_rewritten(text, Shape::Generic, trimmed.as_str())
-        }
+        Key::Crate => put_crate(maker.alloc, text, name),
+        Key::Function => maker.demangler.push_trimmed(text, name),
+        Key::Generic => push_generic(maker, text, name),
         Key::Section if size.is_some() => text.push_str("text"),
         Key::Section => push_section(text, tables, function.section),
-        Key::Stack => push_stack(alloc, demangler, text, name),
+        Key::Stack => push_stack_of(maker, text, name),
     }
 }
 

@@ -5,7 +5,7 @@ ghost use Rattle.std.specs.String.{string_bytes};
 ghost use Rattle.binfarce.specs.declared.SymbolTable.{SymbolTable};
 ghost use Rattle.binfarce_chart.specs.Views.{bar_view};
 ghost use Rattle.binfarce_tools.specs.Answer.{selected_answer};
-ghost use Rattle.binfarce_tools.specs.Map.{IsMapOfShares, crate_rows};
+ghost use Rattle.binfarce_figures.specs.Picture.{IsPictureOfShares, key_rows};
 ghost use Rattle.binfarce_tools.specs.Report.{Share, AreCratesOf, total};
 ghost use Rattle.binfarce_tools.specs.ReportWords.{outcome_of};
 ghost use Rattle.binfarce_tools.specs.Writing.{Takes, Fails, Leaves};
@@ -59,7 +59,7 @@ fn picture_of(
     claims: &Claims<'_, '_>,
 ) -> Result<String, AllocError>
     ensures { IfOk result (λ t. (shares : List Share) × AreSharesWith grouping claims.now shares
-        × IsMapOfShares title.now shares claims.now.size first (string_bytes t)) }
+        × IsPictureOfShares title.now shares claims.now.size first (string_bytes t)) }
 {
     let numbers = numbers_of(alloc, claims, grouping)?;
     let bars = bars_of(alloc, &numbers)?;
@@ -72,7 +72,7 @@ fn bars_of<'a>(
     numbers: &'a BTreeMap<String, Numbers>,
 ) -> Result<Vec<Bar<'a>>, AllocError>
     ensures { IfOk result (λ v. (first second : List Share) → AreNumbersOf first second numbers.entry.now
-        → (names : List (List ℕ)) × AreCratesOf first names × (map bar_view v.items ≡ crate_rows first names)) }
+        → (names : List (List ℕ)) × AreCratesOf first names × (map bar_view v.items ≡ key_rows first names)) }
 {
     let mut bars = Vec::new(alloc);
     for (name, pair) in numbers.iter() {

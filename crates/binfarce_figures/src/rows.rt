@@ -1,6 +1,6 @@
 //! Listings in an order, of the first lines alone, and with other names.
 
-ghost use Rattle.std.specs.Prelude.{◌≡◌, ◌++◌, ℕ, List, Option, Some, map, IfOk, IfSome, OnOk, String};
+ghost use Rattle.std.specs.Prelude.{◌≡◌, ◌++◌, ℕ, List, Option, Some, Ok, length, map, IfOk, IfSome, OnOk, String};
 ghost use Rattle.std.specs.BTreeMap.{get_by_text};
 ghost use Rattle.std.specs.Cmp.Lexicographic.{slice_cmp};
 ghost use Rattle.std.specs.Global.{Global};
@@ -8,7 +8,7 @@ ghost use Rattle.std.specs.List.{All, AllZip};
 ghost use Rattle.std.specs.Option.{option_map};
 ghost use Rattle.std.specs.Ordering.{nat_cmp};
 ghost use Rattle.std.specs.String.{string_bytes};
-ghost use Rattle.binfarce.specs.SectionEntries.{SectionEntry};
+ghost use Rattle.binfarce.specs.SectionEntries.{SectionEntry, SelectedSymbols};
 ghost use Rattle.binfarce.specs.SymbolViews.{section_function_view};
 ghost use Rattle.binfarce.specs.declared.SymbolTable.{SymbolTable};
 ghost use Rattle.binfarce_tools.specs.Listing.{ListingFits};
@@ -17,21 +17,23 @@ ghost use Rattle.binfarce_tools.specs.Answer.{selected_answer, MemoryIn};
 ghost use Rattle.binfarce_tools.specs.Entries.{all_left};
 ghost use Rattle.binfarce_tools.specs.Tables.{AreTablesOf, version_names_of};
 ghost use Rattle.binfarce_tools.specs.Writing.{EndsAs, Takes, Fails, Leaves};
+ghost use Rattle.binfarce_figures.specs.Figures.{ended};
 ghost use Rattle.binfarce_figures.specs.Order.{AreNamed, IsByKey, IsInOrder, Named};
-ghost use Rattle.binfarce_figures.specs.Rows.{IsNameText, count_of};
+ghost use Rattle.binfarce_figures.specs.Rows.{IsNameText};
 ghost use Rattle.binfarce_figures.specs.RowListing.{IsListingBy, binding_word, kind_word, last_line, symbol_members, word_of};
-ghost use Rattle.binfarce_tools.specs.Json.{style_of};
-ghost use Rattle.binfarce_figures.specs.machine.Listings.{AreRows, AreTexts, HasName, IsPlaced, IsRowNamed, IsTextAt, IsTextFor, Notes, entry_of, name_of};
+ghost use Rattle.binfarce_rows.specs.Json.{style_of};
+ghost use Rattle.binfarce_figures.specs.machine.Listings.{AreRows, AreTexts, HasName, IsPlaced, IsRowNamed, IsShownBy, IsTextAt, IsTextFor, Notes, entry_of, name_of};
 
 use crate::key::put_crate;
 use crate::order::{Order, Row, is_by_name, sort, sort_by_name};
 use binfarce::{FunctionSymbol, SectionFunction};
 use binfarce_names::demangle::Demangler;
-use binfarce_tools::functions::Selected;
-use binfarce_tools::head::push_head;
-use binfarce_tools::json::{
+use binfarce_rows::columns::count_of;
+use binfarce_rows::head::push_head;
+use binfarce_rows::json::{
     Form, push_address_member, push_number_member, push_start, push_text_member,
 };
+use binfarce_tools::functions::Selected;
 use binfarce_tools::list::{ListError, Sink, push_section_part};
 use binfarce_tools::tables::Tables;
 use binfarce_tools::writing::write_whole;
@@ -65,7 +67,7 @@ pub struct Shown {
 
 /// As `list_tables`, but in an order, of the first lines alone, with other names, without the last line, or as objects
 /// with the members `file`, `section`, `address`, `size`, `name`, `raw` (the stored name), `crate`, `binding`, `kind`
-/// and `version`, and no last line.
+/// and `version`, and no last line. Returns how many function symbols there are, with those that aren't among the first.
 ///
 /// # Errors
 ///
@@ -76,19 +78,25 @@ pub fn list_by<S: Sink>(
     shown: &Shown,
     form: Form<'_>,
     out: &mut S,
-) -> Result<(), ListError>
+) -> Result<usize, ListError>
     ensures outcome { (which : SymbolTable) (file : List ℕ) (section : Option (List ℕ))
         → AreTablesOf which file section tables.now
-        → EndsAs ListingFits (MemoryIn file section) (selected_answer which section file) (outcome_of result) }
+        → EndsAs ListingFits (MemoryIn file section) (selected_answer which section file)
+        (outcome_of (ended result)) }
     ensures takes { (which : SymbolTable) (file : List ℕ) (section : Option (List ℕ))
         → AreTablesOf which file section tables.now
         → Takes (IsListingBy shown.now (style_of form.entry))
-        (selected_answer which section file) (S.taken out.old) (S.taken out.new) (outcome_of result) }
-    ensures fails { Fails (S.has_failed out.old) (S.has_failed out.new) (outcome_of result) }
-    ensures leaves { Leaves out.old out.new (outcome_of result) }
+        (selected_answer which section file) (S.taken out.old) (S.taken out.new) (outcome_of (ended result)) }
+    ensures count { (which : SymbolTable) (file : List ℕ) (section : Option (List ℕ)) (selected : SelectedSymbols)
+        → AreTablesOf which file section tables.now
+        → selected_answer which section file ≡ Some (Ok selected)
+        → IfOk result (λ n. n ≡ length selected.entries) }
+    ensures fails { Fails (S.has_failed out.old) (S.has_failed out.new) (outcome_of (ended result)) }
+    ensures leaves { Leaves out.old out.new (outcome_of (ended result)) }
 {
     let selected = tables.functions(alloc)?;
     let (functions, size) = list_of(alloc, selected)?;
+    let count = functions.len();
     let listing = Listing {
         alloc,
         tables,
@@ -97,7 +105,8 @@ pub fn list_by<S: Sink>(
         size,
     };
     let text = listing.text_of(functions)?;
-    write_whole(out, text.as_bytes())
+    write_whole(out, text.as_bytes())?;
+    Ok(count)
 }
 
 // What a listing is made of.
@@ -184,14 +193,14 @@ impl Listing<'_, '_> {
         Ok(text)
     }
 
-    // For each function symbol the index of its name's text.
+    // For each function symbol the index of its name's text, if that isn't the name as it is stored.
     fn indices_of(
         &self,
         texts: &mut Texts,
         functions: &[SectionFunction<'_>],
-    ) -> Result<Vec<usize>, AllocError>
+    ) -> Result<Vec<Option<usize>>, AllocError>
         requires { AreTexts self.now.shown.now.naming texts.old }
-        ensures { IfOk result (λ v. AllZip (IsTextAt self.now.shown.now.naming texts.new.texts.items)
+        ensures { IfOk result (λ v. AllZip (IsShownBy self.now.shown.now.naming texts.new.texts.items)
             (map name_of functions.now) v.items) }
     {
         let mut demangler = Demangler::new(self.alloc);
@@ -203,48 +212,69 @@ impl Listing<'_, '_> {
         Ok(indices)
     }
 
-    // The index of a name's text, which is kept where it isn't there yet.
+    // The index of a name's text, which is kept where it isn't there yet. None for one that is shown as it is stored: names
+    // that share an end would take much more memory than the file that has them.
     fn index_of(
         &self,
         demangler: &mut Demangler,
         texts: &mut Texts,
         name: &str,
-    ) -> Result<usize, AllocError>
+    ) -> Result<Option<usize>, AllocError>
         requires { AreTexts self.now.shown.now.naming texts.old }
         ensures index { IfOk result
-            (λ i. IsTextAt self.now.shown.now.naming texts.new.texts.items name.now i) }
+            (λ i. IsShownBy self.now.shown.now.naming texts.new.texts.items name.now i) }
         ensures texts { OnOk result (AreTexts self.now.shown.now.naming texts.new) }
         ensures grown { OnOk result ((more : List (String Global))
             × (texts.new.texts.items ≡ texts.old.texts.items ++ more)) }
     {
         let mut text = String::new(self.alloc);
         self.put_name(demangler, &mut text, name)?;
+        if text.as_str() == name {
+            return Ok(None);
+        }
         if let Some(index) = noted(&texts.long, name, text.len()) {
-            return Ok(index);
+            return Ok(Some(index));
         }
         let index = texts.texts.len();
         note(self.alloc, &mut texts.long, name, index, text.len())?;
         texts.texts.push(text)?;
-        Ok(index)
+        Ok(Some(index))
     }
 
-    // Function symbols with the texts at these indices.
-    fn rows_of<'b, 'a>(
+    // Function symbols with the texts at these indices, or their names as they are stored.
+    fn rows_of<'b, 'a: 'b>(
         &self,
         functions: &[SectionFunction<'a>],
         texts: &'b [String],
-        indices: &[usize],
+        indices: &[Option<usize>],
     ) -> Result<Vec<Row<'b, 'a>>, AllocError>
-        requires { AllZip (IsTextAt self.now.shown.now.naming texts.now) (map name_of functions.now) indices.now }
+        requires { AllZip (IsShownBy self.now.shown.now.naming texts.now) (map name_of functions.now) indices.now }
         ensures { IfOk result (λ v. (map entry_of v.items ≡ map section_function_view functions.now)
             × All (HasName self.now.shown.now.naming) v.items) }
     {
         let mut rows = Vec::with_capacity(self.alloc, functions.len())?;
         for i in 0..functions.len() {
-            let name = texts[indices[i]].as_str();
-            rows.push(row_of(functions[i], name))?;
+            rows.push(self.row_at(functions[i], texts, indices[i]))?;
         }
         Ok(rows)
+    }
+
+    // A function symbol with the text at an index, or its name as it is stored.
+    fn row_at<'b, 'a: 'b>(
+        &self,
+        function: SectionFunction<'a>,
+        texts: &'b [String],
+        index: Option<usize>,
+    ) -> Row<'b, 'a>
+        requires { IsShownBy self.now.shown.now.naming texts.now (name_of function) index }
+        ensures entry { entry_of result ≡ section_function_view function.entry }
+        ensures name { HasName self.now.shown.now.naming result }
+    {
+        let name = match index {
+            Some(index) => texts[index].as_str(),
+            None => function.function.name,
+        };
+        Row { function, name }
     }
 
     // Overwrites the text by what is shown of a name.
@@ -390,13 +420,6 @@ struct Texts {
     long: BTreeMap<String, usize>,
 }
 
-// The row of a function symbol with this name.
-fn row_of<'b, 'a>(function: SectionFunction<'a>, name: &'b str) -> Row<'b, 'a>
-    ensures { (entry_of result ≡ section_function_view function.entry) × (result.name.now ≡ name.entry.now) }
-{
-    Row { function, name }
-}
-
 // The noted index of a name's text, if the text is long.
 fn noted(long: &BTreeMap<String, usize>, name: &str, len: usize) -> Option<usize>
     ensures { IfSome result (λ i. get_by_text long.now name.now ≡ Some i) }
@@ -422,13 +445,6 @@ fn note(
     }
     let _ = long.insert(String::from_str(alloc, name)?, index)?;
     Ok(())
-}
-
-/// How many of all are shown.
-pub(crate) fn count_of(first: Option<usize>, all: usize) -> usize
-    ensures { result ≡ count_of first all }
-{
-    first.map_or(all, |first| first.min(all))
 }
 
 /// The function symbols of a selection as one list, and the size of the selected section, if one is selected.

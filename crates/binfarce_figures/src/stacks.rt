@@ -1,6 +1,7 @@
 //! Function symbols as stacks.
 
 ghost use Rattle.std.specs.Prelude.{◌≡◌, ◌⊎◌, ◌++◌, ℕ, List, Option, codes, IfErr, IfOk, OnOk};
+ghost use Rattle.std.specs.Fmt.{decimal};
 ghost use Rattle.std.specs.List.{flat_map};
 ghost use Rattle.std.specs.String.{string_bytes};
 ghost use Rattle.binfarce.specs.declared.SymbolTable.{SymbolTable};
@@ -11,15 +12,13 @@ ghost use Rattle.binfarce_tools.specs.Writing.{Takes, Fails, Leaves};
 ghost use Rattle.binfarce_tools.specs.declared.report.ReportError.TheVariants.{OutOfMemory, Write};
 ghost use Rattle.binfarce_figures.specs.Claimed.{AreClaimsIn};
 ghost use Rattle.binfarce_figures.specs.Figures.{AreStacksIn, claim_line};
-ghost use Rattle.binfarce_figures.specs.Keys.{IsCrateOf, IsTrimmedOf};
 ghost use Rattle.binfarce_figures.specs.Stacks.{stack, stack_of};
 ghost use Rattle.binfarce_figures.specs.declared.key.Key.TheVariants.{Stack};
 ghost use Rattle.binfarce_figures.specs.machine.Shares.{AreSharesWith};
 
 use crate::claims::Claims;
 use crate::generic::{Shape, push_rewritten};
-use crate::key::{Grouping, Key, put_crate, put_key};
-use binfarce_names::demangle::Demangler;
+use crate::key::{Grouping, Key, KeyMaker, put_key};
 use binfarce_tools::list::Sink;
 use binfarce_tools::report::{ReportError, write_made};
 use std::alloc::{AllocError, Global};
@@ -62,13 +61,12 @@ fn stacks_of(alloc: Global, claims: &Claims<'_, '_>, joins_std: bool) -> Result<
         key: Key::Stack,
         joins_std,
     };
-    let mut demangler = Demangler::new(alloc);
+    let mut maker = KeyMaker::new(alloc);
     let mut stack = String::new(alloc);
     let mut text = String::new(alloc);
     for claim in &claims.list {
         put_key(
-            alloc,
-            &mut demangler,
+            &mut maker,
             &mut stack,
             claims.tables,
             *claim,
@@ -88,39 +86,47 @@ fn push_claim(text: &mut String, stack: &str, size: u64) -> Result<(), AllocErro
     if size == 0 {
         return Ok(());
     }
-    writeln!(text, "{stack} {size}")
+    text.push_str(stack)?;
+    text.push_str(" ")?;
+    push_decimal(text, size)?;
+    text.push_str("\n")
 }
 
-/// Appends the stack of a stored name.
-pub(crate) fn push_stack(
-    alloc: Global,
-    demangler: &mut Demangler,
-    text: &mut String,
-    name: &str,
-) -> Result<(), AllocError>
-    ensures { OnOk result ((crate_name : List ℕ) × (trimmed : List ℕ) × IsCrateOf name.now crate_name
-        × IsTrimmedOf name.now trimmed × (string_bytes text.new ≡ string_bytes text.old ++ stack crate_name trimmed)) }
+// Appends a number, as `{}` writes it.
+fn push_decimal(text: &mut String, n: u64) -> Result<(), AllocError>
+    ensures { OnOk result (string_bytes text.new ≡ string_bytes text.old ++ decimal n) }
 {
-    let mut crate_name = String::new(alloc);
-    put_crate(alloc, &mut crate_name, name)?;
-    let mut trimmed = String::new(alloc);
-    demangler.push_trimmed(&mut trimmed, name)?;
-    let mut root = String::new(alloc);
-    push_rewritten(&mut root, Shape::Stack, crate_name.as_str())?;
-    let mut parts = String::new(alloc);
-    push_rewritten(&mut parts, Shape::Stack, trimmed.as_str())?;
+    if n >= 10 {
+        push_decimal(text, n / 10)?;
+    }
+    text.push(char::from(b'0' + (n % 10) as u8))
+}
+
+/// Appends the stack of a function with this crate and this trimmed name. `root` and `parts` are overwritten.
+pub(crate) fn push_stack(
+    text: &mut String,
+    root: &mut String,
+    parts: &mut String,
+    crate_name: &str,
+    trimmed: &str,
+) -> Result<(), AllocError>
+    ensures { OnOk result (string_bytes text.new ≡ string_bytes text.old ++ stack crate_name.now trimmed.now) }
+{
+    root.clear();
+    push_rewritten(root, Shape::Stack, crate_name)?;
+    parts.clear();
+    push_rewritten(parts, Shape::Stack, trimmed)?;
     push_below(text, root, parts.as_str())
 }
 
-// Appends the crate and the parts of a name, unless the first of these is the crate.
-fn push_below(text: &mut String, root: String, parts: &str) -> Result<(), AllocError>
-    ensures { OnOk result (string_bytes text.new ≡ string_bytes text.old ++ stack_of (string_bytes root) parts.now) }
+// Appends the crate and the parts of a name, unless the first of these is the crate. `root` is overwritten.
+fn push_below(text: &mut String, root: &mut String, parts: &str) -> Result<(), AllocError>
+    ensures { OnOk result (string_bytes text.new ≡ string_bytes text.old ++ stack_of (string_bytes root.old) parts.now) }
 {
     let is_crate = parts == root.as_str();
-    let mut below = root;
-    below.push_str(";")?;
-    if !is_crate && !parts.as_bytes().starts_with(below.as_bytes()) {
-        text.push_str(below.as_str())?;
+    root.push_str(";")?;
+    if !is_crate && !parts.as_bytes().starts_with(root.as_bytes()) {
+        text.push_str(root.as_str())?;
     }
     text.push_str(parts)
 }

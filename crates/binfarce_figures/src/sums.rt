@@ -4,7 +4,7 @@ ghost use Rattle.std.specs.Prelude.{◌≡◌, ◌⊎◌, ◌+◌, ◌^◌, ◌<
 ghost use Rattle.std.specs.String.{string_bytes};
 ghost use Rattle.binfarce.specs.SectionEntries.{SelectedSymbols};
 ghost use Rattle.binfarce.specs.declared.SymbolTable.{SymbolTable};
-ghost use Rattle.binfarce_tools.specs.Json.{style_of};
+ghost use Rattle.binfarce_rows.specs.Json.{style_of};
 ghost use Rattle.binfarce_tools.specs.Report.{Share};
 ghost use Rattle.binfarce_tools.specs.ReportWords.{outcome_of};
 ghost use Rattle.binfarce_tools.specs.Answer.{selected_answer};
@@ -17,9 +17,8 @@ ghost use Rattle.binfarce_figures.specs.machine.Shares.{AreFew, AreSharesWith};
 
 use crate::claims::Claims;
 use crate::figures::{Columns, Layout};
-use crate::key::{Grouping, put_key};
-use binfarce_names::demangle::Demangler;
-use binfarce_tools::json::{Form, push_number_member, push_start};
+use crate::key::{Grouping, KeyMaker, put_key};
+use binfarce_rows::json::{Form, push_number_member, push_start};
 use binfarce_tools::list::Sink;
 use binfarce_tools::report::{ReportError, write_made};
 use std::alloc::{AllocError, Global};
@@ -165,12 +164,11 @@ pub(crate) fn add_claims(
         × AddsShares counting shares numbers.old numbers.new) }
     ensures few { OnOk result (AreFew claims.now) }
 {
-    let mut demangler = Demangler::new(alloc);
+    let mut maker = KeyMaker::new(alloc);
     let mut key = String::new(alloc);
     for claim in &claims.list {
         put_key(
-            alloc,
-            &mut demangler,
+            &mut maker,
             &mut key,
             claims.tables,
             *claim,

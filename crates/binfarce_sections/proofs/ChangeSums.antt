@@ -8,12 +8,13 @@ use Rattle.std.proofs.lemmas.List.{map-append, take-append-drop, take_all}
 use Rattle.std.proofs.lemmas.List.Elements.{All-head, All-tail}
 use Rattle.std.proofs.lemmas.List.Filters.{sum_by-filter_both}
 use Rattle.std.proofs.lemmas.List.Sums.{sum_by-append, sum_by-cons}
+use Rattle.binfarce_rows.specs.Columns.{count_of}
 use Rattle.binfarce_sections.specs.declared.changes.Change.{Change}
 use Rattle.binfarce_sections.specs.declared.sums.Share as code_share
-use Rattle.binfarce_tools.specs.Json.{Style}
+use Rattle.binfarce_rows.specs.Json.{Style}
 use Rattle.binfarce_sections.specs.Changes.{Part, Row, change_row, change_rows, differs, new_row, old_row, others_row, part_of, parts_of, rest_of, row_view, shown_row}
 use Rattle.binfarce_sections.specs.Lines.{name_text}
-use Rattle.binfarce_sections.specs.Sums.{FileSums, count_of, total}
+use Rattle.binfarce_sections.specs.Sums.{FileSums, total}
 use Rattle.binfarce_sections.specs.Views.{section_view, share_view}
 use Rattle.binfarce_sections.specs.machine.Changed.{Fit, added, joined, joined_to}
 use Rattle.binfarce_sections.specs.machine.Summed.{AreWhole, IsNamed, shown_name}

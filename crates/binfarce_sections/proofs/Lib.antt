@@ -9,6 +9,5 @@ pub mod Ranked
 pub mod SumAnswers
 pub mod SumRows
 pub mod Whole
-pub mod Widths
 pub mod ChangeSums
 pub mod Joined

@@ -7,7 +7,7 @@ use Rattle.binfarce_sections.specs.declared.error.SectionError.{SectionError}
 use Rattle.binfarce_sections.specs.declared.error.SectionError.TheVariants.{Parse, OutOfMemory}
 use Rattle.binfarce_sections.specs.Named.{bytes_found, bytes_named, unknown_format, refused}
 use Rattle.binfarce_sections.specs.Section.{Section}
-use Rattle.binfarce_tools.specs.Json.{Style}
+use Rattle.binfarce_rows.specs.Json.{Style}
 use Rattle.binfarce_sections.specs.Results.{Hands, TakesLines}
 use Rattle.binfarce_sections.specs.declared.sections.Sections.{Sections}
 use Rattle.binfarce_sections.specs.Views.{Opens}

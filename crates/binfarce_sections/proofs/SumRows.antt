@@ -4,10 +4,11 @@ use Rattle.std.specs.List.{flat_map}
 use Rattle.std.specs.Prelude.{if◌then◌else◌}
 use Rattle.std.proofs.lemmas.Bool.{lt-ltb, le-ltb}
 use Rattle.std.proofs.lemmas.List.{drop-map, drop_more, length-map, take-map}
-use Rattle.binfarce_tools.specs.Json.{Style}
+use Rattle.binfarce_rows.specs.Json.{Style}
+use Rattle.binfarce_rows.specs.Columns.{count_of}
 use Rattle.binfarce_sections.specs.declared.sums.Share as code_share
 use Rattle.binfarce_sections.specs.Section.{Section}
-use Rattle.binfarce_sections.specs.Sums.{FileSums, active, is_inactive, count_of, end_row, others_row, plain_row, rest_row, share_row, share_rows, sums_text, total}
+use Rattle.binfarce_sections.specs.Sums.{FileSums, active, is_inactive, end_row, others_row, plain_row, rest_row, share_row, share_rows, sums_text, total}
 use Rattle.binfarce_sections.specs.Views.{share_view}
 
 taken : (n : ℕ) (xs : List code_share.Share) → take n (map share_view xs) ≡ map share_view (take n xs)

@@ -18,7 +18,7 @@ use Rattle.binfarce_tools.specs.Parts.{head_part}
 use Rattle.binfarce_sections.specs.Named.{is_named}
 use Rattle.binfarce_sections.specs.Parts.{section_parts_of, format_parts, bytes_parts, found_parts, first_parts, named_parts_of}
 use Rattle.binfarce_sections.specs.Section.{Section, sections_of}
-use Rattle.binfarce_tools.specs.Json.{Style}
+use Rattle.binfarce_rows.specs.Json.{Style}
 use Rattle.binfarce_sections.specs.Results.{TakesBytes, TakesLines, error_of}
 use Rattle.binfarce_sections.specs.Views.{Opens, sections_left}
 use Rattle.binfarce_sections.specs.declared.error.SectionError.{SectionError}

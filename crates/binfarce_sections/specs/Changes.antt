@@ -6,11 +6,11 @@ use Rattle.std.specs.List.{concat, flat_map, list_any, sum_by}
 use Rattle.std.specs.List.Sorted.{IsStrictlySortedBy}
 use Rattle.std.specs.Ordering.{nat_cmp}
 use Rattle.std.specs.Str.{bytes_eq}
-use Rattle.binfarce_tools.specs.Json.{Style, lines, objects, number_member, object_start, text_member}
-use Rattle.binfarce_tools.specs.Listing.{pad_left, size_text}
+use Rattle.binfarce_rows.specs.Json.{Style, lines, objects, number_member, object_start, text_member}
+use Rattle.binfarce_rows.specs.Columns.{change_column, count_of, difference, growth_column, growth_member, signed_member, size_column}
 use Rattle.binfarce_sections.specs.declared.changes.Change.{Change}
 use Rattle.binfarce_sections.specs.Lines.{name_text}
-use Rattle.binfarce_sections.specs.Sums.{FileSums, IsByKey, Share, count_of, falling, total, total_memory}
+use Rattle.binfarce_sections.specs.Sums.{FileSums, IsByKey, Share, falling, total, total_memory}
 
 -- what one section adds to its name, or what the bytes add that count for no section: bytes in the file, and bytes in memory
 pub record Part : Type 0 where
@@ -68,10 +68,6 @@ pub record AreNamesOf (parts : List Part) (names : List (List ℕ)) : Type 0 whe
   pub rises : IsStrictlySortedBy (slice_cmp nat_cmp) names
   pub same : (name : List ℕ) → list_any (bytes_eq name) names ≡ list_any (λ p. bytes_eq name p.name) parts
 
--- the distance of two numbers
-abbrev pub difference : (old new : ℕ) → ℕ
-difference old new = (old - new) + (new - old)
-
 -- the bytes in the file or those in memory differ
 abbrev pub differs : Change → Bool
 differs c = not (nat_eq c.old c.new && nat_eq c.old_memory c.new_memory)
@@ -86,63 +82,12 @@ abbrev pub AreChangesFrom : (old new : List Part) → List Change → Type 0
 AreChangesFrom old new changes =
     (names : List (List ℕ)) × (rows : List Change) × AreNamesOf (old ++ new) names × (map row_view rows ≡ map (row_of old new) names) × IsRanked (filter differs rows) changes
 
-abbrev pub sign : (old new : ℕ) → List ℕ
-sign old new = if nat_lt new old then codes "-" else codes "+"
-
--- the sign of a number
-abbrev pub minus : (old new : ℕ) → List ℕ
-minus old new = if nat_lt new old then codes "-" else []
-
--- `{change:>11} `, with its sign
-abbrev pub change_text : (old new : ℕ) → List ℕ
-change_text old new = pad_left 32 11 (sign old new ++ decimal (difference old new)) ++ codes " "
-
--- the share of a number in a whole, in hundredths of a per cent, rounded down
-abbrev pub hundredths : (n whole : ℕ) → ℕ
-hundredths n whole = (10000 * n) / whole
-
--- `{}.{:02}%`, of hundredths
-abbrev pub percent_digits : ℕ → List ℕ
-percent_digits n = decimal (n / 100) ++ (codes "." ++ (decimal (n / 10 % 10) ++ (decimal (n % 10) ++ codes "%")))
-
--- the change in per cent of the old number, rounded toward zero, with its sign; `new` where there was nothing
-abbrev pub growth_text : (old new : ℕ) → List ℕ
-growth_text zero new = codes "new"
-growth_text (suc n) new = sign (suc n) new ++ percent_digits (hundredths (difference (suc n) new) (suc n))
-
--- that to the right of 10 columns, if it is wanted
-abbrev pub growth_part : (has_percent : Bool) → (old new : ℕ) → List ℕ
-growth_part true old new = pad_left 32 10 (growth_text old new) ++ codes " "
-growth_part false old new = []
-
--- `{n:>10} `
-abbrev pub size_column : ℕ → List ℕ
-size_column n = size_text n ++ codes " "
-
 -- `{old:>10} {new:>10} {change:>11} {memory change:>11} {percent:>10} {name}`, and a line feed
 abbrev pub change_line : (has_percent : Bool) → Row → List ℕ
 change_line has_percent r = concat (
-    size_column r.old ∷ size_column r.new ∷ change_text r.old r.new ∷ change_text r.old_memory r.new_memory
-    ∷ growth_part has_percent r.old r.new ∷ r.name ∷ codes "\n" ∷ []
+    size_column r.old ∷ size_column r.new ∷ change_column r.old r.new ∷ change_column r.old_memory r.new_memory
+    ∷ growth_column has_percent r.old r.new ∷ r.name ∷ codes "\n" ∷ []
     )
-
--- a member whose value is a number with its sign
-abbrev pub signed_member : (name : List ℕ) → (old new : ℕ) → List ℕ
-signed_member name old new = codes ",\"" ++ (name ++ (codes "\":" ++ (minus old new ++ decimal (difference old new))))
-
--- the member of a number of hundredths of a per cent, with its sign
-abbrev pub percent_member : (sign : List ℕ) → ℕ → List ℕ
-percent_member sign n = codes ",\"percent\":" ++ (sign ++ (decimal (n / 100) ++ (codes "." ++ (decimal (n / 10 % 10) ++ decimal (n % 10)))))
-
--- the change in per cent of the old number; `null` where there was nothing
-abbrev pub growth_number : (old new : ℕ) → List ℕ
-growth_number zero new = codes ",\"percent\":null"
-growth_number (suc n) new = percent_member (minus (suc n) new) (hundredths (difference (suc n) new) (suc n))
-
--- that, if it is wanted
-abbrev pub growth_member : (has_percent : Bool) → (old new : ℕ) → List ℕ
-growth_member true old new = growth_number old new
-growth_member false old new = []
 
 abbrev pub change_object : (has_percent : Bool) → (file : List ℕ) → Row → List ℕ
 change_object has_percent file r = concat (

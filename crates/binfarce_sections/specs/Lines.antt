@@ -1,8 +1,8 @@
 -- The text that lists sections.
 use Rattle.std.specs.Prelude.{ℕ, List, [], ◌∷◌, ◌++◌, codes, Option, Some, None}
 use Rattle.std.specs.List.{concat, flat_map}
-use Rattle.binfarce_tools.specs.Json.{Style, lines, objects, address_member, number_member, object_start, text_member}
-use Rattle.binfarce_tools.specs.Listing.{address_text, size_text}
+use Rattle.binfarce_rows.specs.Json.{Style, lines, objects, address_member, number_member, object_start, text_member}
+use Rattle.binfarce_rows.specs.Columns.{address_text, size_text}
 use Rattle.binfarce_sections.specs.declared.kinds.SectionType.{SectionType}
 use Rattle.binfarce_sections.specs.Kinds.{type_name, type_number}
 use Rattle.binfarce_sections.specs.Section.{Section}

@@ -7,7 +7,7 @@ use Rattle.binfarce_tables.specs.declared.error.ReadError as reading
 use Rattle.binfarce_tables.specs.declared.error.ReadError.TheVariants as read_errors
 use Rattle.binfarce_tools.specs.ListWords.{list_words}
 use Rattle.binfarce_tools.specs.Writing.{AppendsBeginning}
-use Rattle.binfarce_tools.specs.Json.{Style}
+use Rattle.binfarce_rows.specs.Json.{Style}
 use Rattle.binfarce_tools.specs.declared.list.ListError.TheVariants as listing
 use Rattle.binfarce_sections.specs.declared.error.SectionError.{SectionError}
 use Rattle.binfarce_sections.specs.declared.error.SectionError.TheVariants.{Unknown, Parse, NoSection, NoBytes, PastEnd, OutOfMemory, Write, Unreadable}

@@ -5,8 +5,8 @@ use Rattle.std.specs.List.{concat, flat_map, list_any, sum_by}
 use Rattle.std.specs.List.Sorted.{IsSortedByKey, IsStableByKey}
 use Rattle.std.specs.Ordering.{nat_cmp}
 use Rattle.std.specs.declared.cmp.Ordering.{Ordering}
-use Rattle.binfarce_tools.specs.Json.{Style, lines, objects, number_member, object_start, text_member}
-use Rattle.binfarce_tools.specs.Listing.{size_text}
+use Rattle.binfarce_rows.specs.Json.{Style, lines, objects, number_member, object_start, text_member}
+use Rattle.binfarce_rows.specs.Columns.{count_of, size_text}
 use Rattle.binfarce_tools.specs.Report.{total_line}
 use Rattle.binfarce_sections.specs.declared.kinds.SectionType.{SectionType}
 use Rattle.binfarce_sections.specs.declared.kinds.SectionType.TheVariants as types
@@ -108,11 +108,6 @@ share_object file s = concat (
 abbrev pub share_row : Style → Share → List ℕ
 share_row lines s = plain_line (name_text s.section.segment s.section.name) s.bytes s.section.memory_size
 share_row (objects file section) s = share_object file s
-
--- how many rows are shown of so many
-abbrev pub count_of : Option ℕ → (all : ℕ) → ℕ
-count_of None all = all
-count_of (Some n) all = min n all
 
 -- the row that sums up these
 abbrev pub others_row : Style → List Share → List ℕ

@@ -3,15 +3,18 @@
 ghost use Rattle.std.specs.Prelude.{◌≡◌, ◌+◌, ◌<◌, ◌^◌, ◌++◌, ◌∷◌, [], ℕ, List, codes, filter, map, Some, IfOk, OnOk};
 ghost use Rattle.std.specs.List.{flat_map};
 ghost use Rattle.std.specs.String.{string_bytes};
-ghost use Rattle.binfarce_tools.specs.Json.{style_of};
-ghost use Rattle.binfarce_tools.specs.Listing.{pad_left};
-ghost use Rattle.binfarce_sections.specs.Changes.{AreChangesFrom, AreChangesOf, change_line, change_object, change_row, change_rows, change_text, difference, differs, growth_member, growth_part, growth_text, hundredths, minus, new_row, old_row, others_row, parts_of, percent_member, row_view, shown_row, sign, signed_member, size_column};
+ghost use Rattle.binfarce_rows.specs.Json.{style_of};
+ghost use Rattle.binfarce_rows.specs.Columns.{difference};
+ghost use Rattle.binfarce_sections.specs.Changes.{AreChangesFrom, AreChangesOf, change_line, change_object, change_row, change_rows, differs, new_row, old_row, others_row, parts_of, row_view, shown_row};
 ghost use Rattle.binfarce_sections.specs.Results.{TakesText, Fails};
 ghost use Rattle.binfarce_sections.specs.machine.Changed.{Fit, added, joined};
 
 use crate::error::SectionError;
-use crate::sums::{REST, SectionSums, count_of, push_long_member};
-use binfarce_tools::json::{Form, push_number_member, push_start, push_text_member};
+use crate::sums::{REST, SectionSums, push_long_member};
+use binfarce_rows::columns::{
+    count_of, push_change, push_growth, push_growth_member, push_signed_member, push_size,
+};
+use binfarce_rows::json::{Form, push_number_member, push_start, push_text_member};
 use binfarce_tools::list::Sink;
 use binfarce_tools::writing::write_whole;
 use std::alloc::{AllocError, Global};
@@ -293,33 +296,17 @@ impl Layout<'_> {
     {
         push_size(text, change.old)?;
         push_size(text, change.new)?;
-        self.push_change(text, u128::from(change.old), u128::from(change.new))?;
-        self.push_change(text, change.old_memory, change.new_memory)?;
-        self.push_growth(text, change.old, change.new)?;
+        push_change(
+            self.alloc,
+            text,
+            u128::from(change.old),
+            u128::from(change.new),
+        )?;
+        push_change(self.alloc, text, change.old_memory, change.new_memory)?;
+        push_growth(self.alloc, text, self.has_percent, change.old, change.new)?;
         text.push_str(change.name)?;
         text.push_str("\n")?;
         Ok(())
-    }
-
-    // Appends a change with its sign.
-    fn push_change(&self, text: &mut String, old: u128, new: u128) -> Result<(), AllocError>
-        ensures { OnOk result (string_bytes text.new ≡ string_bytes text.old ++ change_text old new) }
-    {
-        let mut change = String::new(self.alloc);
-        write!(change, "{}{}", sign(old, new), old.abs_diff(new))?;
-        push_padded(text, change.as_str(), 11)
-    }
-
-    // Appends a change in per cent of the old number, if it is wanted.
-    fn push_growth(&self, text: &mut String, old: u64, new: u64) -> Result<(), AllocError>
-        ensures { OnOk result (string_bytes text.new ≡ string_bytes text.old
-            ++ growth_part self.now.has_percent old new) }
-    {
-        if !self.has_percent {
-            return Ok(());
-        }
-        let growth = growth_of(self.alloc, old, new)?;
-        push_padded(text, growth.as_str(), 10)
     }
 
     fn push_object(
@@ -335,108 +322,17 @@ impl Layout<'_> {
         push_text_member(text, "section", Some(change.name))?;
         push_number_member(text, "old", change.old)?;
         push_number_member(text, "new", change.new)?;
-        push_bytes_change(text, change.old, change.new)?;
+        push_signed_member(
+            text,
+            "change",
+            u128::from(change.old),
+            u128::from(change.new),
+        )?;
         push_long_member(text, "old_memory", change.old_memory)?;
         push_long_member(text, "new_memory", change.new_memory)?;
         push_signed_member(text, "memory_change", change.old_memory, change.new_memory)?;
-        self.push_growth_member(text, change.old, change.new)?;
+        push_growth_member(text, self.has_percent, change.old, change.new)?;
         text.push_str("}\n")?;
         Ok(())
     }
-
-    // Appends the member of a change in per cent of the old number, if it is wanted.
-    fn push_growth_member(&self, text: &mut String, old: u64, new: u64) -> Result<(), AllocError>
-        ensures { OnOk result (string_bytes text.new ≡ string_bytes text.old
-            ++ growth_member self.now.has_percent old new) }
-    {
-        if !self.has_percent {
-            return Ok(());
-        }
-        if old == 0 {
-            return text.push_str(",\"percent\":null");
-        }
-        let minus = minus(u128::from(old), u128::from(new));
-        push_percent_member(text, minus, hundredths(old.abs_diff(new), old))
-    }
-}
-
-// Appends the member of a number of hundredths of a per cent.
-fn push_percent_member(text: &mut String, sign: &str, n: u128) -> Result<(), AllocError>
-    ensures { OnOk result (string_bytes text.new ≡ string_bytes text.old ++ percent_member sign.now n) }
-{
-    let per_cent = n / 100;
-    write!(
-        text,
-        ",\"percent\":{sign}{per_cent}.{}{}",
-        n / 10 % 10,
-        n % 10
-    )
-}
-
-// Appends a size and a blank.
-#[tactic(auto, using(binfarce_tools::proofs::Pads::size_padded))]
-fn push_size(text: &mut String, size: u64) -> Result<(), AllocError>
-    ensures { OnOk result (string_bytes text.new ≡ string_bytes text.old ++ size_column size) }
-{
-    write!(text, "{size:>10} ")
-}
-
-// The sign of a change.
-fn sign(old: u128, new: u128) -> &'static str
-    ensures { result.now ≡ sign old new }
-{
-    if new < old { "-" } else { "+" }
-}
-
-// The minus of a change as a number.
-fn minus(old: u128, new: u128) -> &'static str
-    ensures { result.now ≡ minus old new }
-{
-    if new < old { "-" } else { "" }
-}
-
-// The share of a number in a whole, in hundredths of a per cent, rounded down.
-fn hundredths(n: u64, whole: u64) -> u128
-    ensures { result ≡ hundredths n whole }
-{
-    let n = 10_000 * u128::from(n);
-    n.checked_div(u128::from(whole)).unwrap_or(0)
-}
-
-// The change in per cent of the old number.
-fn growth_of(alloc: Global, old: u64, new: u64) -> Result<String, AllocError>
-    ensures { IfOk result (λ t. string_bytes t ≡ growth_text old new) }
-{
-    if old == 0 {
-        return String::from_str(alloc, "new");
-    }
-    let n = hundredths(old.abs_diff(new), old);
-    let (sign, per_cent) = (sign(u128::from(old), u128::from(new)), n / 100);
-    format!(in alloc; "{sign}{per_cent}.{}{}%", n / 10 % 10, n % 10)
-}
-
-// Appends a label to the right of so many columns, and a blank.
-fn push_padded(text: &mut String, label: &str, width: usize) -> Result<(), AllocError>
-    ensures { OnOk result
-        (string_bytes text.new ≡ string_bytes text.old ++ (pad_left 32 width label.now ++ codes " ")) }
-{
-    let blanks = width.saturating_sub(label.len());
-    write!(text, "{:>blanks$}{label} ", "")
-}
-
-// Appends the member of a change of bytes in the file.
-fn push_bytes_change(text: &mut String, old: u64, new: u64) -> Result<(), AllocError>
-    ensures { OnOk result (string_bytes text.new ≡ string_bytes text.old
-        ++ signed_member (codes "change") old new) }
-{
-    push_signed_member(text, "change", u128::from(old), u128::from(new))
-}
-
-// Appends a member whose value is a number with its sign.
-fn push_signed_member(text: &mut String, name: &str, old: u128, new: u128) -> Result<(), AllocError>
-    ensures { OnOk result (string_bytes text.new ≡ string_bytes text.old ++ signed_member name.now old new) }
-{
-    let minus = minus(old, new);
-    let distance = old.abs_diff(new);
-    write!(text, ",\"{name}\":{minus}{distance}")
 }

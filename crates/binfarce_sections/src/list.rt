@@ -6,7 +6,7 @@ ghost use Rattle.std.specs.String.{string_bytes};
 ghost use Rattle.binfarce.specs.Format.{format_of};
 ghost use Rattle.binfarce_bytes.specs.Source.{ReadsOnly};
 ghost use Rattle.binfarce_sections.specs.Lines.{section_line, section_object, section_row, line_head, name_text, type_member};
-ghost use Rattle.binfarce_tools.specs.Json.{lines, style_of};
+ghost use Rattle.binfarce_rows.specs.Json.{lines, style_of};
 ghost use Rattle.binfarce_sections.specs.Parts.{section_parts_of};
 ghost use Rattle.binfarce_sections.specs.Section.{sections_of};
 ghost use Rattle.binfarce_sections.specs.Results.{TakesLines, TakesReadLines, Fails};
@@ -20,7 +20,7 @@ use crate::sections::{Section, Sections, sections_of};
 use crate::tables::read;
 use binfarce::ParseError;
 use binfarce_bytes::source::Source;
-use binfarce_tools::json::{
+use binfarce_rows::json::{
     Form, push_address_member, push_number_member, push_start, push_text_member,
 };
 use binfarce_tools::list::Sink;
@@ -166,7 +166,7 @@ fn push_line(text: &mut String, section: Section<'_>) -> Result<(), AllocError>
 }
 
 // Writes the numbers before a section's name.
-#[tactic(auto, using(binfarce_tools::proofs::Pads::address_padded, binfarce_tools::proofs::Pads::size_padded))]
+#[tactic(auto, using(binfarce_rows::proofs::Pads::address_padded, binfarce_rows::proofs::Pads::size_padded))]
 fn push_head(text: &mut String, address: u64, offset: u64, size: u64) -> Result<(), AllocError>
     ensures { OnOk result (string_bytes text.new ≡ string_bytes text.old ++ line_head address offset size) }
 {

@@ -1,19 +1,20 @@
 //! The bytes of a file by its sections.
 
-ghost use Rattle.std.specs.Prelude.{◌≡◌, ◌+◌, ◌-◌, ◌++◌, ◌∷◌, [], ℕ, List, codes, length, map, min, All, Some, IfOk, OnOk};
+ghost use Rattle.std.specs.Prelude.{◌≡◌, ◌≢◌, ◌+◌, ◌-◌, ◌++◌, ◌∷◌, [], ℕ, List, codes, length, map, min, All, Some, IfErr, IfOk, OnOk};
 ghost use Rattle.std.specs.List.{flat_map};
 ghost use Rattle.std.specs.List.Sorted.{IsSortedByKey};
 ghost use Rattle.std.specs.Option.{option_map};
 ghost use Rattle.std.specs.Ordering.{nat_cmp};
 ghost use Rattle.std.specs.String.{string_bytes};
 ghost use Rattle.binfarce.specs.Format.{format_of};
-ghost use Rattle.binfarce_tools.specs.Json.{number_member, style_of};
-ghost use Rattle.binfarce_tools.specs.Listing.{size_text};
+ghost use Rattle.binfarce_rows.specs.Json.{number_member, style_of};
+ghost use Rattle.binfarce_rows.specs.Columns.{size_text};
 ghost use Rattle.binfarce_sections.specs.Lines.{name_text};
 ghost use Rattle.binfarce_sections.specs.Results.{SumsUp, TakesText, Fails};
 ghost use Rattle.binfarce_sections.specs.Section.{sections_of};
-ghost use Rattle.binfarce_sections.specs.Sums.{AreSharesOf, active, count_of, end_row, is_inactive, others_row, plain_line, plain_object, plain_row, share_object, share_row, share_rows, shares_of, sums_text, total, total_memory};
+ghost use Rattle.binfarce_sections.specs.Sums.{AreSharesOf, active, end_row, is_inactive, others_row, plain_line, plain_object, plain_row, share_object, share_row, share_rows, shares_of, sums_text, total, total_memory};
 ghost use Rattle.binfarce_sections.specs.Tables.{AreTablesOf};
+ghost use Rattle.binfarce_sections.specs.declared.error.SectionError.TheVariants as errors;
 ghost use Rattle.binfarce_sections.specs.Views.{section_view, sections_left, share_view};
 ghost use Rattle.binfarce_sections.specs.machine.Summed.{AreActive, IsFullName, IsNamed, shown_name};
 
@@ -22,7 +23,8 @@ use crate::kinds::SectionType;
 use crate::list::{push_name, push_type_member};
 use crate::sections::{Section, Sections};
 use crate::tables::Tables;
-use binfarce_tools::json::{Form, push_number_member, push_start, push_text_member};
+use binfarce_rows::columns::count_of;
+use binfarce_rows::json::{Form, push_number_member, push_start, push_text_member};
 use binfarce_tools::list::Sink;
 use binfarce_tools::writing::write_whole;
 use std::alloc::{AllocError, Global};
@@ -91,8 +93,9 @@ impl<'a> SectionSums<'a> {
     /// `Unknown` where the file's format isn't supported; `Parse` where the reader refuses a section, of all that the file
     /// states; `OutOfMemory` where an allocation failed.
     pub fn of_tables(alloc: Global, tables: &'a Tables) -> Result<SectionSums<'a>, SectionError>
-        ensures { (file : List ℕ) → AreTablesOf file tables.entry.now
+        ensures sums { (file : List ℕ) → AreTablesOf file tables.entry.now
             → SumsUp (length file) (sections_of (format_of file) file) result }
+        ensures unwritten { IfErr result (λ e. e ≢ errors.Write) }
     {
         let sections = tables.sections()?;
         sums_left(alloc, sections, tables.file_length())
@@ -130,6 +133,7 @@ pub fn sum_sections<S: Sink>(
     ensures takes { TakesText (λ text. text ≡ sums_text (style_of form.entry) first sums.now) (S.taken out.old)
         (S.taken out.new) result }
     ensures fails { Fails (S.has_failed out.old) (S.has_failed out.new) result }
+    ensures leaves { IfErr result (λ e. e ≢ errors.Write → out.new ≡ out.old) }
 {
     let text = rows_of(alloc, sums, first, form)?;
     write_whole(out, text.as_bytes()).map_err(|_| SectionError::Write)
@@ -324,13 +328,6 @@ fn push_each(text: &mut String, form: Form<'_>, shares: &[Share<'_>]) -> Result<
     Ok(())
 }
 
-// How many rows are shown of so many.
-pub(crate) fn count_of(first: Option<usize>, all: usize) -> usize
-    ensures { result ≡ count_of first all }
-{
-    first.map_or(all, |first| first.min(all))
-}
-
 // Appends the row of a section.
 fn push_share(text: &mut String, form: Form<'_>, share: &Share<'_>) -> Result<(), AllocError>
     ensures { OnOk result (string_bytes text.new ≡ string_bytes text.old
@@ -357,7 +354,7 @@ fn push_line(text: &mut String, share: &Share<'_>) -> Result<(), AllocError>
 }
 
 // Appends the numbers of a line.
-#[tactic(auto, using(binfarce_tools::proofs::Pads::size_padded))]
+#[tactic(auto, using(binfarce_rows::proofs::Pads::size_padded))]
 fn push_sizes(text: &mut String, bytes: u128, memory: u128) -> Result<(), AllocError>
     ensures { OnOk result (string_bytes text.new ≡ string_bytes text.old
         ++ (size_text bytes ++ (codes " " ++ (size_text memory ++ codes " ")))) }

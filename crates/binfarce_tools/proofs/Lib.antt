@@ -1,5 +1,3 @@
-pub mod Pads
-pub mod Heads
 pub mod Reported
 pub mod Listings
 pub mod Lines
@@ -11,8 +9,5 @@ pub mod SectionAnswers
 pub mod FilesGive
 pub mod TablesRead
 pub mod TablesGive
-pub mod Totals
-pub mod Maps
-pub mod Objects
 mod Decided
 mod SymbolLaws

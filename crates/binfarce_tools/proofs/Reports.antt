@@ -3,9 +3,8 @@ use Rattle.std.proofs.Common.{◌≡◌, ℕ, ◌<◌, ◌≤◌, ◌^◌, List,
 use Rattle.std.specs.Prelude.{IfOk, MatchResult}
 use Rattle.std.specs.List.{AllZip, sum_by}
 use Rattle.std.specs.Result.{IsErrAnd}
-use Rattle.std.specs.Option.{unwrap_or}
 use Rattle.binfarce.specs.Refusal.{Refusal}
-use Rattle.binfarce.specs.SectionEntries.{SectionEntry, SelectedSymbols, as_listed}
+use Rattle.binfarce.specs.SectionEntries.{SectionEntry, SelectedSymbols}
 use Rattle.binfarce.specs.Symbol.{Entry}
 use Rattle.binfarce_tools.specs.declared.functions.Selected.{Selected}
 use Rattle.binfarce_tools.specs.declared.report.CrateSums.{CrateSums}
@@ -14,7 +13,7 @@ use Rattle.binfarce_tools.specs.declared.report.ReportError.TheVariants.{OutOfMe
 use Rattle.binfarce_tools.specs.Report.{Share, IsShareOf, IsReportOfShares}
 use Rattle.binfarce_tools.specs.ReportWords.{outcome_of}
 use Rattle.binfarce_tools.specs.SelectedTexts.{IsReportOfSelected, SelectedReportFits, last_line}
-use Rattle.binfarce_tools.specs.Sums.{AreSumsOf, AreSumsOfFile, GetsSelectedSums}
+use Rattle.binfarce_tools.specs.Sums.{AreSumsOf}
 use Rattle.binfarce_tools.specs.Writing.{Outcome, EndsAs, Takes, written, write_failed, no_memory, WritesMade}
 use Rattle.binfarce_tools.specs.Answer.{entries_of}
 use Rattle.binfarce_tools.specs.Entries.{GetsAs, HoldsLeft, all_left}
@@ -38,34 +37,42 @@ list_of memory None selected entries size left is gets = absurd gets
 list_of memory (Some (Err refusal)) selected entries size left is gets = absurd gets
 list_of memory (Some (Ok seen)) selected entries size left is gets = (ap (map (λ (e : SectionEntry). e.entry)) (left ∙ gets.0), is ∙ gets.1)
 
+-- the sums are those of an answer's entries
+abbrev pub AreSumsOfFile : SelectedSymbols → CrateSums → Type 0
+AreSumsOfFile listed sums = (shares : List Share) × AllZip IsShareOf (entries_of listed) shares × AreSumsOf shares sums
+
+-- the result of summing a file with this answer: its sums, or how the report ends without them
+abbrev pub GetsSelectedSums : (Result SelectedSymbols Refusal → Type 0) → Option (Result SelectedSymbols Refusal) → Result CrateSums ReportError → Type 0
+GetsSelectedSums memory answer (Ok sums) = (selected : SelectedSymbols) × (answer ≡ Some (Ok selected)) × AreSumsOfFile selected sums
+GetsSelectedSums memory answer (Err e) = EndsAs SelectedReportFits memory answer (outcome_of (Err e))
+
 -- where the sums of what was got weren't made
 none_summed : (memory : Result SelectedSymbols Refusal → Type 0) (answer : Option (Result SelectedSymbols Refusal)) (entries : List Entry) (size : Option ℕ) (e : ReportError)
     → GetsAs HoldsList memory answer (Ok (entries, size)) → (e ≡ OutOfMemory) ⊎ ((e ≡ TooLarge) × (2 ^ 64 ≤ size_of_all entries)) → GetsSelectedSums memory answer (Err e)
 none_summed memory None entries size e gets is = absurd gets
 none_summed memory (Some (Err refusal)) entries size e gets is = absurd gets
 none_summed memory (Some (Ok listed)) entries size e gets (inl is) = let P : ReportError → Type 0 = λ e. GetsSelectedSums memory (Some (Ok listed)) (Err e) in
-    subst P (sym is) ((λ no. absurd cc), inl refl)
+    subst P (sym is) (inl refl)
 none_summed memory (Some (Ok listed)) entries size e gets (inr is) =
     let P : ReportError → Type 0 = λ e. GetsSelectedSums memory (Some (Ok listed)) (Err e) in
     let Q : List Entry → Type 0 = λ es. 2 ^ 64 ≤ size_of_all es in
-    subst P (sym is.0) ((λ no. absurd cc), inr (inr (too_large (size_of_all (entries_of listed)) (subst Q gets.0 is.1), refl)))
+    subst P (sym is.0) (inr (inr (too_large (size_of_all (entries_of listed)) (subst Q gets.0 is.1), refl)))
 
 -- where they were made
 summed : (memory : Result SelectedSymbols Refusal → Type 0) (answer : Option (Result SelectedSymbols Refusal)) (entries : List Entry) (size : Option ℕ) (sums : CrateSums)
-    → GetsAs HoldsList memory answer (Ok (entries, size)) → sums.section_size ≡ unwrap_or size sums.total → (shares : List Share) × AllZip IsShareOf entries shares × AreSumsOf shares sums → GetsSelectedSums memory answer (Ok sums)
-summed memory None entries size sums gets same are = absurd gets
-summed memory (Some (Err refusal)) entries size sums gets same are = absurd gets
-summed memory (Some (Ok listed)) entries size sums gets same are =
+    → GetsAs HoldsList memory answer (Ok (entries, size)) → (shares : List Share) × AllZip IsShareOf entries shares × AreSumsOf shares sums → GetsSelectedSums memory answer (Ok sums)
+summed memory None entries size sums gets are = absurd gets
+summed memory (Some (Err refusal)) entries size sums gets are = absurd gets
+summed memory (Some (Ok listed)) entries size sums gets are =
     let P : List Entry → Type 0 = λ es. (shares : List Share) × AllZip IsShareOf es shares × AreSumsOf shares sums in
-    let total : sums.total ≡ size_of_all (entries_of listed) = sym are.2.total_is ∙ total_is entries are.0 are.1 ∙ ap size_of_all gets.0 in
-    (listed, refl, (same ∙ ap (λ (n : ℕ). unwrap_or size n) total ∙ ap (λ (o : Option ℕ). unwrap_or o (size_of_all (entries_of listed))) gets.1, subst P gets.0 are))
+    (listed, refl, subst P gets.0 are)
 
 -- whether or not they were made
 pub summed_or_not : (memory : Result SelectedSymbols Refusal → Type 0) (answer : Option (Result SelectedSymbols Refusal)) (entries : List Entry) (size : Option ℕ) (result : Result CrateSums ReportError)
     → GetsAs HoldsList memory answer (Ok (entries, size))
-    → MatchResult result (λ s. (s.section_size ≡ unwrap_or size s.total) × ((shares : List Share) × AllZip IsShareOf entries shares × AreSumsOf shares s)) (λ e. (e ≡ OutOfMemory) ⊎ ((e ≡ TooLarge) × (2 ^ 64 ≤ size_of_all entries)))
+    → MatchResult result (λ s. (shares : List Share) × AllZip IsShareOf entries shares × AreSumsOf shares s) (λ e. (e ≡ OutOfMemory) ⊎ ((e ≡ TooLarge) × (2 ^ 64 ≤ size_of_all entries)))
     → GetsSelectedSums memory answer result
-summed_or_not memory answer entries size (Ok sums) gets is = summed memory answer entries size sums gets is.0 is.1
+summed_or_not memory answer entries size (Ok sums) gets is = summed memory answer entries size sums gets is
 summed_or_not memory answer entries size (Err e) gets is = none_summed memory answer entries size e gets is
 
 -- then nothing was reported
@@ -73,7 +80,7 @@ pub none_reported : (memory : Result SelectedSymbols Refusal → Type 0) (answer
     → GetsAs HoldsList memory answer (Ok (entries, size)) → (e ≡ OutOfMemory) ⊎ ((e ≡ TooLarge) × (2 ^ 64 ≤ size_of_all entries)) → IsErrAnd result (λ f. f ≡ e) → EndsAs SelectedReportFits memory answer (outcome_of result)
 none_reported memory answer entries size e (Ok x) gets why is = absurd is
 none_reported memory answer entries size e (Err f) gets why is =
-    subst (λ (f : ReportError). EndsAs SelectedReportFits memory answer (outcome_of (Err f))) (sym is) (none_summed memory answer entries size e gets why).1
+    subst (λ (f : ReportError). EndsAs SelectedReportFits memory answer (outcome_of (Err f))) (sym is) (none_summed memory answer entries size e gets why)
 
 pub none_taken : (IsText : SelectedSymbols → List ℕ → Type 0) (answer : Option (Result SelectedSymbols Refusal)) (n : ℕ) (e : ReportError) (old : Option (List ℕ)) (result : Result (Unit {0}) ReportError)
     → (e ≡ OutOfMemory) ⊎ ((e ≡ TooLarge) × (2 ^ 64 ≤ n)) → IsErrAnd result (λ f. f ≡ e) → Takes IsText answer old old (outcome_of result)
@@ -82,9 +89,8 @@ none_taken IsText answer n e old (Err f) (inl why) is = subst (λ (f : ReportErr
 none_taken IsText answer n e old (Err f) (inr why) is = subst (λ (f : ReportError). Takes IsText answer old old (outcome_of (Err f))) (sym (is ∙ why.0)) (nothing old)
 
 -- the sum of all sizes fits
-pub fits : (listed : SelectedSymbols) (sums : CrateSums) → AreSumsOfFile (as_listed listed) sums → SelectedReportFits listed
-fits listed sums are =
-    let shares = are.1 in
+pub fits : (listed : SelectedSymbols) (sums : CrateSums) → AreSumsOfFile listed sums → SelectedReportFits listed
+fits listed sums shares =
     let P : ℕ → Type 0 = λ n. n < 2 ^ 64 in subst P (sym shares.2.total_is ∙ total_is (entries_of listed) shares.0 shares.1) shares.2.fits
 
 -- what is got of an answer

@@ -11,17 +11,13 @@ use Rattle.binfarce.specs.SectionEntries.{SectionEntry, SelectedSymbols, as_list
 use Rattle.binfarce.specs.Symbol.{Entry, Listed}
 use Rattle.binfarce_tables.specs.declared.error.ReadError.{ReadError}
 use Rattle.binfarce_tables.specs.declared.error.ReadError.TheVariants.{Refused, Unreadable, OutOfMemory}
-use Rattle.binfarce_tools.specs.declared.report.CrateSums.{CrateSums}
-use Rattle.binfarce_tools.specs.declared.report.ReportError.{ReportError}
 use Rattle.binfarce_tools.specs.Answer.{MemoryIn, entries_of, file_answer, one_list, selected_symbols}
 use Rattle.binfarce_tools.specs.Answer as selection
 use Rattle.binfarce_tools.specs.Given.{GetsTables, tables_failure_of}
 use Rattle.binfarce_tools.specs.Listing.{size_line}
 use Rattle.binfarce_tools.specs.Report.{IsReportOfShares}
-use Rattle.binfarce_tools.specs.ReportWords.{outcome_of}
-use Rattle.binfarce_tools.specs.SectionAnswer.{IsLineOf, IsListingOf, IsReportOf, NeedsMemory, ReaderNeedsMemory, ReportFits, format_answer, readers_answer}
+use Rattle.binfarce_tools.specs.SectionAnswer.{IsLineOf, IsListingOf, IsReportOf, NeedsMemory, ReaderNeedsMemory, format_answer, readers_answer}
 use Rattle.binfarce_tools.specs.SelectedTexts.{IsLineOfSelected, IsListingOfSelected, IsReportOfSelected, last_line}
-use Rattle.binfarce_tools.specs.Sums.{GetsSelectedSums, GetsSums}
 use Rattle.binfarce_tools.specs.Tables.{ReadsTables}
 use Rattle.binfarce_tools.specs.Writing.{Outcome, EndsAs, IsDue, Takes, written, write_failed}
 use Rattle.binfarce_tools.proofs.Selected.{elf_listed, macho_listed, pe_listed, sized_in}
@@ -113,8 +109,3 @@ module _ (file section : List ℕ) where
     takes old new written is = (is.0, due is.0 is.1, is.2)
     takes old new write_failed is = (is.0, due is.0 is.1, is.2)
     takes old new o is = is
-
-  -- the sums of a section
-  pub sums : (result : Result CrateSums ReportError) → GetsSelectedSums (MemoryIn file (Some section)) (file_answer file section) result → GetsSums (NeedsMemory file) (readers_answer file section) result
-  sums (Ok value) is = (as_listed is.0, answer_is ∙ ap as_list is.1, is.2)
-  sums (Err e) is = (is.0, ends ReportFits (outcome_of (Err e)) is.1)

@@ -5,7 +5,8 @@ use Rattle.std.specs.String.{string_bytes}
 use Rattle.binfarce.specs.declared.demangle.SymbolData.{SymbolData}
 use Rattle.binfarce.specs.Name.{name_view}
 use Rattle.binfarce.specs.Symbol.{Entry, Listed, IsSymbolOf, AreSymbolsOf}
-use Rattle.binfarce_tools.specs.Listing.{line_head, size_line}
+use Rattle.binfarce_rows.specs.Columns.{line_head}
+use Rattle.binfarce_tools.specs.Listing.{size_line}
 use Rattle.binfarce_tools.specs.Report.{IsShareOf, IsReportOfShares, crate_text}
 use Rattle.binfarce_tools.specs.SectionAnswer.{IsLineOf, IsListingOf, IsReportOf}
 use Rattle.binfarce_tools.specs.machine.Symbols.{symbol_line, symbols_listing, share_of, IsReportOfSymbols}

@@ -11,8 +11,6 @@ pub mod ReportWords
 pub mod Sums
 pub mod Tables
 pub mod machine
-pub mod Map
 pub mod Parts
 pub mod Given
-pub mod Json
 pub mod Status

@@ -10,7 +10,7 @@ use Rattle.binfarce_names.specs.Crates.{crate_of}
 use Rattle.binfarce_names.specs.Name.{Name}
 use Rattle.binfarce_names.specs.Named.{IsNamed}
 use Rattle.binfarce.specs.Symbol.{Entry}
-use Rattle.binfarce_tools.specs.Listing.{size_text}
+use Rattle.binfarce_rows.specs.Columns.{size_text}
 
 -- the label for symbols without a crate
 abbrev pub unknown_crate : List ℕ

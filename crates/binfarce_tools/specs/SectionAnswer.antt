@@ -12,7 +12,8 @@ use Rattle.binfarce.specs.Elf.{elf32, elf64}
 use Rattle.binfarce.specs.ElfSymbols.{elf_file_answer}
 use Rattle.binfarce.specs.MachoSymbols.{macho_file_answer, HasAddress}
 use Rattle.binfarce.specs.PeSymbols.{pe_file_answer}
-use Rattle.binfarce_tools.specs.Listing.{line_head, size_line}
+use Rattle.binfarce_rows.specs.Columns.{line_head}
+use Rattle.binfarce_tools.specs.Listing.{size_line}
 use Rattle.binfarce_tools.specs.Report.{Share, IsShareOf, IsReportOfShares}
 
 -- the answer of the format's reader: for this section of an ELF file, and for the text of a Mach-O or PE file; none for an unknown format

@@ -6,7 +6,8 @@ use Rattle.binfarce_names.specs.Name.{Name}
 use Rattle.binfarce_names.specs.Named.{IsNamed}
 use Rattle.binfarce.specs.SectionEntries.{SectionEntry, SelectedSymbols, as_listed}
 use Rattle.binfarce_tools.specs.Answer.{entries_of}
-use Rattle.binfarce_tools.specs.Listing.{line_head, size_line}
+use Rattle.binfarce_rows.specs.Columns.{line_head}
+use Rattle.binfarce_tools.specs.Listing.{size_line}
 use Rattle.binfarce_tools.specs.Report.{Share, IsShareOf, IsReportOfShares}
 use Rattle.binfarce_tools.specs.SectionAnswer.{ReportFits}
 

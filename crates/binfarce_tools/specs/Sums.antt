@@ -1,21 +1,12 @@
 -- The sums of sizes by crate, which a report shows.
-use Rattle.std.specs.Prelude.{◌≡◌, ◌≢◌, ℕ, ◌+◌, ◌<◌, ◌^◌, List, Bool, Option, Some, Result, Ok, Err, String}
+use Rattle.std.specs.Prelude.{◌≡◌, ℕ, ◌+◌, ◌<◌, ◌^◌, List, Bool, Option, Some, String}
 use Rattle.std.specs.BTreeMap.{BTreeMap, get_by_text}
-use Rattle.std.specs.List.{AllZip, list_any}
+use Rattle.std.specs.List.{list_any}
 use Rattle.std.specs.Map.{update}
 use Rattle.std.specs.Option.{is_some, unwrap_or}
 use Rattle.std.specs.Str.{bytes_eq}
-use Rattle.binfarce.specs.Refusal.{Refusal}
-use Rattle.binfarce.specs.SectionEntries.{SelectedSymbols, as_listed}
-use Rattle.binfarce.specs.Symbol.{Listed}
 use Rattle.binfarce_tools.specs.declared.report.CrateSums.{CrateSums}
-use Rattle.binfarce_tools.specs.declared.report.ReportError.{ReportError}
-use Rattle.binfarce_tools.specs.declared.report.ReportError.TheVariants.{Write}
-use Rattle.binfarce_tools.specs.Report.{Share, IsShareOf, total, sum_of}
-use Rattle.binfarce_tools.specs.ReportWords.{outcome_of}
-use Rattle.binfarce_tools.specs.SectionAnswer.{ReportFits}
-use Rattle.binfarce_tools.specs.SelectedTexts.{SelectedReportFits}
-use Rattle.binfarce_tools.specs.Writing.{EndsAs}
+use Rattle.binfarce_tools.specs.Report.{Share, total, sum_of}
 
 -- the sum at a crate's name, 0 where it has none
 abbrev pub sum_at : {Y : Type 0} → BTreeMap (String Y) ℕ → List ℕ → ℕ
@@ -31,21 +22,6 @@ pub record AreSumsOf (shares : List Share) (sums : CrateSums) : Type 0 where
   pub crates_are : (name : List ℕ) → occurs shares name ≡ is_some (get_by_text sums.crates name)
   pub total_is : total shares ≡ sums.total
   pub fits : sums.total < 2 ^ 64
-
--- they are the sums of an answer
-abbrev pub AreSumsOfFile : Listed → CrateSums → Type 0
-AreSumsOfFile listed sums =
-    (sums.section_size ≡ listed.section_size) × ((shares : List Share) × AllZip IsShareOf listed.entries shares × AreSumsOf shares sums)
-
--- the result of summing by crate for a file with this answer: its sums, or the error of a report
-abbrev pub GetsSums : (Result Listed Refusal → Type 0) → Option (Result Listed Refusal) → Result CrateSums ReportError → Type 0
-GetsSums NeedsMemory answer (Ok sums) = (listed : Listed) × (answer ≡ Some (Ok listed)) × AreSumsOfFile listed sums
-GetsSums NeedsMemory answer (Err e) = (e ≢ Write) × EndsAs ReportFits NeedsMemory answer (outcome_of (Err e))
-
--- the same for a selection, whose sums are those of its entries as one list
-abbrev pub GetsSelectedSums : (Result SelectedSymbols Refusal → Type 0) → Option (Result SelectedSymbols Refusal) → Result CrateSums ReportError → Type 0
-GetsSelectedSums NeedsMemory answer (Ok sums) = (selected : SelectedSymbols) × (answer ≡ Some (Ok selected)) × AreSumsOfFile (as_listed selected) sums
-GetsSelectedSums NeedsMemory answer (Err e) = (e ≢ Write) × EndsAs SelectedReportFits NeedsMemory answer (outcome_of (Err e))
 
 -- the share was added at its crate's name
 abbrev pub Adds : {Y : Type 0} → BTreeMap (String Y) ℕ → Share → BTreeMap (String Y) ℕ → Type 0

@@ -1,6 +1,6 @@
 //! The function symbols of a file of any format.
 
-ghost use Rattle.std.specs.Prelude.{◌≡◌, map, Some};
+ghost use Rattle.std.specs.Prelude.{◌≡◌, length, map, nat_eq, Some};
 ghost use Rattle.std.specs.Iterator.{YieldsFirstBy};
 ghost use Rattle.binfarce.specs.ElfSelection.{selected_file_answer, size_taken};
 ghost use Rattle.binfarce.specs.SelectionViews.{selected_view};
@@ -86,6 +86,19 @@ impl<'a> Iterator for AllFunctions<'a> {
             AllFunctions::Elf(functions) => functions.next(),
             AllFunctions::Arranged(functions) => functions.next(),
             AllFunctions::Lent(functions) => functions.next(),
+        }
+    }
+}
+
+impl AllFunctions<'_> {
+    /// Whether none is left. At most one is read.
+    pub fn is_empty(&self) -> bool
+        ensures { result ≡ nat_eq (length (all_left self.now)) 0 }
+    {
+        match self {
+            AllFunctions::Elf(functions) => functions.is_empty(),
+            AllFunctions::Arranged(functions) => functions.functions.len() <= functions.next,
+            AllFunctions::Lent(functions) => functions.functions.len() <= functions.next,
         }
     }
 }

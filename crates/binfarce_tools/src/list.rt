@@ -1,11 +1,12 @@
 //! Lists the function symbols of an executable, a line each.
 
-ghost use Rattle.std.specs.Prelude.{◌≡◌, ◌++◌, ◌<◌, ◌≤◌, ℕ, List, Bool, true, false, length, take, Option, Some, None, IfSome, IfNone, IfOk, OnOk};
+ghost use Rattle.std.specs.Prelude.{◌≡◌, ◌++◌, ◌<◌, ◌≤◌, ℕ, List, Bool, true, false, length, take, Option, Some, None, Ok, IfSome, IfNone, IfOk, OnOk};
 ghost use Rattle.std.specs.String.{string_bytes};
 ghost use Rattle.std.specs.Io.KnownBytes.{Keeps, Appends};
 ghost use Rattle.binfarce.specs.SymbolViews.{section_function_view};
 ghost use Rattle.binfarce.specs.declared.SymbolTable.{SymbolTable};
 ghost use Rattle.binfarce_tools.specs.Answer.{selected_answer, MemoryIn};
+ghost use Rattle.binfarce_tools.specs.Entries.{GetsIn};
 ghost use Rattle.binfarce_tools.specs.Listing.{ListingFits};
 ghost use Rattle.binfarce_tools.specs.ListWords.{outcome_of};
 ghost use Rattle.binfarce_tools.specs.SectionAnswer.{readers_answer, NeedsMemory, IsListingOf};
@@ -14,11 +15,11 @@ ghost use Rattle.binfarce_tools.specs.Writing.{EndsAs, Takes, Fails, Leaves};
 ghost use Rattle.binfarce_tools.specs.Tables.{AreTablesOf, given_by, section_names};
 
 use crate::functions::Selected;
-use crate::head::push_head;
 use crate::tables::Tables;
 use crate::writing::write_whole;
 use binfarce::{ParseError, SectionFunction};
 use binfarce_names::demangle::Demangler;
+use binfarce_rows::head::push_head;
 use std::alloc::{AllocError, Global};
 use std::error::Error;
 use std::fmt;
@@ -204,6 +205,30 @@ pub fn list_tables<S: Sink>(
     ensures leaves { Leaves out.old out.new (outcome_of result) }
 {
     let selected = tables.functions(alloc)?;
+    list_selected(alloc, tables, selected, out)
+}
+
+/// As `list_tables`, of the function symbols that `Tables::functions` gave.
+///
+/// # Errors
+///
+/// `OutOfMemory` and `Write`, as `list`.
+pub fn list_selected<S: Sink>(
+    alloc: Global,
+    tables: &Tables<'_>,
+    selected: Selected<'_>,
+    out: &mut S,
+) -> Result<(), ListError>
+    ensures outcome { (which : SymbolTable) (file : List ℕ) (section : Option (List ℕ))
+        → GetsIn which file section (Ok selected.entry)
+        → EndsAs ListingFits (MemoryIn file section) (selected_answer which section file) (outcome_of result) }
+    ensures takes { (which : SymbolTable) (file : List ℕ) (section : Option (List ℕ))
+        → AreTablesOf which file section tables.now → GetsIn which file section (Ok selected.entry)
+        → Takes IsListingOfSelected (selected_answer which section file) (S.taken out.old) (S.taken out.new)
+        (outcome_of result) }
+    ensures fails { Fails (S.has_failed out.old) (S.has_failed out.new) (outcome_of result) }
+    ensures leaves { Leaves out.old out.new (outcome_of result) }
+{
     let text = listing(alloc, tables, selected)?;
     write_whole(out, text.as_bytes())
 }

@@ -1,6 +1,6 @@
 //! Reports how much of an executable's code each crate takes.
 
-ghost use Rattle.std.specs.Prelude.{◌≡◌, ◌≢◌, ◌⊎◌, ◌+◌, ◌^◌, ◌<◌, ◌≤◌, ◌++◌, ℕ, List, Option, Some, unwrap_or, MatchResult, IfOk, IfErr, OnOk};
+ghost use Rattle.std.specs.Prelude.{◌≡◌, ◌≢◌, ◌⊎◌, ◌+◌, ◌^◌, ◌<◌, ◌≤◌, ◌++◌, ℕ, List, Option, Some, MatchResult, IfOk, IfErr, OnOk};
 ghost use Rattle.std.specs.List.{AllZip, sum_by};
 ghost use Rattle.std.specs.String.{string_bytes};
 ghost use Rattle.binfarce_names.specs.Name.{Name};
@@ -16,7 +16,7 @@ ghost use Rattle.binfarce_tools.specs.Writing.{EndsAs, Takes, Fails, Leaves, Wri
 ghost use Rattle.binfarce_tools.specs.declared.report.ReportError.TheVariants.{OutOfMemory, TooLarge, Write};
 ghost use Rattle.binfarce_tools.specs.Entries.{functions_left};
 ghost use Rattle.binfarce_tools.specs.Tables.{AreTablesOf};
-ghost use Rattle.binfarce_tools.specs.Sums.{AreSumsOf, GetsSums, GetsSelectedSums, sum_at, Adds};
+ghost use Rattle.binfarce_tools.specs.Sums.{AreSumsOf, sum_at, Adds};
 
 use crate::functions::Functions;
 use crate::list::{ListError, Sink, push_last_line};
@@ -141,58 +141,23 @@ pub fn report_tables<S: Sink>(
     ensures leaves { Leaves out.old out.new (outcome_of result) }
 {
     let (functions, size) = tables.functions(alloc)?.into_list();
-    let sums = crate_sums(alloc, functions, size)?;
+    let sums = crate_sums(alloc, functions)?;
     write_made(out, report_text(alloc, &sums, size))
 }
 
-/// How many bytes the function symbols of a selection take, by crate.
+// How many bytes the function symbols of a selection take, by crate.
 #[derive(Drop)]
-pub struct CrateSums {
-    /// The sum of the sizes of each crate's symbols, by the crate's name.
-    pub crates: BTreeMap<String, u64>,
-    /// The sum of all sizes.
-    pub total: u64,
-    /// The section's size, or for all sections the sum of all sizes.
-    pub section_size: u64,
+struct CrateSums {
+    // The sum of the sizes of each crate's symbols, by the crate's name.
+    crates: BTreeMap<String, u64>,
+    // The sum of all sizes.
+    total: u64,
 }
 
-/// The sums that `report` shows.
-///
-/// # Errors
-///
-/// As `report`, but for `Write`.
-pub fn sums_of_file(alloc: Global, file: &[u8], section: &str) -> Result<CrateSums, ReportError>
-    ensures { GetsSums (NeedsMemory file.now) (readers_answer file.now section.now) result }
-{
-    sums_of_tables(alloc, &Tables::whole(file, section))
-}
-
-/// The sums that `report_tables` shows.
-///
-/// # Errors
-///
-/// As `report_tables`, but for `Write`.
-pub fn sums_of_tables(alloc: Global, tables: &Tables<'_>) -> Result<CrateSums, ReportError>
-    ensures sums { (which : SymbolTable) (file : List ℕ) (section : Option (List ℕ))
-        → AreTablesOf which file section tables.now
-        → GetsSelectedSums (MemoryIn file section) (selected_answer which section file) result }
-    ensures made { IfOk result (λ s. (shares : List Share) × AreSumsOf shares s) }
-    ensures unwritten { IfErr result (λ e. e ≢ Write) }
-{
-    let (functions, size) = tables.functions(alloc)?.into_list();
-    crate_sums(alloc, functions, size)
-}
-
-// The sums of the functions, with the section's size, or without one the sum of all sizes. `TooLarge` where the sum of
-// all exceeds 64 bits.
-pub(crate) fn crate_sums(
-    alloc: Global,
-    functions: Functions<'_>,
-    section_size: Option<u64>,
-) -> Result<CrateSums, ReportError>
+// The sums of the functions. `TooLarge` where the sum of all exceeds 64 bits.
+fn crate_sums(alloc: Global, functions: Functions<'_>) -> Result<CrateSums, ReportError>
     ensures { MatchResult result
-        (λ s. (s.section_size ≡ unwrap_or section_size s.total) × ((shares : List Share)
-        × AllZip IsShareOf (functions_left functions.entry) shares × AreSumsOf shares s))
+        (λ s. (shares : List Share) × AllZip IsShareOf (functions_left functions.entry) shares × AreSumsOf shares s)
         (λ e. (e ≡ OutOfMemory) ⊎ ((e ≡ TooLarge) × (2 ^ 64 ≤ sum_by (λ f. f.size) (functions_left functions.entry)))) }
 {
     let mut crates = BTreeMap::new(alloc);
@@ -204,11 +169,7 @@ pub(crate) fn crate_sums(
             .ok_or(ReportError::TooLarge)?;
         add_function(alloc, &mut crates, &mut text, function)?;
     }
-    Ok(CrateSums {
-        crates,
-        total,
-        section_size: section_size.unwrap_or(total),
-    })
+    Ok(CrateSums { crates, total })
 }
 
 // Adds a function's size to the sum of its crate. The text is overwritten by the crate's name; it is reused for all
@@ -296,7 +257,7 @@ fn report_text(alloc: Global, sums: &CrateSums, size: Option<u64>) -> Result<Str
 }
 
 // Appends `{sum:>10} {name}` and a line feed to the text.
-#[tactic(auto, using(crate::proofs::Pads::size_padded))]
+#[tactic(auto, using(binfarce_rows::proofs::Pads::size_padded))]
 fn push_crate_line(text: &mut String, name: &str, sum: u64) -> Result<(), AllocError>
     ensures { OnOk result (string_bytes text.new ≡ string_bytes text.old ++ crate_line name.now sum) }
 {

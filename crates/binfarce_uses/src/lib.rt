@@ -8,7 +8,6 @@ pub mod filtering;
 pub mod image;
 pub mod is_big_endian_elf;
 pub mod macho;
-pub mod mapping;
 pub mod name_at;
 pub mod names;
 pub mod parts;

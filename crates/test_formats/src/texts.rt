@@ -3,11 +3,11 @@
 use binfarce_tables::ReadError;
 use binfarce_tools::SymbolTable;
 use binfarce_tools::list::{ListError, Out, list, list_tables};
-use binfarce_tools::map::{map, map_tables};
 use binfarce_tools::report::{report, report_tables};
 use binfarce_tools::tables::{Selection, Tables, read};
 use std::alloc::{AllocError, Global};
 use std::fmt::Display;
+use test_image_samples::draw;
 
 // What is written, and behind it the text of the fault.
 fn text_of<E: Display + Drop>(
@@ -43,7 +43,7 @@ pub fn text_of_section(
             text_of(alloc, ended, out.into_inner())
         }
         _ => {
-            let ended = map(alloc, "{path}", file, section, &mut out);
+            let ended = draw(alloc, "{path}", &Tables::whole(file, section), &mut out);
             text_of(alloc, ended, out.into_inner())
         }
     }
@@ -103,7 +103,7 @@ pub fn text_of_all(alloc: Global, words: &str, file: &[u8]) -> Result<String, Al
             text_of(alloc, ended, out.into_inner())
         }
         _ => {
-            let ended = map_tables(alloc, "{path}", &tables, &mut out);
+            let ended = draw(alloc, "{path}", &tables, &mut out);
             text_of(alloc, ended, out.into_inner())
         }
     }

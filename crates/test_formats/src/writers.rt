@@ -2,10 +2,11 @@
 
 use crate::texts::text_of_section;
 use binfarce_tools::list::{ListError, Out, Sink, list};
-use binfarce_tools::map::map;
 use binfarce_tools::report::{ReportError, report};
+use binfarce_tools::tables::Tables;
 use std::alloc::{AllocError, Global};
 use std::io::ErrorKind;
+use test_image_samples::draw;
 use test_samples::streams::Target;
 use test_samples::{first_bytes, patched};
 
@@ -31,7 +32,7 @@ fn all_written(alloc: Global, what: &str, file: &[u8], out: &mut Out<Target>) ->
             Ok(()) => Some(true),
             Err(error) => (error == ReportError::Write).then_some(false),
         },
-        _ => match map(alloc, "{path}", file, ".text", out) {
+        _ => match draw(alloc, "{path}", &Tables::whole(file, ".text"), out) {
             Ok(()) => Some(true),
             Err(error) => (error == ReportError::Write).then_some(false),
         },

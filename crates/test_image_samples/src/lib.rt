@@ -1,9 +1,15 @@
-//! Images of small ELF files, and the files that they are laid out in, for tests of readers.
+//! Images of small ELF files, and the files that they are laid out in, for tests of readers; and pictures of sums by crate.
 #![tactic(auto)]
 
 pub mod tally;
 
+use binfarce_figures::claims::Claims;
+use binfarce_figures::key::{Grouping, Key};
+use binfarce_figures::map::map_by;
 use binfarce_image::image::{ElfLayout, Image, ImageError, Part, Row, lay_out};
+use binfarce_tools::list::Sink;
+use binfarce_tools::report::ReportError;
+use binfarce_tools::tables::Tables;
 use std::alloc::{AllocError, Global};
 use test_samples::elf::Layout;
 
@@ -21,6 +27,21 @@ pub const FIRST_SIZE: usize = 112;
 const STRINGS: &[u8] = b"\0_ZN3foo3barE\0bad\0";
 
 const SECTION_NAMES: &[u8] = b"\0.text\0.symtab\0.strtab\0.shstrtab\0";
+
+/// Draws the sums by crate, with this title.
+pub fn draw<S: Sink>(
+    alloc: Global,
+    title: &str,
+    tables: &Tables<'_>,
+    out: &mut S,
+) -> Result<(), ReportError> {
+    let claims = Claims::of_tables(alloc, tables)?;
+    let grouping = Grouping {
+        key: Key::Crate,
+        joins_std: false,
+    };
+    map_by(alloc, title, &claims, grouping, None, out)
+}
 
 /// A section of these bytes.
 pub fn bytes(alloc: Global, name: u32, kind: u32, body: &[u8]) -> Result<Part, AllocError> {

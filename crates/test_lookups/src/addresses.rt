@@ -2,12 +2,16 @@
 
 use crate::Asking;
 use crate::words::{known, number, push_hex, push_number, push_words};
-use binfarce_addresses::annotate::{annotate_stream, push_annotated};
+use binfarce_addresses::address::{has_prefix, hex_number};
 use binfarce_addresses::at::{Places, at, at_tables};
+use binfarce_addresses::digits::push_offset;
+use binfarce_addresses::names::Names;
 use binfarce_addresses::stream::{StreamError, answer_lines, push_lines as push_lines_of};
-use binfarce_addresses::{Counts, Lookup, Module, parse_address};
+use binfarce_addresses::{Counts, Lookup, parse_address};
+use binfarce_logs::Module;
+use binfarce_logs::annotate::{annotate_stream, push_annotated};
+use binfarce_rows::json::Form;
 use binfarce_tools::SymbolTable;
-use binfarce_tools::json::Form;
 use binfarce_tools::list::Out;
 use binfarce_tools::tables::{Selection, read};
 use std::alloc::Global;
@@ -47,6 +51,46 @@ fn lookup_of(words: &str, is_return: bool) -> io::Result<Lookup<'static>> {
         form: Form::Lines,
         path: b"app",
     })
+}
+
+/// Adds what a number finds in a file that is at 400000 and has its origin at 1000: as an address, and as an offset after
+/// the file's name.
+pub(crate) fn push_found(alloc: Global, words: &str, text: &mut Vec<u8>) -> io::Result<()> {
+    let Ok(places) = Places::of_file(alloc, &ELF64_LITTLE, ".text") else {
+        return push_words(text, "no places");
+    };
+    let mut lookup = lookup_of("400000", false)?;
+    lookup.origin = 0x1000;
+    let mut names = Names::with_room(alloc, &places, lookup)?;
+    let word = words.as_bytes();
+    let digits = if has_prefix(word) { &word[2..] } else { word };
+    let number = known(hex_number(digits))?;
+    push_place(&mut names, number, false, text)?;
+    push_place(&mut names, number, true, text)
+}
+
+// Adds what a number finds as an address, or as an offset after the file's path.
+fn push_place(
+    names: &mut Names<'_, '_>,
+    number: u64,
+    is_offset: bool,
+    text: &mut Vec<u8>,
+) -> io::Result<()> {
+    text.extend_from_slice(names.path())?;
+    let found = if is_offset {
+        names.find_offset(number)
+    } else {
+        names.find_address(number)
+    };
+    match found {
+        Some((place, offset)) => {
+            push_words(text, ": ")?;
+            names.push_name(text, place)?;
+            push_offset(text, offset, b' ')?;
+            Ok(())
+        }
+        None => push_words(text, ": none "),
+    }
 }
 
 /// Adds the lines of addresses by a base, from a file's bytes, and from the tables that are read of it.

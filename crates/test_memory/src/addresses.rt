@@ -3,7 +3,7 @@
 use binfarce_addresses::Lookup;
 use binfarce_addresses::at::{Places, at};
 use binfarce_addresses::stream::{StreamError, answer_lines};
-use binfarce_tools::json::Form;
+use binfarce_rows::json::Form;
 use binfarce_tools::list::{ListError, Out};
 use std::alloc::{AllocError, Global};
 use test_image_samples::tally::{Row, Tally};

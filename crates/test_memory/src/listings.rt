@@ -5,12 +5,11 @@ use binfarce_image::image::ImageError;
 use binfarce_tables::ReadError;
 use binfarce_tools::SymbolTable;
 use binfarce_tools::list::{ListError, Out, list, list_tables};
-use binfarce_tools::map::{map, map_tables};
 use binfarce_tools::report::{ReportError, report, report_tables};
-use binfarce_tools::tables::{Selection, read};
+use binfarce_tools::tables::{Selection, Tables, read};
 use std::alloc::{AllocError, Global};
 use test_image_samples::tally::{Row, Tally};
-use test_image_samples::{FIRST_SIZE, file_beside};
+use test_image_samples::{FIRST_SIZE, draw, file_beside};
 use test_samples::expected::Expected;
 use test_samples::files::{FILES, File};
 use test_samples::macho::{FOURTH, N_VALUE};
@@ -77,7 +76,7 @@ fn is_reported(alloc: Global, file: &[u8], expected: Reported) -> Row {
     };
     let mut out = Out::new(Expected::new(text.as_bytes()));
     let result = match expected {
-        Reported::Picture(_) => map(alloc, "file", file, ".text", &mut out),
+        Reported::Picture(_) => draw(alloc, "file", &Tables::whole(file, ".text"), &mut out),
         _ => report(alloc, file, ".text", &mut out),
     };
     let written = out.into_inner();
@@ -170,7 +169,7 @@ fn is_written(alloc: Global, call: All, text: &str) -> Row {
     let result = match call {
         All::List => list_tables(alloc, &tables, &mut out).map_err(ReportError::from),
         All::Report => report_tables(alloc, &tables, &mut out),
-        All::Map => map_tables(alloc, "file", &tables, &mut out),
+        All::Map => draw(alloc, "file", &tables, &mut out),
     };
     let written = out.into_inner();
     match result {

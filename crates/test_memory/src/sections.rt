@@ -1,9 +1,9 @@
 //! Lists of sections, and the bytes of one.
 
+use binfarce_rows::json::Form;
 use binfarce_sections::bytes::{write_section, write_section_of};
 use binfarce_sections::error::SectionError;
 use binfarce_sections::list::{list_sections, list_source};
-use binfarce_tools::json::Form;
 use binfarce_tools::list::Out;
 use std::alloc::{AllocError, Global};
 use test_image_samples::tally::{Row, Tally};

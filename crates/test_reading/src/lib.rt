@@ -9,11 +9,11 @@ use binfarce::{FunctionSymbol, SectionFunction, SymbolTable, elf32, elf64, macho
 use binfarce_bytes::ParseError;
 use binfarce_bytes::functions::Selection;
 use binfarce_bytes::source::Source;
+use binfarce_rows::json::Form;
 use binfarce_sections::bytes::{write_section, write_section_of};
 use binfarce_sections::error::SectionError;
 use binfarce_sections::list::{list_sections, list_source};
 use binfarce_tables::{self as tables, ReadError, Width};
-use binfarce_tools::json::Form;
 use binfarce_tools::list::Out;
 use std::alloc::{AllocError, Global};
 use test_samples::elf::Layout;

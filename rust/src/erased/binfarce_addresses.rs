@@ -3,21 +3,15 @@
 //! Symbolizes addresses in an executable: the function symbol that holds each, and the offset into it.
 
 pub mod address;
-pub mod annotate;
 pub mod at;
 pub mod counts;
-pub(crate) mod digits;
+pub mod digits;
 pub mod lookup;
-pub mod maps;
-pub(crate) mod module;
-pub mod modules;
-pub(crate) mod names;
+pub mod names;
 pub mod ranges;
 pub(crate) mod slices;
 pub mod stream;
-pub(crate) mod word;
 
 pub use crate::erased::binfarce_addresses::address::parse_address;
 pub use crate::erased::binfarce_addresses::counts::Counts;
 pub use crate::erased::binfarce_addresses::lookup::Lookup;
-pub use crate::erased::binfarce_addresses::modules::Module;

@@ -1,12 +1,9 @@
 // From crates/binfarce_tools/src/lib.rt, by tools/erase.
 
-//! Listings of the function symbols of executables, and reports and pictures of their sizes by crate.
+//! Listings of the function symbols of executables, and reports of their sizes by crate.
 
 pub mod functions;
-pub mod head;
-pub mod json;
 pub mod list;
-pub mod map;
 #[cfg(feature = "std")]
 pub mod program;
 pub mod report;

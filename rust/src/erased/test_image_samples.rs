@@ -1,11 +1,17 @@
 // From crates/test_image_samples/src/lib.rt, by tools/erase.
 
-//! Images of small ELF files, and the files that they are laid out in, for tests of readers.
+//! Images of small ELF files, and the files that they are laid out in, for tests of readers; and pictures of sums by crate.
 
 pub mod tally;
 
 use crate::shim::Vec;
+use crate::erased::binfarce_figures::claims::Claims;
+use crate::erased::binfarce_figures::key::{Grouping, Key};
+use crate::erased::binfarce_figures::map::map_by;
 use crate::erased::binfarce_image::image::{ElfLayout, Image, ImageError, Part, Row, lay_out};
+use crate::erased::binfarce_tools::list::Sink;
+use crate::erased::binfarce_tools::report::ReportError;
+use crate::erased::binfarce_tools::tables::Tables;
 use crate::shim::alloc::{AllocError, Global};
 use crate::erased::test_samples::elf::Layout;
 
@@ -23,6 +29,21 @@ pub const FIRST_SIZE: usize = 112;
 const STRINGS: &[u8] = b"\0_ZN3foo3barE\0bad\0";
 
 const SECTION_NAMES: &[u8] = b"\0.text\0.symtab\0.strtab\0.shstrtab\0";
+
+/// Draws the sums by crate, with this title.
+pub fn draw<S: Sink>(
+    alloc: Global,
+    title: &str,
+    tables: &Tables<'_>,
+    out: &mut S,
+) -> Result<(), ReportError> {
+    let claims = Claims::of_tables(alloc, tables)?;
+    let grouping = Grouping {
+        key: Key::Crate,
+        joins_std: false,
+    };
+    map_by(alloc, title, &claims, grouping, None, out)
+}
 
 /// A section of these bytes.
 pub fn bytes(alloc: Global, name: u32, kind: u32, body: &[u8]) -> Result<Part, AllocError> {

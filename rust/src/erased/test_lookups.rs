@@ -61,6 +61,7 @@ fn answer(alloc: Global, question: &str, text: &mut Vec<u8>) -> io::Result<()> {
     let (verb, words) = question.split_once(' ').unwrap_or((question, ""));
     match verb {
         "address" => addresses::push_address(words, text)?,
+        "found" => addresses::push_found(alloc, words, text)?,
         "input" => addresses::push_answers(alloc, words, false, text)?,
         "return-input" => addresses::push_answers(alloc, words, true, text)?,
         "annotate" => addresses::push_annotated_text(alloc, words, false, false, text)?,

@@ -11,11 +11,11 @@ use crate::erased::binfarce::{
 use crate::erased::binfarce_bytes::ParseError;
 use crate::erased::binfarce_bytes::functions::Selection;
 use crate::erased::binfarce_bytes::source::Source;
+use crate::erased::binfarce_rows::json::Form;
 use crate::erased::binfarce_sections::bytes::{write_section, write_section_of};
 use crate::erased::binfarce_sections::error::SectionError;
 use crate::erased::binfarce_sections::list::{list_sections, list_source};
 use crate::erased::binfarce_tables::{self as tables, ReadError, Width};
-use crate::erased::binfarce_tools::json::Form;
 use crate::erased::binfarce_tools::list::Out;
 use crate::shim::alloc::{AllocError, Global};
 use crate::erased::test_samples::elf::Layout;

@@ -2,11 +2,10 @@
 use Rattle.std.specs.Prelude.{◌≡◌, ◌≤◌, ℕ, Bool, true, false, List, [], ◌++◌, length, drop, Option}
 use Rattle.binfarce.specs.Symbol.{Entry}
 use Rattle.binfarce_addresses.specs.declared.lookup.Lookup.{Lookup}
-use Rattle.binfarce_addresses.specs.Counts.{AreCountsOf, answers_to}
+use Rattle.binfarce_addresses.specs.Counts.{AreCountsOf, answers_to, AddsUp}
 use Rattle.binfarce_addresses.specs.declared.counts.Counts.{Counts}
 use Rattle.binfarce_addresses.specs.declared.stream.Lines.{Lines}
 use Rattle.binfarce_addresses.specs.Stream.{line_address, AnswersAll, AnswersSome, AnswersWhole, AreAnswersOf, Begins, HasNoLineFeed}
-use Rattle.binfarce_addresses.specs.machine.Counting.{AddsUp}
 
 -- the whole lines of a text have these addresses, or none; the rest has no line feed
 pub record AreAddressesOf (text : List ℕ) (addresses : List (Option ℕ)) (len : ℕ) : Type 0 where

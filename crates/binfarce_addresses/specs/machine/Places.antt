@@ -1,10 +1,9 @@
 -- Places: function symbols, the spans of their ranges, and readable names that are kept.
-use Rattle.std.specs.Prelude.{◌≡◌, ℕ, ◌-◌, Bool, ◌<◌, ◌≤◌, List, map, drop, take, length, slice_index_or, Option, Some, None, MatchOption}
-use Rattle.binfarce.specs.Named.{IsShown}
+use Rattle.std.specs.Prelude.{◌≡◌, ℕ, ◌-◌, ◌<◌, ◌≤◌, List, map, drop, take, length, slice_index_or, Option, Some, None, MatchOption}
 use Rattle.binfarce.specs.Symbol.{Entry}
 use Rattle.binfarce.specs.SymbolViews.{function_view}
 use Rattle.binfarce.specs.declared.FunctionSymbol.{FunctionSymbol}
-use Rattle.binfarce_addresses.specs.Lookup.{found_in, in_file}
+use Rattle.binfarce_addresses.specs.Places.{IsAtPlace, IsNamedAt, IsShownAt}
 use Rattle.binfarce_addresses.specs.declared.lookup.Lookup.{Lookup}
 use Rattle.binfarce_addresses.specs.declared.ranges.AddressRange.{AddressRange}
 use Rattle.binfarce_addresses.specs.declared.ranges.Span.{Span}
@@ -15,14 +14,6 @@ range_of entry = record { address = entry.address; size = entry.size }
 
 abbrev pub ranges_of : List FunctionSymbol → List AddressRange
 ranges_of functions = map (λ f. range_of (function_view f)) functions
-
--- the entry is at the place
-abbrev pub IsAtPlace : List Entry → ℕ → Entry → Type 0
-IsAtPlace entries place entry = (place < length entries) × (slice_index_or entries place entry ≡ entry)
-
--- the text is the readable name of the entry at the place
-abbrev pub IsNamedAt : List Entry → ℕ → List ℕ → Type 0
-IsNamedAt entries place text = (entry : Entry) → IsAtPlace entries place entry → (name : List ℕ) × IsShown entry.name name × (text ≡ name)
 
 -- the symbol is the name and the offset of what is found
 abbrev pub IsSymbolAt : List Entry → Option (ℕ × ℕ) → Option (List ℕ × ℕ) → Type 0
@@ -40,16 +31,6 @@ pub record ArePlacesOf (functions : List FunctionSymbol) (spans : List Span) : T
 -- this place has the entry, or there is none
 abbrev pub IsPlaceFor : List Entry → Option Entry → Option ℕ → Type 0
 IsPlaceFor entries entry place = MatchOption place (entry ≡ None) (λ p. (e : Entry) × (entry ≡ Some e) × IsAtPlace entries p e)
-
--- this is found at an address in the file, or at none: the place of an entry, and the offset into it
-abbrev pub IsFoundIn : List Entry → (is_return : Bool) → Option ℕ → Option (ℕ × ℕ) → Type 0
-IsFoundIn entries is_return address found =
-    MatchOption found (found_in entries is_return address ≡ None)
-    (λ f. (entry : Entry) × (found_in entries is_return address ≡ Some (entry, f.1)) × IsAtPlace entries f.0 entry)
-
--- the address symbolizes to this
-abbrev pub IsShownAt : List Entry → Lookup → ℕ → Option (ℕ × ℕ) → Type 0
-IsShownAt entries lookup address found = IsFoundIn entries lookup.is_return (in_file lookup address) found
 
 -- this is found for a line with the address, or with none
 abbrev pub IsFoundFor : List Entry → Lookup → Option ℕ → Option (ℕ × ℕ) → Type 0

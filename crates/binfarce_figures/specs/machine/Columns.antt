@@ -1,12 +1,13 @@
 -- What is shown of figures, by what their two numbers are.
 use Rattle.std.specs.Prelude.{ℕ, Bool, true, List, filter}
-use Rattle.binfarce_tools.specs.Json.{style_of}
+use Rattle.binfarce_rows.specs.Columns.{difference}
+use Rattle.binfarce_rows.specs.Json.{style_of}
 use Rattle.binfarce_tools.specs.Report.{Share, AreCratesOf, sum_of}
 use Rattle.binfarce_figures.specs.declared.figures.Columns.{Columns}
 use Rattle.binfarce_figures.specs.declared.figures.Columns.TheVariants.{Sums, Changes}
 use Rattle.binfarce_figures.specs.declared.figures.Layout.{Layout}
 use Rattle.binfarce_figures.specs.declared.sums.Figures.{Figures}
-use Rattle.binfarce_figures.specs.Changes.{change_columns, change_members, differ, difference}
+use Rattle.binfarce_figures.specs.Changes.{change_columns, change_members, differ}
 use Rattle.binfarce_figures.specs.Figures.{AreRowsOf, numbers_of, row_of, sum_columns, sum_members}
 
 abbrev pub columns_text : Figures → Columns → (sum other : ℕ) → List ℕ

@@ -1,6 +1,6 @@
 -- The text of how what the function symbols of two files add differs.
 use Rattle.std.specs.Prelude.{ℕ, List}
-use Rattle.binfarce_tools.specs.Json.{Style}
+use Rattle.binfarce_rows.specs.Json.{Style}
 use Rattle.binfarce_tools.specs.Report.{Share}
 use Rattle.binfarce_figures.specs.declared.sums.Figures.{Figures}
 use Rattle.binfarce_figures.specs.Changes.{IsTextOfChanges}

@@ -5,7 +5,7 @@ use Rattle.std.specs.BTreeMap.{BTreeMap, get_by_text}
 use Rattle.std.specs.String.{string_bytes}
 use Rattle.binfarce.specs.SectionEntries.{SectionEntry}
 use Rattle.binfarce.specs.SymbolViews.{section_function_view}
-use Rattle.binfarce_tools.specs.Json.{style_of}
+use Rattle.binfarce_rows.specs.Json.{style_of}
 use Rattle.binfarce_tools.specs.Tables.{section_names, version_names_of}
 use Rattle.binfarce_bytes.specs.declared.functions.SectionFunction.{SectionFunction}
 use Rattle.binfarce_figures.specs.declared.order.Order.{Order}
@@ -45,6 +45,11 @@ name_of f = f.function.name.now
 pub record IsTextAt (naming : Naming) (texts : List (String Global)) (stored : List ℕ) (index : ℕ) : Type 0 where
   pub below : index < length texts
   pub is : (d : String Global) → IsNameText naming stored (string_bytes (slice_index_or texts index d))
+
+-- what is shown of a stored name is the text at an index, or the stored name itself
+abbrev pub IsShownBy : (naming : Naming) (texts : List (String Global)) (stored : List ℕ) → Option ℕ → Type 0
+IsShownBy naming texts stored (Some index) = IsTextAt naming texts stored index
+IsShownBy naming texts stored None = IsNameText naming stored stored
 
 -- each long name that was found has the index of its text
 abbrev pub AreTexts : Naming → Texts → Type 0

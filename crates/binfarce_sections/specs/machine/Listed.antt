@@ -6,7 +6,7 @@ use Rattle.std.specs.Global.{Global}
 use Rattle.binfarce.specs.declared.ParseError.{ParseError}
 use Rattle.binfarce.specs.Refusal.{refusal_of}
 use Rattle.binfarce.specs.Walk.{Walk}
-use Rattle.binfarce_tools.specs.Json.{Style}
+use Rattle.binfarce_rows.specs.Json.{Style}
 use Rattle.binfarce_sections.specs.Lines.{section_lines}
 use Rattle.binfarce_sections.specs.Section.{Section}
 

@@ -4,7 +4,8 @@ use Rattle.std.specs.List.{concat}
 use Rattle.std.specs.String.{string_bytes}
 use Rattle.binfarce.specs.declared.demangle.SymbolData.{SymbolData}
 use Rattle.binfarce.specs.Name.{name_view}
-use Rattle.binfarce_tools.specs.Listing.{line_head, size_line}
+use Rattle.binfarce_rows.specs.Columns.{line_head}
+use Rattle.binfarce_tools.specs.Listing.{size_line}
 use Rattle.binfarce_tools.specs.Report.{Share, IsReportOfShares, crate_text}
 
 -- the line of a symbol

@@ -3,12 +3,12 @@ ghost use Rattle.binfarce_addresses.specs.Lines.{AreLinesAt, outcome_of};
 ghost use Rattle.binfarce_tools.specs.Answer.{selected_answer};
 ghost use Rattle.binfarce_tools.specs.Tables.{AreTablesOf};
 ghost use Rattle.binfarce_tools.specs.declared.SymbolTable.{SymbolTable};
-ghost use Rattle.binfarce_tools.specs.declared.json.Form.TheVariants.{Lines};
+ghost use Rattle.binfarce_rows.specs.declared.json.Form.TheVariants.{Lines};
 ghost use Rattle.binfarce_tools.specs.Writing.{Takes};
 
 use binfarce_addresses::at::at_tables;
 use binfarce_addresses::{Counts, Lookup};
-use binfarce_tools::json::Form;
+use binfarce_rows::json::Form;
 use binfarce_tools::list::{ListError, Sink};
 use binfarce_tools::tables::Tables;
 use std::alloc::Global;

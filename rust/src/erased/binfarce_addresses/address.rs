@@ -9,8 +9,8 @@ pub fn parse_address(word: &[u8]) -> Option<u64> {
     hex_number(digits.unwrap_or(word))
 }
 
-// The number that 1 to 16 digits write.
-pub(crate) fn hex_number(digits: &[u8]) -> Option<u64> {
+/// The number that 1 to 16 hexadecimal digits write. `None` for anything else. Nothing is allocated.
+pub fn hex_number(digits: &[u8]) -> Option<u64> {
     if digits.is_empty() || digits.len() > 16 {
         return None;
     }
@@ -22,6 +22,6 @@ pub(crate) fn hex_number(digits: &[u8]) -> Option<u64> {
 }
 
 /// Whether the word begins with `0x` or `0X`.
-pub(crate) fn has_prefix(word: &[u8]) -> bool {
+pub fn has_prefix(word: &[u8]) -> bool {
     word.starts_with(b"0x") || word.starts_with(b"0X")
 }

@@ -22,8 +22,8 @@ pub struct Places<'a> {
     ranges: Ranges,
 }
 
-// What an address symbolizes to: the place of a function symbol, and the offset of the address into it.
-pub(crate) type Found = (usize, u64);
+/// What an address symbolizes to: the place of a function symbol, and the offset of the address into it.
+pub type Found = (usize, u64);
 
 impl<'a> Places<'a> {
     /// The places of a file's function symbols: of an ELF file those of the section.
@@ -102,8 +102,8 @@ impl<'a> Places<'a> {
         self.functions[place]
     }
 
-    // Whether a function symbol has this name, as it is stored.
-    pub(crate) fn has(&self, name: &[u8]) -> bool {
+    /// Whether a function symbol has this name, as it is stored.
+    pub fn has(&self, name: &[u8]) -> bool {
         self.functions
             .iter()
             .any(|function| function.name.as_bytes() == name)

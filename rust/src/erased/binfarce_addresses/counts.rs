@@ -16,20 +16,20 @@ pub struct Counts {
     pub missing: u64,
 }
 
-// What is replied to a line, or to a number in a text.
+/// What is replied to a line, or to a number in a text.
 #[derive(Debug, Clone, Copy, PartialEq)]
-pub(crate) enum Reply {
-    // It isn't asked for: a line has no address; an offset is into another file or a function.
+pub enum Reply {
+    /// It isn't asked for: a line has no address; an offset is into another file or a function.
     Unasked,
-    // Several files have the name that is before an offset.
+    /// Several files have the name that is before an offset.
     Unclear,
-    // Whether a function symbol holds the address.
+    /// Whether a function symbol holds the address.
     Held(bool),
 }
 
 impl Counts {
-    // Nothing was asked for.
-    pub(crate) fn new() -> Counts {
+    /// Nothing was asked for.
+    pub fn new() -> Counts {
         Counts {
             asked: 0,
             found: 0,
@@ -38,9 +38,9 @@ impl Counts {
         }
     }
 
-    // Counts a reply.
+    /// Counts a reply.
     #[cfg_attr(not(debug_assertions), inline(always))]
-    pub(crate) fn add(&mut self, reply: Reply) {
+    pub fn add(&mut self, reply: Reply) {
         match reply {
             Reply::Unasked => self.missing = self.missing.saturating_add(1),
             Reply::Unclear => {

@@ -12,9 +12,13 @@ pub(crate) fn push_address(text: &mut Vec<u8>, address: u64) -> Result<(), Alloc
     Ok(text.push(b' ')?)
 }
 
-/// Appends an offset and a byte to the text.
+/// Appends an offset, as `+0x` and hexadecimal digits, and a byte to the text.
+///
+/// # Errors
+///
+/// `AllocError` where an allocation failed: the text is then unspecified.
 #[cfg_attr(not(debug_assertions), inline(always))]
-pub(crate) fn push_offset(text: &mut Vec<u8>, offset: u64, end: u8) -> Result<(), AllocError> {
+pub fn push_offset(text: &mut Vec<u8>, offset: u64, end: u8) -> Result<(), AllocError> {
     let zeros = (offset.leading_zeros() / 4).min(15) as usize;
     text.extend_from_slice(b"+0x")?;
     text.extend_from_slice(&digits_of(offset)[zeros..])?;

@@ -2,7 +2,7 @@
 
 //! How an address is looked up, and the form of the answer.
 
-use crate::erased::binfarce_tools::json::Form;
+use crate::erased::binfarce_rows::json::Form;
 
 /// How addresses are looked up and answered.
 #[derive(Debug, Clone, Copy, PartialEq)]

@@ -8,14 +8,19 @@ use crate::erased::binfarce_addresses::counts::Reply;
 use crate::erased::binfarce_addresses::digits::{push_address, push_offset};
 use crate::erased::binfarce_addresses::lookup::Lookup;
 use crate::erased::binfarce::demangle::Demangler;
-use crate::erased::binfarce_tools::json::{
+use crate::erased::binfarce_rows::json::{
     Form, push_address_member, push_number_member, push_start, push_text_member,
 };
 use crate::shim::alloc::{AllocError, Global};
 
+// The most bytes of names that are kept before one more: 32 MiB.
+const MOST_KEPT: usize = 1 << 25;
+
 /// The readable names of the function symbols of places that were needed so far, and what answers the addresses of one
 /// lookup with them.
-pub(crate) struct Names<'b, 'a> {
+///
+/// Contracts speak of the entries and of the lookup.
+pub struct Names<'b, 'a> {
     pub(crate) alloc: Global,
     pub(crate) places: &'b Places<'a>,
     pub(crate) lookup: Lookup<'b>,
@@ -63,12 +68,32 @@ impl<'b, 'a> Names<'b, 'a> {
     }
 
     /// No name so far, with room for all.
-    pub(crate) fn with_room(
+    ///
+    /// # Errors
+    ///
+    /// `AllocError` where an allocation failed.
+    pub fn with_room(
         alloc: Global,
         places: &'b Places<'a>,
         lookup: Lookup<'b>,
     ) -> Result<Names<'b, 'a>, AllocError> {
         Names::new(alloc, places, lookup, places.functions.len())
+    }
+
+    /// The file's path in a text; nothing is copied.
+    pub fn path(&self) -> &'b [u8] {
+        self.lookup.path
+    }
+
+    /// What an address symbolizes to.
+    pub fn find_address(&self, address: u64) -> Option<Found> {
+        self.places.find_place(self.lookup, Some(address))
+    }
+
+    /// What an offset from the file's origin symbolizes to; nothing where the address passes 64 bits.
+    pub fn find_offset(&self, offset: u64) -> Option<Found> {
+        let address = offset.checked_add(self.lookup.origin);
+        self.places.find_in(self.lookup.is_return, address)
     }
 
     // The answer to a line with the address, or with none.
@@ -163,6 +188,7 @@ impl<'b, 'a> Names<'b, 'a> {
         if let Some(name) = self.name_at(place) {
             return push_text_member(text, "name", Some(name));
         }
+        self.make_room();
         let mut name = String::new(self.alloc);
         self.demangler
             .push_shown(&mut name, self.places.at(place).name)?;
@@ -173,18 +199,32 @@ impl<'b, 'a> Names<'b, 'a> {
         push_text_member(text, "name", Some(name.as_str()))
     }
 
-    // Appends the readable name of the function symbol at a place to the text, and keeps it, if there is room for it.
+    /// Appends the readable name of the function symbol at a place to the text, and keeps it, if there is room for it.
+    ///
+    /// # Errors
+    ///
+    /// `AllocError` where an allocation failed: the text is then unspecified.
     #[cfg_attr(not(debug_assertions), inline(always))]
-    pub(crate) fn push_name(&mut self, text: &mut Vec<u8>, place: usize) -> Result<(), AllocError> {
+    pub fn push_name(&mut self, text: &mut Vec<u8>, place: usize) -> Result<(), AllocError> {
         if let Some(name) = self.name_at(place) {
             return text.extend_from_slice(name.as_bytes());
         }
+        self.make_room();
         let from = self.text.as_str().len();
         self.demangler
             .push_shown(&mut self.text, self.places.at(place).name)?;
         let to = self.text.as_str().len();
         keep(&mut self.kept, place, (from, to));
         text.extend_from_slice(&self.text.as_bytes()[from..])
+    }
+
+    // Drops the names that are kept once they pass the most that may be: names that share an end take much more memory
+    // than the file that has them.
+    fn make_room(&mut self) {
+        if self.text.as_str().len() > MOST_KEPT {
+            self.text.clear();
+            self.kept.fill((0, 0));
+        }
     }
 
     // The name that is kept at a place.

@@ -15,12 +15,12 @@ use crate::erased::binfarce_tools::writing::write_whole;
 use crate::shim::alloc::{AllocError, Global};
 use crate::shim::io::Read;
 
-// How many bytes are read at a time: the names and ranges for these lines stay in the cache until they are written, and
-// the buffer is small enough that the allocator reuses it.
-pub(crate) const CHUNK: usize = 1 << 13;
+/// How many bytes are read at a time: the names and ranges for these lines stay in the cache until they are written, and
+/// the buffer is small enough that the allocator reuses it.
+pub const CHUNK: usize = 1 << 13;
 
-// The most bytes of a line with an address: `0x` and 16 digits.
-pub(crate) const LONGEST: usize = 18;
+/// The most bytes of a word that is an address: `0x` and 16 digits.
+pub const LONGEST: usize = 18;
 
 /// How much of a text was answered.
 #[derive(Debug, Clone, Copy, PartialEq)]

@@ -233,6 +233,11 @@ impl<'a> Functions<'a> {
         self.taken.size()
     }
 
+    /// Whether none is left. Rows are read up to the first one that is a function's.
+    pub fn is_empty(&self) -> bool {
+        self.first_left().is_none()
+    }
+
     /// The function symbol that an address symbolizes to, among those that are left: of those whose range holds it the
     /// one of greatest address, and of several the first. `None` where no range holds it.
     ///

@@ -6,7 +6,7 @@ use crate::shim::String;
 use crate::erased::binfarce_figures::claims::Claims;
 use crate::erased::binfarce_figures::figures::{Columns, Figure, Layout};
 use crate::erased::binfarce_figures::sums::{Counting, Figures, add_claims};
-use crate::erased::binfarce_tools::json::Form;
+use crate::erased::binfarce_rows::json::Form;
 use crate::erased::binfarce_tools::list::Sink;
 use crate::erased::binfarce_tools::report::{ReportError, write_made};
 use crate::shim::alloc::{AllocError, Global};

@@ -4,9 +4,12 @@
 
 use crate::shim::{String, Vec};
 use crate::erased::binfarce_figures::key::Key;
-use crate::erased::binfarce_figures::rows::count_of;
 use crate::erased::binfarce_figures::sums::{Figures, Numbers};
-use crate::erased::binfarce_tools::json::{Form, push_number_member, push_start, push_text_member};
+use crate::erased::binfarce_rows::columns::{
+    count_of, hundredths, push_change, push_growth, push_growth_member, push_percent_member,
+    push_signed_member, push_size,
+};
+use crate::erased::binfarce_rows::json::{Form, push_number_member, push_start, push_text_member};
 use crate::shim::alloc::{AllocError, Global};
 use core::cmp::Reverse;
 use crate::shim::collections::BTreeMap;
@@ -114,7 +117,8 @@ impl Layout<'_> {
             }
             Columns::Changes => {
                 push_size(text, other)?;
-                self.push_change(text, sum, other)
+                push_change(self.alloc, text, u128::from(sum), u128::from(other))?;
+                push_growth(self.alloc, text, self.figures.has_percent, sum, other)
             }
         }
     }
@@ -140,13 +144,8 @@ impl Layout<'_> {
             Columns::Changes => {
                 push_number_member(text, "old", sum)?;
                 push_number_member(text, "new", other)?;
-                write!(
-                    text,
-                    ",\"change\":{}{}",
-                    minus(sum, other),
-                    sum.abs_diff(other)
-                )?;
-                self.push_growth_member(text, sum, other)
+                push_signed_member(text, "change", u128::from(sum), u128::from(other))?;
+                push_growth_member(text, self.figures.has_percent, sum, other)
             }
         }
     }
@@ -157,28 +156,6 @@ impl Layout<'_> {
             return Ok(());
         }
         push_percent_member(text, "", hundredths(size, whole))
-    }
-
-    // Appends the member of a change in per cent of the old sum, if it is wanted.
-    fn push_growth_member(&self, text: &mut String, old: u64, new: u64) -> Result<(), AllocError> {
-        if !self.figures.has_percent {
-            return Ok(());
-        }
-        if old == 0 {
-            return text.push_str(",\"percent\":null");
-        }
-        push_percent_member(text, minus(old, new), hundredths(old.abs_diff(new), old))
-    }
-
-    // Appends a change with its sign, and if it is wanted, in per cent of the old sum.
-    fn push_change(&self, text: &mut String, old: u64, new: u64) -> Result<(), AllocError> {
-        let mut change = String::new(self.alloc);
-        write!(change, "{}{}", sign(old, new), old.abs_diff(new))?;
-        push_padded(text, change.as_str(), 11)?;
-        if self.figures.has_percent {
-            push_padded(text, growth_label(self.alloc, old, new)?.as_str(), 10)?;
-        }
-        Ok(())
     }
 }
 
@@ -195,58 +172,10 @@ fn rank(columns: Columns, sum: u64, other: u64) -> u64 {
     }
 }
 
-// Appends a size and a blank.
-fn push_size(text: &mut String, size: u64) -> Result<(), AllocError> {
-    write!(text, "{size:>10} ")
-}
-
 // Appends the count of copies, where generic functions are summed.
 fn push_copies(text: &mut String, key: Key, copies: u64) -> Result<(), AllocError> {
     match key {
         Key::Generic => write!(text, "{copies:>6} "),
         _ => Ok(()),
     }
-}
-
-// The share of a size in the whole, in hundredths of a per cent, rounded down.
-fn hundredths(size: u64, whole: u64) -> u128 {
-    let size = 10_000 * u128::from(size);
-    size.checked_div(u128::from(whole)).unwrap_or(0)
-}
-
-// The sign of a change.
-fn sign(old: u64, new: u64) -> &'static str {
-    if new < old { "-" } else { "+" }
-}
-
-// The change in per cent of the old sum.
-fn growth_label(alloc: Global, old: u64, new: u64) -> Result<String, AllocError> {
-    if old == 0 {
-        return String::from_str(alloc, "new");
-    }
-    let share = hundredths(old.abs_diff(new), old);
-    let (sign, per_cent) = (sign(old, new), share / 100);
-    String::formatted(alloc, format_args!("{sign}{per_cent}.{}{}%", share / 10 % 10, share % 10))
-}
-
-// Appends a label to the right of so many columns, and a blank.
-fn push_padded(text: &mut String, label: &str, width: usize) -> Result<(), AllocError> {
-    let blanks = width.saturating_sub(label.len());
-    write!(text, "{:>blanks$}{label} ", "")
-}
-
-// The minus of a change as a number.
-fn minus(old: u64, new: u64) -> &'static str {
-    if new < old { "-" } else { "" }
-}
-
-// Appends the member of a number of hundredths of a per cent.
-fn push_percent_member(text: &mut String, sign: &str, n: u128) -> Result<(), AllocError> {
-    let per_cent = n / 100;
-    write!(
-        text,
-        ",\"percent\":{sign}{per_cent}.{}{}",
-        n / 10 % 10,
-        n % 10
-    )
 }

@@ -7,11 +7,12 @@ use crate::erased::binfarce_figures::key::put_crate;
 use crate::erased::binfarce_figures::order::{Order, Row, is_by_name, sort, sort_by_name};
 use crate::erased::binfarce::{FunctionSymbol, SectionFunction};
 use crate::erased::binfarce_names::demangle::Demangler;
-use crate::erased::binfarce_tools::functions::Selected;
-use crate::erased::binfarce_tools::head::push_head;
-use crate::erased::binfarce_tools::json::{
+use crate::erased::binfarce_rows::columns::count_of;
+use crate::erased::binfarce_rows::head::push_head;
+use crate::erased::binfarce_rows::json::{
     Form, push_address_member, push_number_member, push_start, push_text_member,
 };
+use crate::erased::binfarce_tools::functions::Selected;
 use crate::erased::binfarce_tools::list::{ListError, Sink, push_section_part};
 use crate::erased::binfarce_tools::tables::Tables;
 use crate::erased::binfarce_tools::writing::write_whole;
@@ -45,7 +46,7 @@ pub struct Shown {
 
 /// As `list_tables`, but in an order, of the first lines alone, with other names, without the last line, or as objects
 /// with the members `file`, `section`, `address`, `size`, `name`, `raw` (the stored name), `crate`, `binding`, `kind`
-/// and `version`, and no last line.
+/// and `version`, and no last line. Returns how many function symbols there are, with those that aren't among the first.
 ///
 /// # Errors
 ///
@@ -56,9 +57,10 @@ pub fn list_by<S: Sink>(
     shown: &Shown,
     form: Form<'_>,
     out: &mut S,
-) -> Result<(), ListError> {
+) -> Result<usize, ListError> {
     let selected = tables.functions(alloc)?;
     let (functions, size) = list_of(alloc, selected)?;
+    let count = functions.len();
     let listing = Listing {
         alloc,
         tables,
@@ -67,7 +69,8 @@ pub fn list_by<S: Sink>(
         size,
     };
     let text = listing.text_of(functions)?;
-    write_whole(out, text.as_bytes())
+    write_whole(out, text.as_bytes())?;
+    Ok(count)
 }
 
 // What a listing is made of.
@@ -134,12 +137,12 @@ impl Listing<'_, '_> {
         Ok(text)
     }
 
-    // For each function symbol the index of its name's text.
+    // For each function symbol the index of its name's text, if that isn't the name as it is stored.
     fn indices_of(
         &self,
         texts: &mut Texts,
         functions: &[SectionFunction<'_>],
-    ) -> Result<Vec<usize>, AllocError> {
+    ) -> Result<Vec<Option<usize>>, AllocError> {
         let mut demangler = Demangler::new(self.alloc);
         let mut indices = Vec::with_capacity(self.alloc, functions.len())?;
         for function in functions {
@@ -149,37 +152,54 @@ impl Listing<'_, '_> {
         Ok(indices)
     }
 
-    // The index of a name's text, which is kept where it isn't there yet.
+    // The index of a name's text, which is kept where it isn't there yet. None for one that is shown as it is stored: names
+    // that share an end would take much more memory than the file that has them.
     fn index_of(
         &self,
         demangler: &mut Demangler,
         texts: &mut Texts,
         name: &str,
-    ) -> Result<usize, AllocError> {
+    ) -> Result<Option<usize>, AllocError> {
         let mut text = String::new(self.alloc);
         self.put_name(demangler, &mut text, name)?;
+        if text.as_str() == name {
+            return Ok(None);
+        }
         if let Some(index) = noted(&texts.long, name, text.len()) {
-            return Ok(index);
+            return Ok(Some(index));
         }
         let index = texts.texts.len();
         note(self.alloc, &mut texts.long, name, index, text.len())?;
         texts.texts.push(text)?;
-        Ok(index)
+        Ok(Some(index))
     }
 
-    // Function symbols with the texts at these indices.
-    fn rows_of<'b, 'a>(
+    // Function symbols with the texts at these indices, or their names as they are stored.
+    fn rows_of<'b, 'a: 'b>(
         &self,
         functions: &[SectionFunction<'a>],
         texts: &'b [String],
-        indices: &[usize],
+        indices: &[Option<usize>],
     ) -> Result<Vec<Row<'b, 'a>>, AllocError> {
         let mut rows = Vec::with_capacity(self.alloc, functions.len())?;
         for i in 0..functions.len() {
-            let name = texts[indices[i]].as_str();
-            rows.push(row_of(functions[i], name))?;
+            rows.push(self.row_at(functions[i], texts, indices[i]))?;
         }
         Ok(rows)
+    }
+
+    // A function symbol with the text at an index, or its name as it is stored.
+    fn row_at<'b, 'a: 'b>(
+        &self,
+        function: SectionFunction<'a>,
+        texts: &'b [String],
+        index: Option<usize>,
+    ) -> Row<'b, 'a> {
+        let name = match index {
+            Some(index) => texts[index].as_str(),
+            None => function.function.name,
+        };
+        Row { function, name }
     }
 
     // Overwrites the text by what is shown of a name.
@@ -306,11 +326,6 @@ struct Texts {
     long: BTreeMap<String, usize>,
 }
 
-// The row of a function symbol with this name.
-fn row_of<'b, 'a>(function: SectionFunction<'a>, name: &'b str) -> Row<'b, 'a> {
-    Row { function, name }
-}
-
 // The noted index of a name's text, if the text is long.
 fn noted(long: &BTreeMap<String, usize>, name: &str, len: usize) -> Option<usize> {
     if len < LONG {
@@ -332,11 +347,6 @@ fn note(
     }
     let _ = long.insert(String::from_str(alloc, name)?, index)?;
     Ok(())
-}
-
-/// How many of all are shown.
-pub(crate) fn count_of(first: Option<usize>, all: usize) -> usize {
-    first.map_or(all, |first| first.min(all))
 }
 
 /// The function symbols of a selection as one list, and the size of the selected section, if one is selected.

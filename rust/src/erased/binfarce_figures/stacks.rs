@@ -5,8 +5,7 @@
 use crate::shim::String;
 use crate::erased::binfarce_figures::claims::Claims;
 use crate::erased::binfarce_figures::generic::{Shape, push_rewritten};
-use crate::erased::binfarce_figures::key::{Grouping, Key, put_crate, put_key};
-use crate::erased::binfarce_names::demangle::Demangler;
+use crate::erased::binfarce_figures::key::{Grouping, Key, KeyMaker, put_key};
 use crate::erased::binfarce_tools::list::Sink;
 use crate::erased::binfarce_tools::report::{ReportError, write_made};
 use crate::shim::alloc::{AllocError, Global};
@@ -38,13 +37,12 @@ fn stacks_of(alloc: Global, claims: &Claims<'_, '_>, joins_std: bool) -> Result<
         key: Key::Stack,
         joins_std,
     };
-    let mut demangler = Demangler::new(alloc);
+    let mut maker = KeyMaker::new(alloc);
     let mut stack = String::new(alloc);
     let mut text = String::new(alloc);
     for claim in &claims.list {
         put_key(
-            alloc,
-            &mut demangler,
+            &mut maker,
             &mut stack,
             claims.tables,
             *claim,
@@ -61,34 +59,41 @@ fn push_claim(text: &mut String, stack: &str, size: u64) -> Result<(), AllocErro
     if size == 0 {
         return Ok(());
     }
-    writeln!(text, "{stack} {size}")
+    text.push_str(stack)?;
+    text.push_str(" ")?;
+    push_decimal(text, size)?;
+    text.push_str("\n")
 }
 
-/// Appends the stack of a stored name.
+// Appends a number, as `{}` writes it.
+fn push_decimal(text: &mut String, n: u64) -> Result<(), AllocError> {
+    if n >= 10 {
+        push_decimal(text, n / 10)?;
+    }
+    text.push(char::from(b'0' + (n % 10) as u8))
+}
+
+/// Appends the stack of a function with this crate and this trimmed name. `root` and `parts` are overwritten.
 pub(crate) fn push_stack(
-    alloc: Global,
-    demangler: &mut Demangler,
     text: &mut String,
-    name: &str,
+    root: &mut String,
+    parts: &mut String,
+    crate_name: &str,
+    trimmed: &str,
 ) -> Result<(), AllocError> {
-    let mut crate_name = String::new(alloc);
-    put_crate(alloc, &mut crate_name, name)?;
-    let mut trimmed = String::new(alloc);
-    demangler.push_trimmed(&mut trimmed, name)?;
-    let mut root = String::new(alloc);
-    push_rewritten(&mut root, Shape::Stack, crate_name.as_str())?;
-    let mut parts = String::new(alloc);
-    push_rewritten(&mut parts, Shape::Stack, trimmed.as_str())?;
+    root.clear();
+    push_rewritten(root, Shape::Stack, crate_name)?;
+    parts.clear();
+    push_rewritten(parts, Shape::Stack, trimmed)?;
     push_below(text, root, parts.as_str())
 }
 
-// Appends the crate and the parts of a name, unless the first of these is the crate.
-fn push_below(text: &mut String, root: String, parts: &str) -> Result<(), AllocError> {
+// Appends the crate and the parts of a name, unless the first of these is the crate. `root` is overwritten.
+fn push_below(text: &mut String, root: &mut String, parts: &str) -> Result<(), AllocError> {
     let is_crate = parts == root.as_str();
-    let mut below = root;
-    below.push_str(";")?;
-    if !is_crate && !parts.as_bytes().starts_with(below.as_bytes()) {
-        text.push_str(below.as_str())?;
+    root.push_str(";")?;
+    if !is_crate && !parts.as_bytes().starts_with(root.as_bytes()) {
+        text.push_str(root.as_str())?;
     }
     text.push_str(parts)
 }

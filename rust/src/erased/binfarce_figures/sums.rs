@@ -5,9 +5,8 @@
 use crate::shim::String;
 use crate::erased::binfarce_figures::claims::Claims;
 use crate::erased::binfarce_figures::figures::{Columns, Layout};
-use crate::erased::binfarce_figures::key::{Grouping, put_key};
-use crate::erased::binfarce_names::demangle::Demangler;
-use crate::erased::binfarce_tools::json::{Form, push_number_member, push_start};
+use crate::erased::binfarce_figures::key::{Grouping, KeyMaker, put_key};
+use crate::erased::binfarce_rows::json::{Form, push_number_member, push_start};
 use crate::erased::binfarce_tools::list::Sink;
 use crate::erased::binfarce_tools::report::{ReportError, write_made};
 use crate::shim::alloc::{AllocError, Global};
@@ -129,12 +128,11 @@ pub(crate) fn add_claims(
     counting: Counting,
     numbers: &mut BTreeMap<String, Numbers>,
 ) -> Result<(), AllocError> {
-    let mut demangler = Demangler::new(alloc);
+    let mut maker = KeyMaker::new(alloc);
     let mut key = String::new(alloc);
     for claim in &claims.list {
         put_key(
-            alloc,
-            &mut demangler,
+            &mut maker,
             &mut key,
             claims.tables,
             *claim,

@@ -4,8 +4,11 @@
 
 use crate::shim::{String, Vec};
 use crate::erased::binfarce_sections::error::SectionError;
-use crate::erased::binfarce_sections::sums::{REST, SectionSums, count_of, push_long_member};
-use crate::erased::binfarce_tools::json::{Form, push_number_member, push_start, push_text_member};
+use crate::erased::binfarce_sections::sums::{REST, SectionSums, push_long_member};
+use crate::erased::binfarce_rows::columns::{
+    count_of, push_change, push_growth, push_growth_member, push_signed_member, push_size,
+};
+use crate::erased::binfarce_rows::json::{Form, push_number_member, push_start, push_text_member};
 use crate::erased::binfarce_tools::list::Sink;
 use crate::erased::binfarce_tools::writing::write_whole;
 use crate::shim::alloc::{AllocError, Global};
@@ -237,28 +240,17 @@ impl Layout<'_> {
     fn push_line(&self, text: &mut String, change: Change<'_>) -> Result<(), AllocError> {
         push_size(text, change.old)?;
         push_size(text, change.new)?;
-        self.push_change(text, u128::from(change.old), u128::from(change.new))?;
-        self.push_change(text, change.old_memory, change.new_memory)?;
-        self.push_growth(text, change.old, change.new)?;
+        push_change(
+            self.alloc,
+            text,
+            u128::from(change.old),
+            u128::from(change.new),
+        )?;
+        push_change(self.alloc, text, change.old_memory, change.new_memory)?;
+        push_growth(self.alloc, text, self.has_percent, change.old, change.new)?;
         text.push_str(change.name)?;
         text.push_str("\n")?;
         Ok(())
-    }
-
-    // Appends a change with its sign.
-    fn push_change(&self, text: &mut String, old: u128, new: u128) -> Result<(), AllocError> {
-        let mut change = String::new(self.alloc);
-        write!(change, "{}{}", sign(old, new), old.abs_diff(new))?;
-        push_padded(text, change.as_str(), 11)
-    }
-
-    // Appends a change in per cent of the old number, if it is wanted.
-    fn push_growth(&self, text: &mut String, old: u64, new: u64) -> Result<(), AllocError> {
-        if !self.has_percent {
-            return Ok(());
-        }
-        let growth = growth_of(self.alloc, old, new)?;
-        push_padded(text, growth.as_str(), 10)
     }
 
     fn push_object(
@@ -271,84 +263,17 @@ impl Layout<'_> {
         push_text_member(text, "section", Some(change.name))?;
         push_number_member(text, "old", change.old)?;
         push_number_member(text, "new", change.new)?;
-        push_bytes_change(text, change.old, change.new)?;
+        push_signed_member(
+            text,
+            "change",
+            u128::from(change.old),
+            u128::from(change.new),
+        )?;
         push_long_member(text, "old_memory", change.old_memory)?;
         push_long_member(text, "new_memory", change.new_memory)?;
         push_signed_member(text, "memory_change", change.old_memory, change.new_memory)?;
-        self.push_growth_member(text, change.old, change.new)?;
+        push_growth_member(text, self.has_percent, change.old, change.new)?;
         text.push_str("}\n")?;
         Ok(())
     }
-
-    // Appends the member of a change in per cent of the old number, if it is wanted.
-    fn push_growth_member(&self, text: &mut String, old: u64, new: u64) -> Result<(), AllocError> {
-        if !self.has_percent {
-            return Ok(());
-        }
-        if old == 0 {
-            return text.push_str(",\"percent\":null");
-        }
-        let minus = minus(u128::from(old), u128::from(new));
-        push_percent_member(text, minus, hundredths(old.abs_diff(new), old))
-    }
-}
-
-// Appends the member of a number of hundredths of a per cent.
-fn push_percent_member(text: &mut String, sign: &str, n: u128) -> Result<(), AllocError> {
-    let per_cent = n / 100;
-    write!(
-        text,
-        ",\"percent\":{sign}{per_cent}.{}{}",
-        n / 10 % 10,
-        n % 10
-    )
-}
-
-// Appends a size and a blank.
-fn push_size(text: &mut String, size: u64) -> Result<(), AllocError> {
-    write!(text, "{size:>10} ")
-}
-
-// The sign of a change.
-fn sign(old: u128, new: u128) -> &'static str {
-    if new < old { "-" } else { "+" }
-}
-
-// The minus of a change as a number.
-fn minus(old: u128, new: u128) -> &'static str {
-    if new < old { "-" } else { "" }
-}
-
-// The share of a number in a whole, in hundredths of a per cent, rounded down.
-fn hundredths(n: u64, whole: u64) -> u128 {
-    let n = 10_000 * u128::from(n);
-    n.checked_div(u128::from(whole)).unwrap_or(0)
-}
-
-// The change in per cent of the old number.
-fn growth_of(alloc: Global, old: u64, new: u64) -> Result<String, AllocError> {
-    if old == 0 {
-        return String::from_str(alloc, "new");
-    }
-    let n = hundredths(old.abs_diff(new), old);
-    let (sign, per_cent) = (sign(u128::from(old), u128::from(new)), n / 100);
-    String::formatted(alloc, format_args!("{sign}{per_cent}.{}{}%", n / 10 % 10, n % 10))
-}
-
-// Appends a label to the right of so many columns, and a blank.
-fn push_padded(text: &mut String, label: &str, width: usize) -> Result<(), AllocError> {
-    let blanks = width.saturating_sub(label.len());
-    write!(text, "{:>blanks$}{label} ", "")
-}
-
-// Appends the member of a change of bytes in the file.
-fn push_bytes_change(text: &mut String, old: u64, new: u64) -> Result<(), AllocError> {
-    push_signed_member(text, "change", u128::from(old), u128::from(new))
-}
-
-// Appends a member whose value is a number with its sign.
-fn push_signed_member(text: &mut String, name: &str, old: u128, new: u128) -> Result<(), AllocError> {
-    let minus = minus(old, new);
-    let distance = old.abs_diff(new);
-    write!(text, ",\"{name}\":{minus}{distance}")
 }

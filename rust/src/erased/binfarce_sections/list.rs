@@ -9,7 +9,7 @@ use crate::erased::binfarce_sections::sections::{Section, Sections, sections_of}
 use crate::erased::binfarce_sections::tables::read;
 use crate::erased::binfarce::ParseError;
 use crate::erased::binfarce_bytes::source::Source;
-use crate::erased::binfarce_tools::json::{
+use crate::erased::binfarce_rows::json::{
     Form, push_address_member, push_number_member, push_start, push_text_member,
 };
 use crate::erased::binfarce_tools::list::Sink;

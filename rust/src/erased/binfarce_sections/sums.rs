@@ -8,7 +8,8 @@ use crate::erased::binfarce_sections::kinds::SectionType;
 use crate::erased::binfarce_sections::list::{push_name, push_type_member};
 use crate::erased::binfarce_sections::sections::{Section, Sections};
 use crate::erased::binfarce_sections::tables::Tables;
-use crate::erased::binfarce_tools::json::{Form, push_number_member, push_start, push_text_member};
+use crate::erased::binfarce_rows::columns::count_of;
+use crate::erased::binfarce_rows::json::{Form, push_number_member, push_start, push_text_member};
 use crate::erased::binfarce_tools::list::Sink;
 use crate::erased::binfarce_tools::writing::write_whole;
 use crate::shim::alloc::{AllocError, Global};
@@ -244,11 +245,6 @@ fn push_each(text: &mut String, form: Form<'_>, shares: &[Share<'_>]) -> Result<
         push_share(text, form, share)?;
     }
     Ok(())
-}
-
-// How many rows are shown of so many.
-pub(crate) fn count_of(first: Option<usize>, all: usize) -> usize {
-    first.map_or(all, |first| first.min(all))
 }
 
 // Appends the row of a section.

@@ -60,6 +60,17 @@ impl<'a> Iterator for AllFunctions<'a> {
     }
 }
 
+impl AllFunctions<'_> {
+    /// Whether none is left. At most one is read.
+    pub fn is_empty(&self) -> bool {
+        match self {
+            AllFunctions::Elf(functions) => functions.is_empty(),
+            AllFunctions::Arranged(functions) => functions.functions.len() <= functions.next,
+            AllFunctions::Lent(functions) => functions.functions.len() <= functions.next,
+        }
+    }
+}
+
 impl<'a> Arranged<'a> {
     // The first of those that are left, which the others follow.
     fn next(&mut self) -> Option<SectionFunction<'a>> {

@@ -4,11 +4,11 @@
 
 use crate::shim::String;
 use crate::erased::binfarce_tools::functions::Selected;
-use crate::erased::binfarce_tools::head::push_head;
 use crate::erased::binfarce_tools::tables::Tables;
 use crate::erased::binfarce_tools::writing::write_whole;
 use crate::erased::binfarce::{ParseError, SectionFunction};
 use crate::erased::binfarce_names::demangle::Demangler;
+use crate::erased::binfarce_rows::head::push_head;
 use crate::shim::alloc::{AllocError, Global};
 use crate::shim::error::Error;
 use core::fmt;
@@ -139,6 +139,20 @@ pub fn list_tables<S: Sink>(
     out: &mut S,
 ) -> Result<(), ListError> {
     let selected = tables.functions(alloc)?;
+    list_selected(alloc, tables, selected, out)
+}
+
+/// As `list_tables`, of the function symbols that `Tables::functions` gave.
+///
+/// # Errors
+///
+/// `OutOfMemory` and `Write`, as `list`.
+pub fn list_selected<S: Sink>(
+    alloc: Global,
+    tables: &Tables<'_>,
+    selected: Selected<'_>,
+    out: &mut S,
+) -> Result<(), ListError> {
     let text = listing(alloc, tables, selected)?;
     write_whole(out, text.as_bytes())
 }

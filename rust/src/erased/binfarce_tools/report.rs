@@ -98,46 +98,20 @@ pub fn report_tables<S: Sink>(
     out: &mut S,
 ) -> Result<(), ReportError> {
     let (functions, size) = tables.functions(alloc)?.into_list();
-    let sums = crate_sums(alloc, functions, size)?;
+    let sums = crate_sums(alloc, functions)?;
     write_made(out, report_text(alloc, &sums, size))
 }
 
-/// How many bytes the function symbols of a selection take, by crate.
-pub struct CrateSums {
-    /// The sum of the sizes of each crate's symbols, by the crate's name.
-    pub crates: BTreeMap<String, u64>,
-    /// The sum of all sizes.
-    pub total: u64,
-    /// The section's size, or for all sections the sum of all sizes.
-    pub section_size: u64,
+// How many bytes the function symbols of a selection take, by crate.
+struct CrateSums {
+    // The sum of the sizes of each crate's symbols, by the crate's name.
+    crates: BTreeMap<String, u64>,
+    // The sum of all sizes.
+    total: u64,
 }
 
-/// The sums that `report` shows.
-///
-/// # Errors
-///
-/// As `report`, but for `Write`.
-pub fn sums_of_file(alloc: Global, file: &[u8], section: &str) -> Result<CrateSums, ReportError> {
-    sums_of_tables(alloc, &Tables::whole(file, section))
-}
-
-/// The sums that `report_tables` shows.
-///
-/// # Errors
-///
-/// As `report_tables`, but for `Write`.
-pub fn sums_of_tables(alloc: Global, tables: &Tables<'_>) -> Result<CrateSums, ReportError> {
-    let (functions, size) = tables.functions(alloc)?.into_list();
-    crate_sums(alloc, functions, size)
-}
-
-// The sums of the functions, with the section's size, or without one the sum of all sizes. `TooLarge` where the sum of
-// all exceeds 64 bits.
-pub(crate) fn crate_sums(
-    alloc: Global,
-    functions: Functions<'_>,
-    section_size: Option<u64>,
-) -> Result<CrateSums, ReportError> {
+// The sums of the functions. `TooLarge` where the sum of all exceeds 64 bits.
+fn crate_sums(alloc: Global, functions: Functions<'_>) -> Result<CrateSums, ReportError> {
     let mut crates = BTreeMap::new(alloc);
     let mut total = 0u64;
     let mut text = String::new(alloc);
@@ -147,11 +121,7 @@ pub(crate) fn crate_sums(
             .ok_or(ReportError::TooLarge)?;
         add_function(alloc, &mut crates, &mut text, function)?;
     }
-    Ok(CrateSums {
-        crates,
-        total,
-        section_size: section_size.unwrap_or(total),
-    })
+    Ok(CrateSums { crates, total })
 }
 
 // Adds a function's size to the sum of its crate. The text is overwritten by the crate's name; it is reused for all

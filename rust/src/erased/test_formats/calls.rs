@@ -6,18 +6,17 @@ use crate::shim::{String, Vec};
 use crate::erased::binfarce_bytes::ByteOrder;
 use crate::erased::binfarce_bytes::functions::{FunctionSymbol, found_with};
 use crate::erased::binfarce_bytes::parser::{Stream, number_at, slice_at};
+use crate::erased::binfarce_figures::claims::Claims;
+use crate::erased::binfarce_rows::head::push_head;
+use crate::erased::binfarce_rows::json::{
+    push_address_member, push_number_member, push_start, push_text_member,
+};
 use crate::erased::binfarce_tables::format::read_format;
 use crate::erased::binfarce_tables::part;
 use crate::erased::binfarce_tools::SymbolTable;
 use crate::erased::binfarce_tools::functions::functions_of_file;
-use crate::erased::binfarce_tools::head::push_head;
-use crate::erased::binfarce_tools::json::{
-    push_address_member, push_number_member, push_start, push_text_member,
-};
 use crate::erased::binfarce_tools::list::{Out, push_section, push_section_part};
-use crate::erased::binfarce_tools::report::{
-    CrateSums, add_size, put_crate, sums_of_file, sums_of_tables, write_made,
-};
+use crate::erased::binfarce_tools::report::{add_size, put_crate, write_made};
 use crate::erased::binfarce_tools::tables::{Selection, Tables, read};
 use crate::erased::binfarce_tools::writing::write_whole;
 use crate::shim::alloc::{AllocError, Global};
@@ -104,17 +103,14 @@ pub fn parts(alloc: Global, file: &[u8]) -> Result<String, AllocError> {
     Ok(text)
 }
 
-/// The sum of the sizes, and the size of the section: of the file, of the tables that are read of it, and of those of
-/// all sections; and where the first function is.
+/// The sum of the sizes, how many functions there are, where the first one is, and the size of the section: of the tables
+/// of the section, and of those of all sections; and the last two of the file.
 pub fn sums(alloc: Global, section: &str, file: &[u8]) -> Result<String, AllocError> {
     let mut text = String::new(alloc);
-    if let Ok(sums) = sums_of_file(alloc, file, section) {
-        push_sums(&mut text, &sums)?;
-    }
     for selection in [Selection::Section(section), Selection::All] {
         if let Ok(tables) = read(alloc, &file, &mut (), SymbolTable::Symtab, selection) {
-            if let Ok(sums) = sums_of_tables(alloc, &tables) {
-                push_sums(&mut text, &sums)?;
+            if let Ok(claims) = Claims::of_tables(alloc, &tables) {
+                write!(text, "{} in {}, ", claims.total(), claims.len())?;
             }
             if let Ok(selected) = tables.functions(alloc) {
                 let (mut functions, size) = selected.into_list();
@@ -128,8 +124,4 @@ pub fn sums(alloc: Global, section: &str, file: &[u8]) -> Result<String, AllocEr
         write!(text, "{first:?} of {size}")?;
     }
     Ok(text)
-}
-
-fn push_sums(text: &mut String, sums: &CrateSums) -> Result<(), AllocError> {
-    write!(text, "{} of {}, ", sums.total, sums.section_size)
 }

@@ -6,11 +6,11 @@ use crate::shim::{String, Vec};
 use crate::erased::binfarce_tables::ReadError;
 use crate::erased::binfarce_tools::SymbolTable;
 use crate::erased::binfarce_tools::list::{ListError, Out, list, list_tables};
-use crate::erased::binfarce_tools::map::{map, map_tables};
 use crate::erased::binfarce_tools::report::{report, report_tables};
 use crate::erased::binfarce_tools::tables::{Selection, Tables, read};
 use crate::shim::alloc::{AllocError, Global};
 use core::fmt::Display;
+use crate::erased::test_image_samples::draw;
 
 // What is written, and behind it the text of the fault.
 fn text_of<E: Display>(
@@ -46,7 +46,7 @@ pub fn text_of_section(
             text_of(alloc, ended, out.into_inner())
         }
         _ => {
-            let ended = map(alloc, "{path}", file, section, &mut out);
+            let ended = draw(alloc, "{path}", &Tables::whole(file, section), &mut out);
             text_of(alloc, ended, out.into_inner())
         }
     }
@@ -106,7 +106,7 @@ pub fn text_of_all(alloc: Global, words: &str, file: &[u8]) -> Result<String, Al
             text_of(alloc, ended, out.into_inner())
         }
         _ => {
-            let ended = map_tables(alloc, "{path}", &tables, &mut out);
+            let ended = draw(alloc, "{path}", &tables, &mut out);
             text_of(alloc, ended, out.into_inner())
         }
     }

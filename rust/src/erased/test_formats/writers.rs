@@ -5,10 +5,11 @@
 use crate::shim::{String, Vec};
 use crate::erased::test_formats::texts::text_of_section;
 use crate::erased::binfarce_tools::list::{ListError, Out, Sink, list};
-use crate::erased::binfarce_tools::map::map;
 use crate::erased::binfarce_tools::report::{ReportError, report};
+use crate::erased::binfarce_tools::tables::Tables;
 use crate::shim::alloc::{AllocError, Global};
 use crate::shim::io::ErrorKind;
+use crate::erased::test_image_samples::draw;
 use crate::erased::test_samples::streams::Target;
 use crate::erased::test_samples::{first_bytes, patched};
 
@@ -34,7 +35,7 @@ fn all_written(alloc: Global, what: &str, file: &[u8], out: &mut Out<Target>) ->
             Ok(()) => Some(true),
             Err(error) => (error == ReportError::Write).then_some(false),
         },
-        _ => match map(alloc, "{path}", file, ".text", out) {
+        _ => match draw(alloc, "{path}", &Tables::whole(file, ".text"), out) {
             Ok(()) => Some(true),
             Err(error) => (error == ReportError::Write).then_some(false),
         },

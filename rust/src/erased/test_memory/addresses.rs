@@ -5,7 +5,7 @@
 use crate::erased::binfarce_addresses::Lookup;
 use crate::erased::binfarce_addresses::at::{Places, at};
 use crate::erased::binfarce_addresses::stream::{StreamError, answer_lines};
-use crate::erased::binfarce_tools::json::Form;
+use crate::erased::binfarce_rows::json::Form;
 use crate::erased::binfarce_tools::list::{ListError, Out};
 use crate::shim::alloc::{AllocError, Global};
 use crate::erased::test_image_samples::tally::{Row, Tally};

@@ -7,12 +7,11 @@ use crate::erased::binfarce_image::image::ImageError;
 use crate::erased::binfarce_tables::ReadError;
 use crate::erased::binfarce_tools::SymbolTable;
 use crate::erased::binfarce_tools::list::{ListError, Out, list, list_tables};
-use crate::erased::binfarce_tools::map::{map, map_tables};
 use crate::erased::binfarce_tools::report::{ReportError, report, report_tables};
-use crate::erased::binfarce_tools::tables::{Selection, read};
+use crate::erased::binfarce_tools::tables::{Selection, Tables, read};
 use crate::shim::alloc::{AllocError, Global};
 use crate::erased::test_image_samples::tally::{Row, Tally};
-use crate::erased::test_image_samples::{FIRST_SIZE, file_beside};
+use crate::erased::test_image_samples::{FIRST_SIZE, draw, file_beside};
 use crate::erased::test_samples::expected::Expected;
 use crate::erased::test_samples::files::{FILES, File};
 use crate::erased::test_samples::macho::{FOURTH, N_VALUE};
@@ -79,7 +78,7 @@ fn is_reported(alloc: Global, file: &[u8], expected: Reported) -> Row {
     };
     let mut out = Out::new(Expected::new(text.as_bytes()));
     let result = match expected {
-        Reported::Picture(_) => map(alloc, "file", file, ".text", &mut out),
+        Reported::Picture(_) => draw(alloc, "file", &Tables::whole(file, ".text"), &mut out),
         _ => report(alloc, file, ".text", &mut out),
     };
     let written = out.into_inner();
@@ -171,7 +170,7 @@ fn is_written(alloc: Global, call: All, text: &str) -> Row {
     let result = match call {
         All::List => list_tables(alloc, &tables, &mut out).map_err(ReportError::from),
         All::Report => report_tables(alloc, &tables, &mut out),
-        All::Map => map_tables(alloc, "file", &tables, &mut out),
+        All::Map => draw(alloc, "file", &tables, &mut out),
     };
     let written = out.into_inner();
     match result {

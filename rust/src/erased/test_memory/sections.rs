@@ -2,10 +2,10 @@
 
 //! Lists of sections, and the bytes of one.
 
+use crate::erased::binfarce_rows::json::Form;
 use crate::erased::binfarce_sections::bytes::{write_section, write_section_of};
 use crate::erased::binfarce_sections::error::SectionError;
 use crate::erased::binfarce_sections::list::{list_sections, list_source};
-use crate::erased::binfarce_tools::json::Form;
 use crate::erased::binfarce_tools::list::Out;
 use crate::shim::alloc::{AllocError, Global};
 use crate::erased::test_image_samples::tally::{Row, Tally};

@@ -1,6 +1,6 @@
 use Rattle.std.proofs.Common.{◌-◌, ◌+◌, ◌/◌, ◌≡◌, ◌∙◌, ap, sym, drop, set, arith}
 use Rattle.std.proofs.Math.ListN.{length-set}
-use Rattle.binfarce_tools.proofs.Heads.{hex_onto, hex_onto_address, hex_onto_ends, hex_onto_step}
+use Rattle.binfarce_rows.proofs.Heads.{hex_onto, hex_onto_address, hex_onto_ends, hex_onto_step}
 use Rattle.binfarce_addresses.proofs.digits.digits_of.Goals as goal
 
 pub loop-k-preserved : goal.loop-k-preserved

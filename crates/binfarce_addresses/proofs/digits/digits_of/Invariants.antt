@@ -1,5 +1,5 @@
 use Rattle.std.proofs.Common.{◌≡◌, [], ◌-◌, drop, length}
-use Rattle.binfarce_tools.proofs.Heads.{hex_onto}
+use Rattle.binfarce_rows.proofs.Heads.{hex_onto}
 use Rattle.binfarce_addresses.proofs.digits.digits_of.Given as goal
 
 -- the digits that are left, before those that are put, are the number's

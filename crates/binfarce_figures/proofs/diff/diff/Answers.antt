@@ -1,5 +1,5 @@
 use Rattle.std.proofs.Common.{◌∙◌, Err, ap, subst}
-use Rattle.binfarce_tools.specs.Json.{style_of}
+use Rattle.binfarce_rows.specs.Json.{style_of}
 use Rattle.binfarce_tools.specs.ReportWords.{outcome_of}
 use Rattle.binfarce_tools.specs.Writing.{Outcome, Takes, written}
 use Rattle.binfarce_figures.specs.Changes.{AreChangesBy, answer_for, both}
@@ -15,7 +15,7 @@ returns-in_err-write_made-clause-takes g c = λ before after was is.
     let style = style_of c.args.form in
     let e = c.in_err-write_made.field-0.0 in
     let took : Outcome → Type 0 = λ o. Takes (AreChangesBy shown style) (both (answer_for before) (answer_for after)) (g.S.Sink.taken c.args.out.now) (g.S.Sink.taken c.write_made.new.out) o in
-    subst took (passed_on c.from_residual.result e c.from_residual.ensures.1)
+    subst took (passed_on outcome_of c.from_residual.result e c.from_residual.ensures.1)
     (compared before after c.args.old.now c.args.new.now was is shown style c.text_of.result _ _ (outcome_of (Err e)) c.text_of.ensures c.in_err-write_made.ensures.takes)
 
 pub returns-clause-takes : goal.returns-clause-takes

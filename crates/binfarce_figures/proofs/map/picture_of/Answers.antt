@@ -5,9 +5,9 @@ use Rattle.binfarce_chart.specs.Views.{bar_view}
 use Rattle.binfarce_chart.specs.declared.bars.Bar.{Bar}
 use Rattle.binfarce_chart.specs.Svg.{IsChartOf}
 use Rattle.binfarce_chart.specs.Chart.{Row}
-use Rattle.binfarce_tools.specs.Map.{IsMapOfShares}
+use Rattle.binfarce_figures.specs.Picture.{IsPictureOfShares}
 use Rattle.binfarce_tools.specs.Report.{total}
-use Rattle.binfarce_tools.proofs.Totals.{totals_add_up}
+use Rattle.binfarce_figures.proofs.Totals.{totals_add_up}
 use Rattle.binfarce_figures.specs.Claimed.{Claimed}
 use Rattle.binfarce_figures.proofs.Counted.{ones}
 use Rattle.binfarce_figures.proofs.map.picture_of.Goals as goal
@@ -27,5 +27,5 @@ returns c =
     let (names, crates, bars) = c.in_ok-bars.ensures shares (ones shares) are in
     let shown = ap (map bar_view) c.as_slice.ensures.value ∙ bars in
     IfOk-weaker c.chart.result _ _ (λ t is.
-    let drawn : IsMapOfShares c.args.title.now shares size c.args.first (string_bytes t) = (names, crates, subst (λ (rs : List Row). IsChartOf c.args.title.now rs size c.args.first (string_bytes t)) shown is) in
-    (shares, with, subst (λ (v : Claimed). IsMapOfShares c.args.title.now shares v.size c.args.first (string_bytes t)) c.claims.view_is drawn)) c.chart.ensures
+    let drawn : IsPictureOfShares c.args.title.now shares size c.args.first (string_bytes t) = (names, crates, subst (λ (rs : List Row). IsChartOf c.args.title.now rs size c.args.first (string_bytes t)) shown is) in
+    (shares, with, subst (λ (v : Claimed). IsPictureOfShares c.args.title.now shares v.size c.args.first (string_bytes t)) c.claims.view_is drawn)) c.chart.ensures

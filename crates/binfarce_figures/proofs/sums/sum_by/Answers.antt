@@ -1,6 +1,6 @@
 use Rattle.std.proofs.Common.{◌∙◌, Err, ap, subst}
 use Rattle.binfarce_tools.specs.Answer.{selected_answer}
-use Rattle.binfarce_tools.specs.Json.{style_of}
+use Rattle.binfarce_rows.specs.Json.{style_of}
 use Rattle.binfarce_tools.specs.ReportWords.{outcome_of}
 use Rattle.binfarce_tools.specs.Writing.{Outcome, Takes, written}
 use Rattle.binfarce_figures.specs.Claimed.{Claimed}
@@ -21,7 +21,7 @@ returns-in_err-write_made-clause-takes g c = λ which file section got.
     let style = style_of c.args.form in
     let e = c.in_err-write_made.field-0.0 in
     let took : Outcome → Type 0 = λ o. Takes (AreFiguresBy shown style) (selected_answer which section file) (g.S.Sink.taken c.args.out.now) (g.S.Sink.taken c.write_made.new.out) o in
-    subst took (passed_on c.from_residual-in_err-write_made.result e c.from_residual-in_err-write_made.ensures.1)
+    subst took (passed_on outcome_of c.from_residual-in_err-write_made.result e c.from_residual-in_err-write_made.ensures.1)
     (figured shown.grouping (IsTextOfShares shown style) which file section c.args.claims.now c.text_of.result _ _ (outcome_of (Err e)) got c.text_of.ensures c.in_err-write_made.ensures.takes)
 
 pub returns-clause-takes : goal.returns-clause-takes

@@ -1,7 +1,7 @@
 use Rattle.std.proofs.Common.{◌∙◌, ap, string_bytes, subst, sym}
 use Rattle.binfarce_figures.specs.Claimed.{Claimed}
 use Rattle.binfarce_figures.specs.Claims.{sum_of_sizes}
-use Rattle.binfarce_tools.specs.Json.{style_of}
+use Rattle.binfarce_rows.specs.Json.{style_of}
 use Rattle.binfarce_figures.specs.Figures.{IsTextOfShares}
 use Rattle.binfarce_figures.proofs.Counted.{ones}
 use Rattle.binfarce_figures.proofs.Summed.{of_shares, total_of}

@@ -2,8 +2,9 @@ use Rattle.std.proofs.Common.{◌≡◌, ℕ, Bor, List, Ok, nat_cmp, filter, ru
 use Rattle.std.proofs.lemmas.Fn.{always_returns_same}
 use Rattle.std.proofs.lemmas.List.Sorted.{sum_by-IsPermutation}
 use Rattle.std.specs.Cmp.Lexicographic.{slice_cmp}
+use Rattle.binfarce_rows.specs.Columns.{difference}
 use Rattle.binfarce_sections.specs.declared.changes.Change.{Change}
-use Rattle.binfarce_sections.specs.Changes.{IsRanked, difference, differs, parts_of}
+use Rattle.binfarce_sections.specs.Changes.{IsRanked, differs, parts_of}
 use Rattle.binfarce_sections.specs.Sums.{IsByKey}
 use Rattle.binfarce_sections.specs.machine.Changed.{Fit, joined}
 use Rattle.binfarce_sections.proofs.ChangeSums.{fit_joined, fit_less}

@@ -1,6 +1,6 @@
 use Rattle.binfarce.specs.Format.{format_of}
 use Rattle.binfarce_sections.specs.Section.{sections_of}
-use Rattle.binfarce_tools.specs.Json.{lines}
+use Rattle.binfarce_rows.specs.Json.{lines}
 use Rattle.binfarce_sections.proofs.SourceAnswers.{lines_opened}
 use Rattle.binfarce_sections.proofs.list.list_sections.Goals as goal
 

@@ -1,7 +1,7 @@
 use Rattle.binfarce_tables.proofs.Readings.{err_is}
 use Rattle.std.specs.Prelude.{◌≢◌, IfErr}
 use Rattle.binfarce.specs.Format.{format_of}
-use Rattle.binfarce_tools.specs.Json.{style_of}
+use Rattle.binfarce_rows.specs.Json.{style_of}
 use Rattle.binfarce_sections.specs.Section.{sections_of}
 use Rattle.binfarce_sections.specs.Results.{TakesReadLines, Fails, error_of}
 use Rattle.binfarce_sections.specs.Views.{sections_left}

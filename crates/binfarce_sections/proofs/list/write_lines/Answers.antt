@@ -1,5 +1,5 @@
 use Rattle.std.proofs.Common.{Some, refl}
-use Rattle.binfarce_tools.specs.Json.{style_of}
+use Rattle.binfarce_rows.specs.Json.{style_of}
 use Rattle.binfarce_sections.specs.Views.{sections_left}
 use Rattle.binfarce_sections.proofs.Searching.{untaken}
 use Rattle.binfarce_sections.proofs.list.write_lines.Goals as goal

@@ -2,7 +2,7 @@ use Rattle.std.proofs.Common.{◌++◌, ◌∙◌, ap, map, refl}
 use Rattle.std.specs.List.{flat_map}
 use Rattle.std.specs.String.{string_bytes}
 use Rattle.std.proofs.lemmas.List.{drop_all}
-use Rattle.binfarce_tools.specs.Json.{style_of}
+use Rattle.binfarce_rows.specs.Json.{style_of}
 use Rattle.binfarce_sections.specs.declared.sums.Share.{Share}
 use Rattle.binfarce_sections.specs.Sums.{share_row}
 use Rattle.binfarce_sections.specs.Views.{share_view}

@@ -1,8 +1,8 @@
 use Rattle.std.proofs.Common.{[], ◌∷◌, codes}
 use Rattle.std.specs.Option.{option_map}
 use Rattle.std.specs.String.{string_bytes}
-use Rattle.binfarce_tools.specs.Json.{number_member, object_start, text_member}
-use Rattle.binfarce_tools.proofs.Objects.{one, more}
+use Rattle.binfarce_rows.specs.Json.{number_member, object_start, text_member}
+use Rattle.binfarce_rows.proofs.Objects.{one, more}
 use Rattle.binfarce_sections.specs.Lines.{type_member}
 use Rattle.binfarce_sections.proofs.sums.push_object.Goals as goal
 

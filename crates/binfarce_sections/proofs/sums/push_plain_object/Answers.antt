@@ -1,7 +1,7 @@
 use Rattle.std.proofs.Common.{Some, None, [], ◌∷◌, codes}
 use Rattle.std.specs.String.{string_bytes}
-use Rattle.binfarce_tools.specs.Json.{number_member, object_start, text_member}
-use Rattle.binfarce_tools.proofs.Objects.{one, more}
+use Rattle.binfarce_rows.specs.Json.{number_member, object_start, text_member}
+use Rattle.binfarce_rows.proofs.Objects.{one, more}
 use Rattle.binfarce_sections.proofs.sums.push_plain_object.Goals as goal
 
 pub returns : goal.returns

@@ -1,7 +1,7 @@
 use Rattle.std.proofs.Common.{◌≡◌, ◌++◌, ◌-◌, ◌∙◌, List, ap, arith, drop, length, length-drop, map, take}
 use Rattle.std.proofs.lemmas.List.{take_all}
 use Rattle.std.specs.String.{string_bytes}
-use Rattle.binfarce_tools.specs.Json.{style_of}
+use Rattle.binfarce_rows.specs.Json.{style_of}
 use Rattle.binfarce_sections.specs.declared.sums.Share.{Share}
 use Rattle.binfarce_sections.specs.Sums.{others_row}
 use Rattle.binfarce_sections.specs.Views.{share_view}

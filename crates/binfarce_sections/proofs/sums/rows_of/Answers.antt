@@ -1,6 +1,6 @@
 use Rattle.std.proofs.Common.{◌≡◌, ◌∙◌, ◌++◌, List, arith, ap, map, subst}
 use Rattle.std.specs.String.{string_bytes}
-use Rattle.binfarce_tools.specs.Json.{style_of}
+use Rattle.binfarce_rows.specs.Json.{style_of}
 use Rattle.binfarce_sections.specs.declared.sums.Share.{Share}
 use Rattle.binfarce_sections.specs.Sums.{FileSums, share_rows, sums_text}
 use Rattle.binfarce_sections.specs.Views.{share_view}

@@ -1,18 +1,7 @@
-use Rattle.std.proofs.Common.{sym, subst}
-use Rattle.binfarce_tools.specs.Answer.{selected_answer, MemoryIn}
-use Rattle.binfarce_tools.specs.Entries.{HoldsLeft}
-use Rattle.binfarce_tools.specs.SelectedTexts.{IsListingOfSelected}
-use Rattle.binfarce_tools.specs.Tables.{given_by}
-use Rattle.binfarce_tools.proofs.Lines.{takes, takes_nothing}
-use Rattle.binfarce_tools.proofs.TablesGive.{as_answered}
 use Rattle.binfarce_tools.proofs.list.list_tables.Goals as goal
 
-pub returns-in_err-text-clause-takes : goal.returns-in_err-text-clause-takes
-returns-in_err-text-clause-takes g c = λ which file section are. takes_nothing IsListingOfSelected (selected_answer which section file) _ c.from_residual-in_err-text.result c.from_residual-in_err-text.ensures.1
-
 pub returns-clause-takes : goal.returns-clause-takes
-returns-clause-takes g c = λ which file section are.
-    takes IsListingOfSelected HoldsLeft (MemoryIn file section) (selected_answer which section file) c.in_ok-selected.selected c.as_bytes.result.now _ _ c.write_whole.result
-    (c.in_ok-selected.ensures.gets which file section are)
-    (λ seen answer held. as_answered which file section (λ s. IsListingOfSelected s c.as_bytes.result.now) c.args.tables.now c.in_ok-selected.selected seen are answer held (λ entries size names other shares versions is. is)
-    (subst (IsListingOfSelected (given_by c.args.tables.now c.in_ok-selected.selected)) (sym c.as_bytes.ensures.value) c.in_ok-text.ensures)) c.write_whole.ensures.takes
+returns-clause-takes g c = λ which file section are. c.list_selected.ensures.takes which file section are (c.in_ok-selected.ensures.gets which file section are)
+
+pub returns-clause-outcome : goal.returns-clause-outcome
+returns-clause-outcome g c = λ which file section are. c.list_selected.ensures.outcome which file section (c.in_ok-selected.ensures.gets which file section are)

@@ -27,15 +27,12 @@ returns c =
     let all = functions_left c.args.functions in
     let left = functions_left c.loop-function.function-iterator in
     let shares = all_added all left c.loop-function.crates c.in-None.ensures.steps.0 c.loop-function.invariant.sums in (
-      c.unwrap_or.ensures,
-      (
-        shares.0,
-        shares.1,
-        record {
-          sums_are = shares.2;
-          crates_are = shares.3;
-          total_is = total_is all shares.0 shares.1 ∙ all_sizes left c.loop-function.total (sum_by (λ (e : Entry). e.size) all) c.in-None.ensures.steps.0 c.loop-function.invariant.total;
-          fits = c.loop-function.invariant.below;
-        },
-      ),
+      shares.0,
+      shares.1,
+      record {
+        sums_are = shares.2;
+        crates_are = shares.3;
+        total_is = total_is all shares.0 shares.1 ∙ all_sizes left c.loop-function.total (sum_by (λ (e : Entry). e.size) all) c.in-None.ensures.steps.0 c.loop-function.invariant.total;
+        fits = c.loop-function.invariant.below;
+      },
     )

@@ -30,4 +30,4 @@ returns-clause-takes g c = λ which file section are.
     let gets = list_of (MemoryIn file section) (selected_answer which section file) c.in_ok-functions.field-0 (all_left list.result.0.all) list.result.1 list.ensures.functions list.ensures.size (c.in_ok-functions.ensures.gets which file section are) in
     let held = got HoldsList (MemoryIn file section) (selected_answer which section file) (functions_left list.result.0, list.result.1) gets in
     takes (selected_answer which section file) held.0 held.1 IsReportOfSelected c.report_text.result _ _ (outcome_of c.write_made.result)
-    (of_report held.0 (functions_left list.result.0) list.result.1 c.in_ok-sums.sums c.report_text.result held.2 c.in_ok-sums.ensures.1 c.report_text.ensures) c.write_made.ensures.takes
+    (of_report held.0 (functions_left list.result.0) list.result.1 c.in_ok-sums.sums c.report_text.result held.2 c.in_ok-sums.ensures c.report_text.ensures) c.write_made.ensures.takes

@@ -1,7 +1,8 @@
 use Rattle.std.proofs.Common.{ℕ, Option, Some, None, subst, sym}
 use Rattle.binfarce.specs.SymbolViews.{function_view}
 use Rattle.binfarce_addresses.specs.Lookup.{entry_for}
-use Rattle.binfarce_addresses.specs.machine.Places.{IsFoundIn, IsPlaceFor}
+use Rattle.binfarce_addresses.specs.Places.{IsFoundIn}
+use Rattle.binfarce_addresses.specs.machine.Places.{IsPlaceFor}
 use Rattle.binfarce_addresses.proofs.Shown.{no_place, place_within, some_place}
 use Rattle.binfarce_addresses.proofs.at.Places.find_in.Goals as goal
 

@@ -1,7 +1,7 @@
 use Rattle.std.proofs.Common.{◌∙◌, ◌-◌, List, ℕ, get_or, drop, take, ap, sym, subst}
 use Rattle.binfarce.specs.Symbol.{Entry}
 use Rattle.binfarce_addresses.specs.declared.lookup.Lookup.{Lookup}
-use Rattle.binfarce_addresses.specs.machine.Places.{IsNamedAt}
+use Rattle.binfarce_addresses.specs.Places.{IsNamedAt}
 use Rattle.binfarce_addresses.proofs.Kept.{if_some}
 use Rattle.binfarce_addresses.proofs.names.Names.name_at.Goals as goal
 

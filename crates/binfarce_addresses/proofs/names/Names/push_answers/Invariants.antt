@@ -1,6 +1,5 @@
 use Rattle.std.proofs.Common.{◌≡◌, take}
-use Rattle.binfarce_addresses.specs.Counts.{answers_to}
-use Rattle.binfarce_addresses.specs.machine.Counting.{AddsUp}
+use Rattle.binfarce_addresses.specs.Counts.{answers_to, AddsUp}
 use Rattle.binfarce_addresses.proofs.AddressLines.{AreBehind}
 use Rattle.binfarce_addresses.proofs.names.Names.push_answers.Given as goal
 

@@ -1,7 +1,8 @@
 use Rattle.std.proofs.Common.{ℕ, List, drop, length, ap, sym, subst}
 use Rattle.std.specs.String.{string_bytes}
 use Rattle.binfarce.specs.SymbolViews.{function_view}
-use Rattle.binfarce_addresses.specs.machine.Places.{AreKept, IsNamedAt}
+use Rattle.binfarce_addresses.specs.Places.{IsNamedAt}
+use Rattle.binfarce_addresses.specs.machine.Places.{AreKept}
 use Rattle.binfarce_addresses.proofs.Kept.{behind, more_text, named, one_kept}
 use Rattle.binfarce_addresses.proofs.names.Names.push_name.Goals as goal
 use Rattle.binfarce_addresses.proofs.names.Names.push_name.Goals.{After-extend_from_slice-2}

@@ -1,8 +1,9 @@
 use Rattle.std.proofs.Common.{◌≡◌, ◌++◌, ℕ, List, Option, Some, None, ap, sym, subst, ◌∙◌}
 use Rattle.std.proofs.lemmas.Result.{on_ok_weaker}
-use Rattle.binfarce_tools.specs.Json as json
+use Rattle.binfarce_rows.specs.Json as json
 use Rattle.binfarce_addresses.specs.Stream.{IsAnswerIn}
-use Rattle.binfarce_addresses.specs.machine.Places.{IsFoundFor, IsShownAt}
+use Rattle.binfarce_addresses.specs.Places.{IsShownAt}
+use Rattle.binfarce_addresses.specs.machine.Places.{IsFoundFor}
 use Rattle.binfarce_addresses.proofs.AddressLines.{added, shown_line, unknown_line}
 use Rattle.binfarce_addresses.proofs.names.Names.push_plain.Goals as goal
 

@@ -2,11 +2,12 @@ use Rattle.std.proofs.Common.{◌≡◌, ◌++◌, ◌∙◌, ℕ, List, Option,
 use Rattle.std.specs.Prelude.{codes}
 use Rattle.std.specs.String.{string_bytes}
 use Rattle.std.proofs.lemmas.Result.{on_ok_weaker}
-use Rattle.binfarce_tools.specs.Json.{number_member, text_member}
+use Rattle.binfarce_rows.specs.Json.{number_member, text_member}
 use Rattle.binfarce.specs.Symbol.{Entry}
 use Rattle.binfarce.specs.SymbolViews.{function_view}
 use Rattle.binfarce_addresses.specs.declared.lookup.Lookup.{Lookup}
-use Rattle.binfarce_addresses.specs.machine.Places.{IsAtPlace, IsNamedAt, IsSymbolAt}
+use Rattle.binfarce_addresses.specs.Places.{IsAtPlace, IsNamedAt}
+use Rattle.binfarce_addresses.specs.machine.Places.{IsSymbolAt}
 use Rattle.binfarce_addresses.proofs.Kept.{named}
 use Rattle.binfarce_addresses.proofs.names.Names.push_symbol.Goals as goal
 

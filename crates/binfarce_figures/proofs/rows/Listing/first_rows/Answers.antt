@@ -1,7 +1,7 @@
 use Rattle.std.proofs.Common.{[], subst, sym}
 use Rattle.std.specs.String.{string_bytes}
 use Rattle.binfarce.specs.SymbolViews.{section_function_view}
-use Rattle.binfarce_tools.specs.Json.{style_of}
+use Rattle.binfarce_rows.specs.Json.{style_of}
 use Rattle.binfarce_tools.specs.Tables.{section_names, version_names_of}
 use Rattle.binfarce_figures.specs.Rows.{IsNameText}
 use Rattle.binfarce_figures.proofs.RowListings.{IsRow, lines_more, rows_are}

@@ -4,12 +4,12 @@ use Rattle.std.specs.Option.{option_map}
 use Rattle.std.specs.Prelude.{Option, Some}
 use Rattle.std.specs.String.{string_bytes}
 use Rattle.binfarce.specs.SymbolViews.{section_function_view}
-use Rattle.binfarce_tools.specs.Json.{address_member, number_member, object_start, style_of, text_member}
-use Rattle.binfarce_tools.specs.Listing.{line_head}
+use Rattle.binfarce_rows.specs.Json.{address_member, number_member, object_start, style_of, text_member}
+use Rattle.binfarce_rows.specs.Columns.{line_head}
 use Rattle.binfarce_tools.specs.SelectedTexts.{section_part}
 use Rattle.binfarce_tools.specs.Tables.{section_names, version_names_of}
-use Rattle.binfarce_tools.specs.declared.json.Form.{Form}
-use Rattle.binfarce_tools.proofs.Objects.{one, more}
+use Rattle.binfarce_rows.specs.declared.json.Form.{Form}
+use Rattle.binfarce_rows.proofs.Objects.{one, more}
 use Rattle.binfarce_figures.specs.RowListing.{IsRowWith, row_line, row_object, section_value, symbol_members}
 use Rattle.binfarce_figures.proofs.rows.Listing.push_row.Goals.{in-Some, in-None}
 use Rattle.binfarce_figures.proofs.rows.Listing.push_row.Goals as goal

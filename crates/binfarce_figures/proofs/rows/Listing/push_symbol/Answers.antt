@@ -3,9 +3,9 @@ use Rattle.std.proofs.lemmas.Result.{on_ok_weaker}
 use Rattle.std.specs.Option.{option_map}
 use Rattle.std.specs.Prelude.{ℕ}
 use Rattle.std.specs.String.{string_bytes}
-use Rattle.binfarce_tools.specs.Json.{text_member}
+use Rattle.binfarce_rows.specs.Json.{text_member}
 use Rattle.binfarce_tools.specs.Tables.{version_names_of}
-use Rattle.binfarce_tools.proofs.Objects.{one, more}
+use Rattle.binfarce_rows.proofs.Objects.{one, more}
 use Rattle.binfarce_figures.specs.RowListing.{binding_word, kind_word}
 use Rattle.binfarce_figures.proofs.rows.Listing.push_symbol.Goals as goal
 

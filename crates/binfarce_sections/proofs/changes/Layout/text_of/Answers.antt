@@ -1,5 +1,5 @@
 use Rattle.std.proofs.Common.{◌≡◌, ◌++◌, ◌∙◌, List, ap, codes, string_bytes, sym}
-use Rattle.binfarce_tools.specs.Json.{style_of}
+use Rattle.binfarce_rows.specs.Json.{style_of}
 use Rattle.binfarce_sections.specs.declared.changes.Change.{Change}
 use Rattle.binfarce_sections.specs.Changes.{AreChangesOf, change_row, change_rows, total_row}
 use Rattle.binfarce_sections.proofs.changes.Layout.text_of.Goals as goal

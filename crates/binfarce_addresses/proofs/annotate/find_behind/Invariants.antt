@@ -1,6 +1,0 @@
-use Rattle.binfarce_addresses.proofs.Among.{IsOnly}
-use Rattle.binfarce_addresses.proofs.annotate.find_behind.Given as goal
-
--- the only file so far that has the longest name
-abbrev pub invariant-loop-at : goal.invariant-loop-at
-invariant-loop-at l = IsOnly l.longest l.names l.before l.at l.here

@@ -1,7 +1,0 @@
-use Rattle.std.proofs.Common.{◌≡◌, take}
-use Rattle.binfarce_addresses.specs.Annotated.{files_of}
-use Rattle.binfarce_addresses.proofs.annotate.new_files.Given as goal
-
--- the files so far
-abbrev pub invariant-loop-module : goal.invariant-loop-module
-invariant-loop-module l = l.names.items ≡ files_of (take l.module-index l.modules)

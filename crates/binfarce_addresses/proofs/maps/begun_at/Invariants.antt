@@ -1,7 +1,0 @@
-use Rattle.std.proofs.Common.{◌≡◌, drop, true}
-use Rattle.binfarce_addresses.specs.Maps.{begun_at}
-use Rattle.binfarce_addresses.proofs.maps.begun_at.Given as goal
-
--- no mapping begins so far
-abbrev pub invariant-loop-at : goal.invariant-loop-at
-invariant-loop-at l = begun_at true l.text ≡ begun_at l.may_begin (drop l.at l.text)

@@ -1,0 +1,7 @@
+pub mod Contexts
+pub mod Among
+pub mod Words
+pub mod Outputs
+pub mod Annotating
+pub mod Mapped
+pub mod Marks

@@ -1,0 +1,18 @@
+use Rattle.std.proofs.Common.{◌≡◌, ◌++◌, ℕ, List, [], true, refl}
+use Rattle.std.proofs.lemmas.Result.{on_ok_weaker}
+use Rattle.binfarce_logs.specs.machine.Annotating.{Annotates}
+use Rattle.binfarce_logs.proofs.Annotating.{breaks_off, breaks_off_done, ends}
+use Rattle.binfarce_logs.proofs.annotate.AnnotatingPass.end.Goals as goal
+
+pub returns-clause-makes : goal.returns-clause-makes
+returns-clause-makes g c =
+    let old = c.args.self.now in
+    let new = c.push.new.self in
+    on_ok_weaker {P = (more : List ℕ) × Annotates old new true [] more × (c.push.new.out.items ≡ c.args.out.now.items ++ more)} c.push.result
+    (λ is. (is.0, (λ first. ends first old new [] is.0 refl is.1), is.2)) c.push.ensures.shows
+
+pub returns-clause-breaks_off : goal.returns-clause-breaks_off
+returns-clause-breaks_off g c = λ first now text part made others holds. breaks_off first now text part made others holds
+
+pub returns-clause-done : goal.returns-clause-done
+returns-clause-done g c = λ first now ended text made others is. breaks_off_done first now.files.counts text made others is

@@ -1,0 +1,6 @@
+pub mod Annotated
+pub mod Faults
+pub mod Maps
+pub mod Module
+pub mod Word
+pub mod machine

@@ -1,0 +1,13 @@
+//! Addresses in texts, such as logs and backtraces: annotates them, and finds where files are loaded in the maps of a
+//! process.
+#![tactic(auto)]
+
+pub mod annotate;
+mod faults;
+pub mod laws;
+pub mod maps;
+mod module;
+pub mod modules;
+mod word;
+
+pub use crate::modules::Module;

@@ -1,0 +1,4 @@
+pub mod Pads
+pub mod Heads
+pub mod Objects
+pub mod Widths

@@ -1,0 +1,163 @@
+//! Columns of sums and of changes, and the JSON members of changes.
+
+ghost use Rattle.std.specs.Prelude.{◌≡◌, ◌++◌, codes, IfOk, OnOk};
+ghost use Rattle.std.specs.String.{string_bytes};
+ghost use Rattle.binfarce_rows.specs.Columns.{change_column, count_of, growth_column, growth_member, growth_text, hundredths, minus, pad_left, percent_member, sign, signed_member, size_column};
+
+use std::alloc::{AllocError, Global};
+use std::fmt::Write;
+
+/// How many of all rows are shown, where the first ones are asked for.
+pub fn count_of(first: Option<usize>, all: usize) -> usize
+    ensures { result ≡ count_of first all }
+{
+    first.map_or(all, |first| first.min(all))
+}
+
+/// Appends a number and a blank: `{size:>10} `.
+///
+/// # Errors
+///
+/// `AllocError` where an allocation failed. The text is then unspecified.
+#[tactic(auto, using(crate::proofs::Pads::size_padded))]
+pub fn push_size(text: &mut String, size: u64) -> Result<(), AllocError>
+    ensures { OnOk result (string_bytes text.new ≡ string_bytes text.old ++ size_column size) }
+{
+    write!(text, "{size:>10} ")
+}
+
+/// The share of a number in a whole, in hundredths of a per cent, rounded down; 0 of a whole of 0.
+pub fn hundredths(part: u64, whole: u64) -> u128
+    ensures { result ≡ hundredths part whole }
+{
+    let part = 10_000 * u128::from(part);
+    part.checked_div(u128::from(whole)).unwrap_or(0)
+}
+
+/// Appends a change with its sign, and a blank: `{change:>11} `.
+///
+/// # Errors
+///
+/// `AllocError` where an allocation failed. The text is then unspecified.
+pub fn push_change(alloc: Global, text: &mut String, old: u128, new: u128) -> Result<(), AllocError>
+    ensures { OnOk result (string_bytes text.new ≡ string_bytes text.old ++ change_column old new) }
+{
+    let mut change = String::new(alloc);
+    write!(change, "{}{}", sign(old, new), old.abs_diff(new))?;
+    push_padded(text, change.as_str(), 11)
+}
+
+/// Appends a change in per cent of the old number, `new` where that is 0, to the right of 10 columns, and a blank, if it
+/// is wanted.
+///
+/// # Errors
+///
+/// `AllocError` where an allocation failed. The text is then unspecified.
+pub fn push_growth(
+    alloc: Global,
+    text: &mut String,
+    has_percent: bool,
+    old: u64,
+    new: u64,
+) -> Result<(), AllocError>
+    ensures { OnOk result (string_bytes text.new ≡ string_bytes text.old ++ growth_column has_percent old new) }
+{
+    if !has_percent {
+        return Ok(());
+    }
+    let growth = growth_of(alloc, old, new)?;
+    push_padded(text, growth.as_str(), 10)
+}
+
+/// Appends the member of a number of hundredths of a per cent, after a comma, with this sign.
+///
+/// # Errors
+///
+/// `AllocError` where an allocation failed. The text is then unspecified.
+pub fn push_percent_member(text: &mut String, sign: &str, n: u128) -> Result<(), AllocError>
+    ensures { OnOk result (string_bytes text.new ≡ string_bytes text.old ++ percent_member sign.now n) }
+{
+    let per_cent = n / 100;
+    write!(
+        text,
+        ",\"percent\":{sign}{per_cent}.{}{}",
+        n / 10 % 10,
+        n % 10
+    )
+}
+
+/// Appends the member of a change in per cent of the old number, `null` where that is 0, after a comma, if it is wanted.
+///
+/// # Errors
+///
+/// `AllocError` where an allocation failed. The text is then unspecified.
+pub fn push_growth_member(
+    text: &mut String,
+    has_percent: bool,
+    old: u64,
+    new: u64,
+) -> Result<(), AllocError>
+    ensures { OnOk result (string_bytes text.new ≡ string_bytes text.old ++ growth_member has_percent old new) }
+{
+    if !has_percent {
+        return Ok(());
+    }
+    if old == 0 {
+        return text.push_str(",\"percent\":null");
+    }
+    let minus = minus(u128::from(old), u128::from(new));
+    push_percent_member(text, minus, hundredths(old.abs_diff(new), old))
+}
+
+/// Appends a member whose value is a change, after a comma. The member's name is written as it is.
+///
+/// # Errors
+///
+/// `AllocError` where an allocation failed. The text is then unspecified.
+pub fn push_signed_member(
+    text: &mut String,
+    name: &str,
+    old: u128,
+    new: u128,
+) -> Result<(), AllocError>
+    ensures { OnOk result (string_bytes text.new ≡ string_bytes text.old ++ signed_member name.now old new) }
+{
+    let minus = minus(old, new);
+    let distance = old.abs_diff(new);
+    write!(text, ",\"{name}\":{minus}{distance}")
+}
+
+// The sign of a change.
+fn sign(old: u128, new: u128) -> &'static str
+    ensures { result.now ≡ sign old new }
+{
+    if new < old { "-" } else { "+" }
+}
+
+// The minus of a change as a number.
+fn minus(old: u128, new: u128) -> &'static str
+    ensures { result.now ≡ minus old new }
+{
+    if new < old { "-" } else { "" }
+}
+
+// The change in per cent of the old number.
+fn growth_of(alloc: Global, old: u64, new: u64) -> Result<String, AllocError>
+    ensures { IfOk result (λ t. string_bytes t ≡ growth_text old new) }
+{
+    if old == 0 {
+        return String::from_str(alloc, "new");
+    }
+    let n = hundredths(old.abs_diff(new), old);
+    let (sign, per_cent) = (sign(u128::from(old), u128::from(new)), n / 100);
+    format!(in alloc; "{sign}{per_cent}.{}{}%", n / 10 % 10, n % 10)
+}
+
+// Appends a label to the right of so many columns, and a blank.
+fn push_padded(text: &mut String, label: &str, width: usize) -> Result<(), AllocError>
+    ensures { OnOk result
+        (string_bytes text.new ≡ string_bytes text.old ++ (pad_left 32 width label.now ++ codes " ")) }
+{
+    let blanks = width.saturating_sub(label.len());
+    write!(text, "{:>blanks$}{label} ", "")
+}

@@ -1,3 +1,0 @@
-//! Pictures of sizes.
-
-pub mod picture;

@@ -1,0 +1,91 @@
+// From crates/binfarce_logs/src/word.rt, by tools/erase.
+
+//! Addresses as words of a text.
+
+use crate::erased::binfarce_logs::module::ends_with_plus;
+use crate::erased::binfarce_addresses::address::has_prefix;
+use crate::erased::binfarce_addresses::stream::LONGEST;
+
+// The length of the address that the text after `before` begins with, or 0.
+pub(crate) fn address_len(is_bare: bool, before: &[u8], text: &[u8]) -> usize {
+    match prefixed_len(before, text) {
+        0 if is_bare => bare_len(before, text),
+        len => len,
+    }
+}
+
+// The length of the address with a prefix that the text after `before` begins with, or 0.
+fn prefixed_len(before: &[u8], text: &[u8]) -> usize {
+    if !has_prefix(text) {
+        return 0;
+    }
+    let digits = digits_len(&text[2..]);
+    if digits < least_digits(before) || digits > 16 {
+        return 0;
+    }
+    2 + digits
+}
+
+// How many digits an address with a prefix that comes after `before` has at least.
+fn least_digits(before: &[u8]) -> usize {
+    if ends_with_plus(before) { 1 } else { 4 }
+}
+
+// The length of the address without a prefix that the text after `before` begins with, or 0.
+fn bare_len(before: &[u8], text: &[u8]) -> usize {
+    if !before.is_empty() && is_word_byte(before[before.len() - 1]) {
+        return 0;
+    }
+    match digits_len(text) {
+        digits @ 8..=16 if digits == text.len() || !is_word_byte(text[digits]) => digits,
+        _ => 0,
+    }
+}
+
+// A letter, a digit, `_` or `-`.
+fn is_word_byte(byte: u8) -> bool {
+    byte.is_ascii_alphanumeric() || byte == b'_' || byte == b'-'
+}
+
+// How many hexadecimal digits the text begins with.
+fn digits_len(text: &[u8]) -> usize {
+    text.iter().take_while(|b| b.is_ascii_hexdigit()).count()
+}
+
+// Whether the address that the text begins with, or that it begins with none, stays whatever comes after the text.
+// Nothing comes after the last text.
+pub(crate) fn is_decided(is_bare: bool, is_last: bool, text: &[u8]) -> bool {
+    if is_last {
+        return true;
+    }
+    if text.len() > LONGEST {
+        return true;
+    }
+    if text.len() == 1 {
+        return !may_begin(is_bare, text[0]);
+    }
+    if has_prefix(text) {
+        return digits_len(&text[2..]) < text.len() - 2;
+    }
+    if !is_bare {
+        return true;
+    }
+    digits_len(text) < text.len()
+}
+
+// Whether an address may begin with this byte.
+fn may_begin(is_bare: bool, byte: u8) -> bool {
+    if is_bare {
+        byte.is_ascii_hexdigit()
+    } else {
+        byte == b'0'
+    }
+}
+
+// How many bytes the first one and those after it are with which no address begins.
+pub(crate) fn others_len(is_bare: bool, text: &[u8]) -> usize {
+    1 + text[1..]
+        .iter()
+        .take_while(|b| !may_begin(is_bare, **b))
+        .count()
+}

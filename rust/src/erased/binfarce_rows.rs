@@ -1,0 +1,7 @@
+// From crates/binfarce_rows/src/lib.rt, by tools/erase.
+
+//! What rows are made of: columns, and the members of JSON objects.
+
+pub mod columns;
+pub mod head;
+pub mod json;

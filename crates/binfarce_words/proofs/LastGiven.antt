@@ -8,7 +8,7 @@ use Rattle.binfarce_words.specs.WordViews.{given_view}
 use Rattle.binfarce_words.specs.declared.words.Flag.{Flag}
 use Rattle.binfarce_words.specs.declared.words.Arguments.{Arguments}
 
-abbrev seen : Flag × Bor (List ℕ) → Flag × List ℕ
+abbrev pub seen : Flag × Bor (List ℕ) → Flag × List ℕ
 seen it = (it.0, it.1.now)
 
 reversed : (xs : List (Flag × Bor (List ℕ))) → map seen (reverse xs) ≡ reverse (map seen xs)

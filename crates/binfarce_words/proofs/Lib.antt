@@ -1,3 +1,4 @@
 pub mod Counts
 pub mod LastGiven
 pub mod WordLoop
+pub mod ValuesGiven

@@ -6,6 +6,8 @@ use Rattle.binfarce_words.specs.Words as words
 use Rattle.binfarce_words.specs.Words.{commands, command_name, flags_of, flag_name}
 use Rattle.binfarce_words.specs.declared.words.Call.{Call}
 use Rattle.binfarce_words.specs.declared.words.Call.TheVariants as calls
+use Rattle.binfarce_words.specs.declared.words.Argument.{Argument}
+use Rattle.binfarce_words.specs.declared.words.Argument.TheVariants as arguments
 use Rattle.binfarce_words.specs.declared.words.Arguments.{Arguments}
 use Rattle.binfarce_words.specs.declared.words.Reading.{Reading}
 use Rattle.binfarce_words.specs.declared.words.Limit.{Limit}
@@ -18,8 +20,12 @@ abbrev pub limit_words : Limit → List ℕ
 limit_words (Bytes most) = decimal most
 limit_words (Percent most) = decimal most ++ codes "%"
 
+abbrev pub argument_view : Argument → words.Argument
+argument_view (arguments.Text word) = words.utf8 word.now
+argument_view (arguments.NotUtf8 at) = words.no_utf8 at
+
 abbrev pub given_view : Arguments → words.Arguments
-given_view g = record { options = map (λ it. (it.0, it.1.now)) g.options.items; operands = map (λ t. t.now) g.operands.items }
+given_view g = record { options = map (λ it. (it.0, it.1.now)) g.options.items; operands = map argument_view g.operands.items }
 
 abbrev pub reading_view : Reading → words.Reading
 reading_view r = record { given = given_view r.given; waiting = r.waiting; are_operands = r.are_operands }
@@ -72,7 +78,7 @@ wrong_view (NoFile command) = words.no_file command
 wrong_view NoSecondFile = words.no_second_file
 wrong_view (TooMany word) = words.too_many word.now
 wrong_view BytesAsJson = words.bytes_as_json
-wrong_view (NotUtf8 at) = words.not_utf8
+wrong_view (NotUtf8 at) = words.not_utf8 at
 wrong_view OutOfMemory = words.no_memory
 
 -- an unknown name comes with the nearest one
@@ -94,3 +100,7 @@ Gives view answer (Err e) = IsWrong answer e
 abbrev pub Changes : {T X : Type 0} → (T → X) → Result X words.Wrong → T → Result (Unit {0}) Wrong → Type 0
 Changes view answer new (Ok x) = answer ≡ Ok (view new)
 Changes view answer new (Err e) = IsWrong answer e
+
+-- the result for a call that was read, of which an argument isn't UTF-8, the first one at this position
+abbrev pub IsChecked : (at : ℕ) → (read result : Result Call Wrong) → Type 0
+IsChecked at read result = (call : Result words.Call words.Wrong) → Gives call_view call read → Gives call_view (words.utf8_checked (Some at) call) result

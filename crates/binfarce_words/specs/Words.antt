@@ -1,8 +1,9 @@
--- The call that the words mean: `COMMAND [OPTION..] [OPERAND..]`.
-use Rattle.std.specs.Prelude.{◌==◌, count_by, ◌^◌, ◌++◌, ◌&&◌, ◌||◌, ℕ, Bool, true, false, not, List, [], ◌∷◌, codes, drop, find, reverse, length, nat_eq, nat_lt, slice_index, Option, Some, None, is_some, Result, Ok, Err, if◌then◌else◌}
+-- The call that the arguments mean: `COMMAND [OPTION..] [OPERAND..]`.
+use Rattle.std.specs.Prelude.{◌==◌, count_by, ◌^◌, ◌%◌, ◌++◌, ◌&&◌, ◌||◌, ℕ, Bool, true, false, not, List, [], ◌∷◌, codes, drop, find, map, reverse, length, nat_eq, nat_lt, suc, slice_get, slice_index, Option, Some, None, is_some, Result, Ok, Err, if◌then◌else◌}
 use Rattle.std.specs.Char.{digit_value}
+use Rattle.std.specs.Fmt.{decimal}
 use Rattle.std.specs.Option.{option_map, option_and_then}
-use Rattle.std.specs.List.{list_all, starts_with, position_or_len, before_first, after_first}
+use Rattle.std.specs.List.{filter, filter_map, list_all, starts_with, position_or_len, before_first, after_first}
 use Rattle.std.specs.Str.{byte, bytes_eq}
 use Rattle.std.specs.Str.Parse.{digits_value, without_leading_plus}
 use Rattle.binfarce_addresses.specs.Address.{address_of}
@@ -13,7 +14,7 @@ use Rattle.binfarce_words.specs.declared.words.Flag.TheVariants as flags
 use Rattle.binfarce_words.specs.declared.words.Takes.{Takes}
 use Rattle.binfarce_words.specs.declared.words.Limit.{Limit}
 use Rattle.binfarce_words.specs.declared.words.Limit.TheVariants.{Bytes, Percent}
-use Rattle.binfarce_words.specs.declared.words.Takes.TheVariants.{Nothing, Text, Address, Count, Limit as TakesLimit, Order as TakesOrder, Key as TakesKey}
+use Rattle.binfarce_words.specs.declared.words.Takes.TheVariants.{Nothing, Text, Page, Count, Limit as TakesLimit, Order as TakesOrder, Key as TakesKey}
 use Rattle.binfarce_figures.specs.declared.key.Key.{Key}
 use Rattle.binfarce_figures.specs.declared.key.Key.TheVariants as keys
 use Rattle.binfarce_figures.specs.declared.order.Order.{Order}
@@ -47,7 +48,7 @@ abbrev pub form_of : Flag → List ℕ × List ℕ × Takes
 form_of flags.Help = (codes "--help", codes "-h", Nothing)
 form_of flags.Section = (codes "--section", [], Text)
 form_of flags.Full = (codes "--full", [], Nothing)
-form_of flags.Base = (codes "--base", [], Address)
+form_of flags.Base = (codes "--base", [], Page)
 form_of flags.Maps = (codes "--maps", [], Text)
 form_of flags.As = (codes "--as", [], Text)
 form_of flags.Return = (codes "--return", [], Nothing)
@@ -85,6 +86,37 @@ key_named name = if bytes_eq name (codes "crate") then Some keys.Crate
 abbrev pub flag_name : Flag → List ℕ
 flag_name flag = (form_of flag).0
 
+-- an argument: a text in UTF-8; or one that isn't UTF-8, at this position, from 1 on
+pub data Argument : Type 0 where
+  utf8 : (word : List ℕ) → Argument
+  no_utf8 : (at : ℕ) → Argument
+
+-- the argument at this position that has this text; or none, since it isn't UTF-8
+abbrev pub argument_of : (at : ℕ) → (text : Option (List ℕ)) → Argument
+argument_of at (Some word) = utf8 word
+argument_of at None = no_utf8 at
+
+-- the arguments with these texts, from this position on
+abbrev pub arguments_from : (at : ℕ) → (texts : List (Option (List ℕ))) → List Argument
+arguments_from at [] = []
+arguments_from at (text ∷ others) = argument_of at text ∷ arguments_from (suc at) others
+
+-- the text of an argument, if it has one
+abbrev pub text_of : Argument → Option (List ℕ)
+text_of (utf8 word) = Some word
+text_of (no_utf8 at) = None
+
+-- the name of an argument in messages: its text, or its position
+abbrev pub name_of : Argument → List ℕ
+name_of (utf8 word) = word
+name_of (no_utf8 at) = codes "argument " ++ decimal at
+
+-- the position of the first argument that isn't UTF-8
+abbrev pub first_no_utf8 : List Argument → Option ℕ
+first_no_utf8 [] = None
+first_no_utf8 (utf8 word ∷ others) = first_no_utf8 others
+first_no_utf8 (no_utf8 at ∷ others) = Some at
+
 -- why a call is wrong; `not_maps`, where its file of maps is; the last two, where its words can't be taken
 pub data Wrong : Type 0 where
   no_command : Wrong
@@ -103,7 +135,7 @@ pub data Wrong : Type 0 where
   no_second_file : Wrong
   too_many : (word : List ℕ) → Wrong
   bytes_as_json : Wrong
-  not_utf8 : Wrong
+  not_utf8 : (at : ℕ) → Wrong
   no_memory : Wrong
 
 -- steps that end at the first fault
@@ -117,14 +149,31 @@ abbrev pub required : {A : Type 0} → Wrong → Option A → Result A Wrong
 required wrong None = Err wrong
 required wrong (Some x) = Ok x
 
--- the options with their values, and the other words, each in their order
+-- the text of an argument that has to be one
+abbrev pub required_text : Argument → Result (List ℕ) Wrong
+required_text (utf8 word) = Ok word
+required_text (no_utf8 at) = Err (not_utf8 at)
+
+-- the options with their values, and the other arguments, each in their order
 pub record Arguments : Type 0 where
   pub options : List (Flag × List ℕ)
-  pub operands : List (List ℕ)
+  pub operands : List Argument
+
+-- the text of the operand at a place, from 0 on
+abbrev pub operand_at : (at : ℕ) → Arguments → Option (List ℕ)
+operand_at at given = option_and_then text_of (slice_get given.operands at)
+
+-- the texts of the operands
+abbrev pub operand_texts : Arguments → List (List ℕ)
+operand_texts given = filter_map text_of given.operands
 
 -- the value of an option, as it was given last
 abbrev pub value_given : Flag → Arguments → Option (List ℕ)
 value_given flag given = option_map (λ it. it.1) (find (λ it. bytes_eq (flag_name it.0) (flag_name flag)) (reverse given.options))
+
+-- all values of an option, in their order
+abbrev pub values_given : Flag → Arguments → List (List ℕ)
+values_given flag given = map (λ it. it.1) (filter (λ it. bytes_eq (flag_name it.0) (flag_name flag)) given.options)
 
 abbrev pub number_in : Option (List ℕ) → Option ℕ
 number_in None = None
@@ -175,17 +224,22 @@ key_given given = option_and_then key_named (value_given flags.By given)
 abbrev pub values_of : Takes → List ℕ
 values_of Nothing = codes "no value"
 values_of Text = codes "a text"
-values_of Address = codes "an address"
+values_of Page = codes "the address of a page, a multiple of 0x1000"
 values_of Count = codes "a number"
 values_of TakesLimit = codes "a number of bytes, or of per cent as 2%"
 values_of TakesOrder = codes "address, size or name"
 values_of TakesKey = codes "crate, function, function-section, generic or section"
 
+-- an address is that of a page
+abbrev pub is_page : Option ℕ → Bool
+is_page (Some address) = nat_eq (address % 4096) 0
+is_page None = false
+
 -- whether an option that takes this takes the value
 abbrev pub is_met_by : Takes → (value : List ℕ) → Bool
 is_met_by Nothing value = true
 is_met_by Text value = true
-is_met_by Address value = is_some (address_of value)
+is_met_by Page value = is_page (address_of value)
 is_met_by Count value = is_some (count_in value)
 is_met_by TakesLimit value = is_some (limit_in value)
 is_met_by TakesOrder value = is_some (order_named value)
@@ -193,7 +247,7 @@ is_met_by TakesKey value = is_some (key_named value)
 
 -- why an option doesn't take the value
 abbrev pub bad_value_of : Takes → Flag → (value : List ℕ) → Wrong
-bad_value_of Address flag value = no_address value
+bad_value_of Page flag value = if is_some (address_of value) then not_taken flag value else no_address value
 bad_value_of takes flag value = not_taken flag value
 
 abbrev pub bad_value : Flag → (value : List ℕ) → Wrong
@@ -205,10 +259,10 @@ with_option given flag value = if is_met_by (form_of flag).2 value
     then Ok (record given { options = given.options ++ (flag, value) ∷ [] })
     else Err (bad_value flag value)
 
-abbrev pub with_operand : Arguments → List ℕ → Arguments
-with_operand given word = record given { operands = given.operands ++ word ∷ [] }
+abbrev pub with_operand : Arguments → Argument → Arguments
+with_operand given argument = record given { operands = given.operands ++ argument ∷ [] }
 
--- the state after some words: the options and operands, the option whose value comes next, and whether `--` came, after which all are operands
+-- the state after some arguments: the options and operands, the option whose value comes next, and whether `--` came, after which all are operands
 pub record Reading : Type 0 where
   pub given : Arguments
   pub waiting : Option Flag
@@ -254,14 +308,24 @@ after_option command given word flag takes None = Ok (record { given = given; wa
 abbrev pub after_waiting : Command → Arguments → Bool → (word : List ℕ) → Option Flag → Result Reading Wrong
 after_waiting command given are_operands word (Some flag) = read_on are_operands (with_option given flag word)
 after_waiting command given are_operands word None =
-    if are_operands || not (is_option word) then read_on are_operands (Ok (with_operand given word))
+    if are_operands || not (is_option word) then read_on are_operands (Ok (with_operand given (utf8 word)))
     else if bytes_eq word (codes "--") then read_on true (Ok given)
     else flag_named command word (parts_of word).0 >>= λ flag. after_option command given word flag (form_of flag).2 (parts_of word).1
 
 unfoldable pub after_word : Command → Reading → List ℕ → Result Reading Wrong
 after_word command r word = after_waiting command r.given r.are_operands word r.waiting
 
--- the options and operands after all words
+-- the reading after one argument more that isn't UTF-8: it is an operand, and no value of an option
+abbrev pub after_no_utf8 : Reading → (at : ℕ) → (waiting : Option Flag) → Result Reading Wrong
+after_no_utf8 r at (Some flag) = Err (not_utf8 at)
+after_no_utf8 r at None = Ok (record r { given = with_operand r.given (no_utf8 at) })
+
+-- the reading after one argument more
+abbrev pub after_argument : Command → Reading → Argument → Result Reading Wrong
+after_argument command r (utf8 word) = after_word command r word
+after_argument command r (no_utf8 at) = after_no_utf8 r at r.waiting
+
+-- the options and operands after all arguments
 abbrev pub finished : Arguments → Option Flag → Result Arguments Wrong
 finished given None = Ok given
 finished given (Some flag) = Err (no_value flag)
@@ -270,18 +334,18 @@ abbrev pub go_on : (Reading → Result Arguments Wrong) → Result Reading Wrong
 go_on others (Err wrong) = Err wrong
 go_on others (Ok next) = others next
 
--- the options and operands after these further words
-unfoldable pub given_after : Command → Reading → List (List ℕ) → Result Arguments Wrong
+-- the options and operands after these further arguments
+unfoldable pub given_after : Command → Reading → List Argument → Result Arguments Wrong
 given_after command r [] = finished r.given r.waiting
-given_after command r (word ∷ others) = go_on (λ next. given_after command next others) (after_word command r word)
+given_after command r (argument ∷ others) = go_on (λ next. given_after command next others) (after_argument command r argument)
 
 -- nothing was read
 abbrev pub begun : Reading
 begun = record { given = record { options = []; operands = [] }; waiting = None; are_operands = false }
 
--- the options and operands of the words after a command
-abbrev pub given_of : Command → List (List ℕ) → Result Arguments Wrong
-given_of command words = given_after command begun words
+-- the options and operands of the arguments after a command
+abbrev pub given_of : Command → List Argument → Result Arguments Wrong
+given_of command arguments = given_after command begun arguments
 
 -- a call
 pub data Call : Type 0 where
@@ -300,18 +364,22 @@ abbrev pub asks_version : List ℕ → Bool
 asks_version word = bytes_eq word (codes "--version") || bytes_eq word (codes "-V")
 
 -- `help`, and the command that it is about, if one is named
-abbrev pub help_call : List (List ℕ) → Result Call Wrong
+abbrev pub help_call : List Argument → Result Call Wrong
 help_call [] = Ok (show_help None)
-help_call (word ∷ others) = command_named word >>= λ command. Ok (show_help (Some command))
+help_call (topic ∷ others) = required_text topic >>= λ word. command_named word >>= λ command. Ok (show_help (Some command))
+
+-- a call with this argument has one too many
+abbrev pub exceeded : (more : Argument) → Result (Unit {0}) Wrong
+exceeded more = required_text more >>= λ word. Err (too_many word)
 
 -- the operands of a command: it needs a file, or it takes no more than two
-abbrev pub operands_checked : Command → List (List ℕ) → Result (Unit {0}) Wrong
+abbrev pub operands_checked : Command → List Argument → Result (Unit {0}) Wrong
 operands_checked Filter operands = Ok tt
 operands_checked command [] = Err (no_file command)
 operands_checked Diff (file ∷ []) = Err no_second_file
-operands_checked Diff (old ∷ new ∷ more ∷ others) = Err (too_many more)
-operands_checked Section (file ∷ section ∷ more ∷ others) = Err (too_many more)
-operands_checked Map (file ∷ more ∷ others) = Err (too_many more)
+operands_checked Diff (old ∷ new ∷ more ∷ others) = exceeded more
+operands_checked Section (file ∷ section ∷ more ∷ others) = exceeded more
+operands_checked Map (file ∷ more ∷ others) = exceeded more
 operands_checked command operands = Ok tt
 
 -- how often an option is given
@@ -327,7 +395,7 @@ abbrev pub are_given : (one other : Flag) → Arguments → Bool
 are_given one other given = is_some (value_given one given) && is_some (value_given other given)
 
 -- the bytes of a section are asked for
-abbrev pub is_of_bytes : Command → (operands : List (List ℕ)) → Bool
+abbrev pub is_of_bytes : Command → (operands : List Argument) → Bool
 is_of_bytes Section operands = nat_eq (length operands) 2
 is_of_bytes command operands = false
 
@@ -384,9 +452,29 @@ abbrev pub call_with : Command → Arguments → Result Call Wrong
 call_with command given = if is_some (value_given flags.Help given) then Ok (show_help (Some command))
     else checked command given >>= λ x. Ok (run command given)
 
--- the call that the words mean, or why they are wrong
-abbrev pub call_of : List (List ℕ) → Result Call Wrong
-call_of [] = Err no_command
-call_of (word ∷ others) = if asks_help word then help_call others
+-- the call of a program with this first word, and these others
+abbrev pub call_of_word : (word : List ℕ) → (others : List Argument) → Result Call Wrong
+call_of_word word others = if asks_help word then help_call others
     else if asks_version word then Ok show_version
     else command_named word >>= λ command. given_of command others >>= λ given. call_with command given
+
+-- the call that the arguments mean, if an argument that isn't UTF-8 may be an operand of any command
+abbrev pub call_read : List Argument → Result Call Wrong
+call_read [] = Err no_command
+call_read (first ∷ others) = required_text first >>= λ word. call_of_word word others
+
+-- a call that goes on with its other files where the name of one isn't UTF-8: one of `list` or `size`
+abbrev pub goes_on : Call → Bool
+goes_on (run Listing given) = true
+goes_on (run Size given) = true
+goes_on call = false
+
+-- an argument that isn't UTF-8, the first one at this position, makes any other call wrong, which is said before what else is wrong
+abbrev pub utf8_checked : (first : Option ℕ) → Result Call Wrong → Result Call Wrong
+utf8_checked None call = call
+utf8_checked (Some at) (Ok call) = if goes_on call then Ok call else Err (not_utf8 at)
+utf8_checked (Some at) (Err wrong) = Err (not_utf8 at)
+
+-- the call that the arguments mean, or why they are wrong
+abbrev pub call_of : List Argument → Result Call Wrong
+call_of arguments = utf8_checked (first_no_utf8 arguments) (call_read arguments)

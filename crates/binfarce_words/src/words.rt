@@ -1,11 +1,12 @@
 //! The command line of a call.
 
-ghost use Rattle.std.specs.Prelude.{◌≡◌, ◌∷◌, count_by, find, map, reverse, is_some, Some, Ok};
+ghost use Rattle.std.specs.Prelude.{◌≡◌, count_by, find, map, reverse, is_some, IfOk, Some, Ok};
+ghost use Rattle.std.specs.List.{filter, slice_get};
 ghost use Rattle.std.specs.Option.{option_map};
 ghost use Rattle.std.specs.String.{string_bytes};
 ghost use Rattle.std.specs.Str.{bytes_eq};
-ghost use Rattle.binfarce_words.specs.Words.{after_short, after_word, are_given, asks_help, asks_version, bad_value, call_of, checked, command_named, count_given, count_in, flag_name, flag_named, flags_of, form_of, given_of, help_call, is_each, is_met_by, is_named, is_of_bytes, is_option, is_by_section, is_relative, key_given, key_named, limit_given, limit_in, number_given, of_functions, operands_checked, order_given, order_named, parts_of, sums_checked, unknown_option, value_given, values_of, with_operand, with_option};
-ghost use Rattle.binfarce_words.specs.WordViews.{Gives, Changes, HasNearest, given_view, reading_view, call_view, wrong_view};
+ghost use Rattle.binfarce_words.specs.Words.{after_argument, after_short, after_word, are_given, argument_of, arguments_from, asks_help, asks_version, bad_value, call_of, call_of_word, call_read, checked, command_named, count_given, count_in, exceeded, first_no_utf8, flag_name, flag_named, flags_of, form_of, goes_on, given_of, help_call, is_by_section, is_each, is_met_by, is_named, is_of_bytes, is_option, is_page, is_relative, key_given, key_named, limit_given, limit_in, number_given, of_functions, operand_at, operand_texts, operands_checked, order_given, order_named, parts_of, required_text, sums_checked, text_of, unknown_option, value_given, values_given, values_of, with_operand, with_option};
+ghost use Rattle.binfarce_words.specs.WordViews.{Gives, Changes, HasNearest, IsChecked, argument_view, given_view, reading_view, call_view, wrong_view};
 
 use crate::named::{Named, find_named, nearest};
 use crate::words::Flag::{
@@ -15,8 +16,84 @@ use crate::words::Flag::{
 use binfarce_addresses::address::parse_address;
 use binfarce_figures::key::Key;
 use binfarce_figures::order::Order;
-use std::alloc::Global;
+use std::alloc::{AllocError, Global};
 use std::fmt;
+
+// The size of a page, or a part of it: pages are larger on some machines.
+const PAGE: u64 = 0x1000;
+
+/// An argument of the program.
+#[derive(Debug, Clone, Copy, PartialEq)]
+pub enum Argument<'a> {
+    /// A text.
+    Text(&'a str),
+    /// The argument at this position, from 1 on, isn't UTF-8.
+    NotUtf8(usize),
+}
+
+impl<'a> Argument<'a> {
+    /// Its text, if it has one.
+    pub fn text(self) -> Option<&'a str>
+        ensures { option_map (λ t. t.now) result ≡ text_of (argument_view self.entry) }
+    {
+        match self {
+            Argument::Text(text) => Some(text),
+            Argument::NotUtf8(_) => None,
+        }
+    }
+
+    // Its text, which it has to have.
+    fn required(self) -> Result<&'a str, Wrong<'a>>
+        ensures { Gives (λ t. t.now) (required_text (argument_view self.entry)) result }
+    {
+        match self {
+            Argument::Text(text) => Ok(text),
+            Argument::NotUtf8(at) => Err(Wrong::NotUtf8(at)),
+        }
+    }
+}
+
+impl<'a> fmt::Display for Argument<'a> {
+    ghost use Rattle.binfarce_words.specs.Words.{name_of};
+
+    ghost output = { λ argument. Some (name_of (argument_view argument)) };
+
+    fn fmt<W: fmt::Write>(&self, f: &mut fmt::Formatter<W>) -> fmt::Result {
+        match self {
+            Argument::Text(text) => write!(f, "{text}"),
+            Argument::NotUtf8(at) => write!(f, "argument {at}"),
+        }
+    }
+}
+
+/// The arguments with these texts, in their order. One without a text isn't UTF-8.
+///
+/// # Errors
+///
+/// `AllocError` where an allocation fails.
+pub fn arguments_of<'a>(
+    alloc: Global,
+    texts: &'a [Option<String>],
+) -> Result<Vec<Argument<'a>>, AllocError>
+    ensures { IfOk result (λ v. map argument_view v.items ≡ arguments_from 1 (map (option_map string_bytes) texts.entry.now)) }
+{
+    let mut arguments = Vec::new(alloc);
+    for text in texts {
+        let at = arguments.len() + 1;
+        arguments.push(argument_of(at, text))?;
+    }
+    Ok(arguments)
+}
+
+// The argument at this position that has this text, or none.
+fn argument_of(at: usize, text: &Option<String>) -> Argument<'_>
+    ensures { argument_view result ≡ argument_of at (option_map string_bytes text.entry.now) }
+{
+    match text {
+        Some(text) => Argument::Text(text.as_str()),
+        None => Argument::NotUtf8(at),
+    }
+}
 
 /// A command.
 #[derive(Debug, Clone, Copy, PartialEq)]
@@ -142,8 +219,8 @@ pub enum Takes {
     Nothing,
     /// Any text.
     Text,
-    /// An address.
-    Address,
+    /// The address of a page.
+    Page,
     /// A number in decimal digits.
     Count,
     /// A limit on sums.
@@ -188,7 +265,7 @@ impl Takes {
         match self {
             Takes::Nothing => "no value",
             Takes::Text => "a text",
-            Takes::Address => "an address",
+            Takes::Page => "the address of a page, a multiple of 0x1000",
             Takes::Count => "a number",
             Takes::Limit => "a number of bytes, or of per cent as 2%",
             Takes::Order => "address, size or name",
@@ -202,13 +279,20 @@ impl Takes {
     {
         match self {
             Takes::Nothing | Takes::Text => true,
-            Takes::Address => parse_address(value.as_bytes()).is_some(),
+            Takes::Page => is_page(parse_address(value.as_bytes())),
             Takes::Count => count_in(value).is_some(),
             Takes::Limit => limit_in(value).is_some(),
             Takes::Order => order_named(value).is_some(),
             Takes::Key => key_named(value).is_some(),
         }
     }
+}
+
+// Whether this is the address of a page.
+fn is_page(address: Option<u64>) -> bool
+    ensures { result ≡ is_page address }
+{
+    matches!(address, Some(address) if address % PAGE == 0)
 }
 
 // The number in decimal digits.
@@ -238,7 +322,7 @@ impl Flag {
             Help => ("--help", "-h", Takes::Nothing),
             Section => ("--section", "", Takes::Text),
             Full => ("--full", "", Takes::Nothing),
-            Base => ("--base", "", Takes::Address),
+            Base => ("--base", "", Takes::Page),
             Maps => ("--maps", "", Takes::Text),
             As => ("--as", "", Takes::Text),
             Return => ("--return", "", Takes::Nothing),
@@ -431,8 +515,8 @@ impl<'a> fmt::Display for Wrong<'a> {
 pub struct Arguments<'a> {
     /// The options in their order, each with its value.
     pub options: Vec<(Flag, &'a str)>,
-    /// The words that aren't options.
-    pub operands: Vec<&'a str>,
+    /// The arguments that aren't options, nor values of options.
+    pub operands: Vec<Argument<'a>>,
 }
 
 impl<'a> Arguments<'a> {
@@ -448,6 +532,16 @@ impl<'a> Arguments<'a> {
         ensures { option_map (λ t. t.now) result ≡ value_given flag (given_view self.now) }
     {
         match last_given(self.options.as_slice(), flag.name()) {
+            Some((_, value)) => Some(value),
+            None => None,
+        }
+    }
+
+    /// The option's value at a place among those that are given, in their order.
+    pub fn value_at(&self, flag: Flag, place: usize) -> Option<&'a str>
+        ensures { option_map (λ t. t.now) result ≡ slice_get (values_given flag (given_view self.now)) place }
+    {
+        match nth_given(self.options.as_slice(), flag.name(), place) {
             Some((_, value)) => Some(value),
             None => None,
         }
@@ -495,6 +589,30 @@ impl<'a> Arguments<'a> {
         key_named(self.value(By)?)
     }
 
+    /// The text of the operand at this place, from 0 on, if it has one.
+    pub fn operand(&self, at: usize) -> Option<&'a str>
+        ensures { option_map (λ t. t.now) result ≡ operand_at at (given_view self.now) }
+    {
+        self.operands.get(at)?.text()
+    }
+
+    /// The texts of the operands, in their order.
+    ///
+    /// # Errors
+    ///
+    /// `AllocError` where an allocation fails.
+    pub fn operand_texts(&self, alloc: Global) -> Result<Vec<&'a str>, AllocError>
+        ensures { IfOk result (λ v. map (λ t. t.now) v.items ≡ operand_texts (given_view self.now)) }
+    {
+        let mut texts = Vec::new(alloc);
+        for operand in &self.operands {
+            if let Some(text) = operand.text() {
+                texts.push(text)?;
+            }
+        }
+        Ok(texts)
+    }
+
     // Takes an option.
     fn set(&mut self, flag: Flag, value: &'a str) -> Result<(), Wrong<'a>>
         ensures { Changes given_view (with_option (given_view self.old) flag value.now) self.new result }
@@ -508,10 +626,10 @@ impl<'a> Arguments<'a> {
     }
 
     // Takes an operand.
-    fn push(&mut self, word: &'a str) -> Result<(), Wrong<'a>>
-        ensures { Changes given_view (Ok (with_operand (given_view self.old) word.now)) self.new result }
+    fn push(&mut self, argument: Argument<'a>) -> Result<(), Wrong<'a>>
+        ensures { Changes given_view (Ok (with_operand (given_view self.old) (argument_view argument.entry))) self.new result }
     {
-        self.operands.push(word).map_err(|_| Wrong::OutOfMemory)
+        self.operands.push(argument).map_err(|_| Wrong::OutOfMemory)
     }
 }
 
@@ -520,7 +638,7 @@ fn bad_value<'a>(flag: Flag, value: &'a str) -> Wrong<'a>
     ensures { (wrong_view result ≡ bad_value flag value.entry.now) × HasNearest result }
 {
     match flag.form().2 {
-        Takes::Address => Wrong::NoAddress(value),
+        Takes::Page if parse_address(value.as_bytes()).is_none() => Wrong::NoAddress(value),
         _ => Wrong::BadValue(flag, value),
     }
 }
@@ -530,6 +648,22 @@ fn last_given<'a>(options: &[(Flag, &'a str)], name: &str) -> Option<(Flag, &'a 
     ensures { result ≡ find (λ it. bytes_eq (flag_name it.0) name.now) (reverse options.now) }
 {
     options.iter().rev().copied().find(|it| it.0.name() == name)
+}
+
+// The option at a place among those of this name.
+fn nth_given<'a>(options: &[(Flag, &'a str)], name: &str, place: usize) -> Option<(Flag, &'a str)>
+    ensures { result ≡ slice_get (filter (λ it. bytes_eq (flag_name it.0) name.now) options.now) place }
+{
+    let mut left = place;
+    for option in options {
+        if option.0.name() == name {
+            if left == 0 {
+                return Some(*option);
+            }
+            left -= 1;
+        }
+    }
+    None
 }
 
 /// A call.
@@ -543,22 +677,74 @@ pub enum Call<'a> {
     Run(Command, Arguments<'a>),
 }
 
-/// The call that the words after the program's own name mean.
+/// The call that the arguments after the program's own name mean.
 ///
 /// # Errors
 ///
-/// A `Wrong` that names what is wrong; `OutOfMemory` where an allocation fails.
-pub fn read_call<'a>(alloc: Global, words: &'a [String]) -> Result<Call<'a>, Wrong<'a>>
-    ensures { Gives call_view (call_of (map string_bytes words.entry.now)) result }
+/// A `Wrong` that names what is wrong: `NotUtf8` with the position of the first argument that isn't UTF-8, before
+/// anything else, unless the call is one of `list` or `size`, and right, and each such argument is an operand;
+/// `OutOfMemory` where an allocation fails.
+pub fn read_call<'a>(alloc: Global, arguments: &[Argument<'a>]) -> Result<Call<'a>, Wrong<'a>>
+    ensures { Gives call_view (call_of (map argument_view arguments.entry.now)) result }
 {
-    match words {
-        [] => Err(Wrong::NoCommand),
-        [word, others @ ..] => read_words(alloc, word.as_str(), others),
+    let read = read_arguments(alloc, arguments);
+    match first_not_utf8(arguments) {
+        Some(at) => check_utf8(at, read),
+        None => read,
     }
 }
 
-fn read_words<'a>(alloc: Global, word: &'a str, others: &'a [String]) -> Result<Call<'a>, Wrong<'a>>
-    ensures { Gives call_view (call_of (word.entry.now ∷ map string_bytes others.entry.now)) result }
+// The position of the first of these arguments that isn't UTF-8.
+fn first_not_utf8(arguments: &[Argument<'_>]) -> Option<usize>
+    ensures { result ≡ first_no_utf8 (map argument_view arguments.now) }
+{
+    for argument in arguments {
+        if let Argument::NotUtf8(at) = argument {
+            return Some(*at);
+        }
+    }
+    None
+}
+
+// The call that was read, if it goes on with its other files where the argument at this position isn't UTF-8.
+fn check_utf8<'a>(at: usize, read: Result<Call<'a>, Wrong<'a>>) -> Result<Call<'a>, Wrong<'a>>
+    ensures { IsChecked at read.entry result }
+{
+    let call = match read {
+        Ok(call) => call,
+        Err(Wrong::OutOfMemory) => return Err(Wrong::OutOfMemory),
+        Err(_) => return Err(Wrong::NotUtf8(at)),
+    };
+    if goes_on(&call) {
+        Ok(call)
+    } else {
+        Err(Wrong::NotUtf8(at))
+    }
+}
+
+// Whether the call goes on with its other files where the name of one isn't UTF-8.
+fn goes_on(call: &Call<'_>) -> bool
+    ensures { result ≡ goes_on (call_view call.now) }
+{
+    matches!(call, Call::Run(Command::List | Command::Size, _))
+}
+
+// The call that these arguments mean, if one that isn't UTF-8 may be an operand of any command.
+fn read_arguments<'a>(alloc: Global, arguments: &[Argument<'a>]) -> Result<Call<'a>, Wrong<'a>>
+    ensures { Gives call_view (call_read (map argument_view arguments.entry.now)) result }
+{
+    match arguments {
+        [] => Err(Wrong::NoCommand),
+        [first, others @ ..] => read_words(alloc, first.required()?, others),
+    }
+}
+
+fn read_words<'a>(
+    alloc: Global,
+    word: &'a str,
+    others: &[Argument<'a>],
+) -> Result<Call<'a>, Wrong<'a>>
+    ensures { Gives call_view (call_of_word word.entry.now (map argument_view others.entry.now)) result }
 {
     if asks_help(word) {
         return read_help(others);
@@ -588,12 +774,12 @@ fn asks_version(word: &str) -> bool
 }
 
 // `help`, and the command that it is about.
-fn read_help<'a>(others: &'a [String]) -> Result<Call<'a>, Wrong<'a>>
-    ensures { Gives call_view (help_call (map string_bytes others.entry.now)) result }
+fn read_help<'a>(others: &[Argument<'a>]) -> Result<Call<'a>, Wrong<'a>>
+    ensures { Gives call_view (help_call (map argument_view others.entry.now)) result }
 {
     match others {
         [] => Ok(Call::Help(None)),
-        [word, ..] => Ok(Call::Help(Some(command_named(word.as_str())?))),
+        [topic, ..] => Ok(Call::Help(Some(command_named(topic.required()?)?))),
     }
 }
 
@@ -727,35 +913,42 @@ fn are_given(given: &Arguments<'_>, one: Flag, other: Flag) -> bool
 }
 
 // Whether the bytes of a section are asked for.
-fn is_of_bytes(command: Command, operands: &[&str]) -> bool
-    ensures { result ≡ is_of_bytes command (map (λ t. t.now) operands.now) }
+fn is_of_bytes(command: Command, operands: &[Argument<'_>]) -> bool
+    ensures { result ≡ is_of_bytes command (map argument_view operands.now) }
 {
     command == Command::Section && operands.len() == 2
 }
 
 // What is wrong with the operands of a command.
-fn check_operands<'a>(command: Command, operands: &[&'a str]) -> Result<(), Wrong<'a>>
-    ensures { Gives (λ x. x) (operands_checked command (map (λ t. t.now) operands.entry.now)) result }
+fn check_operands<'a>(command: Command, operands: &[Argument<'a>]) -> Result<(), Wrong<'a>>
+    ensures { Gives (λ x. x) (operands_checked command (map argument_view operands.entry.now)) result }
 {
     match operands {
         _ if command == Command::Filter => Ok(()),
         [] => Err(Wrong::NoFile(command)),
         [_] if command == Command::Diff => Err(Wrong::NoSecondFile),
-        [_, _, word, ..] if command == Command::Section || command == Command::Diff => Err(
-            Wrong::TooMany(word),
-        ),
-        [_, word, ..] if command == Command::Map => Err(Wrong::TooMany(word)),
+        [_, _, more, ..] if command == Command::Section || command == Command::Diff => {
+            exceeded(*more)
+        }
+        [_, more, ..] if command == Command::Map => exceeded(*more),
         _ => Ok(()),
     }
+}
+
+// A call with this argument has one too many.
+fn exceeded(more: Argument<'_>) -> Result<(), Wrong<'_>>
+    ensures { Gives (λ x. x) (exceeded (argument_view more.entry)) result }
+{
+    Err(Wrong::TooMany(more.required()?))
 }
 
 // The options and operands of a command.
 fn read_given<'a>(
     alloc: Global,
     command: Command,
-    words: &'a [String],
+    arguments: &[Argument<'a>],
 ) -> Result<Arguments<'a>, Wrong<'a>>
-    ensures { Gives given_view (given_of command (map string_bytes words.entry.now)) result }
+    ensures { Gives given_view (given_of command (map argument_view arguments.entry.now)) result }
 {
     let mut reading = Reading {
         given: Arguments {
@@ -765,8 +958,8 @@ fn read_given<'a>(
         waiting: None,
         are_operands: false,
     };
-    for word in words {
-        match reading.take(command, word.as_str()) {
+    for argument in arguments {
+        match reading.take(command, *argument) {
             Ok(()) => {}
             Err(e) => return Err(e),
         }
@@ -777,20 +970,31 @@ fn read_given<'a>(
     }
 }
 
-// Words that were read up to here.
+// Arguments that were read up to here.
 #[derive(Drop)]
 struct Reading<'a> {
     given: Arguments<'a>,
     // The option whose value comes next.
     waiting: Option<Flag>,
-    // `--` came: all further words are operands.
+    // `--` came: all further arguments are operands.
     are_operands: bool,
 }
 
 impl<'a> Reading<'a> {
-    // Takes the next word.
+    // Takes the next argument.
+    fn take(&mut self, command: Command, argument: Argument<'a>) -> Result<(), Wrong<'a>>
+        ensures { Changes reading_view (after_argument command (reading_view self.old) (argument_view argument.entry)) self.new result }
+    {
+        match (argument, self.waiting) {
+            (Argument::Text(word), _) => self.take_word(command, word),
+            (Argument::NotUtf8(at), Some(_)) => Err(Wrong::NotUtf8(at)),
+            (Argument::NotUtf8(_), None) => self.given.push(argument),
+        }
+    }
+
+    // Takes the next argument, which is this text.
     #[tactic(auto, unfolding(crate::specs::Words::after_word))]
-    fn take(&mut self, command: Command, word: &'a str) -> Result<(), Wrong<'a>>
+    fn take_word(&mut self, command: Command, word: &'a str) -> Result<(), Wrong<'a>>
         ensures { Changes reading_view (after_word command (reading_view self.old) word.now) self.new result }
     {
         if let Some(flag) = self.waiting {
@@ -798,7 +1002,7 @@ impl<'a> Reading<'a> {
             return self.given.set(flag, word);
         }
         if self.are_operands || !is_option(word) {
-            return self.given.push(word);
+            return self.given.push(Argument::Text(word));
         }
         if word == "--" {
             self.are_operands = true;

@@ -11,8 +11,72 @@ use crate::erased::binfarce_words::words::Flag::{
 use crate::erased::binfarce_addresses::address::parse_address;
 use crate::erased::binfarce_figures::key::Key;
 use crate::erased::binfarce_figures::order::Order;
-use crate::shim::alloc::Global;
+use crate::shim::alloc::{AllocError, Global};
 use core::fmt;
+
+// The size of a page, or a part of it: pages are larger on some machines.
+const PAGE: u64 = 0x1000;
+
+/// An argument of the program.
+#[derive(Debug, Clone, Copy, PartialEq)]
+pub enum Argument<'a> {
+    /// A text.
+    Text(&'a str),
+    /// The argument at this position, from 1 on, isn't UTF-8.
+    NotUtf8(usize),
+}
+
+impl<'a> Argument<'a> {
+    /// Its text, if it has one.
+    pub fn text(self) -> Option<&'a str> {
+        match self {
+            Argument::Text(text) => Some(text),
+            Argument::NotUtf8(_) => None,
+        }
+    }
+
+    // Its text, which it has to have.
+    fn required(self) -> Result<&'a str, Wrong<'a>> {
+        match self {
+            Argument::Text(text) => Ok(text),
+            Argument::NotUtf8(at) => Err(Wrong::NotUtf8(at)),
+        }
+    }
+}
+
+impl<'a> fmt::Display for Argument<'a> {
+    fn fmt(&self, f: &mut fmt::Formatter<'_>) -> fmt::Result {
+        match self {
+            Argument::Text(text) => write!(f, "{text}"),
+            Argument::NotUtf8(at) => write!(f, "argument {at}"),
+        }
+    }
+}
+
+/// The arguments with these texts, in their order. One without a text isn't UTF-8.
+///
+/// # Errors
+///
+/// `AllocError` where an allocation fails.
+pub fn arguments_of<'a>(
+    alloc: Global,
+    texts: &'a [Option<String>],
+) -> Result<Vec<Argument<'a>>, AllocError> {
+    let mut arguments = Vec::new(alloc);
+    for text in texts {
+        let at = arguments.len() + 1;
+        arguments.push(argument_of(at, text))?;
+    }
+    Ok(arguments)
+}
+
+// The argument at this position that has this text, or none.
+fn argument_of(at: usize, text: &Option<String>) -> Argument<'_> {
+    match text {
+        Some(text) => Argument::Text(text.as_str()),
+        None => Argument::NotUtf8(at),
+    }
+}
 
 /// A command.
 #[derive(Debug, Clone, Copy, PartialEq)]
@@ -130,8 +194,8 @@ pub enum Takes {
     Nothing,
     /// Any text.
     Text,
-    /// An address.
-    Address,
+    /// The address of a page.
+    Page,
     /// A number in decimal digits.
     Count,
     /// A limit on sums.
@@ -170,7 +234,7 @@ impl Takes {
         match self {
             Takes::Nothing => "no value",
             Takes::Text => "a text",
-            Takes::Address => "an address",
+            Takes::Page => "the address of a page, a multiple of 0x1000",
             Takes::Count => "a number",
             Takes::Limit => "a number of bytes, or of per cent as 2%",
             Takes::Order => "address, size or name",
@@ -182,13 +246,18 @@ impl Takes {
     fn is_met_by(self, value: &str) -> bool {
         match self {
             Takes::Nothing | Takes::Text => true,
-            Takes::Address => parse_address(value.as_bytes()).is_some(),
+            Takes::Page => is_page(parse_address(value.as_bytes())),
             Takes::Count => count_in(value).is_some(),
             Takes::Limit => limit_in(value).is_some(),
             Takes::Order => order_named(value).is_some(),
             Takes::Key => key_named(value).is_some(),
         }
     }
+}
+
+// Whether this is the address of a page.
+fn is_page(address: Option<u64>) -> bool {
+    matches!(address, Some(address) if address % PAGE == 0)
 }
 
 // The number in decimal digits.
@@ -212,7 +281,7 @@ impl Flag {
             Help => ("--help", "-h", Takes::Nothing),
             Section => ("--section", "", Takes::Text),
             Full => ("--full", "", Takes::Nothing),
-            Base => ("--base", "", Takes::Address),
+            Base => ("--base", "", Takes::Page),
             Maps => ("--maps", "", Takes::Text),
             As => ("--as", "", Takes::Text),
             Return => ("--return", "", Takes::Nothing),
@@ -393,8 +462,8 @@ impl<'a> fmt::Display for Wrong<'a> {
 pub struct Arguments<'a> {
     /// The options in their order, each with its value.
     pub options: Vec<(Flag, &'a str)>,
-    /// The words that aren't options.
-    pub operands: Vec<&'a str>,
+    /// The arguments that aren't options, nor values of options.
+    pub operands: Vec<Argument<'a>>,
 }
 
 impl<'a> Arguments<'a> {
@@ -406,6 +475,14 @@ impl<'a> Arguments<'a> {
     /// The option's value, as it was given last.
     pub fn value(&self, flag: Flag) -> Option<&'a str> {
         match last_given(self.options.as_slice(), flag.name()) {
+            Some((_, value)) => Some(value),
+            None => None,
+        }
+    }
+
+    /// The option's value at a place among those that are given, in their order.
+    pub fn value_at(&self, flag: Flag, place: usize) -> Option<&'a str> {
+        match nth_given(self.options.as_slice(), flag.name(), place) {
             Some((_, value)) => Some(value),
             None => None,
         }
@@ -441,6 +518,26 @@ impl<'a> Arguments<'a> {
         key_named(self.value(By)?)
     }
 
+    /// The text of the operand at this place, from 0 on, if it has one.
+    pub fn operand(&self, at: usize) -> Option<&'a str> {
+        self.operands.get(at)?.text()
+    }
+
+    /// The texts of the operands, in their order.
+    ///
+    /// # Errors
+    ///
+    /// `AllocError` where an allocation fails.
+    pub fn operand_texts(&self, alloc: Global) -> Result<Vec<&'a str>, AllocError> {
+        let mut texts = Vec::new(alloc);
+        for operand in &self.operands {
+            if let Some(text) = operand.text() {
+                texts.push(text)?;
+            }
+        }
+        Ok(texts)
+    }
+
     // Takes an option.
     fn set(&mut self, flag: Flag, value: &'a str) -> Result<(), Wrong<'a>> {
         if !flag.form().2.is_met_by(value) {
@@ -452,15 +549,15 @@ impl<'a> Arguments<'a> {
     }
 
     // Takes an operand.
-    fn push(&mut self, word: &'a str) -> Result<(), Wrong<'a>> {
-        self.operands.push(word).map_err(|_| Wrong::OutOfMemory)
+    fn push(&mut self, argument: Argument<'a>) -> Result<(), Wrong<'a>> {
+        self.operands.push(argument).map_err(|_| Wrong::OutOfMemory)
     }
 }
 
 // Why an option doesn't take this value.
 fn bad_value<'a>(flag: Flag, value: &'a str) -> Wrong<'a> {
     match flag.form().2 {
-        Takes::Address => Wrong::NoAddress(value),
+        Takes::Page if parse_address(value.as_bytes()).is_none() => Wrong::NoAddress(value),
         _ => Wrong::BadValue(flag, value),
     }
 }
@@ -468,6 +565,20 @@ fn bad_value<'a>(flag: Flag, value: &'a str) -> Wrong<'a> {
 // The last of these options that has this name.
 fn last_given<'a>(options: &[(Flag, &'a str)], name: &str) -> Option<(Flag, &'a str)> {
     options.iter().rev().copied().find(|it| it.0.name() == name)
+}
+
+// The option at a place among those of this name.
+fn nth_given<'a>(options: &[(Flag, &'a str)], name: &str, place: usize) -> Option<(Flag, &'a str)> {
+    let mut left = place;
+    for option in options {
+        if option.0.name() == name {
+            if left == 0 {
+                return Some(*option);
+            }
+            left -= 1;
+        }
+    }
+    None
 }
 
 /// A call.
@@ -481,19 +592,63 @@ pub enum Call<'a> {
     Run(Command, Arguments<'a>),
 }
 
-/// The call that the words after the program's own name mean.
+/// The call that the arguments after the program's own name mean.
 ///
 /// # Errors
 ///
-/// A `Wrong` that names what is wrong; `OutOfMemory` where an allocation fails.
-pub fn read_call<'a>(alloc: Global, words: &'a [String]) -> Result<Call<'a>, Wrong<'a>> {
-    match words {
-        [] => Err(Wrong::NoCommand),
-        [word, others @ ..] => read_words(alloc, word.as_str(), others),
+/// A `Wrong` that names what is wrong: `NotUtf8` with the position of the first argument that isn't UTF-8, before
+/// anything else, unless the call is one of `list` or `size`, and right, and each such argument is an operand;
+/// `OutOfMemory` where an allocation fails.
+pub fn read_call<'a>(alloc: Global, arguments: &[Argument<'a>]) -> Result<Call<'a>, Wrong<'a>> {
+    let read = read_arguments(alloc, arguments);
+    match first_not_utf8(arguments) {
+        Some(at) => check_utf8(at, read),
+        None => read,
     }
 }
 
-fn read_words<'a>(alloc: Global, word: &'a str, others: &'a [String]) -> Result<Call<'a>, Wrong<'a>> {
+// The position of the first of these arguments that isn't UTF-8.
+fn first_not_utf8(arguments: &[Argument<'_>]) -> Option<usize> {
+    for argument in arguments {
+        if let Argument::NotUtf8(at) = argument {
+            return Some(*at);
+        }
+    }
+    None
+}
+
+// The call that was read, if it goes on with its other files where the argument at this position isn't UTF-8.
+fn check_utf8<'a>(at: usize, read: Result<Call<'a>, Wrong<'a>>) -> Result<Call<'a>, Wrong<'a>> {
+    let call = match read {
+        Ok(call) => call,
+        Err(Wrong::OutOfMemory) => return Err(Wrong::OutOfMemory),
+        Err(_) => return Err(Wrong::NotUtf8(at)),
+    };
+    if goes_on(&call) {
+        Ok(call)
+    } else {
+        Err(Wrong::NotUtf8(at))
+    }
+}
+
+// Whether the call goes on with its other files where the name of one isn't UTF-8.
+fn goes_on(call: &Call<'_>) -> bool {
+    matches!(call, Call::Run(Command::List | Command::Size, _))
+}
+
+// The call that these arguments mean, if one that isn't UTF-8 may be an operand of any command.
+fn read_arguments<'a>(alloc: Global, arguments: &[Argument<'a>]) -> Result<Call<'a>, Wrong<'a>> {
+    match arguments {
+        [] => Err(Wrong::NoCommand),
+        [first, others @ ..] => read_words(alloc, first.required()?, others),
+    }
+}
+
+fn read_words<'a>(
+    alloc: Global,
+    word: &'a str,
+    others: &[Argument<'a>],
+) -> Result<Call<'a>, Wrong<'a>> {
     if asks_help(word) {
         return read_help(others);
     }
@@ -518,10 +673,10 @@ fn asks_version(word: &str) -> bool {
 }
 
 // `help`, and the command that it is about.
-fn read_help<'a>(others: &'a [String]) -> Result<Call<'a>, Wrong<'a>> {
+fn read_help<'a>(others: &[Argument<'a>]) -> Result<Call<'a>, Wrong<'a>> {
     match others {
         [] => Ok(Call::Help(None)),
-        [word, ..] => Ok(Call::Help(Some(command_named(word.as_str())?))),
+        [topic, ..] => Ok(Call::Help(Some(command_named(topic.required()?)?))),
     }
 }
 
@@ -633,29 +788,34 @@ fn are_given(given: &Arguments<'_>, one: Flag, other: Flag) -> bool {
 }
 
 // Whether the bytes of a section are asked for.
-fn is_of_bytes(command: Command, operands: &[&str]) -> bool {
+fn is_of_bytes(command: Command, operands: &[Argument<'_>]) -> bool {
     command == Command::Section && operands.len() == 2
 }
 
 // What is wrong with the operands of a command.
-fn check_operands<'a>(command: Command, operands: &[&'a str]) -> Result<(), Wrong<'a>> {
+fn check_operands<'a>(command: Command, operands: &[Argument<'a>]) -> Result<(), Wrong<'a>> {
     match operands {
         _ if command == Command::Filter => Ok(()),
         [] => Err(Wrong::NoFile(command)),
         [_] if command == Command::Diff => Err(Wrong::NoSecondFile),
-        [_, _, word, ..] if command == Command::Section || command == Command::Diff => Err(
-            Wrong::TooMany(word),
-        ),
-        [_, word, ..] if command == Command::Map => Err(Wrong::TooMany(word)),
+        [_, _, more, ..] if command == Command::Section || command == Command::Diff => {
+            exceeded(*more)
+        }
+        [_, more, ..] if command == Command::Map => exceeded(*more),
         _ => Ok(()),
     }
+}
+
+// A call with this argument has one too many.
+fn exceeded(more: Argument<'_>) -> Result<(), Wrong<'_>> {
+    Err(Wrong::TooMany(more.required()?))
 }
 
 // The options and operands of a command.
 fn read_given<'a>(
     alloc: Global,
     command: Command,
-    words: &'a [String],
+    arguments: &[Argument<'a>],
 ) -> Result<Arguments<'a>, Wrong<'a>> {
     let mut reading = Reading {
         given: Arguments {
@@ -665,8 +825,8 @@ fn read_given<'a>(
         waiting: None,
         are_operands: false,
     };
-    for word in words {
-        match reading.take(command, word.as_str()) {
+    for argument in arguments {
+        match reading.take(command, *argument) {
             Ok(()) => {}
             Err(e) => return Err(e),
         }
@@ -677,24 +837,33 @@ fn read_given<'a>(
     }
 }
 
-// Words that were read up to here.
+// Arguments that were read up to here.
 struct Reading<'a> {
     given: Arguments<'a>,
     // The option whose value comes next.
     waiting: Option<Flag>,
-    // `--` came: all further words are operands.
+    // `--` came: all further arguments are operands.
     are_operands: bool,
 }
 
 impl<'a> Reading<'a> {
-    // Takes the next word.
-    fn take(&mut self, command: Command, word: &'a str) -> Result<(), Wrong<'a>> {
+    // Takes the next argument.
+    fn take(&mut self, command: Command, argument: Argument<'a>) -> Result<(), Wrong<'a>> {
+        match (argument, self.waiting) {
+            (Argument::Text(word), _) => self.take_word(command, word),
+            (Argument::NotUtf8(at), Some(_)) => Err(Wrong::NotUtf8(at)),
+            (Argument::NotUtf8(_), None) => self.given.push(argument),
+        }
+    }
+
+    // Takes the next argument, which is this text.
+    fn take_word(&mut self, command: Command, word: &'a str) -> Result<(), Wrong<'a>> {
         if let Some(flag) = self.waiting {
             self.waiting = None;
             return self.given.set(flag, word);
         }
         if self.are_operands || !is_option(word) {
-            return self.given.push(word);
+            return self.given.push(Argument::Text(word));
         }
         if word == "--" {
             self.are_operands = true;

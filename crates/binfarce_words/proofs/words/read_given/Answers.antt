@@ -1,23 +1,29 @@
-use Rattle.std.proofs.Common.{◌∙◌, inr, ap}
+use Rattle.std.proofs.Common.{◌∙◌, [], inr, ap}
 use Rattle.binfarce_words.specs.Words.{finished}
 use Rattle.binfarce_words.specs.WordViews.{given_view, reading_view}
+use Rattle.binfarce_words.specs.declared.words.Argument.{Argument}
+use Rattle.binfarce_words.specs.declared.words.Argument.TheVariants.{Text}
 use Rattle.binfarce_words.proofs.WordLoop.{all_read, ends, goes_on}
 use Rattle.binfarce_words.proofs.words.read_given.Goals as goal
 
-pub returns-in-Err : goal.returns-in-Err
-returns-in-Err c = ends c.args.command c.args.words.now c.loop-word.word-index c.word-item.result c.as_str.result.now (reading_view c.loop-word.reading) c.loop-word-test.true c.word-item.is c.as_str.ensures.value c.loop-word.invariant c.in-Err.e c.in-Err.ensures
+-- what an argument past the last one would be
+abbrev absent : Argument
+absent = Text (record { ref_ptr = (0, 0); now = [] })
 
-pub loop-word-preserved : goal.loop-word-preserved
-loop-word-preserved c = goes_on c.args.command c.args.words.now c.loop-word.word-index c.word-item.result c.as_str.result.now (reading_view c.loop-word.reading) c.loop-word-test.true c.word-item.is c.as_str.ensures.value c.loop-word.invariant (reading_view c.take.new.self) c.in-Ok.ensures
+pub returns-in-Err : goal.returns-in-Err
+returns-in-Err c = ends c.args.command c.args.arguments.now c.loop-argument.argument-index absent (reading_view c.loop-argument.reading) c.loop-argument-test.true c.loop-argument.invariant c.in-Err.e c.in-Err.ensures
+
+pub loop-argument-preserved : goal.loop-argument-preserved
+loop-argument-preserved c = goes_on c.args.command c.args.arguments.now c.loop-argument.argument-index absent (reading_view c.loop-argument.reading) c.loop-argument-test.true c.loop-argument.invariant (reading_view c.take.new.self) c.in-Ok.ensures
 
 pub returns-in-None : goal.returns-in-None
 returns-in-None c =
-    all_read c.args.command c.args.words.now c.loop-word.word-index (reading_view c.loop-word.reading) c.loop-word-test.false c.loop-word.invariant
-    ∙ ap (finished (given_view c.loop-word.reading.given)) c.in-None.is
+    all_read c.args.command c.args.arguments.now c.loop-argument.argument-index (reading_view c.loop-argument.reading) c.loop-argument-test.false c.loop-argument.invariant
+    ∙ ap (finished (given_view c.loop-argument.reading.given)) c.in-None.is
 
 pub returns : goal.returns
 returns c = inr (
-  all_read c.args.command c.args.words.now c.loop-word.word-index (reading_view c.loop-word.reading) c.loop-word-test.false c.loop-word.invariant
-      ∙ ap (finished (given_view c.loop-word.reading.given)) c.in-Some.is,
+  all_read c.args.command c.args.arguments.now c.loop-argument.argument-index (reading_view c.loop-argument.reading) c.loop-argument-test.false c.loop-argument.invariant
+      ∙ ap (finished (given_view c.loop-argument.reading.given)) c.in-Some.is,
   tt,
 )

@@ -1,1 +1,10 @@
+mod Changes
+mod InTurn
+pub mod NameLines
 mod Pairs
+mod Placings
+mod Refusals
+mod SectionSteps
+mod Steps
+mod SumSteps
+mod Written

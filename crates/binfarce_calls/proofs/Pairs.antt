@@ -1,6 +1,7 @@
 -- What is reported of two files that are compared, step after step.
 use Rattle.std.proofs.Common.{◌≡◌, ◌∙◌, Bool, true, false, ◌&&◌, List, [], ◌∷◌, ℕ, Option, Some, None, is_some, Result, Ok, Err, ap₂, sym}
-use Rattle.binfarce_calls.specs.Compared.{ReportsOf, ReportsRead, ReportsSummed, ReportsUnless, refusal}
+use Rattle.binfarce_calls.specs.Compared.{ReportsOf, refusal}
+use Rattle.binfarce_calls.specs.machine.Reported.{ReportsRead, ReportsSummed, ReportsUnless}
 use Rattle.binfarce_jobs.specs.Files.{Refused, Reports, ReportsFault}
 use Rattle.binfarce_jobs.specs.declared.fault.Fault.{Fault}
 use Rattle.binfarce_jobs.specs.declared.limit.Verdict.{Verdict}

@@ -9,7 +9,7 @@ use Rattle.binfarce_figures.specs.declared.rows.Naming.{Naming}
 use Rattle.binfarce_figures.specs.declared.rows.Naming.TheVariants.{Trimmed, Complete, Stored}
 use Rattle.binfarce_figures.specs.declared.rows.Shown.{Shown}
 use Rattle.binfarce_figures.specs.declared.sums.Figures.{Figures}
-use Rattle.binfarce_tools.specs.Json.{Style, lines, objects}
+use Rattle.binfarce_rows.specs.Json.{Style, lines, objects}
 use Rattle.binfarce_words.specs.Words.{Arguments, count_given, key_given, order_given, value_given}
 use Rattle.binfarce_words.specs.declared.words.Command.{Command}
 use Rattle.binfarce_words.specs.declared.words.Command.TheVariants as commands

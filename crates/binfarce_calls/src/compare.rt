@@ -1,8 +1,19 @@
 //! `binfarce diff [OPTION..] OLD NEW`: how two files differ.
 
-ghost use Rattle.std.specs.Prelude.{◌≡◌, is_some};
-ghost use Rattle.binfarce_calls.specs.Compared.{ReportsOf, ReportsRead, ReportsSummed};
+ghost use Rattle.std.specs.Prelude.{◌≡◌, ℕ, Bool, List, Some, is_some};
+ghost use Rattle.binfarce_bytes.specs.SectionEntries.{SelectedSymbols};
+ghost use Rattle.binfarce_sections.specs.Sums.{FileSums};
+ghost use Rattle.binfarce_sections.specs.Tables.{AreTablesOf};
+ghost use Rattle.binfarce_jobs.specs.Files.{Grows, hinted};
+ghost use Rattle.binfarce_jobs.specs.Hints.{IsOrNone, lack_in, words_of};
 ghost use Rattle.binfarce_jobs.specs.Limit.{grown};
+ghost use Rattle.binfarce_jobs.specs.Output.{state_of};
+ghost use Rattle.binfarce_jobs.specs.Show.{AreTablesFor};
+ghost use Rattle.binfarce_jobs.specs.declared.show.Symbols.{Symbols as Taken};
+ghost use Rattle.binfarce_calls.specs.Compared.{ComparesAs, ReportsOf, by_sections, by_sizes};
+ghost use Rattle.binfarce_calls.specs.Summed.{Fate, HasNoSections, HasNoSum, MayBeRefused};
+ghost use Rattle.binfarce_calls.specs.machine.Reported.{ReportsRead, ReportsSummed};
+ghost use Rattle.binfarce_calls.specs.machine.Steps.{Carries, HasRead, HasSummed, HasSums, Steps, StepsOn, Writes, told};
 
 use binfarce_bytes::source::Source;
 use binfarce_figures::claims::Claims;
@@ -15,10 +26,10 @@ use binfarce_jobs::input::OpenFile;
 use binfarce_jobs::limit::{Verdict, grown};
 use binfarce_jobs::output::Output;
 use binfarce_jobs::show::{Symbols, tables_of};
+use binfarce_rows::json::Form;
 use binfarce_sections::changes::diff_sections;
 use binfarce_sections::sums::SectionSums;
 use binfarce_sections::tables::{Tables as SectionTables, read};
-use binfarce_tools::json::Form;
 use binfarce_tools::tables::Tables;
 use binfarce_words::words::Limit;
 use std::alloc::Global;
@@ -73,7 +84,12 @@ pub fn compare<F: Read + Source<Log = ()> + Drop, Y: System<F>, W: Write>(
     asked: &Sizes<'_>,
     out: &mut Output<W>,
 ) -> Result<Verdict, Fault>
-    ensures { ReportsOf pair.now.old.now pair.now.new.now (Y.reports system.old) (Y.reports system.new) result }
+    ensures reports { ReportsOf pair.now.old.now pair.now.new.now (Y.reports system.old) (Y.reports system.new) result }
+    ensures compares { (old new : List ℕ) → Y.bytes_at system.old pair.now.old.now ≡ Some old
+        → Y.bytes_at system.old pair.now.new.now ≡ Some new
+        → ComparesAs (by_sizes asked.now pair.now (Y.may_fail_at system.old) old new)
+        (state_of W.contents out.old (Y.reports system.old) (Y.hints system.old))
+        (state_of W.contents out.new (Y.reports system.new) (Y.hints system.new)) result }
 {
     let old = read_at(alloc, system, pair.old, &asked.symbols)?;
     let before = sums_of(alloc, system, pair.old, &old)?;
@@ -95,11 +111,18 @@ fn write_changes<F: Read + Source<Log = ()> + Drop, Y: System<F>, W: Write>(
     after: &Option<Summed<'_, F>>,
     out: &mut Output<W>,
 ) -> Result<bool, Fault>
-    ensures { Y.reports system.new ≡ Y.reports system.old }
+    ensures reports { Y.reports system.new ≡ Y.reports system.old }
+    ensures writes { (may_fail : List ℕ → Bool) (old new : List ℕ) (first second : Fate SelectedSymbols)
+        → Carries (HasSummed F.bytes asked.now.symbols old) before.now first → Carries (HasSummed F.bytes asked.now.symbols new) after.now second
+        → Writes (by_sizes asked.now pair.now may_fail old new) first second
+        (state_of W.contents out.old (Y.reports system.old) (Y.hints system.old))
+        (state_of W.contents out.new (Y.reports system.new) (Y.hints system.new)) result }
 {
     let (Some(before), Some(after)) = (before, after) else {
         return Ok(false);
     };
+    // No heading precedes the text.
+    out.begin(Vec::new(alloc));
     let growth = diff(
         alloc,
         &before.claims,
@@ -108,6 +131,7 @@ fn write_changes<F: Read + Source<Log = ()> + Drop, Y: System<F>, W: Write>(
         pair.form,
         out,
     )?;
+    out.end()?;
     hint_on_none(alloc, system, pair.old, &asked.symbols, before);
     hint_on_none(alloc, system, pair.new, &asked.symbols, after);
     Ok(is_above(system, pair, growth))
@@ -125,7 +149,12 @@ pub fn compare_sections<F: Read + Source<Log = ()> + Drop, Y: System<F>, W: Writ
     figures: &Figures,
     out: &mut Output<W>,
 ) -> Result<Verdict, Fault>
-    ensures { ReportsOf pair.now.old.now pair.now.new.now (Y.reports system.old) (Y.reports system.new) result }
+    ensures reports { ReportsOf pair.now.old.now pair.now.new.now (Y.reports system.old) (Y.reports system.new) result }
+    ensures compares { (old new : List ℕ) → Y.bytes_at system.old pair.now.old.now ≡ Some old
+        → Y.bytes_at system.old pair.now.new.now ≡ Some new
+        → ComparesAs (by_sections figures.now pair.now (Y.may_fail_at system.old) old new)
+        (state_of W.contents out.old (Y.reports system.old) (Y.hints system.old))
+        (state_of W.contents out.new (Y.reports system.new) (Y.hints system.new)) result }
 {
     let old = sections_at(alloc, system, pair.old)?;
     let before = section_sums(alloc, system, pair.old, &old)?;
@@ -146,7 +175,12 @@ fn write_section_changes<F: Read + Source<Log = ()>, Y: System<F>, W: Write>(
     after: &Option<SectionSums<'_>>,
     out: &mut Output<W>,
 ) -> Result<bool, Fault>
-    ensures { Y.reports system.new ≡ Y.reports system.old }
+    ensures reports { Y.reports system.new ≡ Y.reports system.old }
+    ensures writes { (may_fail : List ℕ → Bool) (old new : List ℕ) (first second : Fate FileSums)
+        → Carries (HasSums old) before.now first → Carries (HasSums new) after.now second
+        → Writes (by_sections figures.now pair.now may_fail old new) first second
+        (state_of W.contents out.old (Y.reports system.old) (Y.hints system.old))
+        (state_of W.contents out.new (Y.reports system.new) (Y.hints system.new)) result }
 {
     let (Some(before), Some(after)) = (before, after) else {
         return Ok(false);
@@ -156,7 +190,10 @@ fn write_section_changes<F: Read + Source<Log = ()>, Y: System<F>, W: Write>(
         has_percent,
         ..
     } = *figures;
+    // No heading precedes the text.
+    out.begin(Vec::new(alloc));
     diff_sections(alloc, before, after, first, has_percent, pair.form, out)?;
+    out.end()?;
     let growth = Growth {
         old: before.file_length(),
         new: after.file_length(),
@@ -170,7 +207,13 @@ fn sections_at<F: Read + Source<Log = ()> + Drop, Y: System<F>>(
     system: &mut Y,
     path: &str,
 ) -> Result<Option<ReadFile<F, SectionTables>>, Fault>
-    ensures { ReportsRead path.now (Y.reports system.old) (Y.reports system.new) result }
+    ensures reports { ReportsRead path.now (Y.reports system.old) (Y.reports system.new) result }
+    ensures reads { (file : List ℕ) → Y.bytes_at system.old path.now ≡ Some file
+        → Steps (HasRead F.bytes AreTablesOf file)
+        (MayBeRefused HasNoSections (Y.may_fail_at system.old path.now) file) path.now file
+        (told (Y.reports system.old) (Y.hints system.old)) (told (Y.reports system.new) (Y.hints system.new)) result }
+    ensures bytes { Y.bytes_at system.new ≡ Y.bytes_at system.old }
+    ensures may_fail { Y.may_fail_at system.new ≡ Y.may_fail_at system.old }
 {
     let Some(file) = open_input(alloc, system, path) else {
         return Ok(None);
@@ -191,15 +234,21 @@ fn section_sums<'b, F: Read + Source<Log = ()> + Drop, Y: System<F>>(
     path: &str,
     read: &'b Option<ReadFile<F, SectionTables>>,
 ) -> Result<Option<SectionSums<'b>>, Fault>
-    ensures { ReportsSummed path.now (is_some read.entry.now) (Y.reports system.old) (Y.reports system.new) result }
+    ensures reports { ReportsSummed path.now (is_some read.entry.now) (Y.reports system.old) (Y.reports system.new) result }
+    ensures sums { (file : List ℕ) (may_fail : Bool)
+        → StepsOn (HasRead F.bytes AreTablesOf file) read.entry.now (λ given. (sums : FileSums) × HasSums file sums given)
+        (MayBeRefused HasNoSections may_fail file) path.now file
+        (told (Y.reports system.old) (Y.hints system.old)) (told (Y.reports system.new) (Y.hints system.new)) result }
+    ensures bytes { Y.bytes_at system.new ≡ Y.bytes_at system.old }
+    ensures may_fail { Y.may_fail_at system.new ≡ Y.may_fail_at system.old }
 {
-    let Some(ReadFile { file, tables }) = read else {
+    let Some(read) = read else {
         return Ok(None);
     };
-    match SectionSums::of_tables(alloc, tables) {
+    match SectionSums::of_tables(alloc, &read.tables) {
         Ok(sums) => Ok(Some(sums)),
         Err(e) => {
-            refuse(alloc, system, path, file, Fault::from(e))?;
+            refuse(alloc, system, path, &read.file, Fault::from(e))?;
             Ok(None)
         }
     }
@@ -212,7 +261,13 @@ fn read_at<F: Read + Source<Log = ()> + Drop, Y: System<F>>(
     path: &str,
     symbols: &Symbols<'_>,
 ) -> Result<Option<ReadFile<F, Tables<'static>>>, Fault>
-    ensures { ReportsRead path.now (Y.reports system.old) (Y.reports system.new) result }
+    ensures reports { ReportsRead path.now (Y.reports system.old) (Y.reports system.new) result }
+    ensures reads { (file : List ℕ) → Y.bytes_at system.old path.now ≡ Some file
+        → Steps (HasRead F.bytes (AreTablesFor symbols.now) file)
+        (MayBeRefused (HasNoSum symbols.now) (Y.may_fail_at system.old path.now) file) path.now file
+        (told (Y.reports system.old) (Y.hints system.old)) (told (Y.reports system.new) (Y.hints system.new)) result }
+    ensures bytes { Y.bytes_at system.new ≡ Y.bytes_at system.old }
+    ensures may_fail { Y.may_fail_at system.new ≡ Y.may_fail_at system.old }
 {
     let Some(file) = open_input(alloc, system, path) else {
         return Ok(None);
@@ -233,15 +288,24 @@ fn sums_of<'b, F: Read + Source<Log = ()> + Drop, Y: System<F>>(
     path: &str,
     read: &'b Option<ReadFile<F, Tables<'static>>>,
 ) -> Result<Option<Summed<'b, F>>, Fault>
-    ensures { ReportsSummed path.now (is_some read.entry.now) (Y.reports system.old) (Y.reports system.new) result }
+    ensures reports { ReportsSummed path.now (is_some read.entry.now) (Y.reports system.old) (Y.reports system.new) result }
+    ensures sums { (symbols : Taken) (file : List ℕ) (may_fail : Bool)
+        → StepsOn (HasRead F.bytes (AreTablesFor symbols) file) read.entry.now (λ given. (selected : SelectedSymbols) × HasSummed F.bytes symbols file selected given)
+        (MayBeRefused (HasNoSum symbols) may_fail file) path.now file
+        (told (Y.reports system.old) (Y.hints system.old)) (told (Y.reports system.new) (Y.hints system.new)) result }
+    ensures bytes { Y.bytes_at system.new ≡ Y.bytes_at system.old }
+    ensures may_fail { Y.may_fail_at system.new ≡ Y.may_fail_at system.old }
 {
-    let Some(ReadFile { file, tables }) = read else {
+    let Some(read) = read else {
         return Ok(None);
     };
-    match Claims::of_tables(alloc, tables) {
-        Ok(claims) => Ok(Some(Summed { file, claims })),
+    match Claims::of_tables(alloc, &read.tables) {
+        Ok(claims) => Ok(Some(Summed {
+            file: &read.file,
+            claims,
+        })),
         Err(e) => {
-            refuse(alloc, system, path, file, Fault::from(e))?;
+            refuse(alloc, system, path, &read.file, Fault::from(e))?;
             Ok(None)
         }
     }
@@ -255,10 +319,14 @@ fn hint_on_none<F: Read + Source<Log = ()> + Drop, Y: System<F>>(
     symbols: &Symbols<'_>,
     summed: &Summed<'_, F>,
 )
-    ensures { Y.reports system.new ≡ Y.reports system.old }
+    ensures reports { Y.reports system.new ≡ Y.reports system.old }
+    ensures hints { (file : List ℕ) (selected : SelectedSymbols)
+        → HasSummed F.bytes symbols.now file selected summed.now
+        → (said : List (List ℕ)) × IsOrNone (words_of (lack_in symbols.now file)) said
+        × Grows (Y.hints system.old) (Y.hints system.new) (hinted path.now said) }
 {
-    let count = summed.claims.len();
-    let hint = lack(alloc, summed.file, symbols, Some(count)).unwrap_or(None);
+    let is_empty = summed.claims.is_empty();
+    let hint = lack(alloc, summed.file, symbols, is_empty).unwrap_or(None);
     give(system, path, hint);
 }
 
@@ -270,6 +338,8 @@ fn is_above<F: Read + Source<Log = ()>, Y: System<F>>(
 ) -> bool
     ensures above { result ≡ is_some (grown growth pair.now.limit) }
     ensures reports { Y.reports system.new ≡ Y.reports system.old }
+    ensures hints { Grows (Y.hints system.old) (Y.hints system.new)
+        (hinted pair.now.new.now (words_of (grown growth pair.now.limit))) }
 {
     let excess = grown(growth, pair.limit);
     let is_above = excess.is_some();

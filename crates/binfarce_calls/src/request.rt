@@ -2,7 +2,7 @@
 
 ghost use Rattle.std.specs.Prelude.{◌≡◌, false};
 ghost use Rattle.binfarce_bytes.specs.Selection.{section_of};
-ghost use Rattle.binfarce_tools.specs.Json.{style_of};
+ghost use Rattle.binfarce_rows.specs.Json.{style_of};
 ghost use Rattle.binfarce_words.specs.Words.{limit_given};
 ghost use Rattle.binfarce_words.specs.WordViews.{given_view};
 ghost use Rattle.binfarce_words.specs.declared.words.Flag.TheVariants.{Json};
@@ -12,8 +12,8 @@ use binfarce_figures::key::{Grouping, Key};
 use binfarce_figures::rows::{Naming, Shown};
 use binfarce_figures::sums::Figures;
 use binfarce_jobs::show::{Kind, Request, Symbols};
+use binfarce_rows::json::Form;
 use binfarce_tools::SymbolTable::{Dynsym, Symtab};
-use binfarce_tools::json::Form;
 use binfarce_tools::tables::Selection;
 use binfarce_words::words::Flag::{
     All, Dynamic, First, Folded, Full, Json, NoTotal, Percent, Raw, Section, Sort, Std,

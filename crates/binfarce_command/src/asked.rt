@@ -1,16 +1,13 @@
 //! What `at` is asked for: addresses, and where its files are loaded.
 
 use crate::report::report;
-use binfarce_addresses::maps::{NoBase, base_of};
-use binfarce_addresses::parse_address;
 use binfarce_jobs::at::read_addresses;
 use binfarce_jobs::fault::Fault;
-use binfarce_jobs::message::{Message, Unplaced, message_of};
+use binfarce_jobs::message::{Message, message_of};
 use binfarce_sections::error::SectionError;
-use binfarce_tables::loading::LoadAddress;
-use binfarce_words::words::Flag::{self, Annotate, As, Base, Maps};
+use binfarce_words::words::Flag::{Annotate, Maps};
 use binfarce_words::words::{Arguments, Wrong};
-use std::alloc::{AllocError, Global};
+use std::alloc::Global;
 use std::fs::File;
 use std::io::{self, ErrorKind, Input, Read};
 
@@ -24,8 +21,6 @@ const TOO_LONG: &str = "the text is longer than 256 MiB; --maps=FILE takes a cop
 pub struct Addresses {
     /// The addresses that are given.
     pub addresses: Vec<u64>,
-    // Where each of the files is loaded, if it is given.
-    bases: Vec<Option<u64>>,
     // The maps that were read.
     maps: Option<Vec<u8>>,
     // Whether they are in the text, which was read for them.
@@ -37,7 +32,6 @@ impl Addresses {
     pub fn nothing(alloc: Global) -> Addresses {
         Addresses {
             addresses: Vec::new(alloc),
-            bases: Vec::new(alloc),
             maps: None,
             are_in_text: false,
         }
@@ -51,35 +45,12 @@ impl Addresses {
         }
     }
 
-    /// Whether it is asked where the file at this place is loaded.
-    pub fn has_base(&self, at: usize) -> bool {
-        self.maps.is_some() || matches!(self.bases.get(at), Some(Some(_)))
-    }
-
-    /// Where the file at this place is loaded, which says that it is loaded there, if that is known.
-    pub fn base(
-        &self,
-        given: &Arguments<'_>,
-        at: usize,
-        loaded: LoadAddress,
-    ) -> Result<Option<u64>, NoBase> {
+    /// The maps that were read.
+    pub fn maps(&self) -> Option<&[u8]> {
         match &self.maps {
-            Some(maps) => Ok(Some(base_of(maps, path_of(given, at).as_bytes(), loaded)?)),
-            None => Ok(self.bases.get(at).copied().unwrap_or(None)),
+            Some(maps) => Some(maps.as_slice()),
+            None => None,
         }
-    }
-}
-
-/// Why the maps don't place the file at this place. `None` where they are none.
-pub fn unplaced<'a>(given: &Arguments<'a>, at: usize, why: NoBase) -> Option<Unplaced<'a>> {
-    let path = path_of(given, at);
-    match why {
-        NoBase::NotMaps => None,
-        NoBase::NotMapped => {
-            let name = path.rsplit_once('/').map(|parts| parts.1);
-            Some(Unplaced::NotMapped(path, name))
-        }
-        NoBase::Several => Some(Unplaced::Several(path)),
     }
 }
 
@@ -90,17 +61,11 @@ pub fn asked_of<'a>(
 ) -> Result<Option<Addresses>, Wrong<'a>> {
     let alloc = rt.alloc();
     let mut asked = Addresses::nothing(alloc);
+    let texts = given.operand_texts(alloc).map_err(|_| Wrong::OutOfMemory)?;
     if !given.has(Annotate) {
-        asked.addresses = read_addresses(alloc, others(given))?;
+        asked.addresses = read_addresses(alloc, others(texts.as_slice()))?;
     }
     let Some(path) = given.value(Maps) else {
-        for at in 0..files_of(given).len() {
-            let base = match nth(given, Base, at) {
-                Some(word) => parse_address(word.as_bytes()),
-                None => None,
-            };
-            push(&mut asked.bases, base).map_err(|_| Wrong::OutOfMemory)?;
-        }
         return Ok(Some(asked));
     };
     let is_input = path == "-";
@@ -131,11 +96,6 @@ pub fn asked_of<'a>(
     Ok(Some(asked))
 }
 
-// Appends a value.
-fn push<T: Drop>(list: &mut Vec<T>, value: T) -> Result<(), AllocError> {
-    list.push(value).map_err(|_| AllocError)
-}
-
 // The bytes of the file at this path.
 fn read_file(rt: &HostRuntime, path: &str) -> io::Result<Vec<u8>> {
     let mut bytes = Vec::new(rt.alloc());
@@ -161,39 +121,9 @@ fn read_log<R: Read>(alloc: Global, input: &mut R) -> io::Result<Option<Vec<u8>>
     Ok(Some(bytes))
 }
 
-// The files of `at`: all operands where a text is annotated, and else the first one.
-fn files_of<'b, 'a>(given: &'b Arguments<'a>) -> &'b [&'a str] {
-    let operands = given.operands.as_slice();
-    if given.has(Annotate) {
-        operands
-    } else {
-        &operands[..operands.len().min(1)]
-    }
-}
-
-/// The file at this place.
-pub fn file_at<'a>(given: &Arguments<'a>, at: usize) -> &'a str {
-    given.operands.get(at).copied().unwrap_or("")
-}
-
-// The value of an option for the file at this place: of one file that which was given last, and of several the one at
-// this place.
-fn nth<'a>(given: &Arguments<'a>, flag: Flag, at: usize) -> Option<&'a str> {
-    if files_of(given).len() < 2 {
-        return given.value(flag);
-    }
-    let mut values = given.options.iter().filter(|it| it.0 == flag);
-    Some(values.nth(at)?.1)
-}
-
-/// The path of the file at this place in maps and in a text: its own, or the one that is given.
-pub fn path_of<'a>(given: &Arguments<'a>, at: usize) -> &'a str {
-    nth(given, As, at).unwrap_or(file_at(given, at))
-}
-
-// The operands after the first one.
-fn others<'b, 'a>(given: &'b Arguments<'a>) -> &'b [&'a str] {
-    match given.operands.as_slice() {
+// The texts after the first one.
+fn others<'b, 'a>(texts: &'b [&'a str]) -> &'b [&'a str] {
+    match texts {
         [_, others @ ..] => others,
         [] => &[],
     }

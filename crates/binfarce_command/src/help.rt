@@ -116,10 +116,11 @@ it. Without an ADDRESS the addresses are the lines of standard input.
                    which is 0x and 4 to 16 digits, or an offset in FILE: FILE+0x1f2e;
                    of several files the first that has the address names it
   --bare           with --annotate: words of 8 to 16 digits without 0x, too
-  --base=ADDRESS   where the file is loaded: where its first mapping begins; without it
-                   addresses are the file's own
-  --maps=FILE      takes the base from a copy of /proc/PID/maps; - is standard input,
-                   with --annotate the text itself, which is then read to its end
+  --base=ADDRESS   where the file is loaded: where its first mapping begins, a multiple
+                   of 0x1000; without it addresses are the file's own
+  --maps=FILE      takes the base from a copy of /proc/PID/maps, or from Linux's line
+                   on a fault; - is standard input, with --annotate the text itself,
+                   which is then read to its end
   --as=NAME        the file's name or path in the maps and in a text
                    (of several files --base and --as come once for each, in order)
   --dynamic        by the dynamic symbol table of an ELF file (.dynsym)

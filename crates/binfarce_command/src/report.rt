@@ -7,15 +7,16 @@ ghost use Rattle.binfarce_command.specs.Status.{fault_status, is_broken_pipe, st
 
 use binfarce_jobs::fault::Fault;
 use binfarce_jobs::limit::Verdict;
-use binfarce_jobs::message::{Message, message_of};
+use binfarce_jobs::message::{Message, line_of, message_of};
 use binfarce_words::words::Wrong;
+use std::fmt;
 use std::io::{Error, ErrorKind};
 
 /// Prints why a call is wrong, and returns the program's exit status.
 pub fn refuse(rt: &HostRuntime, wrong: &Wrong<'_>) -> u8
     ensures { result ≡ wrong_status wrong.now }
 {
-    let _ = eprintln!(rt; "binfarce: {wrong}");
+    say(rt, None, wrong);
     match wrong {
         Wrong::OutOfMemory => 1,
         _ => 2,
@@ -41,7 +42,7 @@ pub fn ended(
         ) => 3,
         Ok(verdict) => u8::from(!verdict.is_done),
         Err(fault) if !fault.is_write() => {
-            let _ = eprintln!(rt; "binfarce: {fault}");
+            say(rt, None, &fault);
             status(&fault)
         }
         Err(_) if is_broken_pipe(&reason) && !has_limit => 0,
@@ -72,5 +73,18 @@ fn is_broken_pipe(reason: &Option<Error>) -> bool
 
 /// Prints why a file is refused.
 pub fn report(rt: &HostRuntime, name: &str, message: &Message) {
-    let _ = eprintln!(rt; "binfarce: {name}: {message}");
+    say(rt, Some(name), message);
+}
+
+/// Prints the line that says these words, of the file at this path if there is one.
+pub fn say<T: fmt::Display>(rt: &HostRuntime, path: Option<&str>, words: &T) {
+    let alloc = rt.alloc();
+    let line = match format!(in alloc; "{words}") {
+        Ok(words) => line_of(alloc, path, words.as_str()),
+        Err(e) => Err(e),
+    };
+    let _ = match line {
+        Ok(line) => eprintln!(rt; "{line}"),
+        Err(_) => eprintln!(rt; "binfarce: out of memory"),
+    };
 }

@@ -1,5 +1,5 @@
 -- What a file comes to, by what is read of it and by how its showing ended.
-use Rattle.std.proofs.Common.{◌≡◌, ◌≢◌, ◌∙◌, ◌⊎◌, inl, inr, ℕ, Bool, true, false, not, ◌||◌, List, [], ◌∷◌, ◌++◌, Option, Some, None, Result, Ok, Err, refl, sym, ap, subst, append_assoc, append-nil, IsErrAnd, if◌then◌else◌}
+use Rattle.std.proofs.Common.{◌≡◌, ◌≢◌, ◌∙◌, ◌⊎◌, inl, inr, ℕ, Bool, true, false, not, ◌||◌, List, [], ◌∷◌, ◌++◌, Option, Some, None, Result, Ok, Err, refl, sym, ap, subst, append_assoc, append-nil, IsErrAnd, if◌then◌else◌, codes, nat_eq}
 use Rattle.std.specs.Option.{option_map}
 use Rattle.std.specs.Io.KnownBytes.{Appends, Keeps}
 use Rattle.binfarce_bytes.specs.Format.{format_of}
@@ -8,38 +8,45 @@ use Rattle.binfarce.specs.SectionEntries.{SelectedSymbols}
 use Rattle.binfarce_bytes.specs.declared.format.Format.{Format}
 use Rattle.binfarce_bytes.specs.declared.format.Format.TheVariants as formats
 use Rattle.binfarce_tools.specs.declared.SymbolTable.{SymbolTable}
+use Rattle.binfarce_tools.specs.declared.SymbolTable.TheVariants.{Dynsym}
 use Rattle.binfarce_bytes.specs.Selection.{section_of}
 use Rattle.binfarce_tools.specs.Answer.{selected_answer, selected_symbols}
+use Rattle.binfarce_sections.specs.Named.{bytes_named}
+use Rattle.binfarce_sections.specs.Section.{sections_of}
 use Rattle.binfarce_filtering.specs.declared.stream.StreamError.TheVariants as stream
 use Rattle.binfarce_sections.specs.declared.error.SectionError.TheVariants as sections
 use Rattle.binfarce_tools.specs.declared.report.ReportError.TheVariants as sums
 use Rattle.binfarce_tools.specs.Writing as writing
 use Rattle.binfarce_tools.specs.Writing.{AppendsBeginning, IsDue, Leaves, Outcome, EndsAs, wrong_usage}
 use Rattle.binfarce_jobs.specs.Faults.{failure, is_failed_write, is_of_call}
-use Rattle.binfarce_jobs.specs.Files.{FailsAs, Files, MayBeRefused, Reports, ReportsFault, ShowsSource, ShowsOne, State, heading, refused, shown, verdict_of}
+use Rattle.binfarce_jobs.specs.Files.{FailsAs, Files, Grows, HintsFault, IsFoundIn, MayBeRefused, RefusesArgument, Reports, ReportsFault, ShowsSource, ShowsOne, State, heading, hinted, refused, shown}
+use Rattle.binfarce_jobs.specs.Hints.{IsOrNone, IsSaidOfRefused, IsSaidOfShown, all_words, bytes_had, count_of, debug_by, debug_in, dynamic_by, dynamic_for, dynamic_in, has_none, is_stripped, lack_in, section_in, stripped_for, stripped_words, unknown_for, words_of}
 use Rattle.binfarce_jobs.specs.Output.{pending, taken, writer_of}
 use Rattle.binfarce_jobs.specs.Foreign.{first_bytes, foreign_in}
 use Rattle.binfarce_jobs.specs.Input.{IsForeign, IsReadOf, IsUnreadable}
 use Rattle.binfarce_jobs.proofs.Streams.{format_of_beginning}
-use Rattle.binfarce_jobs.specs.Show.{Fits, HasSumsOf, IsAboveIn, IsAskedText, IsSeenOf, IsShownText, MayEnd, MemoryFor, TakesText, answer_for, answer_taken, exceeds, is_taken}
+use Rattle.binfarce_jobs.specs.Show.{Fits, HasSumsOf, IsAskedText, IsSeenOf, IsShownText, MayEnd, MemoryFor, TakesText, answer_for, answer_taken, excess_of, exceeds, is_taken}
 use Rattle.binfarce_jobs.specs.declared.fault.Fault.{Fault}
-use Rattle.binfarce_jobs.specs.declared.fault.Fault.TheVariants.{Report, Section, Stream, Unsupported, NotUtf8, SharedAddresses, Missing}
+use Rattle.binfarce_jobs.specs.declared.fault.Fault.TheVariants.{Report, Section, Stream, Unsupported, NotUtf8, SharedAddresses, Unplaced, Missing}
+use Rattle.binfarce_jobs.specs.declared.hint.Hint.{Hint}
+use Rattle.binfarce_jobs.specs.declared.hint.Hints.{Hints}
 use Rattle.binfarce_jobs.specs.declared.limit.Verdict.{Verdict}
 use Rattle.binfarce_jobs.specs.declared.output.Output.{Output}
 use Rattle.binfarce_jobs.specs.declared.show.Request.{Request}
 use Rattle.binfarce_jobs.specs.declared.show.Seen.{Seen}
 use Rattle.binfarce_figures.specs.declared.sums.Sums.{Sums}
+use Rattle.binfarce_words.specs.Words.{no_utf8, utf8}
 
 -- the showing of a file that is read ends so
 abbrev Ends : Request → (file : List ℕ) → Outcome → Type 0
 Ends asked file o = EndsAs (Fits asked.kind) (MemoryFor asked.symbols file) (answer_for asked.symbols file) o
 
 -- a file of an unknown format has no answer
-no_answer : (which : SymbolTable) (file : List ℕ) (section : Option (List ℕ)) → format_of file ≡ formats.Unknown → selected_answer which section file ≡ None
+pub no_answer : (which : SymbolTable) (file : List ℕ) (section : Option (List ℕ)) → format_of file ≡ formats.Unknown → selected_answer which section file ≡ None
 unfolding selected_symbols
 no_answer which file section is = ap (λ (f : Format). selected_symbols which section f file) is
 
-unknown_too : (file bytes : List ℕ) → format_of file ≡ formats.Unknown → bytes ≡ first_bytes file → format_of bytes ≡ formats.Unknown
+pub unknown_too : (file bytes : List ℕ) → format_of file ≡ formats.Unknown → bytes ≡ first_bytes file → format_of bytes ≡ formats.Unknown
 unknown_too file bytes unknown is = ap format_of is ∙ format_of_beginning file ∙ unknown
 
 -- any section can be selected in it
@@ -47,7 +54,7 @@ unknown_taken : (section : Option (List ℕ)) → is_taken section formats.Unkno
 unknown_taken None = refl
 unknown_taken (Some name) = refl
 
-no_taken : (which : SymbolTable) (file : List ℕ) (section : Option (List ℕ)) → format_of file ≡ formats.Unknown → answer_taken which file section ≡ None
+pub no_taken : (which : SymbolTable) (file : List ℕ) (section : Option (List ℕ)) → format_of file ≡ formats.Unknown → answer_taken which file section ≡ None
 no_taken which file section is =
     ap (λ (b : Bool). if b then selected_answer which section file else Some (Err symbols_section_is_missing)) (ap (is_taken section) is ∙ unknown_taken section) ∙ no_answer which file section is
 
@@ -72,11 +79,43 @@ pub sums_of : (asked : Request) (path file text : List ℕ) (seen : Seen) → Is
 sums_of asked path file text seen due is =
     let found = answered asked path (answer_for asked.symbols file) text due in (found.0, found.1, (is found.0 found.1).sums_are)
 
--- and sums of what was read of a file are those of the file
-above_of_file : (asked : Request) (file bytes : List ℕ) (sums : Option Sums) → IsReadOf file bytes → HasSumsOf asked bytes sums → IsAboveIn asked file (exceeds asked.limit sums)
-above_of_file asked file bytes sums (inl same) has = (sums, subst (λ (f : List ℕ). HasSumsOf asked f sums) same has, refl)
-above_of_file asked file bytes sums (inr (unknown, first)) (selected, answer, is) =
+-- and whether it has no function symbol
+pub none_of : (asked : Request) (path file text : List ℕ) (seen : Seen) → IsShownText asked path file text → ((selected : SelectedSymbols) → answer_for asked.symbols file ≡ Some (Ok selected) → IsSeenOf asked.kind selected seen)
+    → seen.is_empty ≡ has_none asked.symbols file
+none_of asked path file text seen due is =
+    let found = answered asked path (answer_for asked.symbols file) text due in
+    (is found.0 found.1).empty_is ∙ ap (λ (answer : Option (Result SelectedSymbols Refusal)). nat_eq (count_of answer) 0) (sym found.1)
+
+-- what is found of what was read of a file, and said of it, is that of the file
+found_of_file : (asked : Request) (file bytes : List ℕ) (sums : Option Sums) (said : List (List ℕ)) → IsReadOf file bytes → HasSumsOf asked bytes sums → IsSaidOfShown asked bytes sums said → IsFoundIn asked file said (exceeds asked.limit sums)
+found_of_file asked file bytes sums said (inl same) has says = (sums, subst (λ (f : List ℕ). HasSumsOf asked f sums) same has, subst (λ (f : List ℕ). IsSaidOfShown asked f sums said) same says, refl)
+found_of_file asked file bytes sums said (inr (unknown, first)) (selected, answer, is) says =
     let never : Path (Option (Result SelectedSymbols Refusal)) None (Some (Ok selected)) = sym (no_shown asked bytes (unknown_too file bytes unknown first)) ∙ answer in absurd cc
+
+-- a file of an unknown format has no dynamic function symbols, and no sections
+no_dynamic : (file : List ℕ) → format_of file ≡ formats.Unknown → dynamic_in file ≡ None
+no_dynamic file is = ap (λ (answer : Option (Result SelectedSymbols Refusal)). dynamic_by (count_of answer)) (no_answer Dynsym file None is)
+
+no_sections : (file name : List ℕ) → format_of file ≡ formats.Unknown → section_in file name ≡ None
+unfolding sections_of bytes_named
+no_sections file name is = ap (λ (f : Format). bytes_had (bytes_named (sections_of f file) file name)) is
+
+no_debug : (file : List ℕ) → format_of file ≡ formats.Unknown → debug_in file ≡ None
+no_debug file is = ap (λ (note : Option (List ℕ)). debug_by note (section_in file (codes ".gnu_debuglink"))) (no_sections file (codes ".note.gnu.build-id") is)
+
+-- what is said of what was read of a file that is refused is what is said of the file
+pub said_of_file : (fault : Fault) (file bytes : List ℕ) (said : List (List ℕ)) → IsReadOf file bytes → IsSaidOfRefused fault bytes said → IsSaidOfRefused fault file said
+said_of_file fault file bytes said (inl same) says = subst (λ (f : List ℕ). IsSaidOfRefused fault f said) same says
+said_of_file fault file bytes said (inr (unknown, first)) (dynamic, debug, one, other, is) =
+    let less = unknown_too file bytes unknown first in
+    let same_dynamic : dynamic_in bytes ≡ dynamic_in file = no_dynamic bytes less ∙ sym (no_dynamic file unknown) in
+    let same_debug : debug_in bytes ≡ debug_in file = no_debug bytes less ∙ sym (no_debug file unknown) in (
+      dynamic,
+      debug,
+      subst (λ (d : Option Hint). IsOrNone (words_of (if is_stripped fault then d else None)) dynamic) same_dynamic one,
+      subst (λ (d : Option (List ℕ)). IsOrNone (if is_stripped fault then stripped_words d else []) debug) same_debug other,
+      is,
+    )
 
 -- of a file of an unknown format that is reported, and nothing else
 ends_of_file : (asked : Request) (file bytes : List ℕ) (o : Outcome) → IsReadOf file bytes → Ends asked bytes o → Ends asked file o
@@ -117,14 +156,14 @@ beginning_after old taken left text (beginning, others, is, begins) =
     (left ++ beginning, others, ap (λ (z : List ℕ). left ++ z) is ∙ sym (append_assoc left beginning others), after_heading old taken left beginning begins)
 
 -- a text whose heading is written is written
-whole : (old mid new : Option (List ℕ)) (left none text : List ℕ) → Appends (option_map (λ b. b ++ left) old) mid text → Keeps mid (option_map (λ b. b ++ none) new) → none ≡ [] → Appends old new (left ++ text)
+pub whole : (old mid new : Option (List ℕ)) (left none text : List ℕ) → Appends (option_map (λ b. b ++ left) old) mid text → Keeps mid (option_map (λ b. b ++ none) new) → none ≡ [] → Appends old new (left ++ text)
 whole None mid new left none text took kept is = tt
 whole (Some a) None new left none text took kept is = absurd took
 whole (Some a) (Some b) None left none text took kept is = absurd kept
 whole (Some a) (Some b) (Some c) left none text took kept is =
     sym (append-nil c) ∙ ap (λ (z : List ℕ). c ++ z) (sym is) ∙ kept ∙ took ∙ append_assoc a left text
 
-whole_taken : (old mid taken : Option (List ℕ)) (left text : List ℕ) → Appends (option_map (λ b. b ++ left) old) mid text → Keeps mid taken → AppendsBeginning old taken (left ++ text)
+pub whole_taken : (old mid taken : Option (List ℕ)) (left text : List ℕ) → Appends (option_map (λ b. b ++ left) old) mid text → Keeps mid taken → AppendsBeginning old taken (left ++ text)
 whole_taken old mid taken left text took kept = (left ++ text, [], sym (append-nil (left ++ text)), by old mid taken took kept)
   where
     by : (old mid taken : Option (List ℕ)) → Appends (option_map (λ b. b ++ left) old) mid text → Keeps mid taken → Appends old taken (left ++ text)
@@ -134,7 +173,7 @@ whole_taken old mid taken left text took kept = (left ++ text, [], sym (append-n
     by (Some a) (Some b) (Some c) took kept = kept ∙ took ∙ append_assoc a left text
 
 -- a fault is a failure
-never_written : (e : Fault) → failure e ≢ writing.written
+pub never_written : (e : Fault) → failure e ≢ writing.written
 never_written (Report sums.Unknown) is = cc
 never_written (Report (sums.Parse p)) is = cc
 never_written (Report sums.OutOfMemory) is = cc
@@ -154,6 +193,7 @@ never_written (Stream stream.OutOfMemory) is = cc
 never_written (Unsupported kind) is = cc
 never_written NotUtf8 is = cc
 never_written SharedAddresses is = cc
+never_written (Unplaced words) is = cc
 never_written (Missing count) is = cc
 
 -- a fault of the whole call is none of the file
@@ -164,6 +204,7 @@ of_call (Stream e) is = absurd cc
 of_call (Unsupported kind) is = absurd cc
 of_call NotUtf8 is = absurd cc
 of_call SharedAddresses is = absurd cc
+of_call (Unplaced words) is = absurd cc
 of_call (Missing count) is = refl
 
 module _ {W : Type 0} (contents : W → Option (List ℕ)) (asked : Request) (path : List ℕ) (MayFail : Type 0) (file : List ℕ) (old mid : Output W) where
@@ -186,7 +227,7 @@ module _ {W : Type 0} (contents : W → Option (List ℕ)) (asked : Request) (pa
   pub was_shown : (new : Output W) (seen : Seen) → (text : List ℕ) × IsShownText asked path file text × Appends (taken contents old) (taken contents mid) text → Keeps (taken contents mid) (taken contents new) → pending new ≡ []
       → ((selected : SelectedSymbols) → answer_for asked.symbols file ≡ Some (Ok selected) → IsSeenOf asked.kind selected seen) → Held new (Ok seen)
   was_shown new seen (text, due, took) kept none is =
-      ((text, due, whole (contents (writer_of old)) (taken contents mid) (contents (writer_of new)) (pending old) (pending new) text took kept none), sums_of asked path file text seen due is)
+      ((text, due, whole (contents (writer_of old)) (taken contents mid) (contents (writer_of new)) (pending old) (pending new) text took kept none), sums_of asked path file text seen due is, none_of asked path file text seen due is)
 
   -- the same, where the writing of the heading failed, as `?` passes the fault on
   pub broke_off : (new : Output W) (e : Fault) (result : Result Seen Fault) → IsErrAnd result (λ f. f ≡ e) → (text : List ℕ) × IsShownText asked path file text × Appends (taken contents old) (taken contents mid) text
@@ -202,57 +243,80 @@ module _ {W : Type 0} (contents : W → Option (List ℕ)) (asked : Request) (pa
   show_failed e (Ok x) is ends takes leaves = absurd is
   show_failed e (Err f) is ends takes leaves = subst (λ (f : Fault). Held mid (Err f)) (sym is) (unshown (failure e) (never_written e) ends takes leaves)
 
+-- the hints on a file that is shown, and on one that is refused
+pub said_shown : (asked : Request) (file : List ℕ) (sums : Option Sums) (hints : Hints) → IsOrNone (words_of (lack_in asked.symbols file)) (words_of hints.first) → hints.second ≡ unknown_for asked.kind sums → hints.excess ≡ excess_of asked.limit sums
+    → IsSaidOfShown asked file sums (all_words hints)
+said_shown asked file sums hints first second excess =
+    (words_of hints.first, first, ap (λ (h : Option Hint). words_of hints.first ++ (words_of h ++ words_of hints.excess)) second ∙ ap (λ (h : Option Hint). words_of hints.first ++ (words_of (unknown_for asked.kind sums) ++ words_of h)) excess)
+
+pub said_refused : (fault : Fault) (file : List ℕ) (hints : Hints) → IsOrNone (words_of (dynamic_for fault file)) (words_of hints.first) → IsOrNone (stripped_for fault file) (words_of hints.second) → hints.excess ≡ None → IsSaidOfRefused fault file (all_words hints)
+said_refused fault file hints first second none = (
+  words_of hints.first,
+  words_of hints.second,
+  first,
+  second,
+  ap (λ (h : Option Hint). words_of hints.first ++ (words_of hints.second ++ words_of h)) none ∙ ap (λ (said : List (List ℕ)). words_of hints.first ++ said) (append-nil (words_of hints.second)),
+)
+
 module _ (files : Files) (path : List ℕ) (old new : State) where
   abbrev pub One : Result Verdict Fault → Type 0
-  One result = ShowsOne files path old new result
+  One result = ShowsOne files (utf8 path) old new result
 
-  was_refused : (fault : Fault) (result : Result Verdict Fault) → MayBeRefused files.asked (files.may_fail path) (files.held path) fault → new.bytes ≡ old.bytes → (result ≡ Ok (verdict_of (refused fault))) × Reports old.reports new.reports ((path, fault) ∷ []) → One result
-  was_refused fault result may same (is, answered_lines) = subst One (sym is) (refused fault, may, refl, unwritten old.bytes new.bytes same, answered_lines)
+  was_refused : (fault : Fault) (result : Result Verdict Fault) (said : List (List ℕ)) → MayBeRefused files.asked (files.may_fail path) (files.held path) fault → IsSaidOfRefused fault (files.held path) said → new.bytes ≡ old.bytes
+      → (result ≡ Ok (record { is_done = false; is_above = false })) × Reports old.reports new.reports ((path, fault) ∷ []) → Grows old.hints new.hints (hinted path said) → One result
+  was_refused fault result said may says same (is, answered_lines) gave = subst One (sym is) (refused fault said, (may, says), refl, unwritten old.bytes new.bytes same, answered_lines, gave)
     where
       unwritten : (old new : Option (List ℕ)) → new ≡ old → Appends old new []
       unwritten None new same = tt
       unwritten (Some a) new same = subst (λ (n : Option (List ℕ)). Appends (Some a) n []) (sym same) (sym (append-nil a))
 
   -- a file that can't be opened or read, or that no reader reads
-  pub unopened : (fault : Fault) → IsForeign (files.held path) fault ⊎ IsUnreadable (files.may_fail path) (files.held path) fault → new.bytes ≡ old.bytes → Reports old.reports new.reports ((path, fault) ∷ []) → One (Ok (verdict_of (refused fault)))
-  unopened fault (inl is) same answered_lines = was_refused fault (Ok (verdict_of (refused fault))) (inl is) same (refl, answered_lines)
-  unopened fault (inr is) same answered_lines = was_refused fault (Ok (verdict_of (refused fault))) (inr (inl is)) same (refl, answered_lines)
+  pub unopened : (fault : Fault) → IsForeign (files.held path) fault ⊎ IsUnreadable (files.may_fail path) (files.held path) fault → new.bytes ≡ old.bytes → Reports old.reports new.reports ((path, fault) ∷ []) → Grows old.hints new.hints []
+      → One (Ok (record { is_done = false; is_above = false }))
+  unopened fault (inl is) same answered_lines gave = was_refused fault (Ok (record { is_done = false; is_above = false })) [] (inl is) ([], [], inr refl, inr refl, refl) same (refl, answered_lines) gave
+  unopened fault (inr is) same answered_lines gave = was_refused fault (Ok (record { is_done = false; is_above = false })) [] (inr (inl is)) ([], [], inr refl, inr refl, refl) same (refl, answered_lines) gave
 
   module _ (bytes left : List ℕ) (MayFail : Type 0) (read : IsReadOf (files.held path) bytes) (more : MayFail → files.may_fail path ≡ true) (is : left ≡ heading files.are_several path) (native : foreign_in (files.held path) ≡ None) where
     abbrev May : Outcome → Type 0
     May o = MayEnd MayFail files.asked bytes o
 
     -- a file whose showing failed before its first write
-    not_shown : (fault : Fault) (result : Result Verdict Fault) (o : Outcome) (call : Bool) → o ≢ writing.write_failed → failure fault ≡ o → is_of_call fault ≡ call → May o × (new.bytes ≡ old.bytes) → ReportsFault path old.reports new.reports fault (not call) result → One result
-    not_shown fault result o true other is_o is_call (ends, same) reports = absurd (never_wrong MayFail files.asked bytes (subst May (sym is_o ∙ of_call fault is_call) ends))
-    not_shown fault result o false other is_o is_call (ends, same) reports =
-        was_refused fault result (inr (inr (
+    not_shown : (fault : Fault) (result : Result Verdict Fault) (o : Outcome) (call : Bool) → o ≢ writing.write_failed → failure fault ≡ o → is_of_call fault ≡ call → May o × (new.bytes ≡ old.bytes) → ReportsFault path old.reports new.reports fault (not call) result → HintsFault path old.hints new.hints fault (not call) bytes → One result
+    not_shown fault result o true other is_o is_call (ends, same) reports hints = absurd (never_wrong MayFail files.asked bytes (subst May (sym is_o ∙ of_call fault is_call) ends))
+    not_shown fault result o false other is_o is_call (ends, same) reports (said, says, gave) =
+        was_refused fault result said (inr (inr (
           native,
           λ e. other (sym is_o ∙ e),
           end_of_file MayFail ((files.may_fail path ≡ true) ⊎ (files.held path ≡ [])) (λ m. inl (more m)) files.asked (files.held path) bytes (failure fault) read (subst May (sym is_o) ends),
-        ))) same reports
+        ))) (said_of_file fault (files.held path) bytes said read says) same reports gave
 
     -- a file whose showing failed
     pub failed : (fault : Fault) (result : Result Verdict Fault) (o : Outcome) (call : Bool) → failure fault ≡ o → is_of_call fault ≡ call → FailsAs files.asked path MayFail bytes left old.bytes new.bytes new.taken o
-        → ReportsFault path old.reports new.reports fault (not (is_failed_write o || call)) result → One result
-    failed fault result writing.write_failed call is_o is_call (text, due, wrote) (err, reports) =
-        subst One (sym err) (inl (is_o, (text, (native, text_of_file files.asked path (files.held path) bytes text read due), subst (λ (h : List ℕ). AppendsBeginning old.bytes new.taken (h ++ text)) is wrote)), reports)
-    failed fault result writing.written call is_o is_call fails reports = not_shown fault result writing.written call (λ e. cc) is_o is_call fails reports
-    failed fault result writing.unknown_format call is_o is_call fails reports = not_shown fault result writing.unknown_format call (λ e. cc) is_o is_call fails reports
-    failed fault result (writing.refused refusal) call is_o is_call fails reports = not_shown fault result (writing.refused refusal) call (λ e. cc) is_o is_call fails reports
-    failed fault result writing.no_memory call is_o is_call fails reports = not_shown fault result writing.no_memory call (λ e. cc) is_o is_call fails reports
-    failed fault result writing.too_large call is_o is_call fails reports = not_shown fault result writing.too_large call (λ e. cc) is_o is_call fails reports
-    failed fault result writing.unreadable call is_o is_call fails reports = not_shown fault result writing.unreadable call (λ e. cc) is_o is_call fails reports
-    failed fault result writing.wrong_usage call is_o is_call fails reports = not_shown fault result writing.wrong_usage call (λ e. cc) is_o is_call fails reports
+        → ReportsFault path old.reports new.reports fault (not (is_failed_write o || call)) result → HintsFault path old.hints new.hints fault (not (is_failed_write o || call)) bytes → One result
+    failed fault result writing.write_failed call is_o is_call (text, due, wrote) (err, reports) gave =
+        subst One (sym err) (inl (is_o, (text, (native, text_of_file files.asked path (files.held path) bytes text read due), subst (λ (h : List ℕ). AppendsBeginning old.bytes new.taken (h ++ text)) is wrote)), reports, gave)
+    failed fault result writing.written call is_o is_call fails reports hints = not_shown fault result writing.written call (λ e. cc) is_o is_call fails reports hints
+    failed fault result writing.unknown_format call is_o is_call fails reports hints = not_shown fault result writing.unknown_format call (λ e. cc) is_o is_call fails reports hints
+    failed fault result (writing.refused refusal) call is_o is_call fails reports hints = not_shown fault result (writing.refused refusal) call (λ e. cc) is_o is_call fails reports hints
+    failed fault result writing.no_memory call is_o is_call fails reports hints = not_shown fault result writing.no_memory call (λ e. cc) is_o is_call fails reports hints
+    failed fault result writing.too_large call is_o is_call fails reports hints = not_shown fault result writing.too_large call (λ e. cc) is_o is_call fails reports hints
+    failed fault result writing.unreadable call is_o is_call fails reports hints = not_shown fault result writing.unreadable call (λ e. cc) is_o is_call fails reports hints
+    failed fault result writing.wrong_usage call is_o is_call fails reports hints = not_shown fault result writing.wrong_usage call (λ e. cc) is_o is_call fails reports hints
 
     -- a file that is shown
-    pub came_to : (seen : Seen) (is_above : Bool) → ShowsSource files.asked path MayFail bytes left old.bytes new.bytes new.taken (Ok seen) → is_above ≡ exceeds files.asked.limit seen.sums → Reports old.reports new.reports []
-        → One (Ok (record { is_done = true; is_above = is_above }))
-    came_to seen is_above ((text, due, wrote), sums) above answered_lines =
+    pub came_to : (seen : Seen) (is_above : Bool) (said : List (List ℕ)) → ShowsSource files.asked path MayFail bytes left old.bytes new.bytes new.taken (Ok seen) → is_above ≡ exceeds files.asked.limit seen.sums
+        → (seen.is_empty ≡ has_none files.asked.symbols bytes → IsSaidOfShown files.asked bytes seen.sums said) → Reports old.reports new.reports [] → Grows old.hints new.hints (hinted path said) → One (Ok (record { is_done = true; is_above = is_above }))
+    came_to seen is_above said ((text, due, wrote), sums, none) above says answered_lines gave =
         subst (λ (b : Bool). One (Ok (record { is_done = true; is_above = b }))) (sym above) (
-          shown text (exceeds files.asked.limit seen.sums),
-          ((native, text_of_file files.asked path (files.held path) bytes text read due), above_of_file files.asked (files.held path) bytes seen.sums read sums),
+          shown text said (exceeds files.asked.limit seen.sums),
+          ((native, text_of_file files.asked path (files.held path) bytes text read due), found_of_file files.asked (files.held path) bytes seen.sums said read sums (says none)),
           refl,
           subst (λ (h : List ℕ). Appends old.bytes new.bytes (h ++ text)) is wrote,
           answered_lines,
+          gave,
         )
+
+-- an argument that isn't UTF-8 is refused, and nothing is written or said
+pub not_utf8 : (files : Files) (at : ℕ) (old new : State) (result : Result Verdict Fault) → RefusesArgument at old.reports new.reports result → Appends old.bytes new.bytes [] → Grows old.hints new.hints [] → ShowsOne files (no_utf8 at) old new result
+not_utf8 files at old new (Ok verdict) (is, answered_lines) wrote gave = (refused NotUtf8 [], refl, is, wrote, answered_lines, gave)
+not_utf8 files at old new (Err e) (is, answered_lines) wrote gave = (inr (is, wrote), answered_lines, gave)

@@ -1,9 +1,12 @@
-pub mod NameLines
 pub mod Streams
+pub mod Holding
+pub mod Loading
 pub mod Shown
 pub mod Making
 pub mod Lines
 pub mod AddressWords
 mod Outcomes
 pub mod FileLoop
-mod FileFates
+pub mod FileFates
+mod Links
+mod Said

@@ -1,10 +1,9 @@
 -- The function symbols of a section, made once of its tables: they are those of its answer, and why there are none.
-use Rattle.std.proofs.Common.{◌≡◌, ◌≢◌, ◌∙◌, inl, inr, ℕ, Bool, true, List, length, map, Option, Some, None, is_some, unwrap_or, Result, Ok, Err, IsErrAnd, refl, sym, ap, subst}
-use Rattle.std.proofs.lemmas.List.{length-map}
+use Rattle.std.proofs.Common.{◌≡◌, ◌≢◌, ◌∙◌, inl, inr, ℕ, Bool, true, List, length, map, nat_eq, Option, Some, None, is_some, unwrap_or, Result, Ok, Err, IsErrAnd, refl, sym, ap, subst}
 use Rattle.std.specs.Global.{Vec}
 use Rattle.binfarce.specs.SelectionViews.{version_names}
 use Rattle.binfarce.specs.Refusal.{Refusal}
-use Rattle.binfarce.specs.SectionEntries.{SelectedSymbols}
+use Rattle.binfarce.specs.SectionEntries.{SectionEntry, SelectedSymbols}
 use Rattle.binfarce.specs.SymbolViews.{section_function_view}
 use Rattle.binfarce.specs.declared.SectionFunction.{SectionFunction}
 use Rattle.binfarce_elf_memory.specs.declared.versions.VersionNames.{VersionNames}
@@ -55,14 +54,6 @@ module _ (which : SymbolTable) (file name : List ℕ) where
   unfolding AreTablesOf
   are_made list size versions made named = (made.0, made.1, made.2, made.3, named made.0 made.1)
 
-  -- they are as many as the answer has
-  pub counted_in : (given : SelectedSymbols) (list : Vec SectionFunction) (size : ℕ) → IsMade which file name list.items size → selected_answer which (Some name) file ≡ Some (Ok given) → length list.items ≡ length given.entries
-  counted_in given list size made is =
-      sym (length-map list.items section_function_view) ∙ ap length (made.2 ∙ ap (λ (s : SelectedSymbols). s.entries) (same (sym made.1 ∙ is)))
-    where
-      same : {a b : SelectedSymbols} → Path (Option (Result SelectedSymbols Refusal)) (Some (Ok a)) (Some (Ok b)) → a ≡ b
-      same is = cc
-
   -- an answer was there where an allocation failed after it
   pub none_left : (Fits : SelectedSymbols → Type 0) (list : Selected) (result : Result Seen Fault) → GetsIn which file (Some name) (Ok list) → IsErrAnd result (λ f. f ≡ no_memory_fault) → EndsAs Fits (MemoryIn file (Some name)) (selected_answer which (Some name) file) (outcome_of result)
   none_left Fits list (Ok x) gets is = absurd is
@@ -85,6 +76,31 @@ unmade Holds Fits memory answer e (Err f) gets is = subst (λ (f : Fault). EndsA
     by_answer (Some (Ok listed)) gets = let P : ListError → Type 0 = λ e. EndsAs Fits memory (Some (Ok listed)) (failure (list_fault e)) in subst P (sym gets.1) (inl refl)
     by_answer (Some (Err refusal)) (inl (p, same, is)) = let P : ListError → Type 0 = λ e. EndsAs Fits memory (Some (Err refusal)) (failure (list_fault e)) in subst P (sym is) (inl (ap writing.refused same))
     by_answer (Some (Err refusal)) (inr (needs, is)) = let P : ListError → Type 0 = λ e. EndsAs Fits memory (Some (Err refusal)) (failure (list_fault e)) in subst P (sym is) (inr (needs, refl))
+
+-- whether there is none of the function symbols of an answer
+abbrev pub IsEmpty : SelectedSymbols → Bool → Type 0
+IsEmpty selected none = none ≡ nat_eq (length selected.entries) 0
+
+module _ (memory : Result SelectedSymbols Refusal → Type 0) (answer : Option (Result SelectedSymbols Refusal)) where
+  pub empty_of : (selected : Selected) (none : Bool) → GetsAs HoldsLeft memory answer (Ok selected) → none ≡ nat_eq (length (all_left selected.functions)) 0 → GetsAs IsEmpty memory answer (Ok none)
+  empty_of selected none gets is = by_answer answer gets
+    where
+      by_answer : (answer : Option (Result SelectedSymbols Refusal)) → GetsAs HoldsLeft memory answer (Ok selected) → GetsAs IsEmpty memory answer (Ok none)
+      by_answer None gets = absurd gets
+      by_answer (Some (Err refusal)) gets = absurd gets
+      by_answer (Some (Ok seen)) gets = is ∙ ap (λ (entries : List SectionEntry). nat_eq (length entries) 0) gets.0
+
+  pub unasked : (e : ListError) (result : Result Bool ListError) → GetsAs HoldsLeft memory answer (Err e) → IsErrAnd result (λ f. f ≡ e) → GetsAs IsEmpty memory answer result
+  unasked e (Ok none) gets is = absurd is
+  unasked e (Err f) gets is = subst (λ (f : ListError). GetsAs IsEmpty memory answer (Err f)) (sym is) (by_answer answer gets)
+    where
+      by_answer : (answer : Option (Result SelectedSymbols Refusal)) → GetsAs HoldsLeft memory answer (Err e) → GetsAs IsEmpty memory answer (Err e)
+      by_answer None gets = gets
+      by_answer (Some (Err refusal)) gets = gets
+      by_answer (Some (Ok seen)) gets = gets
+
+  pub empty_is : (selected : SelectedSymbols) (none : Bool) → GetsAs IsEmpty memory answer (Ok none) → answer ≡ Some (Ok selected) → IsEmpty selected none
+  empty_is selected none gets is = subst (λ (answer : Option (Result SelectedSymbols Refusal)). GetsAs IsEmpty memory answer (Ok none)) is gets
 
 -- and nothing is written
 module _ (e : ListError) (result : Result Seen Fault) where

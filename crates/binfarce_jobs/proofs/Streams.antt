@@ -1,16 +1,16 @@
 -- What is read and written part after part.
-use Rattle.std.proofs.Common.{◌≡◌, ◌≢◌, ◌⊎◌, ◌∙◌, inl, inr, ℕ, ◌+◌, Bool, List, [], ◌++◌, length, take, drop, ◌-◌, length-drop, Option, Some, None, Result, Ok, Err, IsErrAnd, ◌≤◌, append_assoc, append-nil, refl, sym, ap, subst, arith}
+use Rattle.std.proofs.Common.{◌≡◌, ◌≢◌, ◌⊎◌, ◌∙◌, inl, inr, ℕ, ◌+◌, List, [], ◌++◌, length, length-append, take, drop, ◌-◌, length-drop, Option, Some, None, Result, Ok, Err, IsErrAnd, ◌≤◌, append_assoc, append-nil, refl, sym, ap, subst, arith}
 use Rattle.std.specs.Global.{Vec}
 use Rattle.std.specs.Prelude.{IfSome}
 use Rattle.std.specs.Io.KnownBytes.{append_known, Appends, Consumes, IsAtEnd, Keeps}
 use Rattle.std.proofs.KnownBytes.{append_known-moved}
-use Rattle.std.proofs.lemmas.List.{take-append-drop, take-take, take_all}
+use Rattle.std.proofs.lemmas.List.{length-take, take-append-drop, take-take, take_all}
 use Rattle.std.proofs.Math.Seq.{drop-drop, take-append_seam}
 use Rattle.binfarce_bytes.specs.Format.{format_of}
 use Rattle.binfarce_bytes.specs.declared.format.Format.TheVariants.{Unknown}
 use Rattle.binfarce_tables.proofs.FirstBytes.{format_of_first}
 use Rattle.binfarce_jobs.specs.Foreign.{first_bytes, foreign_in, named_by}
-use Rattle.binfarce_jobs.specs.Input.{IsForeign, IsReadOf, IsJudged, IsUnread, Judges, Loads, ReadsJudged, ReadsRest}
+use Rattle.binfarce_jobs.specs.Input.{IsForeign, IsJudged, IsUnread, Judges, ReadsFirst, ReadsJudged, ReadsNoMore, ReadsRest}
 use Rattle.binfarce_jobs.specs.declared.fault.Fault.{Fault}
 
 -- what of a heading was written is no longer left of it
@@ -81,12 +81,25 @@ foreign_read (Some file) new bytes e (Err f) first read judges is =
     subst (λ (f : Fault). (IsForeign file f × Consumes (Some file) new (first_bytes file)) ⊎ IsUnread f) (sym is)
     (inl (subst (λ (bs : List ℕ). Judges (named_by bs) (Err e)) first judges, subst (Consumes (Some file) new) first read))
 
--- what is read in order of a file is what is read of it
-pub judged_is_read : (file bytes : List ℕ) → IsJudged file bytes → IsReadOf file bytes
-judged_is_read file bytes (inl (known, is)) = inl is
-judged_is_read file bytes (inr first) = inr first
+-- where its first bytes alone are read of a reader, no more are
+pub few_read : (old new : Option (List ℕ)) (bytes : List ℕ) → IfSome old (λ file. bytes ≡ first_bytes file) → Consumes old new bytes → ReadsNoMore old new
+few_read None new bytes first read = tt
+few_read (Some file) new bytes first read = λ why. (bytes, omega (arith, ap length first, length-take 512 file), read)
 
--- a file that is read at offsets is judged by its first bytes
-pub judged : (may_fail : Bool) (file first : List ℕ) (new : Option (List ℕ)) (result : Result (Unit {0}) Fault) → new ≡ Some file → first ≡ first_bytes file → Judges (named_by first) result → Loads may_fail file new may_fail result
-judged may_fail file first new (Ok x) known is judges = (file, known, inl refl, λ m. m, ap named_by (sym is) ∙ judges)
-judged may_fail file first new (Err e) known is judges = inl (subst (λ (bs : List ℕ). Judges (named_by bs) (Err e)) is judges)
+-- of one that a reader reads, by its first bytes, all may be read
+pub some_read : (old new : Option (List ℕ)) (bytes : List ℕ) → format_of bytes ≢ Unknown → named_by bytes ≡ None → IfSome old (λ file. bytes ≡ first_bytes file)
+    → ReadsNoMore old new
+some_read None new bytes known native first = tt
+some_read (Some file) new bytes known native first = λ why. absurd (elim why [
+  | inl unknown ↦ known (ap format_of first ∙ format_of_beginning file ∙ unknown)
+  | inr foreign ↦ foreign (ap named_by (sym first) ∙ native)
+])
+
+-- an allocation failed for bytes that were read among the first ones
+pub stopped : (old mid new : Option (List ℕ)) (bytes part items : List ℕ) (e : Fault) (result : Result (Unit {0}) Fault) → length bytes + length part ≤ 512
+    → Consumes old mid bytes → Consumes mid new part → IsUnread e → IsErrAnd result (λ f. f ≡ e) → ReadsFirst old new items result
+stopped old mid new bytes part items e (Ok x) fits read got unread is = absurd is
+stopped old mid new bytes part items e (Err f) fits read got unread is = (
+  subst IsUnread (sym is) unread,
+  (bytes ++ part, omega (arith, fits, length-append bytes part), bytes_more old mid new bytes part (bytes ++ part) read got refl),
+)

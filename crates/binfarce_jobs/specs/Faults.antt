@@ -15,7 +15,7 @@ use Rattle.binfarce_tools.specs.Writing.{Outcome, written, write_failed, unknown
 use Rattle.binfarce_tools.specs.declared.list.ListError.{ListError}
 use Rattle.binfarce_tools.specs.declared.report.ReportError.TheVariants as sums
 use Rattle.binfarce_jobs.specs.declared.fault.Fault.{Fault}
-use Rattle.binfarce_jobs.specs.declared.fault.Fault.TheVariants.{Report, Section, Stream, Unsupported, NotUtf8, SharedAddresses, Missing}
+use Rattle.binfarce_jobs.specs.declared.fault.Fault.TheVariants.{Report, Section, Stream, Unsupported, NotUtf8, SharedAddresses, Unplaced, Missing}
 
 -- an allocation failed
 abbrev pub no_memory_fault : Fault
@@ -54,6 +54,7 @@ failure (Stream e) = stream_outcome e
 failure (Unsupported kind) = wrong_usage
 failure NotUtf8 = wrong_usage
 failure SharedAddresses = wrong_usage
+failure (Unplaced words) = wrong_usage
 failure (Missing count) = wrong_usage
 
 -- the outcome of the work on a file

@@ -1,23 +1,38 @@
 -- Hints on files.
-use Rattle.std.specs.Prelude.{◌≡◌, ℕ, zero, suc, ◌*◌, true, false, ◌&&◌, List, ◌++◌, length, codes, nat_le, nat_lt, Option, Some, None, IfSome, Result, Ok, Err, if◌then◌else◌}
+use Rattle.std.specs.Prelude.{◌≡◌, ◌⊎◌, ℕ, zero, suc, ◌*◌, Bool, true, false, ◌&&◌, List, [], ◌∷◌, ◌++◌, drop, length, codes, nat_eq, nat_le, nat_lt, Option, Some, None, Result, Ok, Err, if◌then◌else◌}
+use Rattle.std.specs.Char.{is_ascii_graphic}
 use Rattle.std.specs.Fmt.{decimal}
+use Rattle.std.specs.List.{flat_map, list_all}
+use Rattle.std.specs.Option.{option_map}
+use Rattle.std.specs.Str.{bytes_eq}
 use Rattle.std.specs.String.{string_bytes}
-use Rattle.binfarce.specs.Refusal.{Refusal}
+use Rattle.binfarce.specs.Refusal.{Refusal, refusal_of, section_is_missing}
 use Rattle.binfarce.specs.SectionEntries.{SelectedSymbols}
 use Rattle.binfarce.specs.declared.SymbolTable.{SymbolTable}
 use Rattle.binfarce.specs.declared.SymbolTable.TheVariants.{Symtab, Dynsym}
 use Rattle.binfarce_bytes.specs.Format.{format_of}
+use Rattle.binfarce_bytes.specs.Text.{up_to_nul}
 use Rattle.binfarce_bytes.specs.declared.format.Format.{Format}
 use Rattle.binfarce_bytes.specs.declared.format.Format.TheVariants as formats
 use Rattle.binfarce_tools.specs.Answer.{selected_answer}
 use Rattle.binfarce_figures.specs.declared.key.Key.{Key}
 use Rattle.binfarce_figures.specs.declared.key.Key.TheVariants.{Crate}
 use Rattle.binfarce_figures.specs.declared.sums.Sums.{Sums}
+use Rattle.binfarce_sections.specs.Named.{Lack, bytes_named}
+use Rattle.binfarce_sections.specs.Section.{sections_of}
+use Rattle.binfarce_sections.specs.declared.error.SectionError.TheVariants as sections
 use Rattle.binfarce_words.specs.WordViews.{limit_words}
-use Rattle.binfarce_bytes.specs.Selection.{section_of}
+use Rattle.binfarce_jobs.specs.Show.{answer_for, excess_of}
+use Rattle.binfarce_jobs.specs.MessageLine.{byte_text}
+use Rattle.binfarce_jobs.specs.declared.fault.Fault.{Fault}
+use Rattle.binfarce_jobs.specs.declared.fault.Fault.TheVariants.{Section}
+use Rattle.binfarce_jobs.specs.declared.show.Kind.{Kind}
+use Rattle.binfarce_jobs.specs.declared.show.Kind.TheVariants.{Figures}
+use Rattle.binfarce_jobs.specs.declared.show.Request.{Request}
 use Rattle.binfarce_jobs.specs.declared.show.Symbols.{Symbols}
 use Rattle.binfarce_jobs.specs.declared.hint.Hint.{Hint}
 use Rattle.binfarce_jobs.specs.declared.hint.Hint.TheVariants as hints
+use Rattle.binfarce_jobs.specs.declared.hint.Hints.{Hints}
 use Rattle.binfarce_jobs.specs.declared.hint.Loaded.{Loaded}
 use Rattle.binfarce_jobs.specs.declared.hint.Loaded.TheVariants as loads
 
@@ -50,11 +65,20 @@ abbrev pub unknown_in : Key → Sums → Option Hint
 unknown_in Crate sums = if nat_lt 0 sums.unknown && nat_le sums.total (2 * sums.unknown) then Some (hints.Unknown sums.unknown sums.total) else None
 unknown_in key sums = None
 
+-- the hint on the sums that are shown, if sums are
+abbrev pub unknown_for : Kind → Option Sums → Option Hint
+unknown_for (Figures figures) (Some sums) = unknown_in figures.grouping.key sums
+unknown_for kind sums = None
+
 -- how many function symbols an answer has; without an answer there are none
 abbrev pub count_of : Option (Result SelectedSymbols Refusal) → ℕ
 count_of (Some (Ok selected)) = length selected.entries
 count_of (Some (Err refusal)) = 0
 count_of None = 0
+
+-- a file has none of the function symbols that are taken
+abbrev pub has_none : Symbols → (file : List ℕ) → Bool
+has_none symbols file = nat_eq (count_of (answer_for symbols file)) 0
 
 -- why a file of this format has no function symbol
 abbrev pub lack_of : SymbolTable → Format → Hint
@@ -63,18 +87,14 @@ lack_of which formats.Macho = hints.NoneOfMacho
 lack_of Dynsym format = hints.NoneDynamic
 lack_of Symtab format = hints.None
 
--- the hint where none of the function symbols is there that are taken, by their count and by that of all sections
-abbrev pub lack_by : SymbolTable → Format → (count all : ℕ) → Option Hint
-lack_by which format zero zero = Some (lack_of which format)
-lack_by which format zero (suc n) = Some (hints.Others (suc n))
-lack_by which format (suc n) all = None
+-- why there is none of the function symbols that are taken, by how many all sections have
+abbrev pub lack_by : SymbolTable → Format → (all : ℕ) → Hint
+lack_by which format zero = lack_of which format
+lack_by which format (suc n) = hints.Others (suc n)
 
-abbrev pub lack_in : SymbolTable → (file : List ℕ) → (section : Option (List ℕ)) → Option Hint
-lack_in which file section = lack_by which (format_of file) (count_of (selected_answer which section file)) (count_of (selected_answer which None file))
-
--- so many of the function symbols that are taken are in the file, where that is known
-abbrev pub IsCountIn : Symbols → (file : List ℕ) → (count : Option ℕ) → Type 0
-IsCountIn symbols file count = IfSome count (λ n. n ≡ count_of (selected_answer symbols.which (section_of symbols.selection) file))
+-- the hint where a file has none of the function symbols that are taken
+abbrev pub lack_in : Symbols → (file : List ℕ) → Option Hint
+lack_in symbols file = if has_none symbols file then Some (lack_by symbols.which (format_of file) (count_of (selected_answer symbols.which None file))) else None
 
 -- the hint where a file has dynamic function symbols
 abbrev pub dynamic_by : (count : ℕ) → Option Hint
@@ -83,3 +103,76 @@ dynamic_by (suc n) = Some (hints.Dynamic (suc n))
 
 abbrev pub dynamic_in : (file : List ℕ) → Option Hint
 dynamic_in file = dynamic_by (count_of (selected_answer Dynsym None file))
+
+-- the bytes of the first section of this name, if the file has them
+abbrev pub bytes_had : Result (List ℕ) Lack → Option (List ℕ)
+bytes_had (Ok bytes) = Some bytes
+bytes_had (Err lack) = None
+
+abbrev pub section_in : (file name : List ℕ) → Option (List ℕ)
+section_in file name = bytes_had (bytes_named (sections_of (format_of file) file) file name)
+
+-- where the debug file of a build ID is (GDB, "Debugging Information in Separate Files"): the ID's first byte names a folder, and the others the file
+abbrev pub debug_path : (id : List ℕ) → Option (List ℕ)
+debug_path [] = None
+debug_path (first ∷ others) = Some (codes "/usr/lib/debug/.build-id/" ++ (byte_text first ++ (codes "/" ++ (flat_map byte_text others ++ codes ".debug"))))
+
+-- the name in a debug link, which a NUL ends, if all of it is printable ASCII without blanks
+abbrev pub link_text : (link : List ℕ) → List ℕ
+link_text link = if list_all is_ascii_graphic (up_to_nul link) then codes ", or in a file " ++ up_to_nul link else []
+
+abbrev pub link_part : (link : Option (List ℕ)) → List ℕ
+link_part (Some link) = link_text link
+link_part None = []
+
+-- where the debug symbols of a file may be: by its build ID, which follows the 16 bytes of its note's head, and by its debug link
+abbrev pub debug_by : (note link : Option (List ℕ)) → Option (List ℕ)
+debug_by (Some note) link = option_map (λ path. path ++ link_part link) (debug_path (drop 16 note))
+debug_by None link = None
+
+abbrev pub debug_in : (file : List ℕ) → Option (List ℕ)
+debug_in file = debug_by (section_in file (codes ".note.gnu.build-id")) (section_in file (codes ".gnu_debuglink"))
+
+-- the words of a hint, if there is one
+abbrev pub words_of : Option Hint → List (List ℕ)
+words_of (Some hint) = hint_words hint ∷ []
+words_of None = []
+
+abbrev pub stripped_words : (places : Option (List ℕ)) → List (List ℕ)
+stripped_words (Some places) = (codes "its debug symbols may be in " ++ places) ∷ []
+stripped_words None = []
+
+-- a file is refused since it has no symbol table
+abbrev pub is_no_symtab : Refusal → Bool
+is_no_symtab (section_is_missing name) = bytes_eq name (codes ".symtab")
+is_no_symtab refusal = false
+
+abbrev pub is_stripped : Fault → Bool
+is_stripped (Section (sections.Parse e)) = is_no_symtab (refusal_of e)
+is_stripped fault = false
+
+-- the hints on a file that is refused: on one without a symbol table
+abbrev pub dynamic_for : Fault → (file : List ℕ) → Option Hint
+dynamic_for fault file = if is_stripped fault then dynamic_in file else None
+
+abbrev pub stripped_for : Fault → (file : List ℕ) → List (List ℕ)
+stripped_for fault file = if is_stripped fault then stripped_words (debug_in file) else []
+
+-- this is said; or nothing, where the file can't be read for it, or an allocation failed
+abbrev pub IsOrNone : (due said : List (List ℕ)) → Type 0
+IsOrNone due said = (said ≡ due) ⊎ (said ≡ [])
+
+-- the words of all hints, in their order
+abbrev pub all_words : Hints → List (List ℕ)
+all_words all = words_of all.first ++ (words_of all.second ++ words_of all.excess)
+
+-- what is said of a file that is shown with these sums: what it lacks, on the bytes that have no crate, and that the sum exceeds the limit
+abbrev pub IsSaidOfShown : Request → (file : List ℕ) → Option Sums → (said : List (List ℕ)) → Type 0
+IsSaidOfShown asked file sums said =
+    (first : List (List ℕ)) × IsOrNone (words_of (lack_in asked.symbols file)) first
+    × (said ≡ first ++ (words_of (unknown_for asked.kind sums) ++ words_of (excess_of asked.limit sums)))
+
+-- what is said of a file that is refused: how many dynamic function symbols it has, and where its debug symbols may be
+abbrev pub IsSaidOfRefused : Fault → (file : List ℕ) → (said : List (List ℕ)) → Type 0
+IsSaidOfRefused fault file said =
+    (first second : List (List ℕ)) × IsOrNone (words_of (dynamic_for fault file)) first × IsOrNone (stripped_for fault file) second × (said ≡ first ++ second)

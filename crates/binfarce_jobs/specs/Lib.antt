@@ -5,8 +5,8 @@ pub mod FaultWords
 pub mod Show
 pub mod Files
 pub mod Hints
+pub mod MessageLine
 pub mod Output
 pub mod Section
-pub mod Filter
 pub mod At
 pub mod Limit

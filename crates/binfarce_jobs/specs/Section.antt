@@ -1,7 +1,7 @@
 -- What is written of a file's sections.
 use Rattle.std.specs.Prelude.{ℕ, Bool, List, Option, Result}
 use Rattle.binfarce.specs.Format.{format_of}
-use Rattle.binfarce_tools.specs.Json.{Style}
+use Rattle.binfarce_rows.specs.Json.{Style}
 use Rattle.binfarce_sections.specs.Named.{bytes_named}
 use Rattle.binfarce_sections.specs.Section.{sections_of}
 use Rattle.binfarce_sections.specs.Results.{TakesRead, TakesReadLines}

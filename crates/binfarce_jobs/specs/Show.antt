@@ -1,5 +1,5 @@
 -- How function symbols are shown.
-use Rattle.std.specs.Prelude.{◌≡◌, ℕ, Bool, true, false, List, [], codes, length, Option, Some, None, IfSome, is_some, Result, Ok, Err, if◌then◌else◌}
+use Rattle.std.specs.Prelude.{◌≡◌, ℕ, Bool, true, List, [], codes, length, nat_eq, Option, Some, None, is_some, Result, Ok, Err, if◌then◌else◌}
 use Rattle.std.specs.Str.{bytes_eq}
 use Rattle.binfarce.specs.Format.{format_of}
 use Rattle.binfarce.specs.declared.Format.{Format}
@@ -10,7 +10,7 @@ use Rattle.binfarce_figures.specs.Claims.{SumFits}
 use Rattle.binfarce_figures.specs.Figures.{AreFiguresBy, AreStacksIn, AreSumsBy, IsPictureBy}
 use Rattle.binfarce_figures.specs.RowListing.{IsListingBy}
 use Rattle.binfarce_figures.specs.declared.sums.Sums.{Sums}
-use Rattle.binfarce_tools.specs.Json.{Style, lines, objects}
+use Rattle.binfarce_rows.specs.Json.{Style, lines, objects}
 use Rattle.binfarce_tools.specs.Listing.{ListingFits}
 use Rattle.binfarce_tools.specs.SelectedTexts.{IsListingOfSelected}
 use Rattle.binfarce_bytes.specs.Selection.{section_of}
@@ -19,6 +19,7 @@ use Rattle.binfarce_tools.specs.Tables.{AreTablesOf}
 use Rattle.binfarce_tools.specs.Writing.{Outcome, IsDue, ProgramEndsAs, Takes}
 use Rattle.binfarce_tools.specs.declared.SymbolTable.{SymbolTable}
 use Rattle.binfarce_tools.specs.declared.tables.Tables.{Tables}
+use Rattle.binfarce_jobs.specs.declared.hint.Hint.{Hint}
 use Rattle.binfarce_jobs.specs.declared.show.Request.{Request}
 use Rattle.binfarce_jobs.specs.declared.show.Kind.{Kind}
 use Rattle.binfarce_jobs.specs.declared.show.Kind.TheVariants.{Listing, Rows, Figures, Picture, Stacks}
@@ -40,9 +41,9 @@ abbrev pub HasSums : Kind → SelectedSymbols → Option Sums → Type 0
 HasSums (Figures figures) selected seen = (sums : Sums) × (seen ≡ Some sums) × AreSumsBy figures.grouping selected sums
 HasSums kind selected seen = seen ≡ None
 
--- what was found is that of a file's answer: how many function symbols it has, where that is known, and the sums, where sums are shown
+-- what was found is that of a file's answer: whether it has no function symbol, and the sums, where sums are shown
 pub record IsSeenOf (kind : Kind) (selected : SelectedSymbols) (seen : Seen) : Type 0 where
-  pub count_is : IfSome seen.count (λ count. count ≡ length selected.entries)
+  pub empty_is : seen.is_empty ≡ nat_eq (length selected.entries) 0
   pub sums_are : HasSums kind selected seen.sums
 
 -- the name of the section that is selected; empty for all sections
@@ -100,15 +101,14 @@ IsShownText asked path file text = IsDue (IsAskedText asked path) (answer_for as
 abbrev pub MayEnd : (MayFail : Type 0) → Request → (file : List ℕ) → Outcome → Type 0
 MayEnd MayFail asked file outcome = ProgramEndsAs MayFail (Fits asked.kind) (MemoryFor asked.symbols file) (answer_for asked.symbols file) outcome
 
--- the sum of all sizes exceeds the limit, where sums are shown
+-- the hint that the sum of all sizes exceeds the limit, where sums are shown
+abbrev pub excess_of : Option Limit → Option Sums → Option Hint
+excess_of limit (Some sums) = above sums.total limit
+excess_of limit None = None
+
 abbrev pub exceeds : Option Limit → Option Sums → Bool
-exceeds limit (Some sums) = is_some (above sums.total limit)
-exceeds limit None = false
+exceeds limit sums = is_some (excess_of limit sums)
 
 -- the sums are those of a file's answer
 abbrev pub HasSumsOf : Request → (file : List ℕ) → Option Sums → Type 0
 HasSumsOf asked file sums = (selected : SelectedSymbols) × (answer_for asked.symbols file ≡ Some (Ok selected)) × HasSums asked.kind selected sums
-
--- whether a sum of the file exceeds its limit
-abbrev pub IsAboveIn : Request → (file : List ℕ) → Bool → Type 0
-IsAboveIn asked file is_above = (sums : Option Sums) × HasSumsOf asked file sums × (is_above ≡ exceeds asked.limit sums)

@@ -2,21 +2,22 @@
 
 ghost use Rattle.std.specs.Prelude.{◌≡◌, ◌⊎◌, [], ◌∷◌, ℕ, Bool, List, true, Option, Some, None, map, nat_lt, length, IfErr, IfOk, IfSome, MatchOption};
 ghost use Rattle.binfarce_jobs.specs.Faults.{is_of_file};
-ghost use Rattle.binfarce_jobs.specs.Files.{Refused, Reports, ReportsFault, AreHeld, asked_files, ShowsAll, ShowsSource, ShowsOne, heading};
+ghost use Rattle.binfarce_jobs.specs.Files.{Grows, Hinted, HintsFault, Refused, RefusesArgument, Reports, ReportsFault, AreHeld, IsHeld, asked_files, ShowsAll, ShowsSource, ShowsOne, heading, hinted};
+ghost use Rattle.binfarce_jobs.specs.Hints.{all_words, hint_words, words_of};
 ghost use Rattle.binfarce_jobs.specs.Output.{pending, state_of, taken, writer_of};
 ghost use Rattle.binfarce_jobs.specs.Foreign.{foreign_in};
 ghost use Rattle.binfarce_jobs.specs.Input.{IsForeign, IsReadOf, IsUnreadable, bytes_of, may_fail_of};
-ghost use Rattle.binfarce_jobs.specs.Show.{exceeds};
+ghost use Rattle.binfarce_words.specs.WordViews.{argument_view};
 
 use crate::fault::Fault;
-use crate::hint::{Hint, lack, refusal_hints, unknown_in};
+use crate::hint::{Hint, Hints, hints_on, refusal_hints};
 use crate::input::OpenFile;
-use crate::limit::{Verdict, above};
+use crate::limit::Verdict;
 use crate::output::Output;
-use crate::show::{Kind, Request, Seen, show};
+use crate::show::{Request, Seen, show};
 use binfarce_bytes::source::Source;
 use binfarce_sections::error::SectionError;
-use binfarce_tools::tables::Selection;
+use binfarce_words::words::Argument;
 use std::alloc::{AllocError, Global};
 use std::io::{self, Error, Read, Write};
 
@@ -31,6 +32,9 @@ pub trait System<F: Read + Source<Log = ()>> {
     // What was reported so far, where that is known.
     ghost reports: { Self → Option (List Refused) } = { λ _. None };
 
+    // The hints that were given so far, where they are known.
+    ghost hints: { Self → Option (List Hinted) } = { λ _. None };
+
     /// The file at this path, to be read.
     fn open(&self, path: &str) -> io::Result<F>
         ensures bytes { IfOk result (λ f. IfSome (bytes_at self.now path.now)
@@ -41,115 +45,106 @@ pub trait System<F: Read + Source<Log = ()>> {
     /// Reports why the file at this path is refused. `reason` is the system's, if a read failed.
     fn report(&mut self, path: &str, fault: Fault, reason: Option<Error>)
         ensures reports { Reports (reports self.old) (reports self.new) ((path.now, fault) ∷ []) }
+        ensures hints { hints self.new ≡ hints self.old }
         ensures bytes { bytes_at self.new ≡ bytes_at self.old }
         ensures may_fail { may_fail_at self.new ≡ may_fail_at self.old };
 
     /// Gives a hint on the file at this path.
     fn hint(&mut self, path: &str, hint: Hint)
+        ensures hints { Grows (hints self.old) (hints self.new) ((path.now, hint_words hint) ∷ []) }
         ensures reports { reports self.new ≡ reports self.old }
         ensures bytes { bytes_at self.new ≡ bytes_at self.old }
         ensures may_fail { may_fail_at self.new ≡ may_fail_at self.old };
 }
 
-/// Shows each file, in order. Of several, each is shown under a line with its name. A file that is refused is reported,
-/// and the others follow. A sum that exceeds its limit is reported, too.
+/// Shows the file at each path, in order. Of several arguments, each file is shown under a line with its path. A file
+/// that is refused, and an argument that isn't UTF-8, is reported, and the others follow. The hints on each file follow
+/// what is written or reported of it; one says that a sum exceeds its limit.
 ///
 /// # Errors
 ///
-/// `Write` where a write fails, and `OutOfMemory` where an allocation for a heading fails.
+/// `Write` where a write fails, and `OutOfMemory` where an allocation for a heading, or for the name of an argument that
+/// isn't UTF-8, fails.
 pub fn show_files<F: Read + Source<Log = ()> + Drop, Y: System<F>, W: Write>(
     alloc: Global,
     system: &mut Y,
     asked: &Request<'_>,
-    files: &[&str],
+    files: &[Argument<'_>],
     out: &mut Output<W>,
 ) -> Result<Verdict, Fault>
-    ensures { (held : List ℕ → List ℕ) → AreHeld (Y.bytes_at system.old) held (map (λ t. t.now) files.now)
+    ensures { (held : List ℕ → List ℕ) → AreHeld (Y.bytes_at system.old) held (map argument_view files.now)
         → ShowsAll
         (asked_files asked.now (nat_lt 1 (length files.now)) (Y.may_fail_at system.old) held)
-        (map (λ t. t.now) files.now)
-        (state_of W.contents out.old (Y.reports system.old))
-        (state_of W.contents out.new (Y.reports system.new)) result }
+        (map argument_view files.now)
+        (state_of W.contents out.old (Y.reports system.old) (Y.hints system.old))
+        (state_of W.contents out.new (Y.reports system.new) (Y.hints system.new)) result }
 {
     let are_several = files.len() > 1;
     let mut all = Verdict::done();
-    for path in files {
-        let shown = show_file(alloc, system, asked, path, are_several, out)?;
+    for argument in files {
+        let shown = show_file(alloc, system, asked, argument, are_several, out)?;
         all = all.and_then(shown);
     }
     Ok(all)
 }
 
-// Shows a file, under its heading, or reports why it is refused.
+/// Reports that the argument at this position isn't UTF-8, which names no file.
+///
+/// # Errors
+///
+/// `OutOfMemory` where an allocation for its name fails.
+pub fn refuse_argument<F: Read + Source<Log = ()>, Y: System<F>>(
+    alloc: Global,
+    system: &mut Y,
+    at: usize,
+) -> Result<Verdict, Fault>
+    ensures reports { RefusesArgument at (Y.reports system.old) (Y.reports system.new) result }
+    ensures hints { Y.hints system.new ≡ Y.hints system.old }
+    ensures bytes { Y.bytes_at system.new ≡ Y.bytes_at system.old }
+    ensures may_fail { Y.may_fail_at system.new ≡ Y.may_fail_at system.old }
+{
+    let argument = Argument::NotUtf8(at);
+    let name = format!(in alloc; "{argument}")?;
+    system.report(name.as_str(), Fault::NotUtf8, None);
+    let verdict = Verdict::refused();
+    Ok(verdict)
+}
+
+// Shows the file at a path, under its heading, or reports why it, or the argument, is refused.
 fn show_file<F: Read + Source<Log = ()> + Drop, Y: System<F>, W: Write>(
     alloc: Global,
     system: &mut Y,
     asked: &Request<'_>,
-    path: &str,
+    argument: &Argument<'_>,
     are_several: bool,
     out: &mut Output<W>,
 ) -> Result<Verdict, Fault>
-    ensures shows { (held : List ℕ → List ℕ) → Y.bytes_at system.old path.now ≡ Some (held path.now)
-        → ShowsOne (asked_files asked.now are_several (Y.may_fail_at system.old) held) path.now
-        (state_of W.contents out.old (Y.reports system.old))
-        (state_of W.contents out.new (Y.reports system.new)) result }
+    ensures shows { (held : List ℕ → List ℕ) → IsHeld (Y.bytes_at system.old) held (argument_view argument.now)
+        → ShowsOne (asked_files asked.now are_several (Y.may_fail_at system.old) held) (argument_view argument.now)
+        (state_of W.contents out.old (Y.reports system.old) (Y.hints system.old))
+        (state_of W.contents out.new (Y.reports system.new) (Y.hints system.new)) result }
     ensures bytes { Y.bytes_at system.new ≡ Y.bytes_at system.old }
     ensures may_fail { Y.may_fail_at system.new ≡ Y.may_fail_at system.old }
 {
+    let path = match argument {
+        Argument::Text(path) => *path,
+        Argument::NotUtf8(at) => return refuse_argument(alloc, system, *at),
+    };
     out.begin(heading(alloc, path, are_several)?);
     let Some(input) = open_input(alloc, system, path) else {
         return Ok(Verdict::refused());
     };
     match show_source(alloc, asked, path, &input, out) {
         Ok(seen) => {
-            let is_above = hint_on(alloc, system, asked, path, &input, seen, out.len());
+            let hints = hints_on(alloc, &input, asked, seen);
+            let is_above = hints.excess.is_some();
+            give_all(system, path, hints);
             Ok(Verdict {
                 is_done: true,
                 is_above,
             })
         }
         Err(fault) => refuse(alloc, system, path, &input, fault),
-    }
-}
-
-// Gives the hints on a file that was shown, of which so many bytes were written, and returns whether its sum exceeds the
-// limit.
-fn hint_on<F: Read + Source<Log = ()>, Y: System<F>>(
-    alloc: Global,
-    system: &mut Y,
-    asked: &Request<'_>,
-    path: &str,
-    input: &OpenFile<F>,
-    seen: Seen,
-    len: u64,
-) -> bool
-    ensures above { result ≡ exceeds asked.now.limit seen.sums }
-    ensures reports { Y.reports system.new ≡ Y.reports system.old }
-    ensures bytes { Y.bytes_at system.new ≡ Y.bytes_at system.old }
-    ensures may_fail { Y.may_fail_at system.new ≡ Y.may_fail_at system.old }
-{
-    let count = counted(asked, seen.count, len);
-    let hint = lack(alloc, input, &asked.symbols, count).unwrap_or(None);
-    give(system, path, hint);
-    let Some(sums) = seen.sums else {
-        return false;
-    };
-    if let Kind::Figures(figures) = asked.kind {
-        give(system, path, unknown_in(figures.grouping.key, sums));
-    }
-    let excess = above(sums.total, asked.limit);
-    let is_above = excess.is_some();
-    give(system, path, excess);
-    is_above
-}
-
-// How many function symbols were shown, where that is known, or at least that there are some: a listing of all sections
-// has a line for each, and nothing else.
-fn counted(asked: &Request<'_>, count: Option<usize>, len: u64) -> Option<usize> {
-    match (count, asked.kind, asked.symbols.selection) {
-        (None, _, _) if len > 0 => Some(1),
-        (None, Kind::Listing, Selection::All) => Some(0),
-        _ => count,
     }
 }
 
@@ -201,6 +196,7 @@ pub fn open_input<F: Read + Source<Log = ()> + Drop, Y: System<F>>(
     ensures reported { MatchOption result
         ((fault : Fault) × Reports (Y.reports system.old) (Y.reports system.new) ((path.now, fault) ∷ []))
         (λ _. Y.reports system.new ≡ Y.reports system.old) }
+    ensures hints { Y.hints system.new ≡ Y.hints system.old }
     ensures unchanged { IfSome result (λ _. system.new ≡ system.old) }
     ensures bytes { Y.bytes_at system.new ≡ Y.bytes_at system.old }
     ensures may_fail { Y.may_fail_at system.new ≡ Y.may_fail_at system.old }
@@ -225,6 +221,7 @@ pub fn give<F: Read + Source<Log = ()>, Y: System<F>>(
     path: &str,
     hint: Option<Hint>,
 )
+    ensures hints { Grows (Y.hints system.old) (Y.hints system.new) (hinted path.now (words_of hint)) }
     ensures reports { Y.reports system.new ≡ Y.reports system.old }
     ensures bytes { Y.bytes_at system.new ≡ Y.bytes_at system.old }
     ensures may_fail { Y.may_fail_at system.new ≡ Y.may_fail_at system.old }
@@ -233,6 +230,23 @@ pub fn give<F: Read + Source<Log = ()>, Y: System<F>>(
         Some(hint) => system.hint(path, hint),
         None => {}
     }
+}
+
+// Gives all of these hints, in their order.
+fn give_all<F: Read + Source<Log = ()>, Y: System<F>>(system: &mut Y, path: &str, hints: Hints)
+    ensures hints { Grows (Y.hints system.old) (Y.hints system.new) (hinted path.now (all_words hints)) }
+    ensures reports { Y.reports system.new ≡ Y.reports system.old }
+    ensures bytes { Y.bytes_at system.new ≡ Y.bytes_at system.old }
+    ensures may_fail { Y.may_fail_at system.new ≡ Y.may_fail_at system.old }
+{
+    let Hints {
+        first,
+        second,
+        excess,
+    } = hints;
+    give(system, path, first);
+    give(system, path, second);
+    give(system, path, excess);
 }
 
 /// Reports why the file at this path is refused, with hints on what would help.
@@ -248,15 +262,16 @@ pub fn refuse<F: Read + Source<Log = ()>, Y: System<F>>(
     fault: Fault,
 ) -> Result<Verdict, Fault>
     ensures reports { ReportsFault path.now (Y.reports system.old) (Y.reports system.new) fault (is_of_file fault) result }
+    ensures hints { (file : List ℕ) → bytes_of F.bytes input.now ≡ Some file
+        → HintsFault path.now (Y.hints system.old) (Y.hints system.new) fault (is_of_file fault) file }
     ensures bytes { Y.bytes_at system.new ≡ Y.bytes_at system.old }
     ensures may_fail { Y.may_fail_at system.new ≡ Y.may_fail_at system.old }
 {
     if !fault.is_of_file() {
         return Err(fault);
     }
-    let (dynamic, debug) = refusal_hints(alloc, input, &fault);
+    let hints = refusal_hints(alloc, input, &fault);
     system.report(path, fault, input.take_reason());
-    give(system, path, dynamic);
-    give(system, path, debug);
+    give_all(system, path, hints);
     Ok(Verdict::refused())
 }

@@ -2,7 +2,7 @@
 
 ghost use Rattle.std.specs.Prelude.{◌≡◌, nat_eq, Some};
 ghost use Rattle.std.specs.List.{list_all};
-ghost use Rattle.binfarce_jobs.specs.Foreign.{elf32_of, elf64_of, is_coff, is_machine, is_text, macho_of, named_by, other_of};
+ghost use Rattle.binfarce_jobs.specs.Foreign.{elf32_of, elf64_of, is_coff, is_text, macho_of, named_by, other_of};
 
 use binfarce_bytes::format::{Format, detect_format};
 use std::fmt;
@@ -191,17 +191,12 @@ fn other_of(first: &[u8]) -> Option<Foreign>
 fn is_coff(first: &[u8]) -> bool
     ensures { result ≡ is_coff first.now }
 {
-    first.len() >= 20 && is_machine(first) && first[16] == 0 && first[17] == 0
-}
-
-fn is_machine(first: &[u8]) -> bool
-    ensures { result ≡ is_machine first.now }
-{
-    first.starts_with(b"\x64\x86")
+    let is_machine = first.starts_with(b"\x64\x86")
         || first.starts_with(b"\x4c\x01")
         || first.starts_with(b"\x64\xaa")
         || first.starts_with(b"\xc0\x01")
-        || first.starts_with(b"\xc4\x01")
+        || first.starts_with(b"\xc4\x01");
+    first.len() >= 20 && is_machine && first[16] == 0 && first[17] == 0
 }
 
 // Whether all bytes are printable ASCII or white space.

@@ -1,16 +1,22 @@
 //! Hints on files: what a person may want to know beside the result. Standard output doesn't depend on them, and the
 //! status on those alone that say that a limit is exceeded.
 
-ghost use Rattle.std.specs.Prelude.{◌≡◌, ℕ, List, Some, IfOk};
+ghost use Rattle.std.specs.Prelude.{◌≡◌, ◌++◌, ℕ, List, None, Some, IfOk, OnOk, drop};
+ghost use Rattle.std.specs.Option.{option_map};
+ghost use Rattle.std.specs.String.{string_bytes};
 ghost use Rattle.binfarce_bytes.specs.Selection.{section_of};
 ghost use Rattle.binfarce_tools.specs.Answer.{selected_answer};
-ghost use Rattle.binfarce_jobs.specs.Hints.{IsCountIn, count_of, dynamic_by, dynamic_in, lack_by, lack_in, lack_of, loaded_words, unknown_in};
+ghost use Rattle.binfarce_jobs.specs.Hints.{IsOrNone, count_of, debug_in, debug_path, dynamic_for, dynamic_in, has_none, lack_by, lack_in, link_text, loaded_words, section_in, stripped_for, stripped_words, unknown_for, unknown_in, words_of};
+ghost use Rattle.binfarce_jobs.specs.Show.{excess_of};
 
 use crate::fault::Fault;
-use crate::show::Symbols;
+use crate::limit::above;
+use crate::message::push_byte;
+use crate::show::{Kind, Request, Seen, Symbols};
 use binfarce_bytes::ParseError;
 use binfarce_bytes::format::Format;
 use binfarce_bytes::functions::SectionFunction;
+use binfarce_bytes::parser::up_to_nul;
 use binfarce_bytes::source::Source;
 use binfarce_figures::key::Key;
 use binfarce_figures::sums::Sums;
@@ -21,7 +27,7 @@ use binfarce_tools::SymbolTable;
 use binfarce_tools::list::Out;
 use binfarce_tools::tables::{Selection, read};
 use binfarce_words::words::Limit;
-use std::alloc::Global;
+use std::alloc::{AllocError, Global};
 use std::fmt;
 
 /// A hint on a file.
@@ -55,6 +61,17 @@ pub enum Hint {
     Above(u64, usize),
     /// It grew by so many bytes, more than is allowed.
     Grown(u64, Limit),
+}
+
+/// The hints on a file, in the order in which they are given.
+#[derive(Debug, Drop)]
+pub struct Hints {
+    /// Why there is no function symbol; of a refused file how many dynamic ones there are.
+    pub first: Option<Hint>,
+    /// That many bytes have no crate; of a refused file where its debug symbols may be.
+    pub second: Option<Hint>,
+    /// That a sum exceeds its limit.
+    pub excess: Option<Hint>,
 }
 
 /// What is known of where a file is loaded.
@@ -146,26 +163,54 @@ pub(crate) fn unknown_in(key: Key, sums: Sums) -> Option<Hint>
     }
 }
 
-/// The reason that a file has none of the function symbols that are taken: exactly where it has none. It has so many of
-/// them, where that is known.
+/// The hints on a file that was shown, in which this was found: the first one only where the file can be read again.
+pub(crate) fn hints_on<S: Source<Log = ()>>(
+    alloc: Global,
+    source: &S,
+    asked: &Request<'_>,
+    seen: Seen,
+) -> Hints
+    ensures first { (file : List ℕ) → S.bytes source.now ≡ Some file
+        → seen.is_empty ≡ has_none asked.now.symbols file
+        → IsOrNone (words_of (lack_in asked.now.symbols file)) (words_of result.first) }
+    ensures second { result.second ≡ unknown_for asked.now.kind seen.sums }
+    ensures excess { result.excess ≡ excess_of asked.now.limit seen.sums }
+{
+    let first = lack(alloc, source, &asked.symbols, seen.is_empty).unwrap_or(None);
+    let Some(sums) = seen.sums else {
+        return Hints {
+            first,
+            second: None,
+            excess: None,
+        };
+    };
+    let second = match asked.kind {
+        Kind::Figures(figures) => unknown_in(figures.grouping.key, sums),
+        _ => None,
+    };
+    let excess = above(sums.total, asked.limit);
+    Hints {
+        first,
+        second,
+        excess,
+    }
+}
+
+/// The reason that a file has none of the function symbols that are taken: exactly where it has none.
 ///
 /// # Errors
 ///
-/// Where a read or an allocation fails, or the file is refused.
+/// Where a read or an allocation fails, or the file is refused; never where there are some.
 pub fn lack<S: Source<Log = ()>>(
     alloc: Global,
     source: &S,
     symbols: &Symbols<'_>,
-    count: Option<usize>,
+    is_empty: bool,
 ) -> Result<Option<Hint>, Fault>
-    ensures { (file : List ℕ) → S.bytes source.now ≡ Some file → IsCountIn symbols.now file count
-        → IfOk result (λ hint. hint ≡ lack_in symbols.now.which file (section_of symbols.now.selection)) }
+    ensures { (file : List ℕ) → S.bytes source.now ≡ Some file → is_empty ≡ has_none symbols.now file
+        → IfOk result (λ hint. hint ≡ lack_in symbols.now file) }
 {
-    let count = match count {
-        Some(count) => count,
-        None => count_in(alloc, source, symbols.which, symbols.selection)?,
-    };
-    if count > 0 {
+    if !is_empty {
         return Ok(None);
     }
     let all = match symbols.selection {
@@ -173,24 +218,15 @@ pub fn lack<S: Source<Log = ()>>(
         Selection::Section(_) => count_in(alloc, source, symbols.which, Selection::All)?,
     };
     let format = read_format(alloc, source, &mut ())?;
-    Ok(lack_by(symbols.which, &format, count, all))
+    Ok(Some(lack_by(symbols.which, &format, all)))
 }
 
-// The reason of a file of this format, by how many of these function symbols it has, and how many of all sections.
-fn lack_by(which: SymbolTable, format: &Format, count: usize, all: usize) -> Option<Hint>
-    ensures { result ≡ lack_by which format.now count all }
-{
-    match (count, all) {
-        (0, 0) => Some(lack_of(which, format)),
-        (0, _) => Some(Hint::Others(all)),
-        _ => None,
-    }
-}
-
-fn lack_of(which: SymbolTable, format: &Format) -> Hint
-    ensures { result ≡ lack_of which format.now }
+// The reason of a file of this format, by how many function symbols all sections have.
+fn lack_by(which: SymbolTable, format: &Format, all: usize) -> Hint
+    ensures { result ≡ lack_by which format.now all }
 {
     match (format, which) {
+        _ if all > 0 => Hint::Others(all),
         (Format::PE, _) => Hint::NoneOfPe,
         (Format::Macho, _) => Hint::NoneOfMacho,
         (_, SymbolTable::Dynsym) => Hint::NoneDynamic,
@@ -215,18 +251,25 @@ fn count_in<S: Source<Log = ()>>(
 }
 
 /// The hints on a file that is refused for this reason: of a stripped one how many dynamic function symbols it has, and
-/// where its debug symbols may be.
-pub fn refusal_hints<S: Source<Log = ()>>(
-    alloc: Global,
-    source: &S,
-    fault: &Fault,
-) -> (Option<Hint>, Option<Hint>) {
+/// where its debug symbols may be, each only where the file can be read for it.
+pub fn refusal_hints<S: Source<Log = ()>>(alloc: Global, source: &S, fault: &Fault) -> Hints
+    ensures first { (file : List ℕ) → S.bytes source.now ≡ Some file
+        → IsOrNone (words_of (dynamic_for fault.now file)) (words_of result.first) }
+    ensures second { (file : List ℕ) → S.bytes source.now ≡ Some file
+        → IsOrNone (stripped_for fault.now file) (words_of result.second) }
+    ensures excess { result.excess ≡ None }
+{
     match fault {
-        Fault::Section(SectionError::Parse(ParseError::SectionIsMissing(".symtab"))) => (
-            dynamic(alloc, source).unwrap_or(None),
-            debug_files(alloc, source).map(Hint::Stripped),
-        ),
-        _ => (None, None),
+        Fault::Section(SectionError::Parse(ParseError::SectionIsMissing(".symtab"))) => Hints {
+            first: dynamic(alloc, source).unwrap_or(None),
+            second: debug_files(alloc, source).unwrap_or(None),
+            excess: None,
+        },
+        _ => Hints {
+            first: None,
+            second: None,
+            excess: None,
+        },
     }
 }
 
@@ -234,40 +277,80 @@ pub fn refusal_hints<S: Source<Log = ()>>(
 fn dynamic<S: Source<Log = ()>>(alloc: Global, source: &S) -> Result<Option<Hint>, Fault>
     ensures { (file : List ℕ) → S.bytes source.now ≡ Some file → IfOk result (λ hint. hint ≡ dynamic_in file) }
 {
-    let count = count_in(alloc, source, SymbolTable::Dynsym, Selection::All)?;
-    Ok(dynamic_by(count))
+    match count_in(alloc, source, SymbolTable::Dynsym, Selection::All)? {
+        0 => Ok(None),
+        count => Ok(Some(Hint::Dynamic(count))),
+    }
 }
 
-fn dynamic_by(count: usize) -> Option<Hint>
-    ensures { result ≡ dynamic_by count }
+// The files with the debug symbols: by the build ID, and by the debug link.
+fn debug_files<S: Source<Log = ()>>(alloc: Global, source: &S) -> Result<Option<Hint>, Fault>
+    ensures { (file : List ℕ) → S.bytes source.now ≡ Some file
+        → IfOk result (λ hint. words_of hint ≡ stripped_words (debug_in file)) }
 {
-    match count {
-        0 => None,
-        _ => Some(Hint::Dynamic(count)),
-    }
+    let Some(note) = section_in(alloc, source, ".note.gnu.build-id")? else {
+        return Ok(None);
+    };
+    let Some(mut text) = debug_path(alloc, &note)? else {
+        return Ok(None);
+    };
+    let Some(link) = section_in(alloc, source, ".gnu_debuglink")? else {
+        return Ok(Some(Hint::Stripped(text)));
+    };
+    push_link(&mut text, &link)?;
+    Ok(Some(Hint::Stripped(text)))
 }
 
-// The files with the debug symbols: by the build ID, after the 16 bytes of its note's head, and by the debug link, up
-// to a NUL.
-fn debug_files<S: Source<Log = ()>>(alloc: Global, source: &S) -> Option<String> {
-    let note = section_bytes_of(alloc, source, ".note.gnu.build-id")?;
-    let (first, others) = note.get(16..)?.split_first()?;
-    let mut text = format!(in alloc; "/usr/lib/debug/.build-id/{first:02x}/").ok()?;
+// Where the debug file is whose build ID is in this note, after the 16 bytes of its head.
+fn debug_path(alloc: Global, note: &[u8]) -> Result<Option<String>, AllocError>
+    ensures { IfOk result (λ text. option_map (λ t. string_bytes t) text ≡ debug_path (drop 16 note.now)) }
+{
+    let Some(id) = note.get(16..) else {
+        return Ok(None);
+    };
+    let Some((first, others)) = id.split_first() else {
+        return Ok(None);
+    };
+    let mut text = String::from_str(alloc, "/usr/lib/debug/.build-id/")?;
+    push_byte(&mut text, *first)?;
+    text.push_str("/")?;
     for byte in others {
-        write!(text, "{byte:02x}").ok()?;
+        push_byte(&mut text, *byte)?;
     }
-    text.push_str(".debug").ok()?;
-    if let Some(link) = section_bytes_of(alloc, source, ".gnu_debuglink") {
-        let name = link.split(|byte| *byte == 0).next()?;
-        if name.iter().all(u8::is_ascii_graphic) {
-            write!(text, ", or in a file {}", std::str::from_utf8(name).ok()?).ok()?;
-        }
-    }
-    Some(text)
+    text.push_str(".debug")?;
+    Ok(Some(text))
 }
 
-fn section_bytes_of<S: Source<Log = ()>>(alloc: Global, source: &S, name: &str) -> Option<Vec<u8>> {
+// Appends the name in a debug link, up to a NUL, if all of it is printable ASCII without blanks.
+fn push_link(text: &mut String, link: &[u8]) -> Result<(), AllocError>
+    ensures { OnOk result (string_bytes text.new ≡ string_bytes text.old ++ link_text link.now) }
+{
+    let name = up_to_nul(link);
+    if !name.iter().all(|byte| matches!(*byte, b'!'..=b'~')) {
+        return Ok(());
+    }
+    text.push_str(", or in a file ")?;
+    text.push_str(std::str::from_utf8(name).unwrap())?;
+    Ok(())
+}
+
+// The bytes of the first section of this name, if the file has them.
+fn section_in<S: Source<Log = ()>>(
+    alloc: Global,
+    source: &S,
+    name: &str,
+) -> Result<Option<Vec<u8>>, Fault>
+    ensures { (file : List ℕ) → S.bytes source.now ≡ Some file
+        → IfOk result (λ bytes. option_map (λ v. v.items) bytes ≡ section_in file name.now) }
+{
     let mut out = Out::new(Vec::new(alloc));
-    write_section_of(alloc, source, &mut (), name, &mut out).ok()?;
-    Some(out.into_inner())
+    match write_section_of(alloc, source, &mut (), name, &mut out) {
+        Ok(()) => Ok(Some(out.into_inner())),
+        Err(e) => match e {
+            SectionError::Unreadable | SectionError::OutOfMemory | SectionError::Write => {
+                Err(Fault::from(e))
+            }
+            _ => Ok(None),
+        },
+    }
 }

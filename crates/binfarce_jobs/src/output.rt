@@ -20,8 +20,6 @@ pub struct Output<W> {
     heading: Vec<u8>,
     // How much of the heading is written.
     done: usize,
-    // How many bytes were written after it.
-    len: u64,
     reason: Option<Error>,
 }
 
@@ -36,7 +34,6 @@ impl<W: Write> Output<W> {
             writer,
             heading: Vec::new(alloc),
             done: 0,
-            len: 0,
             reason: None,
         }
     }
@@ -49,12 +46,6 @@ impl<W: Write> Output<W> {
     {
         self.heading = heading;
         self.done = 0;
-        self.len = 0;
-    }
-
-    /// How many bytes the sink has taken since the last heading.
-    pub fn len(&self) -> u64 {
-        self.len
     }
 
     /// Writes the rest of the heading.
@@ -112,10 +103,7 @@ impl<W: Write> Sink for Output<W> {
     fn write(&mut self, bytes: &[u8]) -> Option<usize> {
         self.write_heading()?;
         match self.writer.write(bytes) {
-            Ok(n) if n > 0 => {
-                self.len = self.len.saturating_add(n as u64);
-                Some(n)
-            }
+            Ok(n) if n > 0 => Some(n),
             Ok(_) => {
                 self.reason = Some(Error::from(ErrorKind::WriteZero));
                 None

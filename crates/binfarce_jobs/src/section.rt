@@ -2,14 +2,14 @@
 
 ghost use Rattle.std.specs.Prelude.{◌≡◌, ℕ, List, Some};
 ghost use Rattle.binfarce_sections.specs.Results.{Fails};
-ghost use Rattle.binfarce_tools.specs.Json.{style_of};
+ghost use Rattle.binfarce_rows.specs.Json.{style_of};
 ghost use Rattle.binfarce_jobs.specs.Section.{TakesAsked};
 
 use binfarce_bytes::source::Source;
+use binfarce_rows::json::Form;
 use binfarce_sections::bytes::write_section_of;
 use binfarce_sections::error::SectionError;
 use binfarce_sections::list::list_source;
-use binfarce_tools::json::Form;
 use binfarce_tools::list::Sink;
 use std::alloc::Global;
 

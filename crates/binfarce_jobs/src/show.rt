@@ -1,8 +1,8 @@
 //! Shows the function symbols of a file: as a listing, as sums, or as a picture.
 
-ghost use Rattle.std.specs.Prelude.{◌≡◌, ℕ, List, Option, true, Ok, Some, IfOk, IfSome, length};
+ghost use Rattle.std.specs.Prelude.{◌≡◌, ℕ, List, Option, true, Ok, Some, IfOk};
 ghost use Rattle.binfarce_bytes.specs.Selection.{section_of};
-ghost use Rattle.binfarce_tools.specs.Json.{style_of};
+ghost use Rattle.binfarce_rows.specs.Json.{style_of};
 ghost use Rattle.binfarce.specs.SectionEntries.{SelectedSymbols};
 ghost use Rattle.binfarce_tools.specs.Answer.{selected_answer, MemoryIn};
 ghost use Rattle.binfarce_tools.specs.Tables.{AreTablesOf, ReadsAs};
@@ -22,11 +22,11 @@ use binfarce_figures::map::map_by;
 use binfarce_figures::rows::{Shown, list_by};
 use binfarce_figures::stacks::fold_claims;
 use binfarce_figures::sums::{Figures, Sums, sum_by};
+use binfarce_rows::json::Form;
 use binfarce_tables::ReadError;
 use binfarce_tables::format::read_format;
 use binfarce_tools::SymbolTable;
-use binfarce_tools::json::Form;
-use binfarce_tools::list::{Sink, list_tables};
+use binfarce_tools::list::{Sink, list_selected};
 use binfarce_tools::tables::{Selection, Tables, read_tables};
 use binfarce_words::words::Limit;
 use std::alloc::Global;
@@ -71,8 +71,8 @@ pub struct Request<'a> {
 /// What was found in a file that was shown.
 #[derive(Debug, Clone, Copy, PartialEq)]
 pub struct Seen {
-    /// How many function symbols are taken, where that is known.
-    pub count: Option<usize>,
+    /// Whether there is none of the function symbols that are taken.
+    pub is_empty: bool,
     /// The sum of all sizes, each byte counted once, and that of `[unknown]`, where sums are shown.
     pub sums: Option<Sums>,
 }
@@ -157,11 +157,11 @@ pub fn show<S: Source<Log = ()>, K: Sink>(
     let form = form_for(asked, path);
     match asked.symbols.selection {
         Selection::Section(_) => show_section(alloc, asked.kind, path, form, &tables, out),
-        Selection::All => show_tables(alloc, asked.kind, path, form, &tables, None, out),
+        Selection::All => show_tables(alloc, asked.kind, path, form, &tables, out),
     }
 }
 
-// Shows the function symbols of a section, which are made once, and counts them.
+// Shows the function symbols of a section, which are made once.
 fn show_section<K: Sink>(
     alloc: Global,
     kind: Kind,
@@ -184,24 +184,21 @@ fn show_section<K: Sink>(
 {
     let (functions, size) = tables.functions(alloc)?.into_list();
     let list: Vec<SectionFunction<'_>> = functions.all.collect(alloc)?;
-    let size = size.unwrap_or(0);
-    let count = list.len();
     let made = Tables::Made {
         functions: list,
-        size,
+        size: size.unwrap_or(0),
         versions: tables.version_names(),
     };
-    show_tables(alloc, kind, path, form, &made, Some(count), out)
+    show_tables(alloc, kind, path, form, &made, out)
 }
 
-// Shows the function symbols of these tables, which are so many, where that is known.
+// Shows the function symbols of these tables.
 fn show_tables<K: Sink>(
     alloc: Global,
     kind: Kind,
     path: &str,
     form: Form<'_>,
     tables: &Tables<'_>,
-    count: Option<usize>,
     out: &mut K,
 ) -> Result<Seen, Fault>
     ensures outcome { (which : SymbolTable) (file : List ℕ) (section : Option (List ℕ))
@@ -214,40 +211,50 @@ fn show_tables<K: Sink>(
     ensures seen { (which : SymbolTable) (file : List ℕ) (section : Option (List ℕ)) (selected : SelectedSymbols)
         → AreTablesOf which file section tables.now
         → selected_answer which section file ≡ Some (Ok selected)
-        → IfSome count (λ n. n ≡ length selected.entries)
         → IfOk result (IsSeenOf kind selected) }
     ensures fails { Fails (K.has_failed out.old) (K.has_failed out.new) (outcome_of result) }
     ensures leaves { Leaves out.old out.new (outcome_of result) }
 {
     match kind {
         Kind::Listing => {
-            list_tables(alloc, tables, out)?;
-            Ok(seen_of(count, None))
+            let selected = tables.functions(alloc)?;
+            let is_empty = selected.functions.is_empty();
+            list_selected(alloc, tables, selected, out)?;
+            Ok(Seen {
+                is_empty,
+                sums: None,
+            })
         }
         Kind::Rows(shown) => {
-            list_by(alloc, tables, &shown, form, out)?;
-            Ok(seen_of(count, None))
+            let found = list_by(alloc, tables, &shown, form, out)?;
+            Ok(Seen {
+                is_empty: found == 0,
+                sums: None,
+            })
         }
         Kind::Figures(figures) => {
             let claims = Claims::of_tables(alloc, tables)?;
             let sums = sum_by(alloc, &claims, &figures, form, out)?;
-            Ok(seen_of(Some(claims.len()), Some(sums)))
+            Ok(Seen {
+                is_empty: claims.is_empty(),
+                sums: Some(sums),
+            })
         }
         Kind::Picture(grouping, first) => {
             let claims = Claims::of_tables(alloc, tables)?;
             map_by(alloc, path, &claims, grouping, first, out)?;
-            Ok(seen_of(Some(claims.len()), None))
+            Ok(Seen {
+                is_empty: claims.is_empty(),
+                sums: None,
+            })
         }
         Kind::Stacks(joins_std) => {
             let claims = Claims::of_tables(alloc, tables)?;
             fold_claims(alloc, &claims, joins_std, out)?;
-            Ok(seen_of(Some(claims.len()), None))
+            Ok(Seen {
+                is_empty: claims.is_empty(),
+                sums: None,
+            })
         }
     }
-}
-
-fn seen_of(count: Option<usize>, sums: Option<Sums>) -> Seen
-    ensures { result ≡ record { count = count; sums = sums } }
-{
-    Seen { count, sums }
 }

@@ -2,6 +2,9 @@
 
 //! What a call of `binfarce` asks for, by its options; two files compared, and the sections of several.
 
+pub mod at;
 pub mod compare;
+pub mod filter;
+pub mod placing;
 pub mod request;
 pub mod sections;

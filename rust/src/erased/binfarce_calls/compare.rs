@@ -2,6 +2,7 @@
 
 //! `binfarce diff [OPTION..] OLD NEW`: how two files differ.
 
+use crate::shim::Vec;
 use crate::erased::binfarce_bytes::source::Source;
 use crate::erased::binfarce_figures::claims::Claims;
 use crate::erased::binfarce_figures::diff::{Growth, diff};
@@ -13,10 +14,10 @@ use crate::erased::binfarce_jobs::input::OpenFile;
 use crate::erased::binfarce_jobs::limit::{Verdict, grown};
 use crate::erased::binfarce_jobs::output::Output;
 use crate::erased::binfarce_jobs::show::{Symbols, tables_of};
+use crate::erased::binfarce_rows::json::Form;
 use crate::erased::binfarce_sections::changes::diff_sections;
 use crate::erased::binfarce_sections::sums::SectionSums;
 use crate::erased::binfarce_sections::tables::{Tables as SectionTables, read};
-use crate::erased::binfarce_tools::json::Form;
 use crate::erased::binfarce_tools::tables::Tables;
 use crate::erased::binfarce_words::words::Limit;
 use crate::shim::alloc::Global;
@@ -92,6 +93,8 @@ fn write_changes<F: Read + Source<Log = ()>, Y: System<F>, W: Write>(
     let (Some(before), Some(after)) = (before, after) else {
         return Ok(false);
     };
+    // No heading precedes the text.
+    out.begin(Vec::new(alloc));
     let growth = diff(
         alloc,
         &before.claims,
@@ -100,6 +103,7 @@ fn write_changes<F: Read + Source<Log = ()>, Y: System<F>, W: Write>(
         pair.form,
         out,
     )?;
+    out.end()?;
     hint_on_none(alloc, system, pair.old, &asked.symbols, before);
     hint_on_none(alloc, system, pair.new, &asked.symbols, after);
     Ok(is_above(system, pair, growth))
@@ -144,7 +148,10 @@ fn write_section_changes<F: Read + Source<Log = ()>, Y: System<F>, W: Write>(
         has_percent,
         ..
     } = *figures;
+    // No heading precedes the text.
+    out.begin(Vec::new(alloc));
     diff_sections(alloc, before, after, first, has_percent, pair.form, out)?;
+    out.end()?;
     let growth = Growth {
         old: before.file_length(),
         new: after.file_length(),
@@ -177,13 +184,13 @@ fn section_sums<'b, F: Read + Source<Log = ()>, Y: System<F>>(
     path: &str,
     read: &'b Option<ReadFile<F, SectionTables>>,
 ) -> Result<Option<SectionSums<'b>>, Fault> {
-    let Some(ReadFile { file, tables }) = read else {
+    let Some(read) = read else {
         return Ok(None);
     };
-    match SectionSums::of_tables(alloc, tables) {
+    match SectionSums::of_tables(alloc, &read.tables) {
         Ok(sums) => Ok(Some(sums)),
         Err(e) => {
-            refuse(alloc, system, path, file, Fault::from(e))?;
+            refuse(alloc, system, path, &read.file, Fault::from(e))?;
             Ok(None)
         }
     }
@@ -215,13 +222,16 @@ fn sums_of<'b, F: Read + Source<Log = ()>, Y: System<F>>(
     path: &str,
     read: &'b Option<ReadFile<F, Tables<'static>>>,
 ) -> Result<Option<Summed<'b, F>>, Fault> {
-    let Some(ReadFile { file, tables }) = read else {
+    let Some(read) = read else {
         return Ok(None);
     };
-    match Claims::of_tables(alloc, tables) {
-        Ok(claims) => Ok(Some(Summed { file, claims })),
+    match Claims::of_tables(alloc, &read.tables) {
+        Ok(claims) => Ok(Some(Summed {
+            file: &read.file,
+            claims,
+        })),
         Err(e) => {
-            refuse(alloc, system, path, file, Fault::from(e))?;
+            refuse(alloc, system, path, &read.file, Fault::from(e))?;
             Ok(None)
         }
     }
@@ -235,8 +245,8 @@ fn hint_on_none<F: Read + Source<Log = ()>, Y: System<F>>(
     symbols: &Symbols<'_>,
     summed: &Summed<'_, F>,
 ) {
-    let count = summed.claims.len();
-    let hint = lack(alloc, summed.file, symbols, Some(count)).unwrap_or(None);
+    let is_empty = summed.claims.is_empty();
+    let hint = lack(alloc, summed.file, symbols, is_empty).unwrap_or(None);
     give(system, path, hint);
 }
 

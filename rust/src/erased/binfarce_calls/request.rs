@@ -6,8 +6,8 @@ use crate::erased::binfarce_figures::key::{Grouping, Key};
 use crate::erased::binfarce_figures::rows::{Naming, Shown};
 use crate::erased::binfarce_figures::sums::Figures;
 use crate::erased::binfarce_jobs::show::{Kind, Request, Symbols};
+use crate::erased::binfarce_rows::json::Form;
 use crate::erased::binfarce_tools::SymbolTable::{Dynsym, Symtab};
-use crate::erased::binfarce_tools::json::Form;
 use crate::erased::binfarce_tools::tables::Selection;
 use crate::erased::binfarce_words::words::Flag::{
     All, Dynamic, First, Folded, Full, Json, NoTotal, Percent, Raw, Section, Sort, Std,

@@ -2,18 +2,20 @@
 
 //! The sections of files: what is asked for of those of one, and how many bytes those of several have.
 
+use crate::shim::Vec;
 use crate::erased::binfarce_bytes::source::Source;
 use crate::erased::binfarce_jobs::fault::Fault;
-use crate::erased::binfarce_jobs::files::{System, give, heading, open_input, refuse};
+use crate::erased::binfarce_jobs::files::{
+    System, give, heading, open_input, refuse, refuse_argument,
+};
 use crate::erased::binfarce_jobs::limit::{Verdict, above};
 use crate::erased::binfarce_jobs::output::Output;
 use crate::erased::binfarce_jobs::section::{Asked, write_sections};
 use crate::erased::binfarce_jobs::show::Request;
-use crate::erased::binfarce_sections::error::SectionError;
+use crate::erased::binfarce_rows::json::Form;
 use crate::erased::binfarce_sections::sums::{SectionSums, sum_sections};
 use crate::erased::binfarce_sections::tables::read;
-use crate::erased::binfarce_tools::json::Form;
-use crate::erased::binfarce_tools::list::Sink;
+use crate::erased::binfarce_words::words::Argument;
 use crate::shim::alloc::Global;
 use crate::shim::io::{Read, Write};
 
@@ -33,54 +35,72 @@ pub fn show_section<F: Read + Source<Log = ()>, Y: System<F>, W: Write>(
     let Some(input) = open_input(alloc, system, path) else {
         return Ok(Verdict::refused());
     };
-    match write_sections(alloc, &input, asked, form, out) {
+    // No heading precedes the text.
+    out.begin(Vec::new(alloc));
+    let written = write_sections(alloc, &input, asked, form, out);
+    out.end()?;
+    match written {
         Ok(()) => Ok(Verdict::done()),
         Err(e) => refuse(alloc, system, path, &input, Fault::from(e)),
     }
 }
 
-/// Writes how many bytes of each file its sections have, in order. Of several, each is under a line with its name. A
-/// file that is refused is reported, and the others follow. A length that exceeds the limit is reported, too.
+/// Writes how many bytes of the file at each path its sections have, in order. Of several arguments, each file is under a
+/// line with its path. A file that is refused, and an argument that isn't UTF-8, is reported, and the others follow. A
+/// length that exceeds the limit is reported, too.
 ///
 /// # Errors
 ///
-/// `Write` where a write fails, and `OutOfMemory` where an allocation for a heading fails.
+/// `Write` where a write fails, and `OutOfMemory` where an allocation for a heading, or for the name of an argument that
+/// isn't UTF-8, fails.
 pub fn sum_files<F: Read + Source<Log = ()>, Y: System<F>, W: Write>(
     alloc: Global,
     system: &mut Y,
     asked: &Request<'_>,
     first: Option<usize>,
-    files: &[&str],
+    files: &[Argument<'_>],
     out: &mut Output<W>,
 ) -> Result<Verdict, Fault> {
     let are_several = files.len() > 1;
     let mut all = Verdict::done();
-    for path in files {
-        out.begin(heading(alloc, path, are_several)?);
-        let summed = sum_file(alloc, system, asked, first, path, out)?;
+    for argument in files {
+        let summed = sum_argument(alloc, system, asked, first, argument, are_several, out)?;
         all = all.and_then(summed);
     }
     Ok(all)
 }
 
-// Writes how many bytes of a file its sections have, or reports why it is refused.
+// Writes how many bytes of the file at a path its sections have, or reports why it, or the argument, is refused.
+fn sum_argument<F: Read + Source<Log = ()>, Y: System<F>, W: Write>(
+    alloc: Global,
+    system: &mut Y,
+    asked: &Request<'_>,
+    first: Option<usize>,
+    argument: &Argument<'_>,
+    are_several: bool,
+    out: &mut Output<W>,
+) -> Result<Verdict, Fault> {
+    match argument {
+        Argument::Text(path) => sum_file(alloc, system, asked, first, path, are_several, out),
+        Argument::NotUtf8(at) => refuse_argument(alloc, system, *at),
+    }
+}
+
+// Writes how many bytes of a file its sections have, under its heading, or reports why it is refused.
 fn sum_file<F: Read + Source<Log = ()>, Y: System<F>, W: Write>(
     alloc: Global,
     system: &mut Y,
     asked: &Request<'_>,
     first: Option<usize>,
     path: &str,
+    are_several: bool,
     out: &mut Output<W>,
 ) -> Result<Verdict, Fault> {
+    out.begin(heading(alloc, path, are_several)?);
     let Some(input) = open_input(alloc, system, path) else {
         return Ok(Verdict::refused());
     };
-    let form = if asked.is_json {
-        Form::Objects(path, "")
-    } else {
-        Form::Lines
-    };
-    match sum_source(alloc, &input, first, form, out) {
+    match sum_source(alloc, &input, first, form_at(asked, path), out) {
         Ok(length) => {
             let excess = above(length, asked.limit);
             let is_above = excess.is_some();
@@ -90,20 +110,30 @@ fn sum_file<F: Read + Source<Log = ()>, Y: System<F>, W: Write>(
                 is_above,
             })
         }
-        Err(e) => refuse(alloc, system, path, &input, Fault::from(e)),
+        Err(fault) => refuse(alloc, system, path, &input, fault),
     }
 }
 
-// Writes how many bytes of a source its sections have, and returns its length.
-fn sum_source<S: Source<Log = ()>, K: Sink>(
+// The form in which the sums of the file at this path are written.
+fn form_at<'a>(asked: &Request<'a>, path: &'a str) -> Form<'a> {
+    if asked.is_json {
+        Form::Objects(path, "")
+    } else {
+        Form::Lines
+    }
+}
+
+// Writes how many bytes of a source its sections have, after what is left of the heading, and returns its length.
+fn sum_source<S: Source<Log = ()>, W: Write>(
     alloc: Global,
     source: &S,
     first: Option<usize>,
     form: Form<'_>,
-    out: &mut K,
-) -> Result<u64, SectionError> {
+    out: &mut Output<W>,
+) -> Result<u64, Fault> {
     let tables = read(alloc, source, &mut ())?;
     let sums = SectionSums::of_tables(alloc, &tables)?;
     sum_sections(alloc, &sums, first, form, out)?;
+    out.end()?;
     Ok(sums.file_length())
 }

@@ -2,16 +2,17 @@
 
 //! Messages for refused calls and files, and the program's exit status.
 
-use crate::shim::HostRuntime;
+use crate::shim::{HostRuntime, String};
 use crate::erased::binfarce_jobs::fault::Fault;
 use crate::erased::binfarce_jobs::limit::Verdict;
-use crate::erased::binfarce_jobs::message::{Message, message_of};
+use crate::erased::binfarce_jobs::message::{Message, line_of, message_of};
 use crate::erased::binfarce_words::words::Wrong;
+use core::fmt;
 use crate::shim::io::{Error, ErrorKind};
 
 /// Prints why a call is wrong, and returns the program's exit status.
 pub fn refuse(rt: &HostRuntime, wrong: &Wrong<'_>) -> u8 {
-    let _ = rt.eprintln(format_args!("binfarce: {wrong}"));
+    say(rt, None, wrong);
     match wrong {
         Wrong::OutOfMemory => 1,
         _ => 2,
@@ -35,7 +36,7 @@ pub fn ended(
         ) => 3,
         Ok(verdict) => u8::from(!verdict.is_done),
         Err(fault) if !fault.is_write() => {
-            let _ = rt.eprintln(format_args!("binfarce: {fault}"));
+            say(rt, None, &fault);
             status(&fault)
         }
         Err(_) if is_broken_pipe(&reason) && !has_limit => 0,
@@ -62,5 +63,18 @@ fn is_broken_pipe(reason: &Option<Error>) -> bool {
 
 /// Prints why a file is refused.
 pub fn report(rt: &HostRuntime, name: &str, message: &Message) {
-    let _ = rt.eprintln(format_args!("binfarce: {name}: {message}"));
+    say(rt, Some(name), message);
+}
+
+/// Prints the line that says these words, of the file at this path if there is one.
+pub fn say<T: fmt::Display>(rt: &HostRuntime, path: Option<&str>, words: &T) {
+    let alloc = rt.alloc();
+    let line = match String::formatted(alloc, format_args!("{words}")) {
+        Ok(words) => line_of(alloc, path, words.as_str()),
+        Err(e) => Err(e),
+    };
+    let _ = match line {
+        Ok(line) => rt.eprintln(format_args!("{line}")),
+        Err(_) => rt.eprintln(format_args!("binfarce: out of memory")),
+    };
 }

@@ -2,6 +2,7 @@
 
 //! Why a file's result was not written, or not all of it.
 
+use crate::shim::String;
 use crate::erased::binfarce_jobs::foreign::Foreign;
 use crate::erased::binfarce_bytes::ParseError;
 use crate::erased::binfarce_filtering::stream::StreamError;
@@ -29,6 +30,8 @@ pub enum Fault {
     NotUtf8,
     /// The sections of an object file share addresses, so one has to be named.
     SharedAddresses,
+    /// The maps don't say where the file is loaded, and why in words.
+    Unplaced(String),
     /// This many lines of standard input have no address; all lines were answered.
     Missing(u64),
 }
@@ -64,6 +67,7 @@ impl fmt::Display for Fault {
                 f,
                 "its sections share addresses; --section=NAME takes one of them"
             ),
+            Fault::Unplaced(words) => write!(f, "{words}"),
             Fault::Missing(1) => write!(f, "1 line without an address"),
             Fault::Missing(count) => write!(f, "{count} lines without an address"),
         }

@@ -4,14 +4,14 @@
 
 use crate::shim::{String, Vec};
 use crate::erased::binfarce_jobs::fault::Fault;
-use crate::erased::binfarce_jobs::hint::{Hint, lack, refusal_hints, unknown_in};
+use crate::erased::binfarce_jobs::hint::{Hint, Hints, hints_on, refusal_hints};
 use crate::erased::binfarce_jobs::input::OpenFile;
-use crate::erased::binfarce_jobs::limit::{Verdict, above};
+use crate::erased::binfarce_jobs::limit::Verdict;
 use crate::erased::binfarce_jobs::output::Output;
-use crate::erased::binfarce_jobs::show::{Kind, Request, Seen, show};
+use crate::erased::binfarce_jobs::show::{Request, Seen, show};
 use crate::erased::binfarce_bytes::source::Source;
 use crate::erased::binfarce_sections::error::SectionError;
-use crate::erased::binfarce_tools::tables::Selection;
+use crate::erased::binfarce_words::words::Argument;
 use crate::shim::alloc::{AllocError, Global};
 use crate::shim::io::{self, Error, Read, Write};
 
@@ -27,86 +27,75 @@ pub trait System<F: Read + Source<Log = ()>> {
     fn hint(&mut self, path: &str, hint: Hint);
 }
 
-/// Shows each file, in order. Of several, each is shown under a line with its name. A file that is refused is reported,
-/// and the others follow. A sum that exceeds its limit is reported, too.
+/// Shows the file at each path, in order. Of several arguments, each file is shown under a line with its path. A file
+/// that is refused, and an argument that isn't UTF-8, is reported, and the others follow. The hints on each file follow
+/// what is written or reported of it; one says that a sum exceeds its limit.
 ///
 /// # Errors
 ///
-/// `Write` where a write fails, and `OutOfMemory` where an allocation for a heading fails.
+/// `Write` where a write fails, and `OutOfMemory` where an allocation for a heading, or for the name of an argument that
+/// isn't UTF-8, fails.
 pub fn show_files<F: Read + Source<Log = ()>, Y: System<F>, W: Write>(
     alloc: Global,
     system: &mut Y,
     asked: &Request<'_>,
-    files: &[&str],
+    files: &[Argument<'_>],
     out: &mut Output<W>,
 ) -> Result<Verdict, Fault> {
     let are_several = files.len() > 1;
     let mut all = Verdict::done();
-    for path in files {
-        let shown = show_file(alloc, system, asked, path, are_several, out)?;
+    for argument in files {
+        let shown = show_file(alloc, system, asked, argument, are_several, out)?;
         all = all.and_then(shown);
     }
     Ok(all)
 }
 
-// Shows a file, under its heading, or reports why it is refused.
+/// Reports that the argument at this position isn't UTF-8, which names no file.
+///
+/// # Errors
+///
+/// `OutOfMemory` where an allocation for its name fails.
+pub fn refuse_argument<F: Read + Source<Log = ()>, Y: System<F>>(
+    alloc: Global,
+    system: &mut Y,
+    at: usize,
+) -> Result<Verdict, Fault> {
+    let argument = Argument::NotUtf8(at);
+    let name = String::formatted(alloc, format_args!("{argument}"))?;
+    system.report(name.as_str(), Fault::NotUtf8, None);
+    let verdict = Verdict::refused();
+    Ok(verdict)
+}
+
+// Shows the file at a path, under its heading, or reports why it, or the argument, is refused.
 fn show_file<F: Read + Source<Log = ()>, Y: System<F>, W: Write>(
     alloc: Global,
     system: &mut Y,
     asked: &Request<'_>,
-    path: &str,
+    argument: &Argument<'_>,
     are_several: bool,
     out: &mut Output<W>,
 ) -> Result<Verdict, Fault> {
+    let path = match argument {
+        Argument::Text(path) => *path,
+        Argument::NotUtf8(at) => return refuse_argument(alloc, system, *at),
+    };
     out.begin(heading(alloc, path, are_several)?);
     let Some(input) = open_input(alloc, system, path) else {
         return Ok(Verdict::refused());
     };
     match show_source(alloc, asked, path, &input, out) {
         Ok(seen) => {
-            let is_above = hint_on(alloc, system, asked, path, &input, seen, out.len());
+            let hints = hints_on(alloc, &input, asked, seen);
+            let is_above = hints.excess.is_some();
+            give_all(system, path, hints);
             Ok(Verdict {
                 is_done: true,
                 is_above,
             })
         }
         Err(fault) => refuse(alloc, system, path, &input, fault),
-    }
-}
-
-// Gives the hints on a file that was shown, of which so many bytes were written, and returns whether its sum exceeds the
-// limit.
-fn hint_on<F: Read + Source<Log = ()>, Y: System<F>>(
-    alloc: Global,
-    system: &mut Y,
-    asked: &Request<'_>,
-    path: &str,
-    input: &OpenFile<F>,
-    seen: Seen,
-    len: u64,
-) -> bool {
-    let count = counted(asked, seen.count, len);
-    let hint = lack(alloc, input, &asked.symbols, count).unwrap_or(None);
-    give(system, path, hint);
-    let Some(sums) = seen.sums else {
-        return false;
-    };
-    if let Kind::Figures(figures) = asked.kind {
-        give(system, path, unknown_in(figures.grouping.key, sums));
-    }
-    let excess = above(sums.total, asked.limit);
-    let is_above = excess.is_some();
-    give(system, path, excess);
-    is_above
-}
-
-// How many function symbols were shown, where that is known, or at least that there are some: a listing of all sections
-// has a line for each, and nothing else.
-fn counted(asked: &Request<'_>, count: Option<usize>, len: u64) -> Option<usize> {
-    match (count, asked.kind, asked.symbols.selection) {
-        (None, _, _) if len > 0 => Some(1),
-        (None, Kind::Listing, Selection::All) => Some(0),
-        _ => count,
     }
 }
 
@@ -169,6 +158,18 @@ pub fn give<F: Read + Source<Log = ()>, Y: System<F>>(
     }
 }
 
+// Gives all of these hints, in their order.
+fn give_all<F: Read + Source<Log = ()>, Y: System<F>>(system: &mut Y, path: &str, hints: Hints) {
+    let Hints {
+        first,
+        second,
+        excess,
+    } = hints;
+    give(system, path, first);
+    give(system, path, second);
+    give(system, path, excess);
+}
+
 /// Reports why the file at this path is refused, with hints on what would help.
 ///
 /// # Errors
@@ -184,9 +185,8 @@ pub fn refuse<F: Read + Source<Log = ()>, Y: System<F>>(
     if !fault.is_of_file() {
         return Err(fault);
     }
-    let (dynamic, debug) = refusal_hints(alloc, input, &fault);
+    let hints = refusal_hints(alloc, input, &fault);
     system.report(path, fault, input.take_reason());
-    give(system, path, dynamic);
-    give(system, path, debug);
+    give_all(system, path, hints);
     Ok(Verdict::refused())
 }

@@ -170,15 +170,12 @@ fn other_of(first: &[u8]) -> Option<Foreign> {
 
 // Whether a COFF file header of an object is there: of a known machine, and without an optional header.
 fn is_coff(first: &[u8]) -> bool {
-    first.len() >= 20 && is_machine(first) && first[16] == 0 && first[17] == 0
-}
-
-fn is_machine(first: &[u8]) -> bool {
-    first.starts_with(b"\x64\x86")
+    let is_machine = first.starts_with(b"\x64\x86")
         || first.starts_with(b"\x4c\x01")
         || first.starts_with(b"\x64\xaa")
         || first.starts_with(b"\xc0\x01")
-        || first.starts_with(b"\xc4\x01")
+        || first.starts_with(b"\xc4\x01");
+    first.len() >= 20 && is_machine && first[16] == 0 && first[17] == 0
 }
 
 // Whether all bytes are printable ASCII or white space.

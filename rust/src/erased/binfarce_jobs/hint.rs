@@ -5,10 +5,13 @@
 
 use crate::shim::{CollectIn, String, Vec};
 use crate::erased::binfarce_jobs::fault::Fault;
-use crate::erased::binfarce_jobs::show::Symbols;
+use crate::erased::binfarce_jobs::limit::above;
+use crate::erased::binfarce_jobs::message::push_byte;
+use crate::erased::binfarce_jobs::show::{Kind, Request, Seen, Symbols};
 use crate::erased::binfarce_bytes::ParseError;
 use crate::erased::binfarce_bytes::format::Format;
 use crate::erased::binfarce_bytes::functions::SectionFunction;
+use crate::erased::binfarce_bytes::parser::up_to_nul;
 use crate::erased::binfarce_bytes::source::Source;
 use crate::erased::binfarce_figures::key::Key;
 use crate::erased::binfarce_figures::sums::Sums;
@@ -19,7 +22,7 @@ use crate::erased::binfarce_tools::SymbolTable;
 use crate::erased::binfarce_tools::list::Out;
 use crate::erased::binfarce_tools::tables::{Selection, read};
 use crate::erased::binfarce_words::words::Limit;
-use crate::shim::alloc::Global;
+use crate::shim::alloc::{AllocError, Global};
 use core::fmt;
 
 /// A hint on a file.
@@ -53,6 +56,17 @@ pub enum Hint {
     Above(u64, usize),
     /// It grew by so many bytes, more than is allowed.
     Grown(u64, Limit),
+}
+
+/// The hints on a file, in the order in which they are given.
+#[derive(Debug)]
+pub struct Hints {
+    /// Why there is no function symbol; of a refused file how many dynamic ones there are.
+    pub first: Option<Hint>,
+    /// That many bytes have no crate; of a refused file where its debug symbols may be.
+    pub second: Option<Hint>,
+    /// That a sum exceeds its limit.
+    pub excess: Option<Hint>,
 }
 
 /// What is known of where a file is loaded.
@@ -136,23 +150,45 @@ pub(crate) fn unknown_in(key: Key, sums: Sums) -> Option<Hint> {
     }
 }
 
-/// The reason that a file has none of the function symbols that are taken: exactly where it has none. It has so many of
-/// them, where that is known.
+/// The hints on a file that was shown, in which this was found: the first one only where the file can be read again.
+pub(crate) fn hints_on<S: Source<Log = ()>>(
+    alloc: Global,
+    source: &S,
+    asked: &Request<'_>,
+    seen: Seen,
+) -> Hints {
+    let first = lack(alloc, source, &asked.symbols, seen.is_empty).unwrap_or(None);
+    let Some(sums) = seen.sums else {
+        return Hints {
+            first,
+            second: None,
+            excess: None,
+        };
+    };
+    let second = match asked.kind {
+        Kind::Figures(figures) => unknown_in(figures.grouping.key, sums),
+        _ => None,
+    };
+    let excess = above(sums.total, asked.limit);
+    Hints {
+        first,
+        second,
+        excess,
+    }
+}
+
+/// The reason that a file has none of the function symbols that are taken: exactly where it has none.
 ///
 /// # Errors
 ///
-/// Where a read or an allocation fails, or the file is refused.
+/// Where a read or an allocation fails, or the file is refused; never where there are some.
 pub fn lack<S: Source<Log = ()>>(
     alloc: Global,
     source: &S,
     symbols: &Symbols<'_>,
-    count: Option<usize>,
+    is_empty: bool,
 ) -> Result<Option<Hint>, Fault> {
-    let count = match count {
-        Some(count) => count,
-        None => count_in(alloc, source, symbols.which, symbols.selection)?,
-    };
-    if count > 0 {
+    if !is_empty {
         return Ok(None);
     }
     let all = match symbols.selection {
@@ -160,20 +196,13 @@ pub fn lack<S: Source<Log = ()>>(
         Selection::Section(_) => count_in(alloc, source, symbols.which, Selection::All)?,
     };
     let format = read_format(alloc, source, &mut ())?;
-    Ok(lack_by(symbols.which, &format, count, all))
+    Ok(Some(lack_by(symbols.which, &format, all)))
 }
 
-// The reason of a file of this format, by how many of these function symbols it has, and how many of all sections.
-fn lack_by(which: SymbolTable, format: &Format, count: usize, all: usize) -> Option<Hint> {
-    match (count, all) {
-        (0, 0) => Some(lack_of(which, format)),
-        (0, _) => Some(Hint::Others(all)),
-        _ => None,
-    }
-}
-
-fn lack_of(which: SymbolTable, format: &Format) -> Hint {
+// The reason of a file of this format, by how many function symbols all sections have.
+fn lack_by(which: SymbolTable, format: &Format, all: usize) -> Hint {
     match (format, which) {
+        _ if all > 0 => Hint::Others(all),
         (Format::PE, _) => Hint::NoneOfPe,
         (Format::Macho, _) => Hint::NoneOfMacho,
         (_, SymbolTable::Dynsym) => Hint::NoneDynamic,
@@ -195,55 +224,88 @@ fn count_in<S: Source<Log = ()>>(
 }
 
 /// The hints on a file that is refused for this reason: of a stripped one how many dynamic function symbols it has, and
-/// where its debug symbols may be.
-pub fn refusal_hints<S: Source<Log = ()>>(
-    alloc: Global,
-    source: &S,
-    fault: &Fault,
-) -> (Option<Hint>, Option<Hint>) {
+/// where its debug symbols may be, each only where the file can be read for it.
+pub fn refusal_hints<S: Source<Log = ()>>(alloc: Global, source: &S, fault: &Fault) -> Hints {
     match fault {
-        Fault::Section(SectionError::Parse(ParseError::SectionIsMissing(".symtab"))) => (
-            dynamic(alloc, source).unwrap_or(None),
-            debug_files(alloc, source).map(Hint::Stripped),
-        ),
-        _ => (None, None),
+        Fault::Section(SectionError::Parse(ParseError::SectionIsMissing(".symtab"))) => Hints {
+            first: dynamic(alloc, source).unwrap_or(None),
+            second: debug_files(alloc, source).unwrap_or(None),
+            excess: None,
+        },
+        _ => Hints {
+            first: None,
+            second: None,
+            excess: None,
+        },
     }
 }
 
 // How many dynamic function symbols the file has, if it has any.
 fn dynamic<S: Source<Log = ()>>(alloc: Global, source: &S) -> Result<Option<Hint>, Fault> {
-    let count = count_in(alloc, source, SymbolTable::Dynsym, Selection::All)?;
-    Ok(dynamic_by(count))
-}
-
-fn dynamic_by(count: usize) -> Option<Hint> {
-    match count {
-        0 => None,
-        _ => Some(Hint::Dynamic(count)),
+    match count_in(alloc, source, SymbolTable::Dynsym, Selection::All)? {
+        0 => Ok(None),
+        count => Ok(Some(Hint::Dynamic(count))),
     }
 }
 
-// The files with the debug symbols: by the build ID, after the 16 bytes of its note's head, and by the debug link, up
-// to a NUL.
-fn debug_files<S: Source<Log = ()>>(alloc: Global, source: &S) -> Option<String> {
-    let note = section_bytes_of(alloc, source, ".note.gnu.build-id")?;
-    let (first, others) = note.get(16..)?.split_first()?;
-    let mut text = String::formatted(alloc, format_args!("/usr/lib/debug/.build-id/{first:02x}/")).ok()?;
+// The files with the debug symbols: by the build ID, and by the debug link.
+fn debug_files<S: Source<Log = ()>>(alloc: Global, source: &S) -> Result<Option<Hint>, Fault> {
+    let Some(note) = section_in(alloc, source, ".note.gnu.build-id")? else {
+        return Ok(None);
+    };
+    let Some(mut text) = debug_path(alloc, &note)? else {
+        return Ok(None);
+    };
+    let Some(link) = section_in(alloc, source, ".gnu_debuglink")? else {
+        return Ok(Some(Hint::Stripped(text)));
+    };
+    push_link(&mut text, &link)?;
+    Ok(Some(Hint::Stripped(text)))
+}
+
+// Where the debug file is whose build ID is in this note, after the 16 bytes of its head.
+fn debug_path(alloc: Global, note: &[u8]) -> Result<Option<String>, AllocError> {
+    let Some(id) = note.get(16..) else {
+        return Ok(None);
+    };
+    let Some((first, others)) = id.split_first() else {
+        return Ok(None);
+    };
+    let mut text = String::from_str(alloc, "/usr/lib/debug/.build-id/")?;
+    push_byte(&mut text, *first)?;
+    text.push_str("/")?;
     for byte in others {
-        write!(text, "{byte:02x}").ok()?;
+        push_byte(&mut text, *byte)?;
     }
-    text.push_str(".debug").ok()?;
-    if let Some(link) = section_bytes_of(alloc, source, ".gnu_debuglink") {
-        let name = link.split(|byte| *byte == 0).next()?;
-        if name.iter().all(u8::is_ascii_graphic) {
-            write!(text, ", or in a file {}", core::str::from_utf8(name).ok()?).ok()?;
-        }
-    }
-    Some(text)
+    text.push_str(".debug")?;
+    Ok(Some(text))
 }
 
-fn section_bytes_of<S: Source<Log = ()>>(alloc: Global, source: &S, name: &str) -> Option<Vec<u8>> {
+// Appends the name in a debug link, up to a NUL, if all of it is printable ASCII without blanks.
+fn push_link(text: &mut String, link: &[u8]) -> Result<(), AllocError> {
+    let name = up_to_nul(link);
+    if !name.iter().all(|byte| matches!(*byte, b'!'..=b'~')) {
+        return Ok(());
+    }
+    text.push_str(", or in a file ")?;
+    text.push_str(core::str::from_utf8(name).unwrap())?;
+    Ok(())
+}
+
+// The bytes of the first section of this name, if the file has them.
+fn section_in<S: Source<Log = ()>>(
+    alloc: Global,
+    source: &S,
+    name: &str,
+) -> Result<Option<Vec<u8>>, Fault> {
     let mut out = Out::new(Vec::new(alloc));
-    write_section_of(alloc, source, &mut (), name, &mut out).ok()?;
-    Some(out.into_inner())
+    match write_section_of(alloc, source, &mut (), name, &mut out) {
+        Ok(()) => Ok(Some(out.into_inner())),
+        Err(e) => match e {
+            SectionError::Unreadable | SectionError::OutOfMemory | SectionError::Write => {
+                Err(Fault::from(e))
+            }
+            _ => Ok(None),
+        },
+    }
 }

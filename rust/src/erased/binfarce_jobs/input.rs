@@ -6,75 +6,78 @@ use crate::shim::Vec;
 use crate::erased::binfarce_jobs::fault::Fault;
 use crate::erased::binfarce_jobs::foreign::{FIRST_LENGTH, named_by};
 use crate::erased::binfarce_bytes::format::{Format, detect_format};
-use crate::erased::binfarce_bytes::source::Source;
+use crate::erased::binfarce_bytes::parser::to_index;
+use crate::erased::binfarce_bytes::source::{Source, read_part};
 use crate::erased::binfarce_sections::error::SectionError;
-use crate::erased::binfarce_tables::{ReadError, part};
 use crate::erased::binfarce_tools::program::is_read_at_offsets;
 use crate::shim::alloc::Global;
 use core::cell::Cell;
-use crate::shim::fs::File;
-use crate::shim::io::{self, Error, ErrorKind, Read, Stdin};
+use crate::shim::io::{self, Error, ErrorKind, Read};
 
 /// A file, or standard input.
-pub enum FileOrStdin {
-    /// A file, and its length where it was given.
-    File(File, Option<u64>),
+pub enum FileOrStdin<F, R> {
+    /// A file.
+    File(F),
     /// Standard input.
-    Standard(Stdin),
+    Standard(R),
 }
 
-impl FileOrStdin {
-    /// The file, whose length is asked for once.
-    pub fn of_file(file: File) -> FileOrStdin {
-        let length = file.length().ok();
-        FileOrStdin::File(file, length)
-    }
-}
-
-impl Read for FileOrStdin {
+impl<F: Read, R: Read> Read for FileOrStdin<F, R> {
     fn read(&mut self, buf: &mut [u8]) -> io::Result<usize> {
         match self {
-            FileOrStdin::File(file, _) => file.read(buf),
+            FileOrStdin::File(file) => file.read(buf),
             FileOrStdin::Standard(input) => input.read(buf),
         }
     }
 }
 
-impl Source for FileOrStdin {
+impl<F: Source<Log = ()>, R: Read> Source for FileOrStdin<F, R> {
     type Log = ();
 
     /// `Unsupported` for standard input.
     fn length(&self) -> io::Result<u64> {
         match self {
-            FileOrStdin::File(_, Some(length)) => Ok(*length),
-            FileOrStdin::File(file, None) => file.length(),
+            FileOrStdin::File(file) => file.length(),
             FileOrStdin::Standard(_) => Err(Error::from(ErrorKind::Unsupported)),
         }
     }
 
     fn fill_at(&self, log: &mut (), offset: u64, buf: &mut [u8]) -> io::Result<()> {
         match self {
-            FileOrStdin::File(file, _) => file.fill_at(log, offset, buf),
+            FileOrStdin::File(file) => file.fill_at(log, offset, buf),
             FileOrStdin::Standard(_) => Err(Error::from(ErrorKind::Unsupported)),
         }
     }
 }
 
-/// A file, its bytes where it can't be read at offsets, and the system's reason where a read of it fails.
+// Bytes of a file that are in memory: its first ones, or all; and how many it has.
+struct Held {
+    bytes: Vec<u8>,
+    file_length: u64,
+}
+
+impl Held {
+    // Whether they are all.
+    fn is_whole(&self) -> bool {
+        self.bytes.len() as u64 == self.file_length
+    }
+}
+
+/// A file, those of its bytes that are in memory, and the system's reason where a read of it fails.
 pub struct OpenFile<F> {
     file: F,
-    bytes: Option<Vec<u8>>,
+    held: Option<Held>,
     // How many bytes were read of it in order.
     len: u64,
     reason: Cell<Option<Error>>,
 }
 
 impl<F> OpenFile<F> {
-    /// This file, of which nothing is loaded and no read has failed.
+    /// This file, of which nothing is in memory and no read has failed.
     pub fn new(file: F) -> OpenFile<F> {
         OpenFile {
             file,
-            bytes: None,
+            held: None,
             len: 0,
             reason: Cell::new(None),
         }
@@ -101,19 +104,37 @@ impl<F> OpenFile<F> {
 }
 
 impl<F: Read + Source<Log = ()>> OpenFile<F> {
-    /// Loads the file unless it can be read at offsets: to its end, or only the first `FIRST_LENGTH` bytes where these
-    /// name no format.
+    /// Loads the file. Of one that can be read at offsets, only the length and the first `FIRST_LENGTH` bytes; any other
+    /// to its end, or only so many first bytes where these name no format.
     ///
     /// # Errors
     ///
     /// `Unsupported` exactly where the first `FIRST_LENGTH` bytes name what no reader reads, and no other byte is read
     /// then; `Unreadable` where a read fails, and `OutOfMemory` where an allocation fails.
     pub fn load(&mut self, alloc: Global) -> Result<(), Fault> {
-        if is_read_at_offsets(self) {
-            return refuse_foreign(&first_bytes(alloc, self)?);
+        self.held = self.first_held(alloc)?;
+        if let Some(held) = &self.held {
+            if is_read_at_offsets(self) {
+                return refuse_foreign(&held.bytes);
+            }
         }
-        self.bytes = Some(read_judged(alloc, self)?);
+        let bytes = read_judged(alloc, self)?;
+        let file_length = bytes.len() as u64;
+        self.held = Some(Held { bytes, file_length });
         Ok(())
+    }
+
+    // The length and the first `FIRST_LENGTH` bytes of the file, or all of a shorter one. `None` where a read fails.
+    fn first_held(&self, alloc: Global) -> io::Result<Option<Held>> {
+        let Ok(file_length) = self.keep(self.file.length()) else {
+            return Ok(None);
+        };
+        let size = to_index(file_length).min(FIRST_LENGTH);
+        match self.keep(read_part(alloc, &self.file, &mut (), 0, size)) {
+            Ok(bytes) => Ok(Some(Held { bytes, file_length })),
+            Err(e) if e.kind() == ErrorKind::OutOfMemory => Err(e),
+            Err(_) => Ok(None),
+        }
     }
 }
 
@@ -131,17 +152,25 @@ impl<F: Source<Log = ()>> Source for OpenFile<F> {
     type Log = ();
 
     fn length(&self) -> io::Result<u64> {
-        match &self.bytes {
-            Some(bytes) => bytes.as_slice().length(),
+        match &self.held {
+            Some(held) => Ok(held.file_length),
             None => self.keep(self.file.length()),
         }
     }
 
     fn fill_at(&self, log: &mut (), offset: u64, buf: &mut [u8]) -> io::Result<()> {
-        match &self.bytes {
-            Some(bytes) => bytes.as_slice().fill_at(log, offset, buf),
-            None => self.keep(self.file.fill_at(log, offset, buf)),
+        let Some(held) = &self.held else {
+            return self.keep(self.file.fill_at(log, offset, buf));
+        };
+        let filled = held.bytes.as_slice().fill_at(log, offset, buf);
+        if filled.is_ok() || held.is_whole() {
+            return filled;
         }
+        let count = copy_at(&held.bytes, offset, buf);
+        self.keep(
+            self.file
+                .fill_at(log, offset + count as u64, &mut buf[count..]),
+        )
     }
 }
 
@@ -160,11 +189,13 @@ pub fn read_judged<R: Read>(alloc: Global, reader: &mut R) -> Result<Vec<u8>, Fa
     }
 }
 
-// The first `FIRST_LENGTH` bytes of a source, or all of a shorter one.
-fn first_bytes<S: Source<Log = ()>>(alloc: Global, source: &S) -> Result<Vec<u8>, ReadError> {
-    let len = source.length()?;
-    let size = (FIRST_LENGTH as u64).min(len);
-    part(alloc, source, &mut (), 0, size)
+// Copies to the front of the buffer those of its bytes that are held, which begin at this offset, and returns how many
+// these are.
+fn copy_at(held: &[u8], offset: u64, buf: &mut [u8]) -> usize {
+    let rest = &held[to_index(offset).min(held.len())..];
+    let count = rest.len().min(buf.len());
+    buf[..count].copy_from_slice(&rest[..count]);
+    count
 }
 
 // Refuses a file that no reader reads, by its first bytes.

@@ -4,8 +4,9 @@
 
 use crate::shim::String;
 use crate::erased::binfarce_jobs::fault::Fault;
+use crate::erased::binfarce_rows::json::{push_start, push_text_member};
 use crate::erased::binfarce_sections::error::SectionError;
-use crate::erased::binfarce_tools::json::{push_start, push_text_member};
+use crate::erased::binfarce_text::digits::hex_digit;
 use crate::shim::alloc::{AllocError, Global};
 use core::fmt;
 use crate::shim::io::Error;
@@ -33,6 +34,8 @@ impl fmt::Display for Message {
 pub enum Unplaced<'a> {
     /// They map no file of this path, or of this name in it, if it has another.
     NotMapped(&'a str, Option<&'a str>),
+    /// The file of this path has code, and they have neither this nor its first byte.
+    NoCode(&'a str),
     /// They have the code of the file of this path at several addresses.
     Several(&'a str),
 }
@@ -48,6 +51,10 @@ impl<'a> fmt::Display for Unplaced<'a> {
                 f,
                 "the maps have no file {path} or {name}; --as=NAME takes another name"
             ),
+            Unplaced::NoCode(path) => write!(
+                f,
+                "the maps don't have the code of {path}, or its first byte; give --base, or more of the maps"
+            ),
             Unplaced::Several(path) => write!(
                 f,
                 "{path} is at several addresses in the maps; give --base in place of --maps, or --as=PATH for one of several paths"
@@ -56,7 +63,15 @@ impl<'a> fmt::Display for Unplaced<'a> {
     }
 }
 
-/// Why a file is refused: the system's reason, where a read or a write failed.
+/// The fault of a file that the maps don't place: why in words, or that there is no memory for these.
+pub fn unplaced_fault(alloc: Global, why: &Unplaced<'_>) -> Fault {
+    match String::formatted(alloc, format_args!("{why}")) {
+        Ok(words) => Fault::Unplaced(words),
+        Err(e) => Fault::from(e),
+    }
+}
+
+/// Why a file is refused: the system's reason, where a read or a write failed, or that there is no memory for its words.
 pub fn message_of(alloc: Global, fault: Fault, reason: Option<Error>) -> Message {
     match reason {
         Some(e) if is_of_system(&fault) => match words_of(alloc, &e) {
@@ -69,7 +84,7 @@ pub fn message_of(alloc: Global, fault: Fault, reason: Option<Error>) -> Message
 
 // Whether the system has a reason for it: a failed read or write.
 fn is_of_system(fault: &Fault) -> bool {
-    fault.is_write() || *fault == Fault::Section(SectionError::Unreadable)
+    fault.is_write() || matches!(fault, Fault::Section(SectionError::Unreadable))
 }
 
 /// Appends the refusal of a file as an object.
@@ -77,6 +92,43 @@ pub fn push_refusal(text: &mut String, file: &str, message: &str) -> Result<(), 
     push_start(text, file)?;
     push_text_member(text, "error", Some(message))?;
     text.push_str("}\n")
+}
+
+/// The line on standard error that says these words, of the file at this path if there is one, without its line feed:
+/// `binfarce: `, the path and `: `, and the words. In both each control character, U+0000 to U+001F and U+007F to
+/// U+009F, is escaped as in JSON, as `\u000a`: none ends the line, or controls a terminal.
+pub fn line_of(alloc: Global, path: Option<&str>, words: &str) -> Result<String, AllocError> {
+    let mut line = String::from_str(alloc, "binfarce: ")?;
+    if let Some(path) = path {
+        push_escaped(&mut line, path)?;
+        line.push_str(": ")?;
+    }
+    push_escaped(&mut line, words)?;
+    Ok(line)
+}
+
+// Appends a text with its control characters escaped.
+fn push_escaped(line: &mut String, text: &str) -> Result<(), AllocError> {
+    for c in text.chars() {
+        push_char(line, c)?;
+    }
+    Ok(())
+}
+
+fn push_char(line: &mut String, c: char) -> Result<(), AllocError> {
+    match c {
+        '\0'..='\x1f' | '\x7f'..='\u{9f}' => {
+            line.push_str("\\u00")?;
+            push_byte(line, c as u8)
+        }
+        _ => line.push(c),
+    }
+}
+
+/// Appends a byte in two hexadecimal digits.
+pub(crate) fn push_byte(text: &mut String, byte: u8) -> Result<(), AllocError> {
+    text.push(hex_digit(u64::from(byte) / 16) as char)?;
+    text.push(hex_digit(u64::from(byte) % 16) as char)
 }
 
 // The system's message without the number that is printed after it.

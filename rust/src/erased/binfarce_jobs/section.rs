@@ -3,10 +3,10 @@
 //! The sections of a file: the bytes of one, or a line for each.
 
 use crate::erased::binfarce_bytes::source::Source;
+use crate::erased::binfarce_rows::json::Form;
 use crate::erased::binfarce_sections::bytes::write_section_of;
 use crate::erased::binfarce_sections::error::SectionError;
 use crate::erased::binfarce_sections::list::list_source;
-use crate::erased::binfarce_tools::json::Form;
 use crate::erased::binfarce_tools::list::Sink;
 use crate::shim::alloc::Global;
 

@@ -14,11 +14,11 @@ use crate::erased::binfarce_figures::map::map_by;
 use crate::erased::binfarce_figures::rows::{Shown, list_by};
 use crate::erased::binfarce_figures::stacks::fold_claims;
 use crate::erased::binfarce_figures::sums::{Figures, Sums, sum_by};
+use crate::erased::binfarce_rows::json::Form;
 use crate::erased::binfarce_tables::ReadError;
 use crate::erased::binfarce_tables::format::read_format;
 use crate::erased::binfarce_tools::SymbolTable;
-use crate::erased::binfarce_tools::json::Form;
-use crate::erased::binfarce_tools::list::{Sink, list_tables};
+use crate::erased::binfarce_tools::list::{Sink, list_selected};
 use crate::erased::binfarce_tools::tables::{Selection, Tables, read_tables};
 use crate::erased::binfarce_words::words::Limit;
 use crate::shim::alloc::Global;
@@ -63,8 +63,8 @@ pub struct Request<'a> {
 /// What was found in a file that was shown.
 #[derive(Debug, Clone, Copy, PartialEq)]
 pub struct Seen {
-    /// How many function symbols are taken, where that is known.
-    pub count: Option<usize>,
+    /// Whether there is none of the function symbols that are taken.
+    pub is_empty: bool,
     /// The sum of all sizes, each byte counted once, and that of `[unknown]`, where sums are shown.
     pub sums: Option<Sums>,
 }
@@ -132,11 +132,11 @@ pub fn show<S: Source<Log = ()>, K: Sink>(
     let form = form_for(asked, path);
     match asked.symbols.selection {
         Selection::Section(_) => show_section(alloc, asked.kind, path, form, &tables, out),
-        Selection::All => show_tables(alloc, asked.kind, path, form, &tables, None, out),
+        Selection::All => show_tables(alloc, asked.kind, path, form, &tables, out),
     }
 }
 
-// Shows the function symbols of a section, which are made once, and counts them.
+// Shows the function symbols of a section, which are made once.
 fn show_section<K: Sink>(
     alloc: Global,
     kind: Kind,
@@ -147,53 +147,63 @@ fn show_section<K: Sink>(
 ) -> Result<Seen, Fault> {
     let (functions, size) = tables.functions(alloc)?.into_list();
     let list: Vec<SectionFunction<'_>> = functions.all.collect_in(alloc)?;
-    let size = size.unwrap_or(0);
-    let count = list.len();
     let made = Tables::Made {
         functions: list,
-        size,
+        size: size.unwrap_or(0),
         versions: tables.version_names(),
     };
-    show_tables(alloc, kind, path, form, &made, Some(count), out)
+    show_tables(alloc, kind, path, form, &made, out)
 }
 
-// Shows the function symbols of these tables, which are so many, where that is known.
+// Shows the function symbols of these tables.
 fn show_tables<K: Sink>(
     alloc: Global,
     kind: Kind,
     path: &str,
     form: Form<'_>,
     tables: &Tables<'_>,
-    count: Option<usize>,
     out: &mut K,
 ) -> Result<Seen, Fault> {
     match kind {
         Kind::Listing => {
-            list_tables(alloc, tables, out)?;
-            Ok(seen_of(count, None))
+            let selected = tables.functions(alloc)?;
+            let is_empty = selected.functions.is_empty();
+            list_selected(alloc, tables, selected, out)?;
+            Ok(Seen {
+                is_empty,
+                sums: None,
+            })
         }
         Kind::Rows(shown) => {
-            list_by(alloc, tables, &shown, form, out)?;
-            Ok(seen_of(count, None))
+            let found = list_by(alloc, tables, &shown, form, out)?;
+            Ok(Seen {
+                is_empty: found == 0,
+                sums: None,
+            })
         }
         Kind::Figures(figures) => {
             let claims = Claims::of_tables(alloc, tables)?;
             let sums = sum_by(alloc, &claims, &figures, form, out)?;
-            Ok(seen_of(Some(claims.len()), Some(sums)))
+            Ok(Seen {
+                is_empty: claims.is_empty(),
+                sums: Some(sums),
+            })
         }
         Kind::Picture(grouping, first) => {
             let claims = Claims::of_tables(alloc, tables)?;
             map_by(alloc, path, &claims, grouping, first, out)?;
-            Ok(seen_of(Some(claims.len()), None))
+            Ok(Seen {
+                is_empty: claims.is_empty(),
+                sums: None,
+            })
         }
         Kind::Stacks(joins_std) => {
             let claims = Claims::of_tables(alloc, tables)?;
             fold_claims(alloc, &claims, joins_std, out)?;
-            Ok(seen_of(Some(claims.len()), None))
+            Ok(Seen {
+                is_empty: claims.is_empty(),
+                sums: None,
+            })
         }
     }
-}
-
-fn seen_of(count: Option<usize>, sums: Option<Sums>) -> Seen {
-    Seen { count, sums }
 }

@@ -1,15 +1,15 @@
 use Rattle.std.proofs.Common.{◌≡◌, ℕ, List, take, length, ltb}
 use Rattle.binfarce_jobs.specs.Files.{AreHeld, Shows, asked_files}
 use Rattle.binfarce_jobs.specs.Output.{state_of}
-use Rattle.binfarce_jobs.proofs.FileLoop.{paths_of}
+use Rattle.binfarce_jobs.proofs.FileLoop.{views}
 use Rattle.binfarce_jobs.proofs.files.show_files.Given as goal
 
--- the files so far are shown or reported, and the others are as they were
-abbrev pub invariant-loop-path : goal.invariant-loop-path
-invariant-loop-path g l = record {
-  shows : (held : List ℕ → List ℕ) → AreHeld (g.Y.System.bytes_at l.fn.system) held (paths_of l.files)
-      → Shows (asked_files l.asked (ltb 1 (length l.files)) (g.Y.System.may_fail_at l.fn.system) held) (paths_of (take l.path-index l.files))
-      (state_of g.W.Write.contents l.fn.out (g.Y.System.reports l.fn.system)) (state_of g.W.Write.contents l.out (g.Y.System.reports l.system)) l.all;
+-- the arguments so far are shown or reported, and the others are as they were
+abbrev pub invariant-loop-argument : goal.invariant-loop-argument
+invariant-loop-argument g l = record {
+  shows : (held : List ℕ → List ℕ) → AreHeld (g.Y.System.bytes_at l.fn.system) held (views l.files)
+      → Shows (asked_files l.asked (ltb 1 (length l.files)) (g.Y.System.may_fail_at l.fn.system) held) (views (take l.argument-index l.files))
+      (state_of g.W.Write.contents l.fn.out (g.Y.System.reports l.fn.system) (g.Y.System.hints l.fn.system)) (state_of g.W.Write.contents l.out (g.Y.System.reports l.system) (g.Y.System.hints l.system)) l.all;
   bytes : g.Y.System.bytes_at l.system ≡ g.Y.System.bytes_at l.fn.system;
   may_fail : g.Y.System.may_fail_at l.system ≡ g.Y.System.may_fail_at l.fn.system;
 }

@@ -2,7 +2,7 @@ use Rattle.std.proofs.Common.{◌≡◌, ◌∙◌, ℕ, IfOk, List, Ok, Option,
 use Rattle.binfarce.specs.Refusal.{Refusal}
 use Rattle.binfarce.specs.SectionEntries.{SelectedSymbols}
 use Rattle.binfarce_bytes.specs.Selection.{section_of}
-use Rattle.binfarce_tools.specs.Json.{Style, style_of}
+use Rattle.binfarce_rows.specs.Json.{Style, style_of}
 use Rattle.binfarce_tools.specs.Answer.{MemoryIn, selected_answer}
 use Rattle.binfarce_tools.specs.Tables.{AreTablesOf}
 use Rattle.binfarce_tools.specs.Writing.{EndsAs, Takes}
@@ -64,4 +64,4 @@ pub returns-clause-seen : goal.returns-clause-seen
 returns-clause-seen g c = λ file selected is answer.
     let symbols = c.args.asked.now.symbols in
     let are = c.in_ok-tables.ensures file is in
-    c.show_tables.ensures.seen symbols.which file (section_of symbols.selection) selected are.0 (sym are.1 ∙ answer) tt
+    c.show_tables.ensures.seen symbols.which file (section_of symbols.selection) selected are.0 (sym are.1 ∙ answer)

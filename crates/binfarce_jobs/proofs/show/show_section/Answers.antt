@@ -1,11 +1,11 @@
-use Rattle.std.proofs.Common.{◌≡◌, ◌∙◌, Ok, Some, length, map, refl}
+use Rattle.std.proofs.Common.{◌≡◌, Ok, Some, map, refl}
 use Rattle.std.proofs.lemmas.Iterator.Consumers.{YieldsList-from_first, map_from_collect}
 use Rattle.binfarce.specs.SymbolViews.{section_function_view}
 use Rattle.binfarce_tools.specs.Entries.{HoldsLeft, all_left}
-use Rattle.binfarce_tools.specs.Json.{style_of}
+use Rattle.binfarce_rows.specs.Json.{style_of}
 use Rattle.binfarce_tools.specs.Answer.{MemoryIn, selected_answer}
 use Rattle.binfarce_jobs.specs.Show.{Fits, IsTextOf}
-use Rattle.binfarce_jobs.proofs.Making.{are_made, counted_in, made, none_left, none_taken, unfailed, unmade, untaken}
+use Rattle.binfarce_jobs.proofs.Making.{are_made, made, none_left, none_taken, unfailed, unmade, untaken}
 use Rattle.binfarce_jobs.proofs.show.show_section.Goals as goal
 
 pub returns-in_err-functions-clause-outcome : goal.returns-in_err-functions-clause-outcome
@@ -32,8 +32,8 @@ returns-clause-outcome g c = λ which file name are.
     let functions = c.into_list-functions.result.0 in
     let list = c.in_ok-list.list in
     let collected : map section_function_view list.items ≡ all_left functions.all = map_from_collect {E = Unit {0}} (Ok list) c.in_ok-list.ensures.ran (YieldsList-from_first section_function_view all_left (all_left functions.all) refl) in
-    c.show_tables.ensures.outcome which file (Some name) (are_made which file name list c.unwrap_or-size.result c.version_names.result
-    (made which file name c.in_ok-functions.field-0 functions.all c.into_list-functions.result.1 list c.unwrap_or-size.result (c.in_ok-functions.ensures.gets which file (Some name) are) c.into_list-functions.ensures.functions c.into_list-functions.ensures.size collected c.unwrap_or-size.ensures)
+    c.show_tables.ensures.outcome which file (Some name) (are_made which file name list c.unwrap_or.result c.version_names.result
+    (made which file name c.in_ok-functions.field-0 functions.all c.into_list-functions.result.1 list c.unwrap_or.result (c.in_ok-functions.ensures.gets which file (Some name) are) c.into_list-functions.ensures.functions c.into_list-functions.ensures.size collected c.unwrap_or.ensures)
     (λ seen is. c.version_names.ensures.file which file (Some name) seen are is))
 
 pub returns-clause-takes : goal.returns-clause-takes
@@ -41,8 +41,8 @@ returns-clause-takes g c = λ which file name are.
     let functions = c.into_list-functions.result.0 in
     let list = c.in_ok-list.list in
     let collected : map section_function_view list.items ≡ all_left functions.all = map_from_collect {E = Unit {0}} (Ok list) c.in_ok-list.ensures.ran (YieldsList-from_first section_function_view all_left (all_left functions.all) refl) in
-    c.show_tables.ensures.takes which file (Some name) (are_made which file name list c.unwrap_or-size.result c.version_names.result
-    (made which file name c.in_ok-functions.field-0 functions.all c.into_list-functions.result.1 list c.unwrap_or-size.result (c.in_ok-functions.ensures.gets which file (Some name) are) c.into_list-functions.ensures.functions c.into_list-functions.ensures.size collected c.unwrap_or-size.ensures)
+    c.show_tables.ensures.takes which file (Some name) (are_made which file name list c.unwrap_or.result c.version_names.result
+    (made which file name c.in_ok-functions.field-0 functions.all c.into_list-functions.result.1 list c.unwrap_or.result (c.in_ok-functions.ensures.gets which file (Some name) are) c.into_list-functions.ensures.functions c.into_list-functions.ensures.size collected c.unwrap_or.ensures)
     (λ seen is. c.version_names.ensures.file which file (Some name) seen are is))
 
 pub returns-clause-seen : goal.returns-clause-seen
@@ -50,7 +50,6 @@ returns-clause-seen g c = λ which file name selected are answer.
     let functions = c.into_list-functions.result.0 in
     let list = c.in_ok-list.list in
     let collected : map section_function_view list.items ≡ all_left functions.all = map_from_collect {E = Unit {0}} (Ok list) c.in_ok-list.ensures.ran (YieldsList-from_first section_function_view all_left (all_left functions.all) refl) in
-    let is_made = made which file name c.in_ok-functions.field-0 functions.all c.into_list-functions.result.1 list c.unwrap_or-size.result (c.in_ok-functions.ensures.gets which file (Some name) are) c.into_list-functions.ensures.functions c.into_list-functions.ensures.size collected c.unwrap_or-size.ensures in
-    let count : c.len-count.result ≡ length list.items = c.len-count.ensures ∙ list.ok.0 in
-    c.show_tables.ensures.seen which file (Some name) selected (are_made which file name list c.unwrap_or-size.result c.version_names.result is_made (λ seen is. c.version_names.ensures.file which file (Some name) seen are is)) answer
-    (count ∙ counted_in which file name selected list c.unwrap_or-size.result is_made answer)
+    c.show_tables.ensures.seen which file (Some name) selected (are_made which file name list c.unwrap_or.result c.version_names.result
+    (made which file name c.in_ok-functions.field-0 functions.all c.into_list-functions.result.1 list c.unwrap_or.result (c.in_ok-functions.ensures.gets which file (Some name) are) c.into_list-functions.ensures.functions c.into_list-functions.ensures.size collected c.unwrap_or.ensures)
+    (λ seen is. c.version_names.ensures.file which file (Some name) seen are is)) answer

@@ -1,23 +1,27 @@
-use Rattle.std.proofs.Common.{Some, refl, sym, subst}
-use Rattle.binfarce_tools.specs.Json.{style_of}
+use Rattle.std.proofs.Common.{Some, None, ap, nat_eq, refl, sym, subst}
+use Rattle.binfarce_rows.specs.Json.{style_of}
 use Rattle.binfarce_tools.specs.Answer.{selected_answer}
 use Rattle.binfarce_tools.specs.Writing.{Outcome, Takes, written}
 use Rattle.binfarce_jobs.specs.Show.{IsSeenOf, IsTextOf}
 use Rattle.binfarce_jobs.specs.declared.show.Kind.{Kind}
 use Rattle.binfarce_jobs.specs.declared.show.Kind.TheVariants.{Listing, Rows, Figures, Picture, Stacks}
-use Rattle.binfarce_jobs.specs.declared.show.Seen.{Seen}
 use Rattle.binfarce_jobs.proofs.Shown.{list_in, report_in}
 use Rattle.binfarce_jobs.proofs.show.show_tables.Goals as goal
 
-pub returns-in_err-list_tables-in-Listing-clause-takes : goal.returns-in_err-list_tables-in-Listing-clause-takes
-returns-in_err-list_tables-in-Listing-clause-takes g c = λ which file section are.
-    list_in (λ (k : Kind) (o : Outcome). Takes (IsTextOf k c.args.path.now (style_of c.args.form)) (selected_answer which section file) (g.K.Sink.taken c.args.out.now) (g.K.Sink.taken c.list_tables.new.out) o) c.args.kind Listing c.in-Listing.is c.in_err-list_tables-in-Listing.field-0.0 c.from_residual.result c.from_residual.ensures.1
-    (c.in_err-list_tables-in-Listing.ensures.takes which file section are)
+pub returns-in_err-list_selected-in-Listing-clause-takes : goal.returns-in_err-list_selected-in-Listing-clause-takes
+returns-in_err-list_selected-in-Listing-clause-takes g c = λ which file section are.
+    list_in (λ (k : Kind) (o : Outcome). Takes (IsTextOf k c.args.path.now (style_of c.args.form)) (selected_answer which section file) (g.K.Sink.taken c.args.out.now) (g.K.Sink.taken c.list_selected.new.out) o) c.args.kind Listing c.in-Listing.is c.in_err-list_selected-in-Listing.field-0.0 c.from_residual-in_err-list_selected-in-Listing.result c.from_residual-in_err-list_selected-in-Listing.ensures.1
+    (c.in_err-list_selected-in-Listing.ensures.takes which file section are (c.in_ok-selected-in-Listing.ensures.gets which file section are))
 
-pub returns-in_err-list_by-in-Rows-clause-takes : goal.returns-in_err-list_by-in-Rows-clause-takes
-returns-in_err-list_by-in-Rows-clause-takes g c = λ which file section are.
-    list_in (λ (k : Kind) (o : Outcome). Takes (IsTextOf k c.args.path.now (style_of c.args.form)) (selected_answer which section file) (g.K.Sink.taken c.args.out.now) (g.K.Sink.taken c.list_by.new.out) o) c.args.kind (Rows c.in-Rows.shown) c.in-Rows.is c.in_err-list_by-in-Rows.field-0.0 c.from_residual-in_err-list_by-in-Rows.result c.from_residual-in_err-list_by-in-Rows.ensures.1
-    (c.in_err-list_by-in-Rows.ensures.takes which file section are)
+pub returns-in_err-found-in-Rows-clause-takes : goal.returns-in_err-found-in-Rows-clause-takes
+returns-in_err-found-in-Rows-clause-takes g c = λ which file section are.
+    list_in (λ (k : Kind) (o : Outcome). Takes (IsTextOf k c.args.path.now (style_of c.args.form)) (selected_answer which section file) (g.K.Sink.taken c.args.out.now) (g.K.Sink.taken c.list_by.new.out) o) c.args.kind (Rows c.in-Rows.shown) c.in-Rows.is c.in_err-found-in-Rows.field-0.0 c.from_residual-in_err-found-in-Rows.result c.from_residual-in_err-found-in-Rows.ensures.1
+    (c.in_err-found-in-Rows.ensures.takes which file section are)
+
+pub returns-in_ok-found-in-Rows-clause-takes : goal.returns-in_ok-found-in-Rows-clause-takes
+returns-in_ok-found-in-Rows-clause-takes g c = λ which file section are.
+    subst (λ (k : Kind). Takes (IsTextOf k c.args.path.now (style_of c.args.form)) (selected_answer which section file) (g.K.Sink.taken c.args.out.now) (g.K.Sink.taken c.list_by.new.out) written) (sym c.in-Rows.is)
+    (c.in_ok-found-in-Rows.ensures.takes which file section are)
 
 pub returns-in_err-sums-in-Figures-clause-takes : goal.returns-in_err-sums-in-Figures-clause-takes
 returns-in_err-sums-in-Figures-clause-takes g c = λ which file section are.
@@ -50,9 +54,13 @@ returns-in_ok-fold_claims-in-Stacks-clause-takes g c = λ which file section are
     (c.in_ok-fold_claims-in-Stacks.ensures.takes which file section (c.in_ok-claims-in-Stacks.ensures.made which file section are))
 
 pub returns-in_ok-sums-in-Figures-clause-seen : goal.returns-in_ok-sums-in-Figures-clause-seen
-returns-in_ok-sums-in-Figures-clause-seen g c = λ which file section selected are answer known.
+returns-in_ok-sums-in-Figures-clause-seen g c = λ which file section selected are answer.
     let claims = c.in_ok-claims-in-Figures.ensures.made which file section are in
     let sums = c.in_ok-sums-in-Figures.sums in
-    subst (λ (seen : Seen). IsSeenOf c.args.kind selected seen) (sym c.seen_of-in-Figures.ensures)
-    (subst (λ (k : Kind). IsSeenOf k selected (record { count = Some c.len.result; sums = Some sums })) (sym c.in-Figures.is)
-    (record { count_is = c.len.ensures.file which file section selected claims answer; sums_are = (sums, refl, c.in_ok-sums-in-Figures.ensures.sums which file section selected claims answer) }))
+    subst (λ (k : Kind). IsSeenOf k selected (record { is_empty = c.is_empty.result; sums = Some sums })) (sym c.in-Figures.is)
+    (record { empty_is = c.is_empty.ensures.file which file section selected claims answer; sums_are = (sums, refl, c.in_ok-sums-in-Figures.ensures.sums which file section selected claims answer) })
+
+pub returns-in_ok-found-in-Rows-clause-seen : goal.returns-in_ok-found-in-Rows-clause-seen
+returns-in_ok-found-in-Rows-clause-seen g c = λ which file section selected are answer.
+    subst (λ (k : Kind). IsSeenOf k selected (record { is_empty = nat_eq c.in_ok-found-in-Rows.found 0; sums = None })) (sym c.in-Rows.is)
+    (record { empty_is = ap (λ n. nat_eq n 0) (c.in_ok-found-in-Rows.ensures.count which file section selected are answer); sums_are = refl })

@@ -1,0 +1,32 @@
+-- What is reported of a file of a text.
+use Rattle.std.proofs.Common.{◌≡◌, ℕ, List, [], ◌∷◌, Option, Result, Ok, Err}
+use Rattle.binfarce_words.specs.Words.{Arguments}
+use Rattle.binfarce_jobs.specs.Files.{Refused, Reports}
+use Rattle.binfarce_jobs.specs.declared.fault.Fault.{Fault}
+use Rattle.binfarce_logs.specs.declared.maps.NoBase.{NoBase}
+use Rattle.binfarce_logs.specs.declared.maps.NoBase.TheVariants as reasons
+use Rattle.binfarce_calls.specs.declared.at.Place.TheVariants as places
+use Rattle.binfarce_calls.specs.Placing.{IsPlacedBy, file_at}
+
+-- what is reported of a file, by where it is placed
+module _ (given : Arguments) (place : ℕ) (a b : Option (List Refused)) where
+  pub placed_at : (known : Result (Option ℕ) NoBase) (base : Option ℕ) → IsPlacedBy given place known a b (places.At base) → b ≡ a
+  placed_at (Ok x) base (is, same) = same
+  placed_at (Err reasons.NotMaps) base (is, same) = same
+  placed_at (Err reasons.NotMapped) base (is, reported) = absurd cc
+  placed_at (Err reasons.NoCode) base (is, reported) = absurd cc
+  placed_at (Err reasons.Several) base (is, reported) = absurd cc
+
+  pub placed_by_none : (known : Result (Option ℕ) NoBase) → IsPlacedBy given place known a b places.NoMaps → b ≡ a
+  placed_by_none (Ok x) (is, same) = same
+  placed_by_none (Err reasons.NotMaps) (is, same) = same
+  placed_by_none (Err reasons.NotMapped) (is, reported) = absurd cc
+  placed_by_none (Err reasons.NoCode) (is, reported) = absurd cc
+  placed_by_none (Err reasons.Several) (is, reported) = absurd cc
+
+  pub not_placed : (known : Result (Option ℕ) NoBase) → IsPlacedBy given place known a b places.Refused → (fault : Fault) × Reports a b ((file_at given place, fault) ∷ [])
+  not_placed (Ok x) (is, same) = absurd cc
+  not_placed (Err reasons.NotMaps) (is, same) = absurd cc
+  not_placed (Err reasons.NotMapped) (is, reported) = (reported.0, reported.2)
+  not_placed (Err reasons.NoCode) (is, reported) = (reported.0, reported.2)
+  not_placed (Err reasons.Several) (is, reported) = (reported.0, reported.2)

@@ -1,0 +1,99 @@
+-- Where the files of `at` are loaded, and how addresses are looked up in them.
+use Rattle.std.specs.Prelude.{◌≡◌, ◌-◌, ◌||◌, ℕ, Bool, List, [], ◌∷◌, Option, Some, None, Result, Ok, Err, length, nat_eq, nat_le, nat_lt, take, unwrap_or, if◌then◌else◌}
+use Rattle.std.specs.List.{slice_get}
+use Rattle.binfarce_logs.specs.Maps.{base_of}
+use Rattle.binfarce_logs.specs.declared.maps.NoBase.{NoBase}
+use Rattle.binfarce_logs.specs.declared.maps.NoBase.TheVariants as reasons
+use Rattle.binfarce_tables.specs.declared.loading.LoadAddress.{LoadAddress}
+use Rattle.binfarce_words.specs.Words.{Argument, Arguments, number_in, operand_at, value_given, values_given}
+use Rattle.binfarce_words.specs.declared.words.Flag.{Flag}
+use Rattle.binfarce_words.specs.declared.words.Flag.TheVariants as flags
+use Rattle.binfarce_addresses.specs.declared.counts.Counts.{Counts}
+use Rattle.binfarce_jobs.specs.declared.hint.Hint.{Hint}
+use Rattle.binfarce_jobs.specs.declared.hint.Hint.TheVariants.{Missed, Unclear, Offsets, NoAddress}
+use Rattle.binfarce_jobs.specs.declared.hint.Loaded.{Loaded}
+use Rattle.binfarce_jobs.specs.declared.hint.Loaded.TheVariants as loading
+use Rattle.binfarce_jobs.specs.Files.{Refused, Reports}
+use Rattle.binfarce_jobs.specs.FaultWords.{IsUnplaced, unplaced_words}
+use Rattle.binfarce_jobs.specs.declared.fault.Fault.{Fault}
+use Rattle.binfarce_jobs.specs.declared.message.Unplaced.{Unplaced}
+use Rattle.binfarce_jobs.specs.declared.message.Unplaced.TheVariants.{NotMapped, NoCode, Several}
+use Rattle.binfarce_calls.specs.Asked.{has}
+use Rattle.binfarce_calls.specs.declared.at.Place.{Place}
+use Rattle.binfarce_calls.specs.declared.at.Place.TheVariants as places
+
+-- the files: all operands where a text is annotated, else the first one
+abbrev pub files_asked : Arguments → List Argument
+files_asked given = if has flags.Annotate given then given.operands else take 1 given.operands
+
+-- the value of an option for the file at a place: of one file the one that is given last, of several the one at this place
+abbrev pub value_for : Flag → Arguments → (place : ℕ) → Option (List ℕ)
+value_for flag given place = if nat_lt (length (files_asked given)) 2 then value_given flag given else slice_get (values_given flag given) place
+
+-- the path of the file at a place
+abbrev pub file_at : Arguments → (place : ℕ) → List ℕ
+file_at given place = unwrap_or (operand_at place given) []
+
+-- its path in maps and in a text: its own, or the one that is given for it
+abbrev pub path_for : Arguments → (place : ℕ) → List ℕ
+path_for given place = unwrap_or (value_for flags.As given place) (file_at given place)
+
+-- the base that is given for it
+abbrev pub base_given : Arguments → (place : ℕ) → Option ℕ
+base_given given place = number_in (value_for flags.Base given place)
+
+abbrev pub known : Result ℕ NoBase → Result (Option ℕ) NoBase
+known (Ok base) = Ok (Some base)
+known (Err why) = Err why
+
+-- where it is loaded, if that is known: by the maps, where these are read, or at the base that is given for it
+abbrev pub base_for : Arguments → (maps : Option (List ℕ)) → (place : ℕ) → LoadAddress → Result (Option ℕ) NoBase
+base_for given None place loaded = Ok (base_given given place)
+base_for given (Some maps) place loaded = known (base_of maps (path_for given place) loaded)
+
+-- what is known of where files are loaded
+abbrev pub loaded_asked : Arguments → Loaded
+loaded_asked given = if has flags.Maps given then loading.Maps else (if has flags.Base given then loading.Base else loading.Unknown)
+
+-- why maps don't place the file of a path: nothing is said where they have no mapping
+abbrev pub IsWhy : (path : List ℕ) → NoBase → Option Unplaced → Type 0
+IsWhy path reasons.NotMaps why = why ≡ None
+IsWhy path reasons.NotMapped (Some (NotMapped given name)) = given.now ≡ path
+IsWhy path reasons.NoCode (Some (NoCode given)) = given.now ≡ path
+IsWhy path reasons.Several (Some (Several given)) = given.now ≡ path
+IsWhy path reason why = ⊥
+
+-- so its fault says
+abbrev pub IsFaultOf : (path : List ℕ) → NoBase → Fault → Type 0
+IsFaultOf path reason fault = (why : Unplaced) × IsWhy path reason (Some why) × IsUnplaced (unplaced_words why) fault
+
+-- where the file at a place is loaded, by what is known of it; a file that the maps don't place is reported by its path, unless they have no mapping
+abbrev pub IsPlacedBy : Arguments → (place : ℕ) → Result (Option ℕ) NoBase → (before after : Option (List Refused)) → Place → Type 0
+IsPlacedBy given place (Ok base) before after result = (result ≡ places.At base) × (after ≡ before)
+IsPlacedBy given place (Err reasons.NotMaps) before after result = (result ≡ places.NoMaps) × (after ≡ before)
+IsPlacedBy given place (Err reason) before after result =
+    (result ≡ places.Refused) × ((fault : Fault) × IsFaultOf (path_for given place) reason fault × Reports before after ((file_at given place, fault) ∷ []))
+
+abbrev pub IsPlaced : Arguments → (maps : Option (List ℕ)) → (place : ℕ) → LoadAddress → (before after : Option (List Refused)) → Place → Type 0
+IsPlaced given maps place loaded before after result = IsPlacedBy given place (base_for given maps place loaded) before after result
+
+-- the file at a path is opened; or it is refused, which is reported by its path
+abbrev pub Opens : {T : Type 0} → (path : List ℕ) → (before after : Option (List Refused)) → Option T → Type 0
+Opens path before after (Some file) = Reports before after []
+Opens path before after None = (fault : Fault) × Reports before after ((path, fault) ∷ [])
+
+-- the hint on files in which none of the addresses was found that are in one of them alone, if there are any
+abbrev pub missed_hint : Counts → Loaded → Option Hint
+missed_hint counts loaded = if nat_lt 0 counts.found || nat_le counts.asked counts.unclear then None else Some (Missed (counts.asked - counts.unclear) loaded)
+
+-- the hint on addresses that may be in several files
+abbrev pub unclear_hint : Counts → Option Hint
+unclear_hint counts = if nat_eq counts.unclear 0 then None else Some (Unclear counts.unclear)
+
+-- the hint on a text in which nothing was found: offsets behind names of other files, or no address
+abbrev pub unfound_hint : Counts → (is_bare : Bool) → Option Hint
+unfound_hint counts is_bare =
+    if nat_lt 0 counts.found then None
+    else if nat_lt 0 counts.missing then Some (Offsets counts.missing)
+    else if nat_eq counts.asked 0 then Some (NoAddress is_bare)
+    else None

@@ -1,0 +1,272 @@
+//! `binfarce at [OPTION..] FILE..`: its files are opened, read, and placed where they are loaded.
+
+ghost use Rattle.std.specs.Prelude.{IfOk};
+ghost use Rattle.std.specs.Option.{option_map};
+ghost use Rattle.binfarce_words.specs.WordViews.{given_view};
+ghost use Rattle.binfarce_calls.specs.Placing.{IsPlaced, IsWhy, Opens, file_at};
+ghost use Rattle.binfarce_calls.specs.machine.Reading.{IsReadFile};
+
+use crate::placing::{base_for, base_given, file_at, path_for};
+use binfarce_addresses::at::Places;
+use binfarce_bytes::source::Source;
+use binfarce_jobs::at::{load_addresses_of, places_of};
+use binfarce_jobs::fault::Fault;
+use binfarce_jobs::files::{System, open_input, refuse};
+use binfarce_jobs::input::OpenFile;
+use binfarce_jobs::message::{Unplaced, unplaced_fault};
+use binfarce_jobs::show::{Symbols, tables_of};
+use binfarce_logs::maps::NoBase;
+use binfarce_tables::ReadError;
+use binfarce_tables::loading::LoadAddress;
+use binfarce_tools::tables::Tables;
+use binfarce_words::words::Arguments;
+use binfarce_words::words::Flag::Annotate;
+use std::alloc::{AllocError, Global};
+use std::io::Read;
+
+/// What `at` is given: its options and files, and the maps that were read.
+#[derive(Clone, Copy)]
+pub struct Given<'b, 'm, 'a> {
+    /// The options and files.
+    pub words: &'b Arguments<'a>,
+    /// The maps.
+    pub maps: Option<&'m [u8]>,
+}
+
+/// A file of `at` that is opened.
+#[derive(Drop)]
+pub struct Opened<F> {
+    /// The file.
+    pub file: OpenFile<F>,
+    /// Where it says that it is loaded, where that is asked for.
+    pub loaded: LoadAddress,
+    /// The address in it that an offset of 0 after its name means.
+    pub origin: u64,
+}
+
+/// Where a file is placed.
+#[derive(Debug, Clone, Copy, PartialEq)]
+pub enum Place {
+    /// At this base, if one is known.
+    At(Option<u64>),
+    /// The maps don't place it, which is reported.
+    Refused,
+    /// The maps have no mapping.
+    NoMaps,
+}
+
+/// A file of a text that is read.
+#[derive(Drop)]
+pub struct Placed<F> {
+    /// Its place among the files.
+    pub place: usize,
+    /// The file, if it is the only one; of several each is closed when it is read.
+    pub alone: Option<OpenFile<F>>,
+    /// Its tables.
+    pub tables: Tables<'static>,
+    /// Where it is loaded, if that is known.
+    pub base: Option<u64>,
+    /// Where it says that it is loaded.
+    pub linked: u64,
+    /// The address in it that an offset of 0 after its name means.
+    pub origin: u64,
+}
+
+// Whether a file of a text is read.
+#[derive(Drop)]
+enum ReadFile<F> {
+    Placed(Placed<F>),
+    // It is refused, which is reported.
+    Refused,
+    // The maps have no mapping.
+    NoMaps,
+}
+
+/// Opens the file at a place, and reads where it says that it is loaded, if it is asked where it is, or a text is
+/// annotated. `None` where it is refused, which is reported.
+///
+/// # Errors
+///
+/// Those of `refuse`.
+pub fn open_at<F: Read + Source<Log = ()> + Drop, Y: System<F>>(
+    alloc: Global,
+    system: &mut Y,
+    given: &Given<'_, '_, '_>,
+    place: usize,
+) -> Result<Option<Opened<F>>, Fault>
+    ensures { IfOk result (Opens (file_at (given_view given.now.words.now) place)
+        (Y.reports system.old) (Y.reports system.new)) }
+{
+    let path = file_at(given.words, place);
+    let Some(file) = open_input(alloc, system, path) else {
+        return Ok(None);
+    };
+    match loaded_in(alloc, &file, given, place) {
+        Ok((loaded, origin)) => Ok(Some(Opened {
+            file,
+            loaded,
+            origin,
+        })),
+        Err(e) => {
+            refuse(alloc, system, path, &file, Fault::from(e))?;
+            Ok(None)
+        }
+    }
+}
+
+// Where the file at a place says that it is loaded, and the address for an offset in a text, where these are asked for.
+fn loaded_in<S: Source<Log = ()>>(
+    alloc: Global,
+    file: &S,
+    given: &Given<'_, '_, '_>,
+    place: usize,
+) -> Result<(LoadAddress, u64), ReadError> {
+    let is_placed = given.maps.is_some() || base_given(given.words, place).is_some();
+    if is_placed || given.words.has(Annotate) {
+        return load_addresses_of(alloc, file);
+    }
+    let loaded = LoadAddress {
+        address: 0,
+        code: None,
+    };
+    Ok((loaded, 0))
+}
+
+/// Where the file at a place is loaded, which says that it is loaded there. One that the maps don't place is reported,
+/// unless they have no mapping.
+pub fn place_at<F: Read + Source<Log = ()>, Y: System<F>>(
+    alloc: Global,
+    system: &mut Y,
+    given: &Given<'_, '_, '_>,
+    place: usize,
+    loaded: LoadAddress,
+) -> Place
+    ensures { IsPlaced (given_view given.now.words.now) (option_map (λ m. m.now) given.now.maps) place loaded
+        (Y.reports system.old) (Y.reports system.new) result }
+{
+    let why = match base_for(given.words, given.maps, place, loaded) {
+        Ok(base) => return Place::At(base),
+        Err(why) => why,
+    };
+    match why_unplaced(path_for(given.words, place), why) {
+        Some(why) => {
+            let fault = unplaced_fault(alloc, &why);
+            system.report(file_at(given.words, place), fault, None);
+            Place::Refused
+        }
+        None => Place::NoMaps,
+    }
+}
+
+// Why maps don't place the file of this path. `None` where they have no mapping.
+fn why_unplaced<'a>(path: &'a str, why: NoBase) -> Option<Unplaced<'a>>
+    ensures { IsWhy path.entry.now why result }
+{
+    match why {
+        NoBase::NotMaps => None,
+        NoBase::NotMapped => match path.rsplit_once('/') {
+            Some((_, name)) => Some(Unplaced::NotMapped(path, Some(name))),
+            None => Some(Unplaced::NotMapped(path, None)),
+        },
+        NoBase::NoCode => Some(Unplaced::NoCode(path)),
+        NoBase::Several => Some(Unplaced::Several(path)),
+    }
+}
+
+/// Reads all files of a text, in their order. One that is refused is reported by its path, and the others follow.
+/// `None` where the maps have no mapping.
+///
+/// # Errors
+///
+/// Those of `refuse`; `OutOfMemory` where an allocation for the list fails.
+pub fn read_files<F: Read + Source<Log = ()> + Drop, Y: System<F>>(
+    alloc: Global,
+    system: &mut Y,
+    given: &Given<'_, '_, '_>,
+    symbols: &Symbols<'_>,
+) -> Result<Option<Vec<Placed<F>>>, Fault> {
+    let mut files = Vec::new(alloc);
+    for place in 0..given.words.operands.len() {
+        match read_file(alloc, system, given, place, symbols)? {
+            ReadFile::Placed(file) => match files.push(file) {
+                Ok(()) => {}
+                Err(_) => return Err(Fault::from(AllocError)),
+            },
+            ReadFile::Refused => {}
+            ReadFile::NoMaps => return Ok(None),
+        }
+    }
+    Ok(Some(files))
+}
+
+// Reads the file at a place. One that is refused is reported.
+fn read_file<F: Read + Source<Log = ()> + Drop, Y: System<F>>(
+    alloc: Global,
+    system: &mut Y,
+    given: &Given<'_, '_, '_>,
+    place: usize,
+    symbols: &Symbols<'_>,
+) -> Result<ReadFile<F>, Fault>
+    ensures { IfOk result (λ r. IsReadFile (given_view given.now.words.now) place
+        (Y.reports system.old) (Y.reports system.new) r) }
+{
+    let Some(opened) = open_at(alloc, system, given, place)? else {
+        return Ok(ReadFile::Refused);
+    };
+    let Opened {
+        file,
+        loaded,
+        origin,
+    } = opened;
+    let tables = match tables_of(alloc, &file, symbols) {
+        Ok(tables) => tables,
+        Err(e) => {
+            refuse(
+                alloc,
+                system,
+                file_at(given.words, place),
+                &file,
+                Fault::from(e),
+            )?;
+            return Ok(ReadFile::Refused);
+        }
+    };
+    let is_alone = given.words.operands.len() == 1;
+    match place_at(alloc, system, given, place, loaded) {
+        Place::At(base) => Ok(ReadFile::Placed(Placed {
+            place,
+            alone: if is_alone { Some(file) } else { None },
+            tables,
+            base,
+            linked: loaded.address,
+            origin,
+        })),
+        Place::Refused => Ok(ReadFile::Refused),
+        Place::NoMaps => Ok(ReadFile::NoMaps),
+    }
+}
+
+/// The function symbols of files, arranged for lookups, each with the file's index among these. One that is refused is
+/// reported by its path.
+///
+/// # Errors
+///
+/// `OutOfMemory` where an allocation for the list fails.
+pub fn places_of_files<'b, F: Read + Source<Log = ()> + Drop, Y: System<F>>(
+    alloc: Global,
+    system: &mut Y,
+    given: &Given<'_, '_, '_>,
+    files: &'b [Placed<F>],
+) -> Result<Vec<(usize, Places<'b>)>, Fault> {
+    let mut found = Vec::new(alloc);
+    for (at, file) in files.iter().enumerate() {
+        match places_of(alloc, &file.tables) {
+            Ok(places) => match found.push((at, places)) {
+                Ok(()) => {}
+                Err(_) => return Err(Fault::from(AllocError)),
+            },
+            Err(fault) => system.report(file_at(given.words, file.place), fault, None),
+        }
+    }
+    Ok(found)
+}

@@ -1,6 +1,5 @@
 #!/usr/bin/env python3
-"""Counts the functions and the lines of code of each crate, and ends with status 1 if one isn't below its bounds, or if an exception
-to them is no longer needed.
+"""Counts the functions and the lines of code of each crate, and ends with status 1 if one isn't below its bounds.
 
 Counted are the files that `mod` items reach from src/lib.rt or src/main.rt, tests among them. A function is an `fn` with a name
 and a body. A line of code is a line on which something is left once comments, contracts (`requires`, `ensures` and all `ghost`
@@ -13,8 +12,6 @@ import re
 import sys
 
 FUNCTIONS, LINES = 100, 1500
-# Crates that are still to be split, and their bounds on functions.
-EXCEPTIONS = {"binfarce_addresses": 132, "binfarce_sections": 120}
 CRATES = pathlib.Path(__file__).resolve().parent.parent / "crates"
 # What may hold a brace, a quote or a slash that is none: comments, texts and characters (a lifetime has no second ').
 TOKENS = re.compile(r"""//[^\n]*|b?"(?:\\.|[^"\\])*"|b?'(?:\\[^']+|[^'\\])'""", re.S)
@@ -81,12 +78,7 @@ def main():
         source = CRATES / name / "src"
         root = next(source / file for file in ("lib.rt", "main.rt") if (source / file).is_file())
         functions, lines = counted(root, source)
-        if functions >= EXCEPTIONS.get(name, FUNCTIONS) or lines >= LINES:
-            fault = "not below the bound"
-        elif name in EXCEPTIONS and functions < FUNCTIONS:
-            fault = "no exception is needed"
-        else:
-            fault = ""
+        fault = "not below the bound" if functions >= FUNCTIONS or lines >= LINES else ""
         failed += [name] * bool(fault)
         print(("%-24s %9d %6d  %s" % (name, functions, lines, fault)).rstrip())
     sys.exit(1 if failed else 0)

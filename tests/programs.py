@@ -59,7 +59,16 @@ def reads(output, *call):
     writes(output, sample, *call)
     for path in (*same[1:], "/dev/stdin"):
         ends(0, output, "", *call, path, given=large)
-    ends(0, output, "", *call, sparse, under=("sh", "-c", 'ulimit -v 65536; exec "$0" "$@"'))
+    for path in (sparse, far):
+        ends(0, output, "", *call, path, under=("sh", "-c", 'ulimit -v 65536; exec "$0" "$@"'))
+
+def system_calls(*words, given="/dev/null"):
+    """How binfarce reads, and asks for lengths: the name, the offset and the result of each call, in order."""
+    log = pathlib.Path(scratch, "calls")
+    log.unlink(missing_ok=True)
+    streams = {"input": given} if isinstance(given, bytes) else {"stdin": os.open(given, os.O_RDONLY)}
+    subprocess.run([*broken(CALLS=log), folder / "binfarce", *words], capture_output=True, **streams)
+    return [(name, int(at), int(got)) for name, at, got in map(str.split, log.read_text().splitlines())]
 
 def answers(answer, line, *words):
     """The answer to a line must be there while its writer still waits."""
@@ -93,16 +102,19 @@ is_static = "INTERP" not in printed("readelf", "-lW", folder / "binfarce")
 os.chdir(pathlib.Path(__file__).resolve().parent.parent)
 sample, scratch = "crates/binfarce_list/data/e-elf64-little.bin", temporary.name
 printed("gcc", "-shared", "-fPIC", "-o", f"{scratch}/broken.so", "tests/broken.c")
-files = [f"{scratch}/{it}" for it in (" a  file ", "large", "sparse", "cut", "begun", "byte", "escaped", "names", "none")]
-blanks, large, sparse, truncated, begun, byte, escaped, names, missing = files
+files = [f"{scratch}/{it}" for it in (" a  file ", "large", "sparse", "cut", "begun", "byte", "escaped", "names", "far", "none")]
+blanks, large, sparse, truncated, begun, byte, escaped, names, far, missing = files
 data = pathlib.Path(sample).read_bytes()
 text = "thread 'main' panicked at a.rs:5:9:\n   1: {0}\n             at ./a.rs:5:9\n   2: {1}\n(gdb) #3  0x0000555555598ff9 in {2} ()\n"
 text += "   1ce05:\tcall   1beb0 <{0}+0x1f>\nin {1}. 1.0-RC0 _RNvC1cu2_1a\n"
 mangled = text.format("_ZN3foo3bar17h05af221e174051e9E", "_RNvC1a1b", "_RNvNtCsjrHSEGnQ3l9_3std7process5abort").encode()
 other_name = data.replace(b"_ZN3foo3barE", b'a"\\\n\x01\x7f\xc3\xa9;:<>')
-for path, content in zip(files, (data, data + bytes(1 << 22), data, data[:395], data[:8], data[:1], other_name, mangled)):
+for path, content in zip(files, (data, data + bytes(1 << 22), data, data[:395], data[:8], data[:1], other_name, mangled, data)):
     pathlib.Path(path).write_bytes(content)
 os.truncate(sparse, 8 << 30)
+# Its section headers lie past 4 GiB.
+with open(far, "r+b") as file:
+    file.seek(40), file.write(struct.pack("<Q", 5 << 30)), file.seek(5 << 30), file.write(data[267:])
 # Files whose length isn't the number of their bytes: the words of a program that waits, with a zero byte after each; a few digits.
 waiting = subprocess.Popen(data.split(b"\0"), executable="yes", stdout=subprocess.PIPE)
 waiting.stdout.read(1)
@@ -144,6 +156,10 @@ for command, output in outputs.items():
     fails(full, 0, "", *call, sample)
     reads(output, *call)
     ends(0, output, "", *call, "--", "-", given=sample)
+    # Of a file on disk each part is read once: its last byte, what names its kind, its format, its header, that of the sections' names,
+    # these, and the section headers; the strings and the symbol table. So many reads at offsets are enough.
+    ends(0, output, "", *call, sample, under=broken(PREADS=7 if command == "section" else 9, ERROR=errno.EIO))
+    ends(1, "", f"binfarce: {sample}: Input/output error", *call, sample, under=broken(PREADS=3, ERROR=errno.EIO))
     for path, line in ((scratch, is_folder), (missing, not_there), (of_sys, is_text), ("/dev/null", is_empty), ("/dev/zero", unknown)):
         ends(1, "", f"binfarce: {path}: {line}", *call, path)
     usage = printed(folder / "binfarce", command, "--help")
@@ -169,14 +185,32 @@ for left, error in ((left, error) for left in range(len(shown) * (not is_static)
     call = *broken(WRITE=left, MOST=7, ERROR=error), folder / "binfarce", "list", missing, sample, begun, sample
     run = subprocess.run(call, stdin=subprocess.DEVNULL, capture_output=True, text=True)
     said = re.sub("binfarce: standard output: .*\n", "", run.stderr)
-    assert run.stdout == shown[:left] and lines.startswith(said) and run.returncode == (error == 0), f"{left} {error}: {run}"
+    told = lines if 2 * left >= len(shown) else f"{lost}\n"
+    assert run.stdout == shown[:left] and said == told and run.returncode == (error == 0), f"{left} {error}: {run}"
+ends(0, f"\n{{path}}:\n{outputs['list']}" * 2, "", "binfarce", "list", *["./" * 1500 + sample] * 2, under=broken(MOST=7))
+nothing_taken = *broken(WRITE=0, ERROR=0), folder / "binfarce", "list", sample
+assert is_static or subprocess.run(nothing_taken, capture_output=True).returncode == 1, "a write that takes nothing doesn't fail"
 version = re.search(r'^version = "(.*)"$', pathlib.Path("rust/Cargo.toml").read_text(), re.M)[1]
 ends(0, f"binfarce {version}\n", "", "binfarce", "--version")
 ends(0, printed(folder / "binfarce", "--help"), "", "binfarce", "help")
+for words in (("--help",), ("list", sample, sample), ("section", sample, ".strtab"), ("list", "--json", missing)):
+    ends(1, "", full if words[-1] != missing else f"{lost}\n{full}", "binfarce", *words, to=open("/dev/full", "wb"))
+# Arguments that begin with a control character or U+FFFD are as any; so are an empty one, and more than a hundred.
+for path in (f"\1{missing}", f"\ufffd{missing}", ""):
+    ends(1, "", "binfarce: " + path.replace("\1", "\\u0001") + f": {not_there}", "binfarce", "list", path)
+ends(0, "a::b\n\n" * 200, "", "binfarce", "filter", *("_RNvC1a1b", "") * 200)
 # Wrong calls, one of each place that refuses them: the texts have contracts.
 for line, *words in (("no command lst; the nearest is list", "lst", sample), ("argument 1 is not UTF-8", b"\xff"),
                      ("argument 3 is not UTF-8", "list", "--section", b"\xff", sample), ("argument 2 is not UTF-8", "at", b"\xff", "1"),
                      ("argument 2 is not UTF-8", "filter", b"\xff"), ("argument 2 is not UTF-8", "list", b"--all\xff", "--frob"),
+                     ("argument 3 is not UTF-8", "diff", sample, b"\xff"), ("argument 2 is not UTF-8", "map", b"\xff"), ("argument 2 is not UTF-8", "section", b"\xff"),
+                     ("argument 3 is not UTF-8", "size", "--section", b"\xff", b"\xff"), ("argument 2 is not UTF-8", "list", b"\xff", "--section", b"\xff", sample),
+                     ("argument 2 is not UTF-8", "help", b"\xff"), ("argument 2 is not UTF-8", "--version", b"\xff"), ("argument 3 is not UTF-8", "size", "--help", b"\xff"),
+                     ("argument 4 is not UTF-8", "map", sample, sample, b"\xff"), ("argument 3 is not UTF-8", "at", "--base=401005", b"\xff"),
+                     ("--base takes the address of a page, a multiple of 0x1000, and not 0x401005", "at", "--base=0x401005", sample, "401005"),
+                     ("--base takes the address of a page, a multiple of 0x1000, and not 400fff", "at", "--base", "400fff", "--base=400000", sample, "401005"),
+                     ("--base takes the address of a page, a multiple of 0x1000, and not 0x800", "at", "--annotate", "--base=0", "--base=0x800", sample, sample),
+                     ("not an address: 40000g", "at", "--base=40000g", sample, "401005"),
                      ("not an address: 10g", "at", sample, "1000", "10g"), ("no option --srot of list; the nearest is --sort", "list", "--srot", sample),
                      ("--by takes crate, function, function-section, generic or section, and not crates", "size", "--by=crates", sample),
                      ("--first takes a number, and not x", "list", "-nx", sample), ("no option -é of list; binfarce list --help shows them", "list", "-é", sample),
@@ -189,11 +223,34 @@ for path in (sample, large, of_proc, "-"):
 lines = f"{0:016x} {64:10} {0:10} \n{0:016x} {64:10} {32:10} \n"
 ends(1, lines, f"binfarce: {truncated}: {ended}", "binfarce", "section", truncated)
 ends(1, "", f"binfarce: {sample}: no section of this name", "binfarce", "section", sample, ".data")
+total = f"{587:10} {587:10} {'+0':>11} {'+0':>11} [total]\n"
+for count, output, *words in ((8, "\0_ZN3foo3barE\0bad\0", "section", sample, ".strtab"), (18, f"{16:10} {16:10} {'+0':>11} [total]\n", "diff", sample, sample),
+                              (14, total, "diff", "--by=section", sample, sample), (9, f"{0x1000:016x} foo+0x0\n", "at", "--section=.text", sample, "1000"),
+                              (7, f"{203:10} {0:10} [4 others]\n{384:10} {0:10} [headers and gaps]\nsum 587\n", "size", "--by=section", "-n0", sample)):
+    ends(0, output, "", "binfarce", *words, under=broken(PREADS=count, ERROR=errno.EIO))
 
 # Of a pipe without an end that no reader reads only the first bytes are read.
 for writer, line in (("yes", is_text), ("cat /dev/zero", unknown)):
     for command in ("list", "size", "section"):
         ends(1, "", f"binfarce: -: {line}", "binfarce", command, "-", under=("sh", "-c", f'{writer} | timeout 60 "$0" "$@"'))
+# These are the first 512, in one read: of a pipe of packets a shorter read loses the rest of one. What comes behind them isn't read.
+for first, line in ((b"a" * 512, is_text), (b"a" * 511 + b"\0", unknown), (b"!<arch>\n" + bytes(504), "an archive; `ar x FILE` extracts its members")):
+    reader, writer = os.pipe2(os.O_DIRECT)
+    os.write(writer, first)
+    os.write(writer, b"\0rest")
+    os.close(writer)
+    ends(1, "", f"binfarce: /dev/stdin: {line}", "binfarce", "list", "/dev/stdin", given=f"/dev/fd/{reader}")
+    assert os.read(reader, 9) == b"\0rest", "more of a pipe is read than its first bytes"
+
+# A file's length is asked once, and its beginning read once; a pipe isn't read byte by byte.
+if not is_static:
+    for words in (["list"], ["list", "--all"], ["size"], ["map"], ["section"], ["at", "1000"], ["at", "--base=400000", "401000"]):
+        for path in (sample, large, "rust/samples/macho.bin", "rust/samples/pe.bin", assembled("no-functions", 4096)):
+            made = system_calls(words[0], path, *words[1:])
+            asked, start = [name for name, *_ in made], [it for it in made if it[0] == "pread" and it[1] < 512]
+            assert asked.count("statx") == 1 and "read" not in asked and len(start) == 1 and len(made) <= 12, f"{words} {path}: {made}"
+        made = system_calls(words[0], "/dev/stdin", *words[1:], given=data)
+        assert len(made) <= 6, f"{words} of a pipe: {made}"
 
 # Names on standard input, and as arguments.
 fails(full, 0, "", "binfarce", "filter", given=names)
@@ -201,6 +258,7 @@ ends(0, text.format("foo::bar", "a::b", "std::process::abort"), "", "binfarce", 
 ends(1, "", "binfarce: standard input: Is a directory", "binfarce", "filter", given=scratch)
 words = ("_RNvC1a1b", "--full", "_ZN3foo3bar17h05af221e174051e9E", "--", "-x")
 ends(0, "a[0]::b\nfoo::bar::h05af221e174051e9\n-x\n", "", "binfarce", "filter", *words)
+ends(0, "a[0]::b\n", "", "binfarce", "filter", "--full", given=b"_RNvC1a1b\n")
 answers("in a::b\n", b"in _RNvC1a1b\n", "filter")
 
 # Addresses as arguments, and on standard input; and in a text.
@@ -225,6 +283,9 @@ for under in ((), broken(MOST=1)):
     ends(0, noted, "", *base, "--annotate", given=text, under=under)
     ends(0, noted + b" <foo+0x10>", "", *returned, "--annotate", given=text, under=under)
 fails(full, 0, "", *base, "--annotate", given=text)
+# Of the file it reads what list reads; where it is loaded is in what names its format, and in its header.
+for count, words, answer, given in ((9, (*at, sample), f"{0x1000:016x} foo+0x0\n", b"1000\n"), (11, (*base, "--annotate"), "0x401000 <foo+0x0>\n", b"0x401000\n")):
+    ends(0, answer, "", *words, given=given, under=broken(PREADS=count, ERROR=errno.EIO))
 # Where no address that is found is one of a function symbol, it says so.
 missed, none = (f"binfarce: {sample}: 0 of {count} addresses are in a function symbol; is --base right?" for count in (2, 1))
 ends(0, f"{0x1000:016x} ??\n{0x1005:016x} ??\n", missed, *base, "1000", "1005")
@@ -234,9 +295,12 @@ none_found = f"{{\"file\":\"{sample}\",\"address\":\"0x{0x1000:016x}\",\"name\":
 ends(0, none_found, none, *base, "--json", "1000")
 ends(0, f"{0x2000:016x} ??\n", f"binfarce: {sample}: 0 of 1 addresses are in a function symbol; --base or --maps is needed for addresses in memory", *at, sample, "2000")
 ends(0, b"at 1000\n", "binfarce: standard input: no address in the text; --bare takes those without 0x, too", *base, "--annotate", given=b"at 1000\n")
+ends(0, b"at x\n", "binfarce: standard input: no address in the text", *base, "--annotate", "--bare", given=b"at x\n")
 ends(0, "", "", *base, "--annotate", given=b"")
 answers(f"{0x1000:016x} foo+0x0\n", b"1000\n", "at", "--section=.text", sample)
 answers("at 0x401000 <foo+0x0>\n", b"at 0x401000\n", *base[1:], "--annotate")
+answers("at 0x401000 <foo+0x0> 0\n", b"at 0x401000 0\n", *base[1:], "--annotate")
+answers("00401000 <foo+0x0>\n", b"00401000\n", *base[1:], "--annotate", "--bare")
 # Where a program's own maps load the file, by its name or another; bare words; and offsets, of this file alone.
 maps, text = f"{scratch}/maps", "".join(f"{start}-{start[:-4]}9000 r-xp 00000000 fe:00 110{path}\n" for start, path in
     (("7f0000001000", "  /lib/other"), ("000000401000", f"  /x/{os.path.basename(sample)}"), ("000000400000", f"  /y z/{os.path.basename(sample)}"), ("7ffc26ab1000", " [stack]"), ("7ffd26ab1000", "")))
@@ -262,6 +326,9 @@ ends(2, "", "binfarce: --as comes once for each file, in their order, or not at 
 ends(1, "0x401005 0x7f0000001005 other.so+0x1005 <foo+0x5> x/other.so(+0x1005 <foo+0x5>) 0x1005 <foo+0x5> libother.so+0x1005\n", lost, *several, missing, given=both)
 ends(1, "", lost, *at, "--annotate", missing, given=both)
 ends(1, b"0x401005 <foo+0x5> 0x1005\n", lost, *at, "--annotate", "--base=0", "--base=400000", missing, sample, given=b"0x401005 0x1005\n")
+ends(1, b"a+0x1005 b+0x1005 <foo+0x5>\n", lost, *at, "--annotate", "--as=a", "--as=b", missing, sample, given=b"a+0x1005 b+0x1005\n")
+ends(0, b"0x401010 <foo+0x10> 0x7f0000001010 <foo+0x10>\n", "", *several, "--return", "--base=400000", "--base=7f0000000000", given=b"0x401010 0x7f0000001010\n")
+ends(0, b"00401005 <foo+0x5>\n", "", *several, "--bare", "--base=0", "--base=400000", given=b"00401005\n")
 others = "binfarce: standard input: offsets ({}) behind other names than the file's; --as=NAME takes those behind one of these"
 ends(0, b"libother.so+0x1005 main+0x1f2e\n", others.format(2), *several, given=b"libother.so+0x1005 main+0x1f2e\n")
 # Behind a name that a function of the file has, too, a word `main+0x12` is an offset into the function, as perf writes it; others are in the file.
@@ -290,6 +357,15 @@ logged = log.replace("0x401005", "0x401005 <foo+0x5>")
 ends(1, logged, f"binfarce: {twin}: {unmapped.format(f'{twin} or twin.so')}", *several[:-1], twin, "--maps=-", given=log.encode())
 ends(0, logged, "", *several[:-1], "--maps=-", given=log.encode())
 ends(1, "", f"binfarce: {twin}: {unmapped.format(f'{twin} or twin.so')}", *several[:-2], twin, "--maps=-", given=log.encode())
+# A log is read to its end, also by reads that are short or interrupted, and one of more than 256 MiB is refused.
+long = log + "y" * (1 << 20) + "\n0x401005"
+for given, under in ((long, ()), (log, broken(MOST=1))):
+    ends(0, given.replace("0x401005", "0x401005 <foo+0x5>"), "", *several[:-1], "--maps=-", given=given.encode(), under=under)
+pathlib.Path(path := f"{scratch}/long").touch()
+os.truncate(path, (1 << 28) + 1)
+ends(1, "", "binfarce: standard input: the text is longer than 256 MiB; --maps=FILE takes a copy of its maps", *several[:-1], "--maps=-", given=path)
+ends(1, "", "binfarce: standard input: Is a directory", *several[:-1], "--maps=-", given=scratch)
+ends(0, f"{0x501005:016x} ??\n", f"binfarce: {sample}: 0 of 1 addresses are in a function symbol; are --maps and the addresses of one process?", *mapped, "501005")
 refusal = json.dumps({"file": sample, "error": unmapped.format("x")}, separators=(",", ":")) + "\n"
 ends(1, refusal, f"binfarce: {sample}: {unmapped.format('x')}", *mapped, "--json", "--as=x", "401005")
 # An offset may have fewer digits than an address.
@@ -297,6 +373,7 @@ short = f"0x5 {os.path.basename(sample)}(+0x5)\n".encode()
 ends(0, short, f"binfarce: {sample}: 0 of 1 addresses are in a function symbol; is --base right?", *at, "--annotate", "--base=0", sample, given=short)
 ends(0, f"pc 0x401005 <foo+0x5>\n{text}0x401005 <foo+0x5>\n", "", *at, "--annotate", "--maps=-", sample, given=f"pc 0x401005\n{text}0x401005\n".encode())
 ends(2, "", "binfarce: no line of - is one of /proc/PID/maps", *at, "--annotate", "--maps=-", sample, given=b"pc 0x401005\n")
+ends(0, text, "binfarce: standard input: no address in the text; --bare takes those without 0x, too", *at, "--annotate", "--maps=-", sample, given=text.encode())
 ends(0, f"{0x401005:016x} foo+0x5\n", "", *at, sample, "--maps=-", "401005", given=text.encode())
 ends(2, "", "binfarce: --maps needs --annotate", *at, sample, "--maps=-", given=b"1000\n")
 ends(2, "", "binfarce: --base and --maps exclude each other", *mapped, "--base=0", "1000")
@@ -318,6 +395,17 @@ code_at = (*at, "--maps=/dev/stdin", linked)
 ends(0, f"{0x400005:016x} foo+0x5\n", "", *code_at, "400005", given=(read + code).encode())
 ends(1, "", f"binfarce: {linked}: linked is at several addresses in the maps; give --base in place of --maps, or --as=PATH for one of several paths", *code_at, "--as=linked", "400005", given=(read + code + again).encode())
 ends(0, f"{0x500005:016x} foo+0x5\n", "", *code_at, "--as=y/linked", "500005", given=(read + code + again).encode())
+# Linux's line on a fault is a mapping of the code, with the offset in the file of the faulting address, or in older kernels without.
+for fault in ("ip 0000000000400005 sp 0 error 4 in linked[5,400000+1000] likely on CPU 1", "ip 0000000000400005 sp 0 error 4 in linked[400000+1000]", "ip:400005 sp:0 error:0 in linked[5,400000+1000]"):
+    ends(0, f"{0x400005:016x} foo+0x5\n", "", *code_at, "400005", given=f"[ 3.7] linked[7]: segfault at 0 {fault}\n".encode())
+# Other mappings of a file with code don't place it, but for that of its first byte.
+for kind, offset in (("r--p", "00005000"), ("r-xp", "00001000")):
+    ends(1, "", f"binfarce: {linked}: the maps don't have the code of {linked}, or its first byte; give --base, or more of the maps", *code_at, "400005",
+        given=f"00400000-00401000 {kind} {offset} fe:00 11 {linked}\n".encode())
+ends(0, f"{0x400005:016x} foo+0x5\n", "", *code_at, "400005", given=f"00400000-00401000 r--p 00000000 fe:00 11 {linked}\n".encode())
+fault = "linked[7]: segfault at 0 ip 0000000000400005 sp 0 error 4 in linked[5,400000+1000]\n"
+ends(0, fault.replace(" sp", " <foo+0x5> sp"), "", *at, "--annotate", "--bare", "--maps=-", linked, given=fault.encode())
+ends(2, "", "binfarce: no line of /dev/stdin is one of /proc/PID/maps", *code_at, "400005", given=fault.replace("ip 0000000000400005", "ip 00000000003ff005").encode())
 data[56] = 2
 pathlib.Path(linked).write_bytes(data)
 ends(0, f"{0x1005:016x} foo+0x5\n", "", *at, linked, "1005")
@@ -325,6 +413,7 @@ ends(1, "", f"binfarce: {linked}: {ended}", *at, "--base=400000", linked, "40000
 for option in ((), ("--annotate",)):
     ends(1, "", "binfarce: standard input: Is a directory", *at, *option, sample, given=scratch)
     ends(1, "", lost, "binfarce", "at", *option, missing, given=b"1000\n")
+ends(1, '{"file":"standard input","error":"Is a directory"}\n', "binfarce: standard input: Is a directory", *at, "--json", sample, given=scratch)
 
 # The dynamic symbols of a library, as readelf has them; stripped, it has no others.
 library, stripped = printed("gcc", "-print-file-name=libc.so.6").strip(), f"{scratch}/stripped"
@@ -339,14 +428,22 @@ build_id = re.search("Build ID: (..)(.*)", printed("readelf", "-n", stripped))
 printed("objcopy", "--remove-section=.gnu_debuglink", stripped)
 line = f"{stripped}: no symbol table (.symtab): it is stripped\nbinfarce: {stripped}: --dynamic --all takes {len(symbols)} function symbols\n"
 line += f"binfarce: {stripped}: its debug symbols may be in /usr/lib/debug/.build-id/{build_id[1]}/{build_id[2]}.debug"
-for words in (["list"], ["size", "--all"], ["map"], ["diff", sample], ["at", "--base=1"]):
+for words in (["list"], ["size", "--all"], ["map"], ["diff", sample], ["at", "--base=1000"]):
     ends(1, "", f"binfarce: {line}", "binfarce", *words, stripped)
+starts = [row[0] for row in symbols]
+address, name = next((row[0], row[3]) for row in symbols if starts.count(row[0]) == 1)
+ends(0, f"0x{address} <{name}+0x0>\n", "", "binfarce", "at", "--annotate", "--dynamic", stripped, given=f"0x{address}\n".encode())
 # With a debug link, and of a program without dynamic function symbols.
 program, line = f"{scratch}/program", f"{scratch}/program: no symbol table (.symtab): it is stripped"
-printed("gcc", "-Wl,--build-id=0x0123456789", "-o", program, "-x", "c", "-", given="int main() { return 0; }")
+printed("gcc", "-Wl,--build-id=0x0102030405", "-o", program, "-x", "c", "-", given="int main() { return 0; }")
 printed("strip", program)
 printed("objcopy", f"--add-gnu-debuglink={sample}", program)
-line += f"\nbinfarce: {program}: its debug symbols may be in /usr/lib/debug/.build-id/01/23456789.debug, or in a file {sample.split('/')[-1]}"
+line += f"\nbinfarce: {program}: its debug symbols may be in /usr/lib/debug/.build-id/01/02030405.debug"
+ends(1, "", f"binfarce: {line}, or in a file {sample.split('/')[-1]}", "binfarce", "list", program)
+# One with control characters isn't printed.
+pathlib.Path(control := f"{scratch}/\x1b[31m").write_bytes(b"")
+printed("objcopy", "--remove-section=.gnu_debuglink", program)
+printed("objcopy", f"--add-gnu-debuglink={control}", program)
 ends(1, "", f"binfarce: {line}", "binfarce", "list", program)
 
 # Listings in an order, of the first lines, and with stored names, as nm has the symbols.
@@ -369,10 +466,15 @@ ends(0, lines, "", "binfarce", "list", "--all", file)
 bytes_of_all = sum(int(row[2], 16) for row in rows)
 ends(0, "{0:10} [unknown]\nsum {0}\n".format(bytes_of_all), f"binfarce: {file}: {bytes_of_all} of {bytes_of_all} bytes {nameless}", "binfarce", "size", "--all", file)
 ends(0, f"{2:016x} g+0x2\n", "", "binfarce", "at", "--section=.text.g", file, "2")
+ends(0, "0x0002 <g+0x2>\n", "", "binfarce", "at", "--annotate", "--section=.text.g", file, given=b"0x0002\n")
 shared = f"binfarce: {file}: its sections share addresses; --section=NAME takes one of them"
 for option in ((), ("--all",)):
     ends(1, "", shared, "binfarce", "at", *option, file, "2")
     ends(1, "", shared, "binfarce", "at", *option, file, given=b"2\n")
+pe = "rust/samples/pe-image.bin"
+ends(1, "0x401017 <g+0x7> x+0x1017 y+0x1017 <g+0x7>\n", shared, "binfarce", "at", "--annotate", "--base=0", "--base=400000", "--as=x", "--as=y", file, pe, given=b"0x401017 x+0x1017 y+0x1017\n")
+ends(1, "0x401017 <g+0x7> x+0x1017 y+0x1017 <g+0x7>\n", shared, "binfarce", "at", "--annotate", "--base=400000", "--base=0", "--as=y", "--as=x", pe, file, given=b"0x401017 x+0x1017 y+0x1017\n")
+ends(1, "0x1005 <foo+0x5>\n", f"binfarce: {line}", *at, "--annotate", sample, program, given=b"0x1005\n")
 
 # Hints, beside a result and beside a refusal.
 hint = f"binfarce: {file}: no function symbols in the section; --all takes 3"
@@ -391,7 +493,23 @@ for hint, path, *option in others:
     for words, output in ((["list", "--all"], ""), (["list", "--json", "--all"], ""), (["size", "--all"], "sum 0\n"), (["size", "--by=function-section"], "sum 0\n"),
                           (["map", "--folded", "--all"], ""), (["list", "-n", "0"], ""), (["list", "--json"], "")):
         ends(0, output, f"binfarce: {path}: {hint}", "binfarce", *words, *option, path)
+line = f"binfarce: {empty}, {sample}: 0 of 1 addresses are in a function symbol; --base or --maps is needed for addresses in memory"
+ends(0, "0x3000\n", line, *at, "--annotate", empty, sample, given=b"0x3000\n")
+ends(0, "0x3000\n", f"binfarce: {empty}: no function symbols", *at, "--annotate", empty, given=b"0x3000\n")
+ends(0, "", "", "binfarce", "list", "--all", "-n0", file)
+ends(0, "", f"binfarce: {library}: no function symbols in the section; --all takes {len(symbols)}", "binfarce", "list", "--dynamic", "--section=.data", "-n0", library)
+ends(0, f"{0:10} {0:10} {'+0':>11} [total]\n", f"binfarce: {empty}: no function symbols\nbinfarce: {file}: no function symbols in the section; --all takes 3", "binfarce", "diff", empty, file)
+# Debug symbols are looked for where .symtab is missing, and not for .dynsym.
+printed("gcc", "-static", "-nostdlib", "-Wl,--build-id=0x0102030405", "-o", f"{scratch}/static", "-x", "assembler", "-", given=".globl _start\n_start: nop\n")
+ends(1, "", f"binfarce: {scratch}/static: no dynamic symbol table (.dynsym)", "binfarce", "list", "--dynamic", f"{scratch}/static")
 ends(0, f"{1:016x} ??\n", f"binfarce: {program}: no function symbols in .dynsym", "binfarce", "at", "--dynamic", program, "1")
+# A message is one line, and has no control character of a name or a word.
+forged = f"{scratch}/o\nbinfarce: o: no such file\x1b[2J\x7f\x9b"
+shown = forged.replace("\n", "\\u000a").replace("\x1b", "\\u001b").replace("\x7f", "\\u007f").replace("\x9b", "\\u009b")
+pathlib.Path(forged).write_bytes(pathlib.Path(file).read_bytes())
+ends(0, "text 0\n", f"binfarce: {shown}: no function symbols in the section; --all takes 3", "binfarce", "list", forged)
+ends(1, "", f"binfarce: {shown}+: {not_there}", "binfarce", "list", f"{forged}+")
+ends(2, "", "binfarce: not an address: 1\\u001b", "binfarce", "at", forged, "1\x1b")
 
 # What no reader reads is refused by every command, by its first bytes, also from a pipe that doesn't end, and as a JSON object.
 thumb, wrapped = b"\xc4\1\1" + bytes(17), b"\xde\xc0\x17\x0b"
@@ -424,7 +542,7 @@ ends(1, "", f"binfarce: {scratch}/names: {is_text}", "binfarce", "list", "--all"
 rows = [("_RNvC1a1f", 0, 16), ("_RNvC1a1g", 8, 16), ("_RNvC3std1h", 24, 4), ("c", 28, 2), ("_RINvC1b1fhE", 30, 4), ("_RINvC1b1ftE", 34, 5)]
 old, new = assembled("old", 40, *rows), assembled("new", 40, *rows[:3], ("_RNvC1a1i", 28, 8))
 for lines, *words in (("24 a|9 b|4 std|2 [unknown]",), ("24 a|9 b|4 std|2 [unknown]", "--by=crate"), ("39 text", "--by=function-section", "--section=.text"),
-                      ("16 a::g|8 a::f|5 b::f::<u16>|4 b::f::<u8>|4 std::h|2 c", "--by=function"), ("24 a|9 b|4 [std]|2 [unknown]", "--std"),
+                      ("16 a::g|8 a::f|5 b::f::<u16>|4 b::f::<u8>|4 std::h|2 c", "--by=function"), ("24 a|9 b|4 [std]|2 [unknown]", "--std"), ("24 a|9 b|4 [std]|2 [unknown]", "--by=crate", "--std"),
                       ("16      1 a::g|9      2 b::f::<..>|14      3 [3 others]", "--by=generic", "-n", "2"),
                       ("24  60.00% a|15  37.50% [3 others]", "--percent", "--first=1")):
     lines = "".join(f"{size:>10} {name}\n" for size, name in (it.split(" ", 1) for it in lines.split("|")))
@@ -466,6 +584,8 @@ for section, address, size in sorted((int(section), int(address, 16), int(size, 
     sums[names[section]] = sums.get(names[section], 0) + max(0, address + size - start[1])
 lines = "".join(f"{size:10} {name}\n" for name, size in sorted(sums.items(), key=lambda it: (-it[1], it[0]))) + f"sum {sum(sums.values())}\n"
 ends(0, lines, "", "binfarce", "size", "--by=function-section", "--dynamic", library)
+for size, *words in ((sum(sums.values()), "--all"), (sums[".text"],)):
+    ends(0, f"{size:10} {size:10} {'+0':>11} [total]\n", "", "binfarce", "diff", "--dynamic", *words, library, library)
 
 # The bytes of a file by section, counted by hand: a header of 64 bytes, 5 section headers of 64, and the sections between.
 for count, sums in ((None, "120 .symtab|33 .shstrtab|32 .text|18 .strtab"), ("2", "120 .symtab|33 .shstrtab|50 [2 others]")):
@@ -485,9 +605,13 @@ differ = sorted(((name, *was.get(name, [0, 0]), *now.get(name, [0, 0])) for name
                 key=lambda it: (-abs(it[3] - it[1]), -abs(it[4] - it[2]), it[0]))
 assert len(differ) > 1, "no sections differ"
 whole = ("[total]", *(sum(it[k] for it in sums.values()) for sums in (was, now) for k in (0, 1)))
-def changed(rows):
-    return "".join(f"{b:10} {d:10} {d - b:+11} {e - c:+11} {name}\n" for name, b, c, d, e in rows)
+def changed(rows, growth=""):
+    return "".join(f"{b:10} {d:10} {d - b:+11} {e - c:+11} {growth and growth(b, d)}{name}\n" for name, b, c, d, e in rows)
+def growth(was, now):
+    per_cent = f"{'-' if now < was else '+'}{abs(now - was) * 100 // was}.{abs(now - was) * 10000 // was % 100:02}%" if was else "new"
+    return f"{per_cent:>10} "
 ends(0, changed([*differ, whole]), "", "binfarce", "diff", "--by=section", old, new)
+ends(0, changed([*differ, whole], growth), "", "binfarce", "diff", "--by=section", "--percent", old, new)
 others = (f"[{len(differ) - 1} others]", *(sum(it[k] for it in differ[1:]) for k in (1, 2, 3, 4)))
 ends(0, changed([differ[0], others, whole]), "", "binfarce", "diff", "--by=section", "-n", "1", old, new)
 # A limit for the growth of the file, which doesn't hold for one that shrinks.
@@ -498,14 +622,21 @@ for before, after, growth, rows in ((old, new, by, [*differ, whole]), (new, old,
         line = f"binfarce: {after}: grew by {growth} bytes, and --fail-above allows {limit}" if growth > limit else ""
         ends(3 if line else 0, changed(rows), line, "binfarce", "diff", "--by=section", f"--fail-above={limit}", before, after)
 for *paths, lines in ((missing, of_sys, f"{lost}\nbinfarce: {of_sys}: {is_text}"), (of_sys, missing, f"binfarce: {of_sys}: {is_text}\n{lost}"),
-                      (byte, "/dev/null", f"binfarce: {byte}: {unknown}\nbinfarce: /dev/null: {is_empty}")):
+                      (byte, "/dev/null", f"binfarce: {byte}: {unknown}\nbinfarce: /dev/null: {is_empty}"), (old, truncated, f"binfarce: {truncated}: {ended}"),
+                      (truncated, missing, f"binfarce: {truncated}: {ended}\n{lost}"), (missing, old, lost), (old, missing, lost)):
     ends(1, "", lines, "binfarce", "diff", "--by=section", *paths)
+for path, line in ((missing, lost), (truncated, f"binfarce: {truncated}: {ended}")):
+    ends(1, "", line, "binfarce", "size", "--by=section", path)
 
 # The changes of these sums, and a limit for their growth.
 changes = (("b", 9, 0, "-9", "-100.00%"), ("a", 24, 32, "+8", "+33.33%"), ("[unknown]", 2, 0, "-2", "-100.00%"), ("[total]", 39, 36, "-3", "-7.69%"))
 for words, percent in (((), "{0:.0}"), (("--percent",), "{0:>10} ")):
     lines = "".join(f"{was:10} {now:10} {change:>11} {percent.format(growth)}{name}\n" for name, was, now, change, growth in changes)
     ends(0, lines, "", "binfarce", "diff", *words, "--fail-above=0", old, new)
+for rows, *words in (("0 8 a::i|5 0 b::f::<u16>|4 0 b::f::<u8>|2 0 c|39 36 [total]", "--by=function", old, new),
+                     ("24 0 a|4 13 [std]|9 0 b|2 0 [unknown]|0 1 gimli|0 1 hashbrown|0 1 libc|0 1 memchr|0 1 object|39 18 [total]", "--std", old, many)):
+    lines = "".join(f"{was:>10} {now:>10} {int(now) - int(was):+11} {name}\n" for was, now, name in (it.split(" ", 2) for it in rows.split("|")))
+    ends(0, lines, "", "binfarce", "diff", *words)
 lines = f"{0:10} {9:10} {'+9':>11} b\n{32:10} {26:10} {'-6':>11} [2 others]\n{36:10} {39:10} {'+3':>11} [total]\n"
 for limit, status in (("3", 0), ("2", 3), ("9%", 0), ("8%", 3)):
     line = f"binfarce: {old}: grew by 3 bytes, and --fail-above allows {limit}" if status else ""
@@ -513,7 +644,7 @@ for limit, status in (("3", 0), ("2", 3), ("9%", 0), ("8%", 3)):
 # Without function symbols there is no growth, which a line says; and a reader that closes the output leaves the verdict unknown.
 line = f"binfarce: {old}: no function symbols in the section; --all takes 6"
 ends(0, f"{0:10} {0:10} {'+0':>11} [total]\n", f"{line}\n{line}", "binfarce", "diff", "--fail-above=0", "--section=.data", old, old)
-for words in (("size", "--fail-above=1000", old), ("diff", "--fail-above=0", old, new), ("diff", "--by=section", "--fail-above=0", old, new)):
+for words in (("size", "--fail-above=1000", old), ("size", "--json", "--fail-above=0", old), ("diff", "--fail-above=0", old, new), ("diff", "--by=section", "--fail-above=0", old, new)):
     fails(full, 1, "binfarce: standard output: Broken pipe", "binfarce", *words)
 # A limit for the sums themselves: of two files, one is above it.
 line = f"binfarce: {old}: has 39 bytes, and --fail-above allows 38"
@@ -523,6 +654,24 @@ ends(3, printed(folder / "binfarce", "size", "--by=section", sample), f"binfarce
      "binfarce", "size", "--by=section", "--fail-above=586", sample)
 line = f"binfarce: {old}: has {whole[1]} bytes, and --fail-above allows 587"
 ends(3, printed(folder / "binfarce", "size", "--by=section", old, sample), line, "binfarce", "size", "--by=section", "--fail-above=587", old, sample)
+# A limit also holds for objects, for the first sums, and for a file that is followed by another; where one is refused the status is 1.
+for *words, limit, hint in (*(("size", it, 38, f"{old}: has 39") for it in ("--json", "-n1", "--by=function")), *(("diff", it, 2, f"{old}: grew by 3") for it in ("--json", "-n0")),
+                            *(("size", "--by=section", it, whole[1] - 1, f"{old}: has {whole[1]}") for it in ("--json", "-n1"))):
+    files = (new, old) if words[0] == "diff" else (blanks, old) if words[-1] == "-n1" else (old, blanks)
+    ends(3, printed(folder / "binfarce", *words, *files), f"binfarce: {hint} bytes, and --fail-above allows {limit}", "binfarce", *words, f"--fail-above={limit}", *files)
+ends(1, f"\n{old}:\n" + printed(folder / "binfarce", "size", old), f"{lost}\nbinfarce: {old}: has 39 bytes, and --fail-above allows 38", "binfarce", "size", "--fail-above=38", missing, old)
+# Numbers past 32 bits, and growth past 2^64 hundredths; growth at its limit in per cent, and growth from nothing, which is above each.
+narrow, wide, widest = (assembled(name, 16, ("_RNvC1a1f", 0, size)) for name, size in (("narrow", 16), ("wide", (1 << 32) + 16), ("widest", top + 16)))
+per_cent = 100 * (1 << 22) // 587
+for *words, limit, hint in (("size", wide, 20, f"{wide}: has {(1 << 32) + 16}"), ("size", wide, (1 << 32) + 16, ""), ("diff", narrow, wide, 20, f"{wide}: grew by {1 << 32}"),
+                            ("diff", narrow, wide, 1 << 32, ""), ("diff", narrow, widest, "1%", f"{widest}: grew by {top}"), ("diff", narrow, half, "25%", ""),
+                            ("diff", narrow, half, "24%", f"{half}: grew by 4"), ("size", "--by=section", sparse, 1000, f"{sparse}: has {8 << 30}"),
+                            ("diff", "--by=section", sample, sparse, 1000, f"{sparse}: grew by {(8 << 30) - 587}"),
+                            ("diff", "--by=section", sample, large, f"{per_cent}%", f"{large}: grew by {1 << 22}"), ("diff", "--by=section", sample, large, f"{per_cent + 1}%", "")):
+    line = f"binfarce: {hint} bytes, and --fail-above allows {limit}" if hint else ""
+    ends(3 if hint else 0, printed(folder / "binfarce", *words), line, "binfarce", *words, f"--fail-above={limit}")
+line = f"binfarce: {empty}: no function symbols\nbinfarce: {old}: grew by 39 bytes, and --fail-above allows 9000%"
+ends(3, printed(folder / "binfarce", "diff", empty, old), line, "binfarce", "diff", "--fail-above=9000%", empty, old)
 for line, *words in (("--fail-above=2% is for diff; size takes a number of bytes", "size", "--fail-above=2%", old), ("--folded and --first exclude each other", "map", "--folded", "-n2", old),
                      ("--fail-above takes a number of bytes, or of per cent as 2%, and not 2.5%", "diff", "--fail-above=2.5%", old, new)):
     ends(2, "", f"binfarce: {line}", "binfarce", *words)
@@ -536,7 +685,8 @@ for line, path in ((lost, missing), (f"binfarce: {of_sys}: {is_text}", of_sys)):
 
 # Sums keep a name once, and answers are written before all are made: 4,000 functions share a name of 100 kB in a file of 196 kB.
 path, name = of_one_name(4000, 100000), "a" * 100000
-for lines, *words in ((f"{64000:10} {name}\nsum 64000\ntext 64000\n", "size", "--by=function", "-n", "1"), (f"{64000:10} {64000:10} {'+0':>11} [total]\n", "diff", "--by=function", path)):
+for lines, *words in ((f"{64000:10} {name}\nsum 64000\ntext 64000\n", "size", "--by=function", "-n", "1"), (f"{64000:10} {64000:10} {'+0':>11} [total]\n", "diff", "--by=function", path),
+                      (f"{0:016x} {16:10} {name}\n", "list", "--sort=name", "-n1")):
     ends(0, lines, "", "binfarce", *words, path, under=("sh", "-c", 'ulimit -v 65536; exec "$0" "$@"'))
 ends(0, "", "", "binfarce", "at", path, given=b"8\n" * 4000, to=subprocess.DEVNULL, under=("sh", "-c", 'ulimit -v 131072; exec "$0" "$@"'))
 
@@ -545,12 +695,17 @@ ends(0, "", "", "binfarce", "at", path, given=b"8\n" * 4000, to=subprocess.DEVNU
 ends(0, "foo 16\n", "", "binfarce", "map", "--folded", sample)
 stacks = ("a;f 8", "a;g 16", "std;h 4", "[unknown];c 2", "b;f;<u8> 4", "b;f;<u16> 5")
 assert sorted(printed(folder / "binfarce", "map", "--folded", old).splitlines()) == sorted(stacks), "other stacks"
+assert sorted(printed(folder / "binfarce", "map", "--folded", "--std", old).splitlines()) == sorted(it.replace("std;h", "[std]") for it in stacks), "other stacks with --std"
+bars = re.findall('<text x="8" y="18">(.*?)</text>', printed(folder / "binfarce", "map", "--std", "-n3", old))
+assert bars == ["a", "b", "[std]", "[1 others]"], f"other bars: {bars}"
 def objects(*words):
     run = subprocess.run([folder / "binfarce", *words, "--json"], capture_output=True, input=b"0x1\n-\n")
     return [json.loads(it) for it in run.stdout.splitlines()]
 assert objects("list", "--section=.data", old) == [], "function symbols of another section in JSON"
+assert [(it["section"], it["name"]) for it in objects("list", "--section=.text.g", f"{scratch}/functions.o")] == [(".text.g", "g")]
 assert objects("list", escaped)[0]["raw"] == 'a"\\\n\x01\x7f\xe9;:<>', "another name in JSON"
-for *options, path in [("--all", "--dynamic", library), ("--all", old)] + [("--all", folder / "binfarce")] * (not is_static):
+cut = ("--all", "--dynamic", "--sort=size", "-n9", library), ("--all", "--raw", "--sort=name", "-n3", old), ("--all", "--full", old)
+for *options, path in [("--all", "--dynamic", library), ("--all", old), *cut] + [("--all", folder / "binfarce")] * (not is_static):
     lines = [f"{int(it['address'], 16):016x} {it['size']:10} {it['section']} {it['name']}\n" for it in objects("list", *options, path)]
     assert "".join(lines) == printed(folder / "binfarce", "list", *options, path), f"{path}: other objects than lines"
 # The binding and the type of each symbol, as readelf has them; null in a file that isn't ELF.
@@ -562,8 +717,10 @@ wanted = [(it[7], it[4].lower(), {"FUNC": "function", "IFUNC": "indirect"}[it[3]
 assert len(wanted) == 4 and [(it["name"], it["binding"], it["kind"]) for it in objects("list", "--all", f"{scratch}/bound.o")] == wanted
 assert {(it["binding"], it["kind"], it["version"]) for it in objects("list", "rust/samples/pe-image.bin")} == {(None, None, None)}
 # The versions of dynamic symbols, of which an old one is hidden, and one has none.
-pathlib.Path(f"{scratch}/versions").write_text("V1 { global: f; local: hidden; };\nV2 { global: f; } V1;\n")
-lines = '.symver f_old,f@V1\n.symver f_new,f@@V2\n' + "".join(f'.globl {it}\n.type {it},@function\n{it}: nop\n.size {it}, 1\n' for it in ("f_old", "f_new", "g"))
+# Further ones have all before them as parents, so that their definitions have more than 64 kB.
+many_versions = [f"W{at} {{ global: w{at}; }} {' '.join(f'W{it}' for it in range(at))};\n" for at in range(130)]
+pathlib.Path(f"{scratch}/versions").write_text("V1 { global: f; local: hidden; };\nV2 { global: f; } V1;\n" + "".join(many_versions))
+lines = '.symver f_old,f@V1\n.symver f_new,f@@V2\n' + "".join(f'.globl {it}\n.type {it},@function\n{it}: nop\n.size {it}, 1\n' for it in ("f_old", "f_new", "g", *(f"w{at}" for at in range(130))))
 printed("gcc", "-shared", "-nostdlib", f"-Wl,--version-script={scratch}/versions", "-o", f"{scratch}/versioned.so", "-x", "assembler", "-", given=f".text\n{lines}")
 rows = [it.split()[7].replace("@@", "@").partition("@")[::2] for it in printed("readelf", "-W", "--dyn-syms", f"{scratch}/versioned.so").splitlines() if " FUNC " in it]
 versions = [(it["raw"], it["version"] or "") for it in objects("list", "--dynamic", f"{scratch}/versioned.so")]
@@ -590,8 +747,12 @@ first, *_, last = objects("size", "--by=section", sample)
 assert first == {"file": sample, "segment": None, "section": ".symtab", "type": "SYMTAB", "flags": 0, "size": 120, "memory": 0}
 assert last == {"file": sample, "sum": 587}
 assert objects("diff", old, new)[0] == {"file": new, "name": "b", "old": 9, "new": 0, "change": -9}
-at = ("at", "--section=.text", "--base=0x40", old)
-assert objects(*at, "0x41") == [{"file": old, "address": f"0x{0x41:016x}", "name": "a::f", "offset": 1}]
+wanted = [{"file": new, "section": name, "old": b, "new": d, "change": d - b, "old_memory": c, "new_memory": e, "memory_change": e - c} for name, b, c, d, e in (*differ, whole)]
+assert objects("diff", "--by=section", old, new) == wanted, "other changes of sections in JSON"
+assert objects("diff", "--percent", old, new)[-1] == {"file": new, "name": "[total]", "old": 39, "new": 36, "change": -3, "percent": -7.69}
+assert objects("size", "--percent", old)[0] == {"file": old, "name": "a", "size": 24, "copies": 2, "percent": 60.0}
+at = ("at", "--section=.text", "--base=0x4000", old)
+assert objects(*at, "0x4001") == [{"file": old, "address": f"0x{0x4001:016x}", "name": "a::f", "offset": 1}]
 assert objects(*at) == [{"file": old, "address": it, "name": None, "offset": None} for it in (f"0x{1:016x}", None)]
 reasons = [{"file": missing, "error": lost.split(": ")[-1]}, {"file": of_sys, "error": is_text}]
 several = ((command, missing, old, of_sys, reasons[:1] + objects(command, old) + reasons[1:]) for command in ("list", "size"))
@@ -614,6 +775,12 @@ ends(0, f"{1:016x} f+0x1\n", "", "binfarce", "at", "--section=.text", f"{scratch
 image = "rust/samples/pe-image.bin"
 ends(0, f"{0x140001000:016x}         16 .text f\n{0x140001010:016x}          8 .text g\n", "", "binfarce", "list", "--all", image)
 ends(0, f"{0x140001017:016x} g+0x7\n", "", "binfarce", "at", "--all", image, "140001017")
+# Of several files each has its heading, also where nothing is below it; and none in JSON.
+lines = f"\n{empty}:\n\n{image}:\n{0x140001000:016x}         16 .text f\n{0x140001010:016x}          8 .text g\n"
+ends(0, lines, f"binfarce: {empty}: no function symbols", "binfarce", "list", "--all", empty, image)
+for options, heads in (((), (f"\n{old}:\n", f"\n{image}:\n")), (("--json",), ("", ""))):
+    lines = "".join(head + printed(folder / "binfarce", "size", "--by=section", *options, path) for head, path in zip(heads, (old, image)))
+    ends(0, lines, "", "binfarce", "size", "--by=section", *options, old, image)
 # Of a Mach-O or PE file `.text` is the code, and no other section is taken.
 ends(0, f"{0:016x} {512:10} f\ntext 512\n", "", "binfarce", "list", "--section=.text", image)
 for path, *words in ((image, "list"), (image, "map"), ("rust/samples/macho.bin", "size"), (image, "at", "0")):
@@ -645,7 +812,7 @@ def on_files(paths):
     addresses = rng.choices(["1000", "0x1005", "100f", "1010", "fff", "0", "180", "1040", "ffffffffffffffff"], k=4)
     yield [rng.choice(["binfarce-list", "binfarce-size"]), paths[0], *rng.choice([[], [section]])],
     yield ["binfarce", "section", paths[0], *rng.choice([[], [section]])],
-    yield ["binfarce", "at", *rng.choice([option, ["--base", "40"], ["--return", "--base=1"]]), paths[0], *addresses],
+    yield ["binfarce", "at", *rng.choice([option, ["--base", "1000"], ["--return", "--base=0"]]), paths[0], *addresses],
     yield ["binfarce", rng.choice(["list", "size", "map"]), *option, *paths],
 
 printed("examples/hostile_files.py", f"{scratch}/hostile", str(FILES))

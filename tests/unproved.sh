@@ -42,7 +42,6 @@ name=${PWD##*/}
 mkdir -p out
 printf '#!/bin/sh\npwd\nprintf "%%s\\n" "$@"\ncat\nexit 3\n' >"out/$name"
 chmod +x "out/$name"
-touch "out/$name.stamp"
 echo "rt: running out/$name; to give it other input, run that file yourself" >&2
 "out/$name"
 END

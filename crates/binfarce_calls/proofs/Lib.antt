@@ -7,4 +7,5 @@ mod Refusals
 mod SectionSteps
 mod Steps
 mod SumSteps
+mod Takings
 mod Written

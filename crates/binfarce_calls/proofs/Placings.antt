@@ -1,12 +1,25 @@
 -- What is reported of a file of a text.
-use Rattle.std.proofs.Common.{◌≡◌, ℕ, List, [], ◌∷◌, Option, Result, Ok, Err}
+use Rattle.std.proofs.Common.{◌≡◌, ◌∙◌, ◌==◌, ◌++◌, ℕ, List, [], ◌∷◌, Option, Some, None, MatchOption, Result, Ok, Err, Bor, ap, arith, subst, sym, take, take-append-drop}
+use Rattle.std.proofs.lemmas.Str.Pattern.{drop_at_char}
+use Rattle.std.specs.Option.{option_map}
+use Rattle.std.specs.Str.{NoCharPasses}
+use Rattle.std.specs.Str.Pattern.{RFindsChar, SplitsAroundMatch}
 use Rattle.binfarce_words.specs.Words.{Arguments}
 use Rattle.binfarce_jobs.specs.Files.{Refused, Reports}
 use Rattle.binfarce_jobs.specs.declared.fault.Fault.{Fault}
 use Rattle.binfarce_logs.specs.declared.maps.NoBase.{NoBase}
 use Rattle.binfarce_logs.specs.declared.maps.NoBase.TheVariants as reasons
 use Rattle.binfarce_calls.specs.declared.at.Place.TheVariants as places
-use Rattle.binfarce_calls.specs.Placing.{IsPlacedBy, file_at}
+use Rattle.binfarce_calls.specs.Placing.{IsNameIn, IsPlacedBy, file_at}
+
+-- the name that a path ends with is what is behind the last `/`
+pub name_in : (path : List ℕ) (parts : Option (Bor (List ℕ) × Bor (List ℕ))) → MatchOption parts (RFindsChar 47 path None) (λ x. SplitsAroundMatch (RFindsChar 47) path x.0.now x.1.now) → IsNameIn path (option_map (λ x. x.1.now) parts)
+name_in path None none = none
+name_in path (Some x) (i, j, (free, at), front, back, below, before, behind) = (
+  take i path,
+  sym (take-append-drop i path) ∙ ap (λ (end : List ℕ). take i path ++ end) (drop_at_char 47 path i j at (omega arith) ∙ ap (λ (name : List ℕ). 47 ∷ name) (sym back)),
+  subst (NoCharPasses (λ c. c == 47)) (sym back) free,
+)
 
 -- what is reported of a file, by where it is placed
 module _ (given : Arguments) (place : ℕ) (a b : Option (List Refused)) where

@@ -4,4 +4,5 @@ pub mod Summed
 pub mod Compared
 pub mod Sections
 pub mod Placing
+pub mod Status
 pub mod machine

@@ -1,6 +1,8 @@
 -- Where the files of `at` are loaded, and how addresses are looked up in them.
-use Rattle.std.specs.Prelude.{◌≡◌, ◌-◌, ◌||◌, ℕ, Bool, List, [], ◌∷◌, Option, Some, None, Result, Ok, Err, length, nat_eq, nat_le, nat_lt, take, unwrap_or, if◌then◌else◌}
-use Rattle.std.specs.List.{slice_get}
+use Rattle.std.specs.Prelude.{◌≡◌, ◌==◌, ◌-◌, ◌||◌, ◌++◌, ℕ, Bool, List, [], ◌∷◌, Option, Some, None, Result, Ok, Err, length, map, nat_eq, nat_le, nat_lt, take, unwrap_or, if◌then◌else◌}
+use Rattle.std.specs.List.{flat_map, range_with_len, slice_get}
+use Rattle.std.specs.Option.{option_map}
+use Rattle.std.specs.Str.{NoCharPasses}
 use Rattle.binfarce_logs.specs.Maps.{base_of}
 use Rattle.binfarce_logs.specs.declared.maps.NoBase.{NoBase}
 use Rattle.binfarce_logs.specs.declared.maps.NoBase.TheVariants as reasons
@@ -19,6 +21,7 @@ use Rattle.binfarce_jobs.specs.declared.fault.Fault.{Fault}
 use Rattle.binfarce_jobs.specs.declared.message.Unplaced.{Unplaced}
 use Rattle.binfarce_jobs.specs.declared.message.Unplaced.TheVariants.{NotMapped, NoCode, Several}
 use Rattle.binfarce_calls.specs.Asked.{has}
+use Rattle.binfarce_calls.specs.Compared.{refusal}
 use Rattle.binfarce_calls.specs.declared.at.Place.{Place}
 use Rattle.binfarce_calls.specs.declared.at.Place.TheVariants as places
 
@@ -55,10 +58,15 @@ base_for given (Some maps) place loaded = known (base_of maps (path_for given pl
 abbrev pub loaded_asked : Arguments → Loaded
 loaded_asked given = if has flags.Maps given then loading.Maps else (if has flags.Base given then loading.Base else loading.Unknown)
 
--- why maps don't place the file of a path: nothing is said where they have no mapping
+-- the name that a path ends with, behind its last `/` (47), if it has one
+abbrev pub IsNameIn : (path : List ℕ) → Option (List ℕ) → Type 0
+IsNameIn path None = NoCharPasses (λ c. c == 47) path
+IsNameIn path (Some name) = (front : List ℕ) × (path ≡ front ++ 47 ∷ name) × NoCharPasses (λ c. c == 47) name
+
+-- why maps don't place the file of a path, which they don't have by its name either: nothing is said where they have no mapping
 abbrev pub IsWhy : (path : List ℕ) → NoBase → Option Unplaced → Type 0
 IsWhy path reasons.NotMaps why = why ≡ None
-IsWhy path reasons.NotMapped (Some (NotMapped given name)) = given.now ≡ path
+IsWhy path reasons.NotMapped (Some (NotMapped given name)) = (given.now ≡ path) × IsNameIn path (option_map (λ n. n.now) name)
 IsWhy path reasons.NoCode (Some (NoCode given)) = given.now ≡ path
 IsWhy path reasons.Several (Some (Several given)) = given.now ≡ path
 IsWhy path reason why = ⊥
@@ -81,6 +89,21 @@ IsPlaced given maps place loaded before after result = IsPlacedBy given place (b
 abbrev pub Opens : {T : Type 0} → (path : List ℕ) → (before after : Option (List Refused)) → Option T → Type 0
 Opens path before after (Some file) = Reports before after []
 Opens path before after None = (fault : Fault) × Reports before after ((path, fault) ∷ [])
+
+-- what is left of a file at a place, which is refused for a fault or not
+abbrev pub left_of : ℕ × Option Fault → List ℕ
+left_of (place, Some fault) = []
+left_of (place, None) = place ∷ []
+
+-- files at these places are taken one after the other: each that is refused is reported by its path, and the others are left
+abbrev pub TakesFiles : Arguments → (places left : List ℕ) → (before after : Option (List Refused)) → Type 0
+TakesFiles given places left before after =
+    (fates : List (ℕ × Option Fault)) × (map (λ f. f.0) fates ≡ places) × (left ≡ flat_map left_of fates) × Reports before after (flat_map (λ f. refusal (file_at given f.0) f.1) fates)
+
+-- all files are taken so, or those before one that finds no mapping in the maps
+abbrev pub TakesAll : Arguments → (left : Option (List ℕ)) → (before after : Option (List Refused)) → Type 0
+TakesAll given (Some left) before after = TakesFiles given (range_with_len 0 (length given.operands)) left before after
+TakesAll given None before after = (count : ℕ) × (left : List ℕ) × TakesFiles given (range_with_len 0 count) left before after
 
 -- the hint on files in which none of the addresses was found that are in one of them alone, if there are any
 abbrev pub missed_hint : Counts → Loaded → Option Hint

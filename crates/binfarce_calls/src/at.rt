@@ -1,9 +1,9 @@
 //! `binfarce at [OPTION..] FILE..`: its files are opened, read, and placed where they are loaded.
 
-ghost use Rattle.std.specs.Prelude.{IfOk};
+ghost use Rattle.std.specs.Prelude.{IfOk, map};
 ghost use Rattle.std.specs.Option.{option_map};
 ghost use Rattle.binfarce_words.specs.WordViews.{given_view};
-ghost use Rattle.binfarce_calls.specs.Placing.{IsPlaced, IsWhy, Opens, file_at};
+ghost use Rattle.binfarce_calls.specs.Placing.{IsPlaced, IsWhy, Opens, TakesAll, TakesFiles, file_at};
 ghost use Rattle.binfarce_calls.specs.machine.Reading.{IsReadFile};
 
 use crate::placing::{base_for, base_given, file_at, path_for};
@@ -184,7 +184,10 @@ pub fn read_files<F: Read + Source<Log = ()> + Drop, Y: System<F>>(
     system: &mut Y,
     given: &Given<'_, '_, '_>,
     symbols: &Symbols<'_>,
-) -> Result<Option<Vec<Placed<F>>>, Fault> {
+) -> Result<Option<Vec<Placed<F>>>, Fault>
+    ensures { IfOk result (λ r. TakesAll (given_view given.now.words.now)
+        (option_map (λ files. map (λ f. f.place) files.items) r) (Y.reports system.old) (Y.reports system.new)) }
+{
     let mut files = Vec::new(alloc);
     for place in 0..given.words.operands.len() {
         match read_file(alloc, system, given, place, symbols)? {
@@ -246,8 +249,7 @@ fn read_file<F: Read + Source<Log = ()> + Drop, Y: System<F>>(
     }
 }
 
-/// The function symbols of files, arranged for lookups, each with the file's index among these. One that is refused is
-/// reported by its path.
+/// Files with their function symbols, which are arranged for lookups. A file that is refused is reported by its path.
 ///
 /// # Errors
 ///
@@ -257,11 +259,14 @@ pub fn places_of_files<'b, F: Read + Source<Log = ()> + Drop, Y: System<F>>(
     system: &mut Y,
     given: &Given<'_, '_, '_>,
     files: &'b [Placed<F>],
-) -> Result<Vec<(usize, Places<'b>)>, Fault> {
+) -> Result<Vec<(&'b Placed<F>, Places<'b>)>, Fault>
+    ensures { IfOk result (λ found. TakesFiles (given_view given.now.words.now) (map (λ f. f.place) files.now)
+        (map (λ f. f.0.now.place) found.items) (Y.reports system.old) (Y.reports system.new)) }
+{
     let mut found = Vec::new(alloc);
-    for (at, file) in files.iter().enumerate() {
+    for file in files {
         match places_of(alloc, &file.tables) {
-            Ok(places) => match found.push((at, places)) {
+            Ok(places) => match found.push((file, places)) {
                 Ok(()) => {}
                 Err(_) => return Err(Fault::from(AllocError)),
             },

@@ -311,18 +311,17 @@ impl<'a, W: Write> Work<'a, '_, W> {
         // What the modules refer to isn't freed before the program ends: a reference in a structure has one lifetime.
         let files: &'static [Placed<FileOrStdin<File, Stdin>>] = files.leak();
         let found = places_of_files(alloc, &mut self.host, &given, files)?;
-        let found: &'static [(usize, Places<'static>)] = found.leak();
+        let found: &'static [(&'static Placed<FileOrStdin<File, Stdin>>, Places<'static>)] =
+            found.leak();
         if found.is_empty() {
             return Ok(Some(Verdict::refused()));
         }
         let mut modules = Vec::new(alloc);
-        for (at, places) in found.iter() {
-            if let Some(file) = files.get(*at) {
-                let lookup = lookup_for(words, file.place, file.base, file.linked, file.origin);
-                let module = Module { places, lookup };
-                if modules.push(module).is_err() {
-                    return Err(Fault::Report(ReportError::OutOfMemory));
-                }
+        for (file, places) in found.iter() {
+            let lookup = lookup_for(words, file.place, file.base, file.linked, file.origin);
+            let module = Module { places, lookup };
+            if modules.push(module).is_err() {
+                return Err(Fault::Report(ReportError::OutOfMemory));
             }
         }
         let is_bare = words.has(Bare);

@@ -62,11 +62,14 @@ pub(crate) fn push_found(alloc: Global, words: &str, text: &mut Vec<u8>) -> io::
     let mut lookup = lookup_of("400000", false)?;
     lookup.origin = 0x1000;
     let mut names = Names::with_room(alloc, &places, lookup)?;
-    let word = words.as_bytes();
+    push_found_by(&mut names, words.as_bytes(), text)
+}
+
+fn push_found_by(names: &mut Names<'_, '_>, word: &[u8], text: &mut Vec<u8>) -> io::Result<()> {
     let digits = if has_prefix(word) { &word[2..] } else { word };
     let number = known(hex_number(digits))?;
-    push_place(&mut names, number, false, text)?;
-    push_place(&mut names, number, true, text)
+    push_place(names, number, false, text)?;
+    push_place(names, number, true, text)
 }
 
 // Adds what a number finds as an address, or as an offset after the file's path.
@@ -97,31 +100,45 @@ fn push_place(
 pub(crate) fn push_lines(of: &Asking<'_>, is_return: bool, text: &mut Vec<u8>) -> io::Result<()> {
     let (base, words) = of.words.split_once(' ').unwrap_or((of.words, ""));
     let lookup = lookup_of(base, is_return)?;
-    let mut addresses = Vec::new(of.alloc);
+    let addresses = addresses_of(of.alloc, words)?;
+    push_lines_at(of, lookup, &addresses, text)
+}
+
+fn addresses_of(alloc: Global, words: &str) -> io::Result<Vec<u64>> {
+    let mut addresses = Vec::new(alloc);
     for word in words.split_whitespace() {
         addresses.push(number(word, true)?)?;
     }
+    Ok(addresses)
+}
+
+fn push_lines_at(
+    of: &Asking<'_>,
+    lookup: Lookup<'_>,
+    addresses: &[u64],
+    text: &mut Vec<u8>,
+) -> io::Result<()> {
     let mut out = Out::new(Vec::new(of.alloc));
-    let ended = at(of.alloc, of.file, ".text", lookup, &addresses, &mut out);
+    let ended = at(of.alloc, of.file, ".text", lookup, addresses, &mut out);
     let written = out.into_inner();
     text.extend_from_slice(&written)?;
     if let Err(e) = ended {
         return write!(text, "{e}");
     }
-    let mut out = Out::new(Vec::new(of.alloc));
-    if let Ok(tables) = read(
-        of.alloc,
-        &of.file,
-        &mut (),
-        SymbolTable::Symtab,
-        Selection::Section(".text"),
-    ) {
-        let _ = at_tables(of.alloc, &tables, lookup, &addresses, &mut out);
-    }
-    if out.into_inner() != written {
+    if lines_of_tables(of, lookup, addresses) != written {
         push_words(text, "otherwise from tables")?;
     }
     Ok(())
+}
+
+// The lines from the tables that are read of a file, or a beginning of them.
+fn lines_of_tables(of: &Asking<'_>, lookup: Lookup<'_>, addresses: &[u64]) -> Vec<u8> {
+    let mut out = Out::new(Vec::new(of.alloc));
+    let selection = Selection::Section(".text");
+    if let Ok(tables) = read(of.alloc, &of.file, &mut (), SymbolTable::Symtab, selection) {
+        let _ = at_tables(of.alloc, &tables, lookup, addresses, &mut out);
+    }
+    out.into_inner()
 }
 
 // The text of a question, in which `/` is a line feed, `^` a carriage return, `~` a tab and `|` a slash.
@@ -159,6 +176,7 @@ pub(crate) fn push_answers(
     text: &mut Vec<u8>,
 ) -> io::Result<()> {
     let (base, words) = known(words.split_once(' '))?;
+    let lookup = lookup_of(base, is_return)?;
     let lines = typed(alloc, quoted(words)?)?;
     let Ok(places) = Places::of_file(alloc, &ELF64_LITTLE, ".text") else {
         return known(None);
@@ -166,27 +184,42 @@ pub(crate) fn push_answers(
     let input = Input {
         alloc,
         places: &places,
-        lookup: lookup_of(base, is_return)?,
+        lookup,
         annotates: false,
         is_bare: false,
         text: &lines,
     };
-    let target = Target::taking(alloc, usize::MAX);
-    let (ended, answers) = answered(&input, Source::of(&lines), target);
+    push_answers_to(&input, text)
+}
+
+fn push_answers_to(input: &Input<'_>, text: &mut Vec<u8>) -> io::Result<()> {
+    let target = Target::taking(input.alloc, usize::MAX);
+    let (ended, answers) = answered(input, Source::of(input.text), target);
     let Ok(counts) = ended else {
         return known(None);
     };
     text.extend_from_slice(&answers)?;
     push_number(text, counts.missing)?;
     push_words(text, "missing")?;
-    if !are_short_calls_answered(&input, &answers, counts) {
+    push_differences(input, &answers, counts, text)?;
+    if !are_parts_answered(input, &answers, counts)? {
+        push_words(text, ", but not in parts")?;
+    }
+    Ok(())
+}
+
+// Adds which way of reading or writing gives other answers.
+fn push_differences(
+    input: &Input<'_>,
+    answers: &[u8],
+    counts: Counts,
+    text: &mut Vec<u8>,
+) -> io::Result<()> {
+    if !are_short_calls_answered(input, answers, counts) {
         push_words(text, ", but not by short calls")?;
     }
-    if !are_failed_calls_reported(&input, &answers)? {
+    if !are_failed_calls_reported(input, answers)? {
         push_words(text, ", but not where calls fail")?;
-    }
-    if !are_parts_answered(&input, &answers, counts)? {
-        push_words(text, ", but not in parts")?;
     }
     Ok(())
 }
@@ -201,6 +234,7 @@ pub(crate) fn push_annotated_text(
     text: &mut Vec<u8>,
 ) -> io::Result<()> {
     let (base, words) = known(words.split_once(' '))?;
+    let lookup = lookup_of(base, is_return)?;
     let lines = typed(alloc, quoted(words)?)?;
     let Ok(places) = Places::of_file(alloc, &ELF64_LITTLE, ".text") else {
         return known(None);
@@ -208,21 +242,25 @@ pub(crate) fn push_annotated_text(
     let input = Input {
         alloc,
         places: &places,
-        lookup: lookup_of(base, is_return)?,
+        lookup,
         annotates: true,
         is_bare,
         text: &lines,
     };
+    push_annotated_input(&input, text)
+}
+
+fn push_annotated_input(input: &Input<'_>, text: &mut Vec<u8>) -> io::Result<()> {
     let start = text.len();
-    let counts = push_annotated(alloc, &[input.module()], is_bare, &lines, text)?;
-    let answers = Vec::from_slice(alloc, text.get(start..).unwrap_or(&[]))?;
-    if !are_short_calls_answered(&input, &answers, counts) {
-        push_words(text, ", but not by short calls")?;
-    }
-    if !are_failed_calls_reported(&input, &answers)? {
-        push_words(text, ", but not where calls fail")?;
-    }
-    Ok(())
+    let counts = push_annotated(
+        input.alloc,
+        &[input.module()],
+        input.is_bare,
+        input.text,
+        text,
+    )?;
+    let answers = Vec::from_slice(input.alloc, text.get(start..).unwrap_or(&[]))?;
+    push_differences(input, &answers, counts, text)
 }
 
 impl<'a> Input<'a> {

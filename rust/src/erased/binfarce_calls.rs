@@ -8,3 +8,4 @@ pub mod filter;
 pub mod placing;
 pub mod request;
 pub mod sections;
+pub mod status;

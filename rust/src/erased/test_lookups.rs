@@ -102,19 +102,23 @@ fn answer_of_files(
             words,
             parts,
         };
-        let start = text.len();
-        match verb {
-            "at" => addresses::push_lines(&asking, false, text)?,
-            "return" => addresses::push_lines(&asking, true, text)?,
-            "names" => sections::push_names(&asking, text)?,
-            "loaded" => readings::push_loaded(&asking, text)?,
-            "cut" => sections::push_cut(&asking, text)?,
-            "each" => sections::push_each(&asking, text)?,
-            _ => readings::answer(&asking, verb, text)?,
-        }
-        end_line(text, start)?;
+        answer_of_file(&asking, verb, text)?;
     }
     Ok(())
+}
+
+fn answer_of_file(asking: &Asking<'_>, verb: &str, text: &mut Vec<u8>) -> io::Result<()> {
+    let start = text.len();
+    match verb {
+        "at" => addresses::push_lines(asking, false, text)?,
+        "return" => addresses::push_lines(asking, true, text)?,
+        "names" => sections::push_names(asking, text)?,
+        "loaded" => readings::push_loaded(asking, text)?,
+        "cut" => sections::push_cut(asking, text)?,
+        "each" => sections::push_each(asking, text)?,
+        _ => readings::answer(asking, verb, text)?,
+    }
+    end_line(text, start)
 }
 
 // Writes how the readers end that read what is no regular file.

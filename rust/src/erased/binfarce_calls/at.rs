@@ -229,8 +229,7 @@ fn read_file<F: Read + Source<Log = ()>, Y: System<F>>(
     }
 }
 
-/// The function symbols of files, arranged for lookups, each with the file's index among these. One that is refused is
-/// reported by its path.
+/// Files with their function symbols, which are arranged for lookups. A file that is refused is reported by its path.
 ///
 /// # Errors
 ///
@@ -240,11 +239,11 @@ pub fn places_of_files<'b, F: Read + Source<Log = ()>, Y: System<F>>(
     system: &mut Y,
     given: &Given<'_, '_, '_>,
     files: &'b [Placed<F>],
-) -> Result<Vec<(usize, Places<'b>)>, Fault> {
+) -> Result<Vec<(&'b Placed<F>, Places<'b>)>, Fault> {
     let mut found = Vec::new(alloc);
-    for (at, file) in files.iter().enumerate() {
+    for file in files {
         match places_of(alloc, &file.tables) {
-            Ok(places) => match found.push((at, places)) {
+            Ok(places) => match found.push((file, places)) {
                 Ok(()) => {}
                 Err(_) => return Err(Fault::from(AllocError)),
             },

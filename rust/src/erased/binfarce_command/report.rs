@@ -3,62 +3,37 @@
 //! Messages for refused calls and files, and the program's exit status.
 
 use crate::shim::{HostRuntime, String};
+use crate::erased::binfarce_calls::status::{status_of, wrong_status};
 use crate::erased::binfarce_jobs::fault::Fault;
 use crate::erased::binfarce_jobs::limit::Verdict;
 use crate::erased::binfarce_jobs::message::{Message, line_of, message_of};
 use crate::erased::binfarce_words::words::Wrong;
 use core::fmt;
-use crate::shim::io::{Error, ErrorKind};
+use crate::shim::io::Error;
 
 /// Prints why a call is wrong, and returns the program's exit status.
 pub fn refuse(rt: &HostRuntime, wrong: &Wrong<'_>) -> u8 {
     say(rt, None, wrong);
-    match wrong {
-        Wrong::OutOfMemory => 1,
-        _ => 2,
-    }
+    wrong_status(wrong)
 }
 
-/// Prints why the work failed, if it did, and returns the program's exit status. A reader that closes the output is no
-/// failure, unless sums have a limit: whether they exceed it isn't known then.
+/// Prints why the work failed, if it did, and returns the program's exit status. `reason` is that of a failed write.
 pub fn ended(
     rt: &HostRuntime,
     done: Result<Verdict, Fault>,
     has_limit: bool,
     reason: Option<Error>,
 ) -> u8 {
+    let status = status_of(&done, has_limit, &reason);
     match done {
-        Ok(
-            Verdict {
-                is_done: true,
-                is_above: true,
-            },
-        ) => 3,
-        Ok(verdict) => u8::from(!verdict.is_done),
-        Err(fault) if !fault.is_write() => {
-            say(rt, None, &fault);
-            status(&fault)
-        }
-        Err(_) if is_broken_pipe(&reason) && !has_limit => 0,
-        Err(fault) => {
+        Err(fault) if !fault.is_write() => say(rt, None, &fault),
+        Err(fault) if status != 0 => {
             let message = message_of(rt.alloc(), fault, reason);
             report(rt, "standard output", &message);
-            1
         }
+        _ => {}
     }
-}
-
-// The program's exit status for a fault other than a failed write.
-fn status(fault: &Fault) -> u8 {
-    match fault {
-        Fault::Missing(_) => 2,
-        _ => 1,
-    }
-}
-
-// Whether the reader of the output has closed it.
-fn is_broken_pipe(reason: &Option<Error>) -> bool {
-    matches!(reason, Some(e) if e.kind() == ErrorKind::BrokenPipe)
+    status
 }
 
 /// Prints why a file is refused.

@@ -1,4 +1,4 @@
-use Rattle.std.proofs.Common.{◌≡◌, List, [], Option, refl, subst, sym}
+use Rattle.std.proofs.Common.{List, [], Option, refl, subst, sym}
 use Rattle.std.specs.Option.{option_map}
 use Rattle.binfarce_words.specs.WordViews.{given_view}
 use Rattle.binfarce_jobs.specs.Files.{Refused, Reports}

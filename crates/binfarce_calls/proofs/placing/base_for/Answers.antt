@@ -1,4 +1,4 @@
-use Rattle.std.proofs.Common.{◌≡◌, ◌∙◌, ℕ, Bor, List, Ok, Err, Option, Some, Result, ap, subst, sym}
+use Rattle.std.proofs.Common.{◌∙◌, ℕ, Bor, List, Ok, Err, Option, Some, Result, ap, subst, sym}
 use Rattle.std.specs.Option.{option_map}
 use Rattle.binfarce_words.specs.WordViews.{given_view}
 use Rattle.binfarce_logs.specs.Maps.{base_of}

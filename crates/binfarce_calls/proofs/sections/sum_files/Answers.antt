@@ -1,4 +1,4 @@
-use Rattle.std.proofs.Common.{◌∙◌, ◌+◌, ℕ, suc, List, [], Err, Ok, length, ltb, get_or, drop, refl, ap, subst, sym, take}
+use Rattle.std.proofs.Common.{◌∙◌, ◌+◌, suc, List, [], Err, Ok, length, ltb, get_or, drop, refl, ap, subst, sym, take}
 use Rattle.std.proofs.lemmas.List.{take_all}
 use Rattle.binfarce_words.specs.Words as words
 use Rattle.binfarce_words.specs.WordViews.{argument_view}

@@ -1,7 +1,7 @@
 #!/usr/bin/env python3
 """tests/forms.py [--kit]: what makes tools/erase sound. Each rule of FORMS says what would go wrong without it, and has programs: what
 the kit prints, and what the eraser names as it refuses the program, or None where the plain build must print the same. Other rows are
-lines that can't be run. With --kit each program is run by `rt try`, unproved, and must print what its row says. Else status 1.
+lines that can't be run. With --kit all programs are run by one `rt try`, unproved, and each must print what its row says. Else status 1.
 """
 import collections
 import pathlib
@@ -14,6 +14,8 @@ TOP = pathlib.Path(__file__).resolve().parent.parent
 Program = collections.namedtuple("Program", "items body prints refused")
 Line = collections.namedtuple("Line", "text refused file", defaults=["main.rt"])
 
+# What is printed behind each program.
+END = "== end of a program"
 TWO = """trait A {{
     fn f(&self) -> u8;
 }}
@@ -193,13 +195,19 @@ def source_of(form):
         return f"//! A crate.\n\nfn f() {{\n    {form.text}\n}}\n"
     return f"#![tactic(auto)]\n\n{form.items}\nfn main(rt: HostRuntime) {{\n    {form.body}\n}}\n"
 
-def by_kit(top, form):
-    """What the kit prints for a program."""
-    (folder := top / "a/src").mkdir(parents=True, exist_ok=True)
+def by_kit(top, programs):
+    """What the kit prints for each of these programs, which are modules of one crate, or why it refuses that."""
+    (folder := top / "a/src").mkdir(parents=True)
     (top / "crates.txt").write_text("a:\n")
-    (folder / "main.rt").write_text(source_of(form))
+    modules = [f"p{at}" for at in range(len(programs))]
+    for name, program in zip(modules, programs):
+        (folder / f"{name}.rt").write_text(f"{program.items}\npub fn run(rt: &HostRuntime) {{\n    {program.body}\n}}\n")
+    calls = "".join(f"    {name}::run(&rt);\n    let _ = println!(rt; \"{END}\");\n" for name in modules)
+    named = "".join(f"mod {name};\n" for name in modules)
+    (folder / "main.rt").write_text(f"#![tactic(auto)]\n\n{named}\nfn main(rt: HostRuntime) {{\n{calls}}}\n")
     ran = subprocess.run(["rt", "try"], cwd=top / "a", stdin=subprocess.DEVNULL, capture_output=True, text=True)
-    return ran.stdout.strip() if ran.returncode == 0 else ran.stderr
+    texts = [it.strip() for it in ran.stdout.split(END)[:-1]]
+    return texts if len(texts) == len(programs) else [ran.stderr] * len(programs)
 
 def by_eraser(top, form):
     """What the eraser says, or what Cargo's build prints."""
@@ -223,14 +231,18 @@ def faults(is_kit):
         shutil.copytree(TOP / "rust/src/shim", top / "rust/src/shim")
         (top / "rust/src/main.rs").write_text("#![allow(dead_code, unused)]\nextern crate alloc;\nmod shim;\nmod erased {\n    pub mod a;\n}\n"
                                               "fn main() {\n    erased::a::main(shim::HostRuntime::new());\n}\n")
-        for rule, forms in FORMS.items():
-            for form in forms:
-                if is_kit and isinstance(form, Program) and (said := by_kit(top, form)) != form.prints:
+        all_forms = [(rule, form) for rule, forms in FORMS.items() for form in forms]
+        if is_kit:
+            programs = [(rule, form) for rule, form in all_forms if isinstance(form, Program)]
+            for (rule, form), said in zip(programs, by_kit(top, [form for _, form in programs])):
+                if said != form.prints:
                     yield f"{rule}\n{source_of(form)}prints by the kit: {said}"
-                said = None if is_kit else by_eraser(top, form)
-                is_refused = said and f"`{form.refused}`" in said and said.startswith(f"crates/a/src/{getattr(form, 'file', 'main.rt')}:")
-                if said and not (is_refused if form.refused else said == form.prints):
-                    yield f"{rule}\n{source_of(form)}isn't refused by `{form.refused}`: {said}"
+            return
+        for rule, form in all_forms:
+            said = by_eraser(top, form)
+            is_refused = said and f"`{form.refused}`" in said and said.startswith(f"crates/a/src/{getattr(form, 'file', 'main.rt')}:")
+            if said and not (is_refused if form.refused else said == form.prints):
+                yield f"{rule}\n{source_of(form)}isn't refused by `{form.refused}`: {said}"
 
 wrong = [*faults(sys.argv[1:] == ["--kit"])]
 print(*wrong, f"{len(FORMS)} rules, {sum(map(len, FORMS.values()))} forms, {len(wrong)} faults", sep="\n")

@@ -69,21 +69,25 @@ fn texts(alloc: Global) -> Result<String, AllocError> {
     push_section(&mut text, &Tables::Unknown, 7)?;
     push_section_part(&mut text, &Tables::Unknown, None, 8)?;
     push_section_part(&mut text, &Tables::Unknown, Some(32), 9)?;
+    write!(text, " {:?}", sum_of_two(alloc)?)?;
+    push_crate_written(alloc, &mut text)?;
+    Ok(text)
+}
+
+fn sum_of_two(alloc: Global) -> Result<Option<u64>, AllocError> {
     let mut sums = BTreeMap::new(alloc);
     add_size(alloc, &mut sums, "a", 1)?;
     add_size(alloc, &mut sums, "a", 2)?;
+    Ok(sums.get("a").copied())
+}
+
+fn push_crate_written(alloc: Global, text: &mut String) -> Result<(), AllocError> {
     let mut name = String::new(alloc);
     put_crate(alloc, &mut name, "_RNvC1b1c")?;
     let mut out = Out::new(Vec::new(alloc));
     let ended = write_made(&mut out, Ok(name));
     let taken = out.into_inner();
-    write!(
-        text,
-        " {:?} {ended:?} {:?}",
-        sums.get("a"),
-        std::str::from_utf8(&taken)
-    )?;
-    Ok(text)
+    write!(text, " {ended:?} {:?}", std::str::from_utf8(&taken))
 }
 
 /// The format of a file that is read at offsets, and the text in the part of it.
@@ -98,20 +102,25 @@ pub fn parts(alloc: Global, file: &[u8]) -> Result<String, AllocError> {
     Ok(text)
 }
 
+fn push_sums(alloc: Global, tables: &Tables<'_>, text: &mut String) -> Result<(), AllocError> {
+    if let Ok(claims) = Claims::of_tables(alloc, tables) {
+        write!(text, "{} in {}, ", claims.total(), claims.len())?;
+    }
+    if let Ok(selected) = tables.functions(alloc) {
+        let (mut functions, size) = selected.into_list();
+        let first = functions.next().map(|f| f.address);
+        write!(text, "{first:?} of {size:?}, ")?;
+    }
+    Ok(())
+}
+
 /// The sum of the sizes, how many functions there are, where the first one is, and the size of the section: of the tables
 /// of the section, and of those of all sections; and the last two of the file.
 pub fn sums(alloc: Global, section: &str, file: &[u8]) -> Result<String, AllocError> {
     let mut text = String::new(alloc);
     for selection in [Selection::Section(section), Selection::All] {
         if let Ok(tables) = read(alloc, &file, &mut (), SymbolTable::Symtab, selection) {
-            if let Ok(claims) = Claims::of_tables(alloc, &tables) {
-                write!(text, "{} in {}, ", claims.total(), claims.len())?;
-            }
-            if let Ok(selected) = tables.functions(alloc) {
-                let (mut functions, size) = selected.into_list();
-                let first = functions.next().map(|f| f.address);
-                write!(text, "{first:?} of {size:?}, ")?;
-            }
+            push_sums(alloc, &tables, &mut text)?;
         }
     }
     if let Ok((mut functions, size)) = functions_of_file(alloc, file, section) {

@@ -8,38 +8,63 @@ use std::alloc::{AllocError, Global};
 /// The answer of the reader.
 pub fn answer(alloc: Global, what: &str, rest: &str, file: &[u8]) -> Result<String, ParseError> {
     let macho = parse(file)?;
-    let mut text = String::new(alloc);
     match what {
-        "header" => write!(text, "{:?}", macho.header())?,
+        "header" => Ok(format!(in alloc; "{:?}", macho.header())?),
         "names" | "symbols" => {
             let (symbols, size) = macho.symbols(alloc)?;
-            return Ok(symbols_text(alloc, what, &symbols, size)?);
+            Ok(symbols_text(alloc, what, &symbols, size)?)
         }
-        "functions" => {
-            let (functions, size) = macho.functions(alloc)?;
-            text = functions_text(alloc, &functions, size)?;
-            for address in rest.split(' ') {
-                push_found(&mut text, symbol_at(&functions, address_of(address)))?;
-            }
+        "functions" => functions_answer(alloc, &macho, rest),
+        "sections" => Ok(sections_answer(alloc, &macho)?),
+        "bytes" => bytes_answer(alloc, &macho, rest, file),
+        _ => section_answer(alloc, &macho, rest),
+    }
+}
+
+fn functions_answer(
+    alloc: Global,
+    macho: &Macho<'_>,
+    addresses: &str,
+) -> Result<String, ParseError> {
+    let (functions, size) = macho.functions(alloc)?;
+    let mut text = functions_text(alloc, &functions, size)?;
+    for address in addresses.split(' ') {
+        push_found(&mut text, symbol_at(&functions, address_of(address)))?;
+    }
+    Ok(text)
+}
+
+fn sections_answer(alloc: Global, macho: &Macho<'_>) -> Result<String, AllocError> {
+    let mut text = String::new(alloc);
+    for section in macho.sections() {
+        match section {
+            Ok(section) => push(&mut text, macho, section)?,
+            Err(error) => writeln!(text, "{error}")?,
         }
-        "sections" => {
-            for section in macho.sections() {
-                match section {
-                    Ok(section) => push(&mut text, &macho, section)?,
-                    Err(error) => writeln!(text, "{error}")?,
-                }
-            }
+    }
+    Ok(text)
+}
+
+fn bytes_answer(
+    alloc: Global,
+    macho: &Macho<'_>,
+    place: &str,
+    file: &[u8],
+) -> Result<String, ParseError> {
+    match found(macho, place)? {
+        Some(section) => {
+            let (bytes, is_file) = (macho.section_bytes(&section), macho.data() == file);
+            Ok(format!(in alloc; "{bytes:?} {is_file}")?)
         }
-        _ => match found(&macho, rest)? {
-            Some(section) if what == "bytes" => write!(
-                text,
-                "{:?} {}",
-                macho.section_bytes(&section),
-                macho.data() == file
-            )?,
-            Some(section) => push(&mut text, &macho, section)?,
-            None => text.push_str("none")?,
-        },
+        None => Ok(String::from_str(alloc, "none")?),
+    }
+}
+
+fn section_answer(alloc: Global, macho: &Macho<'_>, place: &str) -> Result<String, ParseError> {
+    let mut text = String::new(alloc);
+    match found(macho, place)? {
+        Some(section) => push(&mut text, macho, section)?,
+        None => text.push_str("none")?,
     }
     Ok(text)
 }

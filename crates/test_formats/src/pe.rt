@@ -8,38 +8,59 @@ use std::alloc::{AllocError, Global};
 /// The answer of the reader.
 pub fn answer(alloc: Global, what: &str, rest: &str, file: &[u8]) -> Result<String, ParseError> {
     let pe = parse(file)?;
-    let mut text = String::new(alloc);
     match what {
-        "header" => write!(text, "{:?}", pe.header())?,
+        "header" => Ok(format!(in alloc; "{:?}", pe.header())?),
         "names" | "symbols" => {
             let (symbols, size) = pe.symbols(alloc)?;
-            return Ok(symbols_text(alloc, what, &symbols, size)?);
+            Ok(symbols_text(alloc, what, &symbols, size)?)
         }
-        "functions" => {
-            let (functions, size) = pe.functions(alloc)?;
-            text = functions_text(alloc, &functions, size)?;
-            for address in rest.split(' ') {
-                push_found(&mut text, symbol_at(&functions, address_of(address)))?;
-            }
+        "functions" => functions_answer(alloc, &pe, rest),
+        "sections" => Ok(sections_answer(alloc, &pe)?),
+        "bytes" => bytes_answer(alloc, &pe, rest, file),
+        _ => section_answer(alloc, &pe, rest),
+    }
+}
+
+fn functions_answer(alloc: Global, pe: &Pe<'_>, addresses: &str) -> Result<String, ParseError> {
+    let (functions, size) = pe.functions(alloc)?;
+    let mut text = functions_text(alloc, &functions, size)?;
+    for address in addresses.split(' ') {
+        push_found(&mut text, symbol_at(&functions, address_of(address)))?;
+    }
+    Ok(text)
+}
+
+fn sections_answer(alloc: Global, pe: &Pe<'_>) -> Result<String, AllocError> {
+    let mut text = String::new(alloc);
+    for section in pe.sections() {
+        match section {
+            Ok(section) => push(&mut text, pe, section)?,
+            Err(error) => writeln!(text, "{error}")?,
         }
-        "sections" => {
-            for section in pe.sections() {
-                match section {
-                    Ok(section) => push(&mut text, &pe, section)?,
-                    Err(error) => writeln!(text, "{error}")?,
-                }
-            }
+    }
+    Ok(text)
+}
+
+fn bytes_answer(
+    alloc: Global,
+    pe: &Pe<'_>,
+    place: &str,
+    file: &[u8],
+) -> Result<String, ParseError> {
+    match found(pe, place)? {
+        Some(section) => {
+            let (bytes, is_file) = (pe.section_bytes(&section), pe.data() == file);
+            Ok(format!(in alloc; "{bytes:?} {is_file}")?)
         }
-        _ => match found(&pe, rest)? {
-            Some(section) if what == "bytes" => write!(
-                text,
-                "{:?} {}",
-                pe.section_bytes(&section),
-                pe.data() == file
-            )?,
-            Some(section) => push(&mut text, &pe, section)?,
-            None => text.push_str("none")?,
-        },
+        None => Ok(String::from_str(alloc, "none")?),
+    }
+}
+
+fn section_answer(alloc: Global, pe: &Pe<'_>, place: &str) -> Result<String, ParseError> {
+    let mut text = String::new(alloc);
+    match found(pe, place)? {
+        Some(section) => push(&mut text, pe, section)?,
+        None => text.push_str("none")?,
     }
     Ok(text)
 }

@@ -92,18 +92,22 @@ pub fn text_of_all(alloc: Global, words: &str, file: &[u8]) -> Result<String, Al
         Err(ReadError::Refused(error)) => return format!(in alloc; "{error}"),
         Err(error) => return format!(in alloc; "{error:?}"),
     };
+    text_of_tables(alloc, what, &tables)
+}
+
+fn text_of_tables(alloc: Global, what: &str, tables: &Tables<'_>) -> Result<String, AllocError> {
     let mut out = Out::new(Vec::new(alloc));
     match what {
         "list" => {
-            let ended = list_tables(alloc, &tables, &mut out);
+            let ended = list_tables(alloc, tables, &mut out);
             text_of(alloc, ended, out.into_inner())
         }
         "report" => {
-            let ended = report_tables(alloc, &tables, &mut out);
+            let ended = report_tables(alloc, tables, &mut out);
             text_of(alloc, ended, out.into_inner())
         }
         _ => {
-            let ended = draw(alloc, "{path}", &tables, &mut out);
+            let ended = draw(alloc, "{path}", tables, &mut out);
             text_of(alloc, ended, out.into_inner())
         }
     }
@@ -130,6 +134,10 @@ pub fn versions(alloc: Global, file: &[u8]) -> Result<String, AllocError> {
         Ok(tables) => tables,
         Err(error) => return format!(in alloc; "{error:?}"),
     };
+    versions_of(alloc, &tables)
+}
+
+fn versions_of(alloc: Global, tables: &Tables<'_>) -> Result<String, AllocError> {
     let mut text = String::new(alloc);
     let functions = match tables.functions(alloc) {
         Ok(selected) => selected.functions,

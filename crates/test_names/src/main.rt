@@ -89,27 +89,43 @@ fn push_answer(
     };
     let (kind, asked) = question.split_once(' ').unwrap_or((question, ""));
     let bytes = unescaped(alloc, asked)?;
-    if kind == "text" {
-        push_filtered(alloc, line, bytes.as_slice())?;
-    } else {
-        let asked = text_of(bytes.as_slice())?;
-        match kind {
-            "name" => names.push_answer(line, asked)?,
-            "before" => return Ok(names.ask_after(asked)?),
-            "crate" => push_crate(alloc, line, asked)?,
-            "shown" => names.push_suffixed(line, asked)?,
-            "kept" => push_kept(line, asked)?,
-            "sizes" => push_sizes(alloc, line, asked.as_bytes())?,
-            "stream" => push_streamed(alloc, line, asked.as_bytes())?,
-            "fails" => push_failed(alloc, line, asked.as_bytes())?,
-            "pairs" => push_pairs(alloc, line, asked)?,
-            "end" => push_end(alloc, line, asked)?,
-            "punycode" => push_decoded(line, asked)?,
-            "limits" => push_limits(alloc, line, asked)?,
-            "visits" => push_visits(alloc, line, asked)?,
-            _ => return Err(Error::from(ErrorKind::InvalidData)),
-        }
+    if push_answer_to(alloc, names, line, kind, &bytes)? {
+        line.push('\n')?;
     }
-    line.push('\n')?;
     Ok(())
+}
+
+// Appends the answer to a question of this kind, and returns whether it has one.
+fn push_answer_to(
+    alloc: Global,
+    names: &mut Names,
+    line: &mut String,
+    kind: &str,
+    bytes: &[u8],
+) -> io::Result<bool> {
+    if kind == "text" {
+        push_filtered(alloc, line, bytes)?;
+        return Ok(true);
+    }
+    let asked = text_of(bytes)?;
+    match kind {
+        "name" => names.push_answer(line, asked)?,
+        "before" => {
+            names.ask_after(asked)?;
+            return Ok(false);
+        }
+        "crate" => push_crate(alloc, line, asked)?,
+        "shown" => names.push_suffixed(line, asked)?,
+        "kept" => push_kept(line, asked)?,
+        "sizes" => push_sizes(alloc, line, asked.as_bytes())?,
+        "stream" => push_streamed(alloc, line, asked.as_bytes())?,
+        "fails" => push_failed(alloc, line, asked.as_bytes())?,
+        "pairs" => push_pairs(alloc, line, asked)?,
+        "end" => push_end(alloc, line, asked)?,
+        "punycode" => push_decoded(line, asked)?,
+        "limits" => push_limits(alloc, line, asked)?,
+        "visits" => push_visits(alloc, line, asked)?,
+        _ => return Err(Error::from(ErrorKind::InvalidData)),
+    }
+    Ok(true)
 }

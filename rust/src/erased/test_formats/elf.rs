@@ -18,41 +18,70 @@ pub fn answer_32(
     file: &[u8],
 ) -> Result<String, ParseError> {
     let elf = elf32::parse(file, layout.order())?;
-    let mut text = String::new(alloc);
     match what {
-        "header" => write!(text, "{:?}", elf.header())?,
+        "header" => Ok(String::formatted(alloc, format_args!("{:?}", elf.header()))?),
         "names" | "symbols" => {
             let (symbols, size) = elf.symbols(alloc, rest)?;
-            return Ok(symbols_text(alloc, what, &symbols, size)?);
+            Ok(symbols_text(alloc, what, &symbols, size)?)
         }
-        "functions" => {
-            let (name, addresses) = rest.split_once(' ').unwrap_or((rest, ""));
-            let (functions, size) = elf.functions(name)?;
-            let functions: Vec<FunctionSymbol<'_>> = functions.collect_in(alloc)?;
-            text = functions_text(alloc, &functions, size)?;
-            for address in addresses.split(' ') {
-                let (functions, _) = elf.functions(name)?;
-                push_found(&mut text, functions.symbol_at(address_of(address)))?;
-            }
+        "functions" => functions_answer_32(alloc, &elf, rest),
+        "sections" => Ok(sections_answer_32(alloc, &elf)?),
+        "bytes" => bytes_answer_32(alloc, &elf, rest, file),
+        _ => section_answer_32(alloc, &elf, rest),
+    }
+}
+
+fn functions_answer_32(
+    alloc: Global,
+    elf: &elf32::Elf32<'_>,
+    rest: &str,
+) -> Result<String, ParseError> {
+    let (name, addresses) = rest.split_once(' ').unwrap_or((rest, ""));
+    let (functions, size) = elf.functions(name)?;
+    let functions: Vec<FunctionSymbol<'_>> = functions.collect_in(alloc)?;
+    let mut text = functions_text(alloc, &functions, size)?;
+    for address in addresses.split(' ') {
+        let (functions, _) = elf.functions(name)?;
+        push_found(&mut text, functions.symbol_at(address_of(address)))?;
+    }
+    Ok(text)
+}
+
+fn sections_answer_32(alloc: Global, elf: &elf32::Elf32<'_>) -> Result<String, AllocError> {
+    let mut text = String::new(alloc);
+    for section in elf.sections() {
+        match section {
+            Ok(section) => push_32(&mut text, elf, section)?,
+            Err(error) => writeln!(text, "{error}")?,
         }
-        "sections" => {
-            for section in elf.sections() {
-                match section {
-                    Ok(section) => push_32(&mut text, &elf, section)?,
-                    Err(error) => writeln!(text, "{error}")?,
-                }
-            }
+    }
+    Ok(text)
+}
+
+fn bytes_answer_32(
+    alloc: Global,
+    elf: &elf32::Elf32<'_>,
+    place: &str,
+    file: &[u8],
+) -> Result<String, ParseError> {
+    match found_32(elf, place)? {
+        Some(section) => {
+            let (bytes, is_file) = (elf.section_bytes(&section), elf.data() == file);
+            Ok(String::formatted(alloc, format_args!("{bytes:?} {is_file}"))?)
         }
-        _ => match found_32(&elf, rest)? {
-            Some(section) if what == "bytes" => write!(
-                text,
-                "{:?} {}",
-                elf.section_bytes(&section),
-                elf.data() == file
-            )?,
-            Some(section) => push_32(&mut text, &elf, section)?,
-            None => text.push_str("none")?,
-        },
+        None => Ok(String::from_str(alloc, "none")?),
+    }
+}
+
+fn section_answer_32(
+    alloc: Global,
+    elf: &elf32::Elf32<'_>,
+    place: &str,
+) -> Result<String, ParseError> {
+    let mut text = String::new(alloc);
+    match found_32(elf, place)? {
+        Some(section) => push_32(&mut text, elf, section)?,
+        None => text.push_str("none")?,
     }
     Ok(text)
 }
@@ -90,41 +119,70 @@ pub fn answer_64(
     file: &[u8],
 ) -> Result<String, ParseError> {
     let elf = elf64::parse(file, layout.order())?;
-    let mut text = String::new(alloc);
     match what {
-        "header" => write!(text, "{:?}", elf.header())?,
+        "header" => Ok(String::formatted(alloc, format_args!("{:?}", elf.header()))?),
         "names" | "symbols" => {
             let (symbols, size) = elf.symbols(alloc, rest)?;
-            return Ok(symbols_text(alloc, what, &symbols, size)?);
+            Ok(symbols_text(alloc, what, &symbols, size)?)
         }
-        "functions" => {
-            let (name, addresses) = rest.split_once(' ').unwrap_or((rest, ""));
-            let (functions, size) = elf.functions(name)?;
-            let functions: Vec<FunctionSymbol<'_>> = functions.collect_in(alloc)?;
-            text = functions_text(alloc, &functions, size)?;
-            for address in addresses.split(' ') {
-                let (functions, _) = elf.functions(name)?;
-                push_found(&mut text, functions.symbol_at(address_of(address)))?;
-            }
+        "functions" => functions_answer_64(alloc, &elf, rest),
+        "sections" => Ok(sections_answer_64(alloc, &elf)?),
+        "bytes" => bytes_answer_64(alloc, &elf, rest, file),
+        _ => section_answer_64(alloc, &elf, rest),
+    }
+}
+
+fn functions_answer_64(
+    alloc: Global,
+    elf: &elf64::Elf64<'_>,
+    rest: &str,
+) -> Result<String, ParseError> {
+    let (name, addresses) = rest.split_once(' ').unwrap_or((rest, ""));
+    let (functions, size) = elf.functions(name)?;
+    let functions: Vec<FunctionSymbol<'_>> = functions.collect_in(alloc)?;
+    let mut text = functions_text(alloc, &functions, size)?;
+    for address in addresses.split(' ') {
+        let (functions, _) = elf.functions(name)?;
+        push_found(&mut text, functions.symbol_at(address_of(address)))?;
+    }
+    Ok(text)
+}
+
+fn sections_answer_64(alloc: Global, elf: &elf64::Elf64<'_>) -> Result<String, AllocError> {
+    let mut text = String::new(alloc);
+    for section in elf.sections() {
+        match section {
+            Ok(section) => push_64(&mut text, elf, section)?,
+            Err(error) => writeln!(text, "{error}")?,
         }
-        "sections" => {
-            for section in elf.sections() {
-                match section {
-                    Ok(section) => push_64(&mut text, &elf, section)?,
-                    Err(error) => writeln!(text, "{error}")?,
-                }
-            }
+    }
+    Ok(text)
+}
+
+fn bytes_answer_64(
+    alloc: Global,
+    elf: &elf64::Elf64<'_>,
+    place: &str,
+    file: &[u8],
+) -> Result<String, ParseError> {
+    match found_64(elf, place)? {
+        Some(section) => {
+            let (bytes, is_file) = (elf.section_bytes(&section), elf.data() == file);
+            Ok(String::formatted(alloc, format_args!("{bytes:?} {is_file}"))?)
         }
-        _ => match found_64(&elf, rest)? {
-            Some(section) if what == "bytes" => write!(
-                text,
-                "{:?} {}",
-                elf.section_bytes(&section),
-                elf.data() == file
-            )?,
-            Some(section) => push_64(&mut text, &elf, section)?,
-            None => text.push_str("none")?,
-        },
+        None => Ok(String::from_str(alloc, "none")?),
+    }
+}
+
+fn section_answer_64(
+    alloc: Global,
+    elf: &elf64::Elf64<'_>,
+    place: &str,
+) -> Result<String, ParseError> {
+    let mut text = String::new(alloc);
+    match found_64(elf, place)? {
+        Some(section) => push_64(&mut text, elf, section)?,
+        None => text.push_str("none")?,
     }
     Ok(text)
 }

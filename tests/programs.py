@@ -515,6 +515,10 @@ ends(2, "", "binfarce: not an address: 1\\u001b", "binfarce", "at", forged, "1\x
 thumb, wrapped = b"\xc4\1\1" + bytes(17), b"\xde\xc0\x17\x0b"
 universal, is_32, is_java = "a universal Mach-O file; `lipo -thin ARCHITECTURE FILE` extracts a part", "a Mach-O file of 32 bits; those of 64 are read", "a Java class file; `javap -v FILE` shows it"
 has_many = "an ELF file of 65,280 sections or more; `readelf -SW FILE` lists them"
+is_core = "a core file; the program that it is of, which `file FILE` names, has the symbols"
+core = [b"\x7fELF" + bytes([size, order, 1]) + bytes(9) + (4).to_bytes(2, "big" if order == 2 else "little") for size in (1, 2) for order in (1, 2)]
+behind = lambda header, table=0x40: b"MZ" + bytes(22) + bytes([table]) + bytes(35) + bytes([0x80, 0, 0, 0]) + bytes(64) + header
+is_le, is_dos = "an LE or LX file, of OS/2 or Windows 9x; PE files are read", "a DOS program; PE files are read"
 is_coff, is_bitcode = "a COFF object file; the PE file that it is linked into is read", "LLVM bitcode; the file that it is linked into is read"
 foreign = [(universal, b"\xca\xfe\xba\xbe\0\0\0\2"), (universal, b"\xca\xfe\xba\xbe\0\0\0\x2c"), (universal, b"\xca\xfe\xba\xbf\0\0\0\1"),
            (is_java, b"\xca\xfe\xba\xbe\0\0\0\x2d"), (is_java, b"\xca\xfe\xba\xbe\0\1\0\0"), (is_32, b"\xce\xfa\xed\xfe"), (is_32, b"\xfe\xed\xfa\xce"),
@@ -525,6 +529,10 @@ foreign = [(universal, b"\xca\xfe\xba\xbe\0\0\0\2"), (universal, b"\xca\xfe\xba\
            ("a PDB file; `llvm-pdbutil dump --publics FILE` shows its symbols", b"Microsoft C/C++ MSF 7.00\r\n\x1aDS"),
            ("a WebAssembly module; `wasm-objdump -x FILE` shows it", b"\0asm\1"), (is_bitcode, b"BC\xc0\xde"), (is_bitcode, wrapped),
            ("a script; its first line names the program that runs it", b"#!/bin/sh\n"),
+           *((is_core, it) for it in core), (is_dos, behind(b"", 0x1c)), (is_dos, behind(b"P", 0x3f)), (is_le, behind(b"LE")), (is_le, behind(b"LX")),
+           ("an NE file, of 16-bit Windows or OS/2; PE files are read", behind(b"NE\5\n")),
+           ("a gzip file; `gzip -d <FILE` writes what it holds", b"\x1f\x8b\x08\0"), ("an xz file; `xz -d <FILE` writes what it holds", b"\xfd7zXZ\0\0\4"),
+           ("a Zstandard file; `zstd -d <FILE` writes what it holds", b"\x28\xb5\x2f\xfd\x04"),
            (has_many, bytes(data[:60]) + bytes(4)), (has_many, b"\x7fELF\1\2\1" + bytes(25) + b"\0\0\0\x34"),
            (unknown, thumb[:16] + b"\1"), (unknown, b"a text that isn't one\n")]
 calls = [it.split() for it in ("list", "list --all", "list --dynamic --json", "size", "size --by=section", "size --all --json", "map", "map --folded --all",

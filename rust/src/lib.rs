@@ -121,14 +121,7 @@ mod erased;
 mod error;
 pub mod figures;
 mod filter;
-// What the command says of a file that no reader reads. Without the programs its crate isn't built, but for this file.
-#[cfg(any(test, feature = "programs"))]
-use erased::binfarce_jobs::foreign;
-#[cfg(not(any(test, feature = "programs")))]
-#[path = "erased/binfarce_jobs/foreign.rs"]
-#[allow(clippy::all)]
-#[rustfmt::skip]
-mod foreign;
+use erased::binfarce_foreign as foreign;
 pub mod macho;
 pub mod pe;
 #[cfg(doctest)]

@@ -26,7 +26,7 @@ use Rattle.binfarce_tools.specs.declared.report.ReportError.TheVariants as repor
 use Rattle.binfarce_tools.specs.declared.tables.Tables.{Tables}
 use Rattle.binfarce_jobs.specs.Faults.{failure, is_of_file, read_fault}
 use Rattle.binfarce_jobs.specs.Files.{Grows, Hinted, HintsFault, Refused as Reported, Reports, ReportsFault, hinted}
-use Rattle.binfarce_jobs.specs.Foreign.{foreign_in}
+use Rattle.binfarce_foreign.specs.Foreign.{foreign_in}
 use Rattle.binfarce_jobs.specs.Input.{IsForeign, IsReadOf, IsUnreadable}
 use Rattle.binfarce_jobs.specs.Show.{AreTablesFor, answer_for}
 use Rattle.binfarce_jobs.specs.declared.fault.Fault.{Fault}
@@ -36,7 +36,7 @@ use Rattle.binfarce_jobs.specs.declared.show.Symbols.{Symbols}
 use Rattle.binfarce_jobs.proofs.FileFates.{never_written, no_taken, said_of_file, unknown_too}
 use Rattle.binfarce_jobs.proofs.FileLoop.{grows_unless}
 use Rattle.binfarce_calls.specs.Summed.{HasNoSections, HasNoSum, HasSections, IsUnsummed, IsUnwalked, MayBeRefused}
-use Rattle.binfarce_calls.specs.machine.Steps.{IsRefused, Told}
+use Rattle.binfarce_calls.specs.machine.Steps.{IsRefused, Messages}
 
 -- a file of an unknown format has no answer, and no sections
 no_symbols : (symbols : Symbols) (file : List ℕ) → format_of file ≡ formats.Unknown → answer_for symbols file ≡ None
@@ -188,7 +188,7 @@ sections_summed file part sums read is =
     by (inr (unknown, less)) found = let never : Path (Option (Walk Section)) None (Some found.0) = sym (no_walk part less) ∙ found.1 in absurd cc
 
 -- a file that is refused is reported, with its hints
-pub was_refused : (MayBe : Fault → Type 0) (path file part : List ℕ) (before after : Told) (fault : Fault) (of_file : Bool) (result : Result Verdict Fault) → of_file ≡ true → IsReadOf file part → MayBe fault
+pub was_refused : (MayBe : Fault → Type 0) (path file part : List ℕ) (before after : Messages) (fault : Fault) (of_file : Bool) (result : Result Verdict Fault) → of_file ≡ true → IsReadOf file part → MayBe fault
     → ReportsFault path before.reports after.reports fault of_file result → HintsFault path before.hints after.hints fault of_file part → IsRefused MayBe path file before after
 was_refused MayBe path file part before after fault true result is read may (done, reports) (said, says, gave) = (fault, said, may, said_of_file fault file part said read says, reports, gave)
 was_refused MayBe path file part before after fault false result is read may reports gave = absurd cc
@@ -199,7 +199,7 @@ not_passed path before after fault e true result is (done, reports) err = let ne
 not_passed path before after fault e false result is reports err = absurd cc
 
 -- a file that can't be opened or read, or that no reader reads
-pub unopened : (HasNone : List ℕ → Outcome → Type 0) (may_fail : Bool) (path file : List ℕ) (before after : Told) (fault : Fault) → IsForeign file fault ⊎ IsUnreadable may_fail file fault → Reports before.reports after.reports ((path, fault) ∷ []) → after.hints ≡ before.hints
+pub unopened : (HasNone : List ℕ → Outcome → Type 0) (may_fail : Bool) (path file : List ℕ) (before after : Messages) (fault : Fault) → IsForeign file fault ⊎ IsUnreadable may_fail file fault → Reports before.reports after.reports ((path, fault) ∷ []) → after.hints ≡ before.hints
     → IsRefused (MayBeRefused HasNone may_fail file) path file before after
 unopened HasNone may_fail path file before after fault why reports same = (fault, [], may why, ([], [], inr refl, inr refl, refl), reports, grows_unless before.hints after.hints same)
   where
@@ -207,8 +207,8 @@ unopened HasNone may_fail path file before after fault why reports same = (fault
     may (inl is) = inl is
     may (inr is) = inr (inl is)
 
--- a step that begins where another one told nothing
-pub refused_since : (MayBe : Fault → Type 0) (path file : List ℕ) (start before after : Told) → before.reports ≡ start.reports → before.hints ≡ start.hints → IsRefused MayBe path file before after → IsRefused MayBe path file start after
+-- a step that begins where another one reported nothing and gave no hint
+pub refused_since : (MayBe : Fault → Type 0) (path file : List ℕ) (start before after : Messages) → before.reports ≡ start.reports → before.hints ≡ start.hints → IsRefused MayBe path file before after → IsRefused MayBe path file start after
 refused_since MayBe path file start before after reports_same hints_same (fault, said, may, says, reports, gave) = (
   fault,
   said,

@@ -10,7 +10,7 @@ use Rattle.binfarce_tools.specs.Writing.{AppendsBeginning, Outcome, write_failed
 use Rattle.binfarce_jobs.specs.Faults.{failure, is_failed_write, is_of_call, is_of_file}
 use Rattle.binfarce_words.specs.Words.{Argument}
 use Rattle.binfarce_jobs.specs.Files.{Files, Grows, HintsFault, IsHeld, Reports, ReportsFault, State, asked_files, heading, hinted}
-use Rattle.binfarce_jobs.specs.Foreign.{foreign_in}
+use Rattle.binfarce_foreign.specs.Foreign.{foreign_in}
 use Rattle.binfarce_jobs.specs.Hints.{words_of}
 use Rattle.binfarce_jobs.specs.Input.{IsForeign, IsReadOf, IsUnreadable}
 use Rattle.binfarce_jobs.specs.Limit.{above}

@@ -10,7 +10,7 @@ use Rattle.binfarce_words.specs.declared.words.Limit.{Limit}
 use Rattle.binfarce_jobs.specs.Faults.{failure}
 use Rattle.binfarce_words.specs.Words.{Argument, no_utf8, utf8}
 use Rattle.binfarce_jobs.specs.Files.{Files, Grows, RefusesArgument, Reports, State, heading, hinted}
-use Rattle.binfarce_jobs.specs.Foreign.{foreign_in}
+use Rattle.binfarce_foreign.specs.Foreign.{foreign_in}
 use Rattle.binfarce_jobs.specs.Hints.{IsSaidOfRefused, words_of}
 use Rattle.binfarce_jobs.specs.Input.{IsForeign, IsUnreadable}
 use Rattle.binfarce_jobs.specs.Limit.{above, and_then}

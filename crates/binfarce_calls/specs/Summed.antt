@@ -11,7 +11,7 @@ use Rattle.binfarce_tools.specs.Writing as writing
 use Rattle.binfarce_tools.specs.Writing.{Outcome, too_large, unknown_format}
 use Rattle.binfarce_jobs.specs.Faults.{failure}
 use Rattle.binfarce_jobs.specs.Files.{Refused}
-use Rattle.binfarce_jobs.specs.Foreign.{foreign_in}
+use Rattle.binfarce_foreign.specs.Foreign.{foreign_in}
 use Rattle.binfarce_jobs.specs.Hints.{IsSaidOfRefused}
 use Rattle.binfarce_jobs.specs.Input.{IsForeign, IsUnreadable}
 use Rattle.binfarce_jobs.specs.Show.{answer_for}

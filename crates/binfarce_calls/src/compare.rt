@@ -13,7 +13,7 @@ ghost use Rattle.binfarce_jobs.specs.declared.show.Symbols.{Symbols as Taken};
 ghost use Rattle.binfarce_calls.specs.Compared.{ComparesAs, ReportsOf, by_sections, by_sizes};
 ghost use Rattle.binfarce_calls.specs.Summed.{Fate, HasNoSections, HasNoSum, MayBeRefused};
 ghost use Rattle.binfarce_calls.specs.machine.Reported.{ReportsRead, ReportsSummed};
-ghost use Rattle.binfarce_calls.specs.machine.Steps.{Carries, HasRead, HasSummed, HasSums, Steps, StepsOn, Writes, told};
+ghost use Rattle.binfarce_calls.specs.machine.Steps.{Carries, HasRead, HasSummed, HasSums, Steps, StepsOn, Writes, messages};
 
 use binfarce_bytes::source::Source;
 use binfarce_figures::claims::Claims;
@@ -211,7 +211,7 @@ fn sections_at<F: Read + Source<Log = ()> + Drop, Y: System<F>>(
     ensures reads { (file : List ℕ) → Y.bytes_at system.old path.now ≡ Some file
         → Steps (HasRead F.bytes AreTablesOf file)
         (MayBeRefused HasNoSections (Y.may_fail_at system.old path.now) file) path.now file
-        (told (Y.reports system.old) (Y.hints system.old)) (told (Y.reports system.new) (Y.hints system.new)) result }
+        (messages (Y.reports system.old) (Y.hints system.old)) (messages (Y.reports system.new) (Y.hints system.new)) result }
     ensures bytes { Y.bytes_at system.new ≡ Y.bytes_at system.old }
     ensures may_fail { Y.may_fail_at system.new ≡ Y.may_fail_at system.old }
 {
@@ -238,7 +238,7 @@ fn section_sums<'b, F: Read + Source<Log = ()> + Drop, Y: System<F>>(
     ensures sums { (file : List ℕ) (may_fail : Bool)
         → StepsOn (HasRead F.bytes AreTablesOf file) read.entry.now (λ given. (sums : FileSums) × HasSums file sums given)
         (MayBeRefused HasNoSections may_fail file) path.now file
-        (told (Y.reports system.old) (Y.hints system.old)) (told (Y.reports system.new) (Y.hints system.new)) result }
+        (messages (Y.reports system.old) (Y.hints system.old)) (messages (Y.reports system.new) (Y.hints system.new)) result }
     ensures bytes { Y.bytes_at system.new ≡ Y.bytes_at system.old }
     ensures may_fail { Y.may_fail_at system.new ≡ Y.may_fail_at system.old }
 {
@@ -265,7 +265,7 @@ fn read_at<F: Read + Source<Log = ()> + Drop, Y: System<F>>(
     ensures reads { (file : List ℕ) → Y.bytes_at system.old path.now ≡ Some file
         → Steps (HasRead F.bytes (AreTablesFor symbols.now) file)
         (MayBeRefused (HasNoSum symbols.now) (Y.may_fail_at system.old path.now) file) path.now file
-        (told (Y.reports system.old) (Y.hints system.old)) (told (Y.reports system.new) (Y.hints system.new)) result }
+        (messages (Y.reports system.old) (Y.hints system.old)) (messages (Y.reports system.new) (Y.hints system.new)) result }
     ensures bytes { Y.bytes_at system.new ≡ Y.bytes_at system.old }
     ensures may_fail { Y.may_fail_at system.new ≡ Y.may_fail_at system.old }
 {
@@ -292,7 +292,7 @@ fn sums_of<'b, F: Read + Source<Log = ()> + Drop, Y: System<F>>(
     ensures sums { (symbols : Taken) (file : List ℕ) (may_fail : Bool)
         → StepsOn (HasRead F.bytes (AreTablesFor symbols) file) read.entry.now (λ given. (selected : SelectedSymbols) × HasSummed F.bytes symbols file selected given)
         (MayBeRefused (HasNoSum symbols) may_fail file) path.now file
-        (told (Y.reports system.old) (Y.hints system.old)) (told (Y.reports system.new) (Y.hints system.new)) result }
+        (messages (Y.reports system.old) (Y.hints system.old)) (messages (Y.reports system.new) (Y.hints system.new)) result }
     ensures bytes { Y.bytes_at system.new ≡ Y.bytes_at system.old }
     ensures may_fail { Y.may_fail_at system.new ≡ Y.may_fail_at system.old }
 {

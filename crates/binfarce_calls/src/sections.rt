@@ -3,7 +3,7 @@
 ghost use Rattle.std.specs.Prelude.{◌≡◌, ℕ, Bool, List, None, Some, length, map, nat_lt, true};
 ghost use Rattle.binfarce_rows.specs.Json.{style_of};
 ghost use Rattle.binfarce_jobs.specs.Files.{AreHeld, IsHeld, asked_files};
-ghost use Rattle.binfarce_jobs.specs.Foreign.{foreign_in};
+ghost use Rattle.binfarce_foreign.specs.Foreign.{foreign_in};
 ghost use Rattle.binfarce_jobs.specs.Input.{IsReadOf};
 ghost use Rattle.binfarce_jobs.specs.Output.{pending, state_of, taken, writer_of};
 ghost use Rattle.binfarce_words.specs.WordViews.{argument_view};

@@ -22,7 +22,7 @@ use Rattle.binfarce_jobs.specs.Faults.{failure, is_failed_write, is_of_call}
 use Rattle.binfarce_jobs.specs.Files.{FailsAs, Files, Grows, HintsFault, IsFoundIn, MayBeRefused, RefusesArgument, Reports, ReportsFault, ShowsSource, ShowsOne, State, heading, hinted, refused, shown}
 use Rattle.binfarce_jobs.specs.Hints.{IsOrNone, IsSaidOfRefused, IsSaidOfShown, all_words, bytes_had, count_of, debug_by, debug_in, dynamic_by, dynamic_for, dynamic_in, has_none, is_stripped, lack_in, section_in, stripped_for, stripped_words, unknown_for, words_of}
 use Rattle.binfarce_jobs.specs.Output.{pending, taken, writer_of}
-use Rattle.binfarce_jobs.specs.Foreign.{first_bytes, foreign_in}
+use Rattle.binfarce_foreign.specs.Foreign.{first_bytes, foreign_in}
 use Rattle.binfarce_jobs.specs.Input.{IsForeign, IsReadOf, IsUnreadable}
 use Rattle.binfarce_jobs.proofs.Streams.{format_of_beginning}
 use Rattle.binfarce_jobs.specs.Show.{Fits, HasSumsOf, IsAskedText, IsSeenOf, IsShownText, MayEnd, MemoryFor, TakesText, answer_for, answer_taken, excess_of, exceeds, is_taken}

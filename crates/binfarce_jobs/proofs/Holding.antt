@@ -9,7 +9,7 @@ use Rattle.std.proofs.Math.Seq.{drop-drop, take-add}
 use borrow.Rule.Slice.PartMut.{post_of}
 use Rattle.binfarce_bytes.specs.Format.{begins}
 use Rattle.binfarce_bytes.specs.Source.{IsPart, MayMiss}
-use Rattle.binfarce_jobs.specs.Foreign.{first_bytes}
+use Rattle.binfarce_foreign.specs.Foreign.{first_bytes}
 use Rattle.binfarce_jobs.specs.Input.{HoldsFirst, bytes_or, is_beginning_of, is_whole, may_or}
 use Rattle.binfarce_jobs.specs.declared.input.Held.{Held}
 

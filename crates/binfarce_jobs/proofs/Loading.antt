@@ -5,7 +5,7 @@ use Rattle.std.specs.Io.KnownBytes.{Consumes}
 use Rattle.std.specs.declared.io.ErrorKind.{ErrorKind}
 use Rattle.std.specs.declared.io.ErrorKind.TheVariants.{OutOfMemory}
 use Rattle.binfarce_jobs.specs.Faults.{failure, io_fault}
-use Rattle.binfarce_jobs.specs.Foreign.{first_bytes, foreign_in, named_by}
+use Rattle.binfarce_foreign.specs.Foreign.{first_bytes, foreign_in, named_by}
 use Rattle.binfarce_jobs.specs.Input.{IsJudged, IsReadOf, Judges, Loads, ReadsJudged, bytes_or, may_or}
 use Rattle.binfarce_jobs.specs.declared.fault.Fault.{Fault}
 use Rattle.binfarce_jobs.specs.declared.input.Held.{Held}

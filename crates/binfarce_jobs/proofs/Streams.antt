@@ -9,7 +9,7 @@ use Rattle.std.proofs.Math.Seq.{drop-drop, take-append_seam}
 use Rattle.binfarce_bytes.specs.Format.{format_of}
 use Rattle.binfarce_bytes.specs.declared.format.Format.TheVariants.{Unknown}
 use Rattle.binfarce_tables.proofs.FirstBytes.{format_of_first}
-use Rattle.binfarce_jobs.specs.Foreign.{first_bytes, foreign_in, named_by}
+use Rattle.binfarce_foreign.specs.Foreign.{first_bytes, foreign_in, named_by}
 use Rattle.binfarce_jobs.specs.Input.{IsForeign, IsJudged, IsUnread, Judges, ReadsFirst, ReadsJudged, ReadsNoMore, ReadsRest}
 use Rattle.binfarce_jobs.specs.declared.fault.Fault.{Fault}
 

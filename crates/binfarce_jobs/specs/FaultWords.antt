@@ -11,7 +11,7 @@ use Rattle.binfarce_text.specs.Streams.{stream_words}
 use Rattle.binfarce_rows.specs.Json.{object_start, text_member}
 use Rattle.binfarce_tools.specs.ReportWords.{report_words}
 use Rattle.binfarce_tools.specs.declared.report.ReportError.TheVariants as sums
-use Rattle.binfarce_jobs.specs.Foreign.{foreign_words}
+use Rattle.binfarce_foreign.specs.Foreign.{foreign_words}
 use Rattle.binfarce_jobs.specs.declared.fault.Fault.{Fault}
 use Rattle.binfarce_jobs.specs.declared.fault.Fault.TheVariants.{Report, Section, Stream, Unsupported, NotUtf8, SharedAddresses, Unplaced, Missing}
 use Rattle.binfarce_jobs.specs.Faults.{is_write, no_memory_fault}

@@ -4,7 +4,7 @@ use Rattle.std.specs.Io.KnownBytes.{Appends}
 use Rattle.std.specs.List.{flat_map, list_all, list_any}
 use Rattle.binfarce_tools.specs.Writing.{AppendsBeginning, Outcome, no_memory, write_failed}
 use Rattle.binfarce_jobs.specs.Faults.{failure}
-use Rattle.binfarce_jobs.specs.Foreign.{foreign_in}
+use Rattle.binfarce_foreign.specs.Foreign.{foreign_in}
 use Rattle.binfarce_jobs.specs.Input.{IsForeign, IsUnreadable}
 use Rattle.binfarce_jobs.specs.Hints.{IsSaidOfRefused, IsSaidOfShown, has_none}
 use Rattle.binfarce_jobs.specs.Show.{HasSumsOf, IsShownText, MayEnd, exceeds}

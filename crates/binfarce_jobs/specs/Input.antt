@@ -7,10 +7,10 @@ use Rattle.binfarce_bytes.specs.Format.{begins, format_of}
 use Rattle.binfarce_bytes.specs.declared.format.Format.TheVariants.{Unknown}
 use Rattle.binfarce_tools.specs.Writing.{no_memory, unreadable}
 use Rattle.binfarce_jobs.specs.Faults.{failure}
-use Rattle.binfarce_jobs.specs.Foreign.{first_bytes, foreign_in}
+use Rattle.binfarce_foreign.specs.Foreign.{first_bytes, foreign_in}
 use Rattle.binfarce_jobs.specs.declared.fault.Fault.{Fault}
 use Rattle.binfarce_jobs.specs.declared.fault.Fault.TheVariants.{Unsupported}
-use Rattle.binfarce_jobs.specs.declared.foreign.Foreign.{Foreign}
+use Rattle.binfarce_foreign.specs.declared.Foreign.{Foreign}
 use Rattle.binfarce_jobs.specs.declared.input.FileOrStdin.{FileOrStdin}
 use Rattle.binfarce_jobs.specs.declared.input.FileOrStdin.TheVariants.{File, Standard}
 use Rattle.binfarce_jobs.specs.declared.input.Held.{Held}

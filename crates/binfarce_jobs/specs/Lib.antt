@@ -1,4 +1,3 @@
-pub mod Foreign
 pub mod Input
 pub mod Faults
 pub mod FaultWords

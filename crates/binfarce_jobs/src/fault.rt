@@ -4,9 +4,9 @@ ghost use Rattle.std.specs.Prelude.{◌≡◌};
 ghost use Rattle.std.specs.IoError.{error_kind};
 ghost use Rattle.binfarce_jobs.specs.Faults.{is_of_file, is_write};
 
-use crate::foreign::Foreign;
 use binfarce_bytes::ParseError;
 use binfarce_filtering::stream::StreamError;
+use binfarce_foreign::Foreign;
 use binfarce_sections::error::SectionError;
 use binfarce_tables::ReadError;
 use binfarce_tools::list::ListError;

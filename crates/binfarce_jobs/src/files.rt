@@ -5,7 +5,7 @@ ghost use Rattle.binfarce_jobs.specs.Faults.{is_of_file};
 ghost use Rattle.binfarce_jobs.specs.Files.{Grows, Hinted, HintsFault, Refused, RefusesArgument, Reports, ReportsFault, AreHeld, IsHeld, asked_files, ShowsAll, ShowsSource, ShowsOne, heading, hinted};
 ghost use Rattle.binfarce_jobs.specs.Hints.{all_words, hint_words, words_of};
 ghost use Rattle.binfarce_jobs.specs.Output.{pending, state_of, taken, writer_of};
-ghost use Rattle.binfarce_jobs.specs.Foreign.{foreign_in};
+ghost use Rattle.binfarce_foreign.specs.Foreign.{foreign_in};
 ghost use Rattle.binfarce_jobs.specs.Input.{IsForeign, IsReadOf, IsUnreadable, bytes_of, may_fail_of};
 ghost use Rattle.binfarce_words.specs.WordViews.{argument_view};
 

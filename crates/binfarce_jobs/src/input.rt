@@ -3,14 +3,14 @@
 ghost use Rattle.std.specs.Prelude.{◌≡◌, ◌-◌, ℕ, List, [], Some, None, Ok, true, is_ok, MatchResult, IfOk, IfErr, IsErrAnd, drop, length, min, take};
 ghost use Rattle.std.specs.IoError.{error_kind};
 ghost use Rattle.std.specs.declared.io.ErrorKind.TheVariants.{OutOfMemory};
-ghost use Rattle.binfarce_jobs.specs.Foreign.{named_by};
+ghost use Rattle.binfarce_foreign.specs.Foreign.{named_by};
 ghost use Rattle.binfarce_jobs.specs.Input.{HoldsFirst, Judges, Loads, ReadsFirst, ReadsJudged, ReadsNoMore, ReadsRest, bytes_of, file_of, held_of, is_whole, may_fail_of};
 
 use crate::fault::Fault;
-use crate::foreign::{FIRST_LENGTH, named_by};
 use binfarce_bytes::format::{Format, detect_format};
 use binfarce_bytes::parser::to_index;
 use binfarce_bytes::source::{Source, read_part};
+use binfarce_foreign::{FIRST_LENGTH, named_by};
 use binfarce_sections::error::SectionError;
 use binfarce_tools::program::is_read_at_offsets;
 use std::alloc::Global;

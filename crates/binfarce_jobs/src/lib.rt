@@ -4,7 +4,6 @@
 pub mod at;
 pub mod fault;
 pub mod files;
-pub mod foreign;
 pub mod hint;
 pub mod input;
 pub mod limit;

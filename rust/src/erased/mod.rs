@@ -13,6 +13,7 @@ pub mod binfarce_v0;
 pub mod binfarce_names;
 pub mod binfarce_filtering;
 pub mod binfarce_bytes;
+pub mod binfarce_foreign;
 pub mod binfarce_elf;
 pub mod binfarce_elf_memory;
 pub mod binfarce_macho;

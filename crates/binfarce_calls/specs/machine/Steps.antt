@@ -10,7 +10,7 @@ use Rattle.binfarce_tools.specs.Answer.{selected_answer}
 use Rattle.binfarce_tools.specs.Writing.{AppendsBeginning, write_failed}
 use Rattle.binfarce_jobs.specs.Faults.{failure, is_of_file}
 use Rattle.binfarce_jobs.specs.Files.{Grows, Hinted, Refused, Reports, State, hinted}
-use Rattle.binfarce_jobs.specs.Foreign.{foreign_in}
+use Rattle.binfarce_foreign.specs.Foreign.{foreign_in}
 use Rattle.binfarce_jobs.specs.Hints.{IsSaidOfRefused}
 use Rattle.binfarce_jobs.specs.Input.{IsReadOf, bytes_of}
 use Rattle.binfarce_jobs.specs.Show.{answer_for}
@@ -22,36 +22,36 @@ use Rattle.binfarce_calls.specs.declared.compare.ReadFile.{ReadFile}
 use Rattle.binfarce_calls.specs.declared.compare.Summed.{Summed}
 
 -- what was reported, and the hints that were given, where these are known
-pub record Told : Type 0 where
+pub record Messages : Type 0 where
   pub reports : Option (List Refused)
   pub hints : Option (List Hinted)
 
-abbrev pub told : Option (List Refused) → Option (List Hinted) → Told
-told reports hints = record { reports = reports; hints = hints }
+abbrev pub messages : Option (List Refused) → Option (List Hinted) → Messages
+messages reports hints = record { reports = reports; hints = hints }
 
 -- no more is reported, and no more said
-abbrev pub IsQuiet : (before after : Told) → Type 0
+abbrev pub IsQuiet : (before after : Messages) → Type 0
 IsQuiet before after = Reports before.reports after.reports [] × Grows before.hints after.hints []
 
 -- the file at a path, which holds these bytes, is refused for a fault for which it may be, and reported, with its hints
-abbrev pub IsRefused : (MayBe : Fault → Type 0) → (path file : List ℕ) → (before after : Told) → Type 0
+abbrev pub IsRefused : (MayBe : Fault → Type 0) → (path file : List ℕ) → (before after : Messages) → Type 0
 IsRefused MayBe path file before after =
     (fault : Fault) × (said : List (List ℕ)) × MayBe fault × IsSaidOfRefused fault file said × Reports before.reports after.reports ((path, fault) ∷ []) × Grows before.hints after.hints (hinted path said)
 
 -- a step with a file gives something; or the file is refused; a fault is not passed on
-abbrev pub Steps : {T : Type 0} → (Holds : T → Type 0) → (MayBe : Fault → Type 0) → (path file : List ℕ) → (before after : Told) → Result (Option T) Fault → Type 0
+abbrev pub Steps : {T : Type 0} → (Holds : T → Type 0) → (MayBe : Fault → Type 0) → (path file : List ℕ) → (before after : Messages) → Result (Option T) Fault → Type 0
 Steps Holds MayBe path file before after (Ok (Some x)) = Holds x × IsQuiet before after
 Steps Holds MayBe path file before after (Ok None) = IsRefused MayBe path file before after
 Steps Holds MayBe path file before after (Err e) = ⊥
 
 -- a step that has nothing to go on gives nothing
-abbrev pub Stops : {T : Type 0} → (before after : Told) → Result (Option T) Fault → Type 0
+abbrev pub Stops : {T : Type 0} → (before after : Messages) → Result (Option T) Fault → Type 0
 Stops before after (Ok (Some x)) = ⊥
 Stops before after (Ok None) = IsQuiet before after
 Stops before after (Err e) = ⊥
 
 -- a step goes on with what the one before gave, if it gave something
-abbrev pub StepsOn : {R T : Type 0} → (Given : R → Type 0) → Option R → (Holds : T → Type 0) → (MayBe : Fault → Type 0) → (path file : List ℕ) → (before after : Told) → Result (Option T) Fault → Type 0
+abbrev pub StepsOn : {R T : Type 0} → (Given : R → Type 0) → Option R → (Holds : T → Type 0) → (MayBe : Fault → Type 0) → (path file : List ℕ) → (before after : Messages) → Result (Option T) Fault → Type 0
 StepsOn Given (Some r) Holds MayBe path file before after result = Given r → Steps Holds MayBe path file before after result
 StepsOn Given None Holds MayBe path file before after result = Stops before after result
 

@@ -3,9 +3,9 @@
 //! Why a file's result was not written, or not all of it.
 
 use crate::shim::String;
-use crate::erased::binfarce_jobs::foreign::Foreign;
 use crate::erased::binfarce_bytes::ParseError;
 use crate::erased::binfarce_filtering::stream::StreamError;
+use crate::erased::binfarce_foreign::Foreign;
 use crate::erased::binfarce_sections::error::SectionError;
 use crate::erased::binfarce_tables::ReadError;
 use crate::erased::binfarce_tools::list::ListError;

@@ -4,10 +4,10 @@
 
 use crate::shim::Vec;
 use crate::erased::binfarce_jobs::fault::Fault;
-use crate::erased::binfarce_jobs::foreign::{FIRST_LENGTH, named_by};
 use crate::erased::binfarce_bytes::format::{Format, detect_format};
 use crate::erased::binfarce_bytes::parser::to_index;
 use crate::erased::binfarce_bytes::source::{Source, read_part};
+use crate::erased::binfarce_foreign::{FIRST_LENGTH, named_by};
 use crate::erased::binfarce_sections::error::SectionError;
 use crate::erased::binfarce_tools::program::is_read_at_offsets;
 use crate::shim::alloc::Global;

@@ -7,7 +7,7 @@ use Rattle.binfarce_jobs.specs.declared.limit.Verdict.{Verdict}
 use Rattle.binfarce_calls.specs.Compared.{by_sizes}
 use Rattle.binfarce_calls.specs.Summed.{HasNoSum, MayBeRefused}
 use Rattle.binfarce_calls.specs.machine.Reported.{ReportsUnless}
-use Rattle.binfarce_calls.specs.machine.Steps.{HasRead, HasSummed, Steps, told}
+use Rattle.binfarce_calls.specs.machine.Steps.{HasRead, HasSummed, Steps, messages}
 use Rattle.binfarce_calls.proofs.Pairs.{one_file as one_reported, two_files}
 use Rattle.binfarce_calls.proofs.Steps.{broke_off, compared, none_passed, one_file}
 use Rattle.binfarce_calls.proofs.compare.compare.Goals as goal
@@ -33,9 +33,9 @@ pub returns-in_err-before-clause-compares : goal.returns-in_err-before-clause-co
 returns-in_err-before-clause-compares g c = λ old new old_is new_is.
     let pair = c.args.pair.now in
     let may_fail = g.Y.System.may_fail_at c.args.system.now pair.old.now in
-    let start = told (g.Y.System.reports c.args.system.now) (g.Y.System.hints c.args.system.now) in
-    let read = told (g.Y.System.reports c.read_at.new.system) (g.Y.System.hints c.read_at.new.system) in
-    let summed = told (g.Y.System.reports c.sums_of.new.system) (g.Y.System.hints c.sums_of.new.system) in
+    let start = messages (g.Y.System.reports c.args.system.now) (g.Y.System.hints c.args.system.now) in
+    let read = messages (g.Y.System.reports c.read_at.new.system) (g.Y.System.hints c.read_at.new.system) in
+    let summed = messages (g.Y.System.reports c.sums_of.new.system) (g.Y.System.hints c.sums_of.new.system) in
     absurd (none_passed (HasRead g.F.Source.bytes (AreTablesFor c.args.asked.now.symbols) old) (λ given. (sums : SelectedSymbols) × HasSummed g.F.Source.bytes c.args.asked.now.symbols old sums given) (MayBeRefused (HasNoSum c.args.asked.now.symbols) may_fail old) (MayBeRefused (HasNoSum c.args.asked.now.symbols) may_fail old) pair.old.now old start read summed c.in_ok-old.old c.in_err-before.field-0.0
     (c.in_ok-old.ensures.reads old old_is) (c.in_err-before.ensures.sums c.args.asked.now.symbols old may_fail))
 
@@ -48,9 +48,9 @@ returns-in_err-after-clause-compares g c = λ old new old_is new_is.
     let pair = c.args.pair.now in
     let there = ap (λ (b : List ℕ → Option (List ℕ)). b pair.new.now) (c.sums_of.ensures.bytes ∙ c.read_at.ensures.bytes) ∙ new_is in
     let may_fail = g.Y.System.may_fail_at c.sums_of.new.system pair.new.now in
-    let start = told (g.Y.System.reports c.sums_of.new.system) (g.Y.System.hints c.sums_of.new.system) in
-    let read = told (g.Y.System.reports c.read_at-2.new.system) (g.Y.System.hints c.read_at-2.new.system) in
-    let summed = told (g.Y.System.reports c.sums_of-2.new.system) (g.Y.System.hints c.sums_of-2.new.system) in
+    let start = messages (g.Y.System.reports c.sums_of.new.system) (g.Y.System.hints c.sums_of.new.system) in
+    let read = messages (g.Y.System.reports c.read_at-2.new.system) (g.Y.System.hints c.read_at-2.new.system) in
+    let summed = messages (g.Y.System.reports c.sums_of-2.new.system) (g.Y.System.hints c.sums_of-2.new.system) in
     absurd (none_passed (HasRead g.F.Source.bytes (AreTablesFor c.args.asked.now.symbols) new) (λ given. (sums : SelectedSymbols) × HasSummed g.F.Source.bytes c.args.asked.now.symbols new sums given) (MayBeRefused (HasNoSum c.args.asked.now.symbols) may_fail new) (MayBeRefused (HasNoSum c.args.asked.now.symbols) may_fail new) pair.new.now new start read summed c.in_ok-new.new c.in_err-after.field-0.0
     (c.in_ok-new.ensures.reads new there) (c.in_err-after.ensures.sums c.args.asked.now.symbols new may_fail))
 
@@ -59,11 +59,11 @@ returns-in_err-is_above-clause-compares g c = λ old new old_is new_is.
     let pair = c.args.pair.now in
     let may_fail = g.Y.System.may_fail_at c.args.system.now in
     let asked = by_sizes c.args.asked.now pair may_fail old new in
-    let s0 = told (g.Y.System.reports c.args.system.now) (g.Y.System.hints c.args.system.now) in
-    let s1 = told (g.Y.System.reports c.read_at.new.system) (g.Y.System.hints c.read_at.new.system) in
-    let s2 = told (g.Y.System.reports c.sums_of.new.system) (g.Y.System.hints c.sums_of.new.system) in
-    let s3 = told (g.Y.System.reports c.read_at-2.new.system) (g.Y.System.hints c.read_at-2.new.system) in
-    let s4 = told (g.Y.System.reports c.sums_of-2.new.system) (g.Y.System.hints c.sums_of-2.new.system) in
+    let s0 = messages (g.Y.System.reports c.args.system.now) (g.Y.System.hints c.args.system.now) in
+    let s1 = messages (g.Y.System.reports c.read_at.new.system) (g.Y.System.hints c.read_at.new.system) in
+    let s2 = messages (g.Y.System.reports c.sums_of.new.system) (g.Y.System.hints c.sums_of.new.system) in
+    let s3 = messages (g.Y.System.reports c.read_at-2.new.system) (g.Y.System.hints c.read_at-2.new.system) in
+    let s4 = messages (g.Y.System.reports c.sums_of-2.new.system) (g.Y.System.hints c.sums_of-2.new.system) in
     let old_state = state_of g.W.Write.contents c.args.out.now (g.Y.System.reports c.args.system.now) (g.Y.System.hints c.args.system.now) in
     let new_state = state_of g.W.Write.contents c.write_changes.new.out (g.Y.System.reports c.write_changes.new.system) (g.Y.System.hints c.write_changes.new.system) in
     let there = ap (λ (b : List ℕ → Option (List ℕ)). b pair.new.now) (c.sums_of.ensures.bytes ∙ c.read_at.ensures.bytes) ∙ new_is in
@@ -80,11 +80,11 @@ returns-clause-compares g c = λ old new old_is new_is.
     let pair = c.args.pair.now in
     let may_fail = g.Y.System.may_fail_at c.args.system.now in
     let asked = by_sizes c.args.asked.now pair may_fail old new in
-    let s0 = told (g.Y.System.reports c.args.system.now) (g.Y.System.hints c.args.system.now) in
-    let s1 = told (g.Y.System.reports c.read_at.new.system) (g.Y.System.hints c.read_at.new.system) in
-    let s2 = told (g.Y.System.reports c.sums_of.new.system) (g.Y.System.hints c.sums_of.new.system) in
-    let s3 = told (g.Y.System.reports c.read_at-2.new.system) (g.Y.System.hints c.read_at-2.new.system) in
-    let s4 = told (g.Y.System.reports c.sums_of-2.new.system) (g.Y.System.hints c.sums_of-2.new.system) in
+    let s0 = messages (g.Y.System.reports c.args.system.now) (g.Y.System.hints c.args.system.now) in
+    let s1 = messages (g.Y.System.reports c.read_at.new.system) (g.Y.System.hints c.read_at.new.system) in
+    let s2 = messages (g.Y.System.reports c.sums_of.new.system) (g.Y.System.hints c.sums_of.new.system) in
+    let s3 = messages (g.Y.System.reports c.read_at-2.new.system) (g.Y.System.hints c.read_at-2.new.system) in
+    let s4 = messages (g.Y.System.reports c.sums_of-2.new.system) (g.Y.System.hints c.sums_of-2.new.system) in
     let old_state = state_of g.W.Write.contents c.args.out.now (g.Y.System.reports c.args.system.now) (g.Y.System.hints c.args.system.now) in
     let new_state = state_of g.W.Write.contents c.write_changes.new.out (g.Y.System.reports c.write_changes.new.system) (g.Y.System.hints c.write_changes.new.system) in
     let there = ap (λ (b : List ℕ → Option (List ℕ)). b pair.new.now) (c.sums_of.ensures.bytes ∙ c.read_at.ensures.bytes) ∙ new_is in

@@ -7,7 +7,7 @@ use Rattle.binfarce_jobs.specs.declared.limit.Verdict.{Verdict}
 use Rattle.binfarce_calls.specs.Compared.{by_sections}
 use Rattle.binfarce_calls.specs.Summed.{HasNoSections, MayBeRefused}
 use Rattle.binfarce_calls.specs.machine.Reported.{ReportsUnless}
-use Rattle.binfarce_calls.specs.machine.Steps.{HasRead, HasSums, Steps, told}
+use Rattle.binfarce_calls.specs.machine.Steps.{HasRead, HasSums, Steps, messages}
 use Rattle.binfarce_calls.proofs.Pairs.{one_file as one_reported, two_files}
 use Rattle.binfarce_calls.proofs.Steps.{broke_off, compared, none_passed, one_file}
 use Rattle.binfarce_calls.proofs.compare.compare_sections.Goals as goal
@@ -33,9 +33,9 @@ pub returns-in_err-before-clause-compares : goal.returns-in_err-before-clause-co
 returns-in_err-before-clause-compares g c = λ old new old_is new_is.
     let pair = c.args.pair.now in
     let may_fail = g.Y.System.may_fail_at c.args.system.now pair.old.now in
-    let start = told (g.Y.System.reports c.args.system.now) (g.Y.System.hints c.args.system.now) in
-    let read = told (g.Y.System.reports c.sections_at.new.system) (g.Y.System.hints c.sections_at.new.system) in
-    let summed = told (g.Y.System.reports c.section_sums.new.system) (g.Y.System.hints c.section_sums.new.system) in
+    let start = messages (g.Y.System.reports c.args.system.now) (g.Y.System.hints c.args.system.now) in
+    let read = messages (g.Y.System.reports c.sections_at.new.system) (g.Y.System.hints c.sections_at.new.system) in
+    let summed = messages (g.Y.System.reports c.section_sums.new.system) (g.Y.System.hints c.section_sums.new.system) in
     absurd (none_passed (HasRead g.F.Source.bytes AreTablesOf old) (λ given. (sums : FileSums) × HasSums old sums given) (MayBeRefused HasNoSections may_fail old) (MayBeRefused HasNoSections may_fail old) pair.old.now old start read summed c.in_ok-old.old c.in_err-before.field-0.0
     (c.in_ok-old.ensures.reads old old_is) (c.in_err-before.ensures.sums old may_fail))
 
@@ -48,9 +48,9 @@ returns-in_err-after-clause-compares g c = λ old new old_is new_is.
     let pair = c.args.pair.now in
     let there = ap (λ (b : List ℕ → Option (List ℕ)). b pair.new.now) (c.section_sums.ensures.bytes ∙ c.sections_at.ensures.bytes) ∙ new_is in
     let may_fail = g.Y.System.may_fail_at c.section_sums.new.system pair.new.now in
-    let start = told (g.Y.System.reports c.section_sums.new.system) (g.Y.System.hints c.section_sums.new.system) in
-    let read = told (g.Y.System.reports c.sections_at-2.new.system) (g.Y.System.hints c.sections_at-2.new.system) in
-    let summed = told (g.Y.System.reports c.section_sums-2.new.system) (g.Y.System.hints c.section_sums-2.new.system) in
+    let start = messages (g.Y.System.reports c.section_sums.new.system) (g.Y.System.hints c.section_sums.new.system) in
+    let read = messages (g.Y.System.reports c.sections_at-2.new.system) (g.Y.System.hints c.sections_at-2.new.system) in
+    let summed = messages (g.Y.System.reports c.section_sums-2.new.system) (g.Y.System.hints c.section_sums-2.new.system) in
     absurd (none_passed (HasRead g.F.Source.bytes AreTablesOf new) (λ given. (sums : FileSums) × HasSums new sums given) (MayBeRefused HasNoSections may_fail new) (MayBeRefused HasNoSections may_fail new) pair.new.now new start read summed c.in_ok-new.new c.in_err-after.field-0.0
     (c.in_ok-new.ensures.reads new there) (c.in_err-after.ensures.sums new may_fail))
 
@@ -59,11 +59,11 @@ returns-in_err-is_above-clause-compares g c = λ old new old_is new_is.
     let pair = c.args.pair.now in
     let may_fail = g.Y.System.may_fail_at c.args.system.now in
     let asked = by_sections c.args.figures.now pair may_fail old new in
-    let s0 = told (g.Y.System.reports c.args.system.now) (g.Y.System.hints c.args.system.now) in
-    let s1 = told (g.Y.System.reports c.sections_at.new.system) (g.Y.System.hints c.sections_at.new.system) in
-    let s2 = told (g.Y.System.reports c.section_sums.new.system) (g.Y.System.hints c.section_sums.new.system) in
-    let s3 = told (g.Y.System.reports c.sections_at-2.new.system) (g.Y.System.hints c.sections_at-2.new.system) in
-    let s4 = told (g.Y.System.reports c.section_sums-2.new.system) (g.Y.System.hints c.section_sums-2.new.system) in
+    let s0 = messages (g.Y.System.reports c.args.system.now) (g.Y.System.hints c.args.system.now) in
+    let s1 = messages (g.Y.System.reports c.sections_at.new.system) (g.Y.System.hints c.sections_at.new.system) in
+    let s2 = messages (g.Y.System.reports c.section_sums.new.system) (g.Y.System.hints c.section_sums.new.system) in
+    let s3 = messages (g.Y.System.reports c.sections_at-2.new.system) (g.Y.System.hints c.sections_at-2.new.system) in
+    let s4 = messages (g.Y.System.reports c.section_sums-2.new.system) (g.Y.System.hints c.section_sums-2.new.system) in
     let old_state = state_of g.W.Write.contents c.args.out.now (g.Y.System.reports c.args.system.now) (g.Y.System.hints c.args.system.now) in
     let new_state = state_of g.W.Write.contents c.write_section_changes.new.out (g.Y.System.reports c.write_section_changes.new.system) (g.Y.System.hints c.write_section_changes.new.system) in
     let there = ap (λ (b : List ℕ → Option (List ℕ)). b pair.new.now) (c.section_sums.ensures.bytes ∙ c.sections_at.ensures.bytes) ∙ new_is in
@@ -80,11 +80,11 @@ returns-clause-compares g c = λ old new old_is new_is.
     let pair = c.args.pair.now in
     let may_fail = g.Y.System.may_fail_at c.args.system.now in
     let asked = by_sections c.args.figures.now pair may_fail old new in
-    let s0 = told (g.Y.System.reports c.args.system.now) (g.Y.System.hints c.args.system.now) in
-    let s1 = told (g.Y.System.reports c.sections_at.new.system) (g.Y.System.hints c.sections_at.new.system) in
-    let s2 = told (g.Y.System.reports c.section_sums.new.system) (g.Y.System.hints c.section_sums.new.system) in
-    let s3 = told (g.Y.System.reports c.sections_at-2.new.system) (g.Y.System.hints c.sections_at-2.new.system) in
-    let s4 = told (g.Y.System.reports c.section_sums-2.new.system) (g.Y.System.hints c.section_sums-2.new.system) in
+    let s0 = messages (g.Y.System.reports c.args.system.now) (g.Y.System.hints c.args.system.now) in
+    let s1 = messages (g.Y.System.reports c.sections_at.new.system) (g.Y.System.hints c.sections_at.new.system) in
+    let s2 = messages (g.Y.System.reports c.section_sums.new.system) (g.Y.System.hints c.section_sums.new.system) in
+    let s3 = messages (g.Y.System.reports c.sections_at-2.new.system) (g.Y.System.hints c.sections_at-2.new.system) in
+    let s4 = messages (g.Y.System.reports c.section_sums-2.new.system) (g.Y.System.hints c.section_sums-2.new.system) in
     let old_state = state_of g.W.Write.contents c.args.out.now (g.Y.System.reports c.args.system.now) (g.Y.System.hints c.args.system.now) in
     let new_state = state_of g.W.Write.contents c.write_section_changes.new.out (g.Y.System.reports c.write_section_changes.new.system) (g.Y.System.hints c.write_section_changes.new.system) in
     let there = ap (λ (b : List ℕ → Option (List ℕ)). b pair.new.now) (c.section_sums.ensures.bytes ∙ c.sections_at.ensures.bytes) ∙ new_is in

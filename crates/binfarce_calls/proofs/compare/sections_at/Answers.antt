@@ -5,7 +5,7 @@ use Rattle.binfarce_jobs.specs.Input.{may_fail_of}
 use Rattle.binfarce_jobs.specs.declared.fault.Fault.{Fault}
 use Rattle.binfarce_jobs.proofs.FileLoop.{grows_unless}
 use Rattle.binfarce_calls.specs.Summed.{HasNoSections, MayBeRefused}
-use Rattle.binfarce_calls.specs.machine.Steps.{told}
+use Rattle.binfarce_calls.specs.machine.Steps.{messages}
 use Rattle.binfarce_calls.proofs.Pairs.{refused_once}
 use Rattle.binfarce_calls.proofs.Refusals.{not_passed, read_of_file, refused_since, unopened, sections_unread, was_refused}
 use Rattle.binfarce_calls.proofs.compare.sections_at.Goals as goal
@@ -17,7 +17,7 @@ pub returns-in_default-clause-reads : goal.returns-in_default-clause-reads
 returns-in_default-clause-reads g c = λ file is.
     let why = c.in_default.ensures.input file is in
     let opened = c.open_input.new.system in
-    unopened HasNoSections (g.Y.System.may_fail_at c.args.system.now c.args.path.now) c.args.path.now file (told (g.Y.System.reports c.args.system.now) (g.Y.System.hints c.args.system.now)) (told (g.Y.System.reports opened) (g.Y.System.hints opened))
+    unopened HasNoSections (g.Y.System.may_fail_at c.args.system.now c.args.path.now) c.args.path.now file (messages (g.Y.System.reports c.args.system.now) (g.Y.System.hints c.args.system.now)) (messages (g.Y.System.reports opened) (g.Y.System.hints opened))
     why.0 why.1 why.2 c.open_input.ensures.hints
 
 pub returns-in-Ok-clause-reads : goal.returns-in-Ok-clause-reads
@@ -51,9 +51,9 @@ returns-in_ok-refuse-in-Err-clause-reads g c = λ file is.
     let read = c.in-Some.ensures.input file is in
     let may_fail = g.Y.System.may_fail_at c.args.system.now path in
     let fault = c.from.result in
-    let start = told (g.Y.System.reports c.args.system.now) (g.Y.System.hints c.args.system.now) in
-    let opened = told (g.Y.System.reports c.open_input.new.system) (g.Y.System.hints c.open_input.new.system) in
-    let after = told (g.Y.System.reports c.refuse.new.system) (g.Y.System.hints c.refuse.new.system) in
+    let start = messages (g.Y.System.reports c.args.system.now) (g.Y.System.hints c.args.system.now) in
+    let opened = messages (g.Y.System.reports c.open_input.new.system) (g.Y.System.hints c.open_input.new.system) in
+    let after = messages (g.Y.System.reports c.refuse.new.system) (g.Y.System.hints c.refuse.new.system) in
     let of_file : is_of_file fault ≡ true = ap is_of_file c.from.ensures ∙ read_of_file c.in-Err.e in
     let may = subst (λ (f : Fault). MayBeRefused HasNoSections may_fail file f) (sym c.from.ensures) (sections_unread (may_fail_of g.F.Source.may_fail c.in-Some.file) may_fail file read.0 c.in-Err.e read.4 read.1 read.3 (c.in-Err.ensures.reads read.0 read.2)) in
     refused_since (MayBeRefused HasNoSections may_fail file) path file start opened after (ap g.Y.System.reports c.in-Some.ensures.unchanged) (ap g.Y.System.hints c.in-Some.ensures.unchanged)

@@ -8,7 +8,7 @@ use Rattle.binfarce_jobs.proofs.FileLoop.{grows_none}
 use Rattle.binfarce_calls.specs.Summed.{HasNoSum, MayBeRefused}
 use Rattle.binfarce_calls.specs.declared.compare.Summed.{Summed}
 use Rattle.binfarce_calls.specs.machine.Reported.{ReportsSummed}
-use Rattle.binfarce_calls.specs.machine.Steps.{HasRead, HasSummed, told}
+use Rattle.binfarce_calls.specs.machine.Steps.{HasRead, HasSummed, messages}
 use Rattle.binfarce_calls.proofs.Pairs.{refused_once}
 use Rattle.binfarce_calls.proofs.Refusals.{claims_of_file, not_passed, report_of_file, unsummed, was_refused}
 use Rattle.binfarce_calls.proofs.Steps.{goes_on, stops}
@@ -22,11 +22,11 @@ returns-in_ok-refuse-in-Err-clause-reports g c =
 pub returns-in_default-clause-sums : goal.returns-in_default-clause-sums
 returns-in_default-clause-sums g c = λ symbols file may_fail.
     stops (HasRead g.F.Source.bytes (AreTablesFor symbols) file) c.args.read.now (λ given. (selected : SelectedSymbols) × HasSummed g.F.Source.bytes symbols file selected given) (MayBeRefused (HasNoSum symbols) may_fail file) c.args.path.now file
-    (told (g.Y.System.reports c.args.system.now) (g.Y.System.hints c.args.system.now)) c.in_default.is
+    (messages (g.Y.System.reports c.args.system.now) (g.Y.System.hints c.args.system.now)) c.in_default.is
 
 pub returns-in-Ok-clause-sums : goal.returns-in-Ok-clause-sums
 returns-in-Ok-clause-sums g c = λ symbols file may_fail.
-    let start = told (g.Y.System.reports c.args.system.now) (g.Y.System.hints c.args.system.now) in
+    let start = messages (g.Y.System.reports c.args.system.now) (g.Y.System.hints c.args.system.now) in
     goes_on (HasRead g.F.Source.bytes (AreTablesFor symbols) file) c.args.read.now c.in-Some.read (λ given. (selected : SelectedSymbols) × HasSummed g.F.Source.bytes symbols file selected given) (MayBeRefused (HasNoSum symbols) may_fail file) c.args.path.now file start start
     _ c.in-Some.is
     (λ given.
@@ -37,16 +37,16 @@ returns-in-Ok-clause-sums g c = λ symbols file may_fail.
 
 pub returns-in_err-refuse-in-Err-clause-sums : goal.returns-in_err-refuse-in-Err-clause-sums
 returns-in_err-refuse-in-Err-clause-sums g c = λ symbols file may_fail.
-    let start = told (g.Y.System.reports c.args.system.now) (g.Y.System.hints c.args.system.now) in
-    let after = told (g.Y.System.reports c.refuse.new.system) (g.Y.System.hints c.refuse.new.system) in
+    let start = messages (g.Y.System.reports c.args.system.now) (g.Y.System.hints c.args.system.now) in
+    let after = messages (g.Y.System.reports c.refuse.new.system) (g.Y.System.hints c.refuse.new.system) in
     let fault = c.from.result in
     let of_file : is_of_file fault ≡ true = ap is_of_file c.from.ensures ∙ report_of_file c.in-Err.e c.in-Err.ensures.unwritten in
     absurd (not_passed c.args.path.now start.reports after.reports fault c.in_err-refuse-in-Err.field-0.0 (is_of_file fault) c.refuse.result of_file c.refuse.ensures.reports c.in_err-refuse-in-Err.was)
 
 pub returns-in_ok-refuse-in-Err-clause-sums : goal.returns-in_ok-refuse-in-Err-clause-sums
 returns-in_ok-refuse-in-Err-clause-sums g c = λ symbols file may_fail.
-    let start = told (g.Y.System.reports c.args.system.now) (g.Y.System.hints c.args.system.now) in
-    let after = told (g.Y.System.reports c.refuse.new.system) (g.Y.System.hints c.refuse.new.system) in
+    let start = messages (g.Y.System.reports c.args.system.now) (g.Y.System.hints c.args.system.now) in
+    let after = messages (g.Y.System.reports c.refuse.new.system) (g.Y.System.hints c.refuse.new.system) in
     let fault = c.from.result in
     let of_file : is_of_file fault ≡ true = ap is_of_file c.from.ensures ∙ report_of_file c.in-Err.e c.in-Err.ensures.unwritten in
     let MayBe = MayBeRefused (HasNoSum symbols) may_fail file in

@@ -1,7 +1,7 @@
 use Rattle.std.proofs.Common.{◌≡◌, ◌≢◌, ◌∙◌, ℕ, List, None, Err, ap, subst, sym}
 use Rattle.binfarce_bytes.specs.Format.{format_of}
 use Rattle.binfarce_bytes.specs.declared.format.Format.TheVariants.{Unknown}
-use Rattle.binfarce_jobs.specs.Foreign.{named_by}
+use Rattle.binfarce_foreign.specs.Foreign.{named_by}
 use Rattle.binfarce_jobs.specs.Input.{Judges}
 use Rattle.binfarce_jobs.proofs.Streams.{few_read, foreign_read, rest_read, some_read, unknown_read}
 use Rattle.binfarce_jobs.proofs.input.read_judged.Goals as goal

@@ -1,8 +1,10 @@
-// From crates/binfarce_jobs/src/foreign.rt, by tools/erase.
+// From crates/binfarce_foreign/src/lib.rt, by tools/erase.
 
 //! Files that are recognized by their first bytes, and that no reader reads.
 
+use crate::erased::binfarce_bytes::ByteOrder;
 use crate::erased::binfarce_bytes::format::{Format, detect_format};
+use crate::erased::binfarce_bytes::parser::{number_at, to_index};
 use core::fmt;
 
 /// What a file is that no reader reads.
@@ -36,6 +38,20 @@ pub enum Foreign {
     Empty,
     /// An ELF file whose number of sections isn't in its header.
     ManySections,
+    /// An ELF core file without sections.
+    Core,
+    /// A DOS program.
+    Dos,
+    /// A program of 16-bit Windows or OS/2.
+    Ne,
+    /// A program of OS/2, or a driver of 32-bit Windows before NT.
+    Le,
+    /// A file that gzip made.
+    Gzip,
+    /// One that xz made.
+    Xz,
+    /// One that zstd made.
+    Zstd,
 }
 
 impl fmt::Display for Foreign {
@@ -76,6 +92,22 @@ impl fmt::Display for Foreign {
                 f,
                 "an ELF file of 65,280 sections or more; `readelf -SW FILE` lists them"
             ),
+            Foreign::Core => write!(
+                f,
+                "a core file; the program that it is of, which `file FILE` names, has the symbols"
+            ),
+            Foreign::Dos => write!(f, "a DOS program; PE files are read"),
+            Foreign::Ne => write!(
+                f,
+                "an NE file, of 16-bit Windows or OS/2; PE files are read"
+            ),
+            Foreign::Le => write!(
+                f,
+                "an LE or LX file, of OS/2 or Windows 9x; PE files are read"
+            ),
+            Foreign::Gzip => write!(f, "a gzip file; `gzip -d <FILE` writes what it holds"),
+            Foreign::Xz => write!(f, "an xz file; `xz -d <FILE` writes what it holds"),
+            Foreign::Zstd => write!(f, "a Zstandard file; `zstd -d <FILE` writes what it holds"),
         }
     }
 }
@@ -88,26 +120,76 @@ pub fn named_by(first: &[u8]) -> Option<Foreign> {
     match detect_format(first) {
         Format::Macho => macho_of(first),
         Format::Unknown => other_of(first),
-        Format::Elf32 { .. } => elf32_of(first),
-        Format::Elf64 { .. } => elf64_of(first),
-        Format::PE => None,
+        Format::Elf32 { byte_order } => elf32_of(first, byte_order),
+        Format::Elf64 { byte_order } => elf64_of(first, byte_order),
+        Format::PE => mz_of(first),
     }
 }
 
-// The kind of an ELF file of 32 bits that has a section header table, but not the number of its sections in the header.
-fn elf32_of(first: &[u8]) -> Option<Foreign> {
-    if first.len() >= 52 && is_zero(&first[48..50]) && !is_zero(&first[32..36]) {
-        return Some(Foreign::ManySections);
+// The kind of an ELF file of 32 bits without a section header table, or without the number of sections in its header.
+fn elf32_of(first: &[u8], byte_order: ByteOrder) -> Option<Foreign> {
+    if first.len() < 52 {
+        None
+    } else if is_zero(&first[32..36]) {
+        core_of(first, byte_order)
+    } else if is_zero(&first[48..50]) {
+        Some(Foreign::ManySections)
+    } else {
+        None
     }
-    None
 }
 
 // The same of one of 64 bits.
-fn elf64_of(first: &[u8]) -> Option<Foreign> {
-    if first.len() >= 64 && is_zero(&first[60..62]) && !is_zero(&first[40..48]) {
-        return Some(Foreign::ManySections);
+fn elf64_of(first: &[u8], byte_order: ByteOrder) -> Option<Foreign> {
+    if first.len() < 64 {
+        None
+    } else if is_zero(&first[40..48]) {
+        core_of(first, byte_order)
+    } else if is_zero(&first[60..62]) {
+        Some(Foreign::ManySections)
+    } else {
+        None
     }
-    None
+}
+
+// A core file, by the type in an ELF header.
+fn core_of(first: &[u8], byte_order: ByteOrder) -> Option<Foreign> {
+    const ET_CORE: u16 = 4;
+    match number_at::<u16>(first, 16, byte_order) {
+        Ok(ET_CORE) => Some(Foreign::Core),
+        _ => None,
+    }
+}
+
+// The kind of a file that begins with a DOS program, by the header behind it, if the first bytes have that.
+fn mz_of(first: &[u8]) -> Option<Foreign> {
+    let at = match number_at::<u32>(first, 0x3c, ByteOrder::LittleEndian) {
+        Ok(at) => u64::from(at),
+        Err(_) => return None,
+    };
+    if at + 2 > first.len() as u64 {
+        return None;
+    }
+    let header = &first[to_index(at)..];
+    if header.starts_with(b"PE") {
+        None
+    } else if header.starts_with(b"NE") {
+        Some(Foreign::Ne)
+    } else if header.starts_with(b"LE") || header.starts_with(b"LX") {
+        Some(Foreign::Le)
+    } else if is_dos(first) {
+        Some(Foreign::Dos)
+    } else {
+        None
+    }
+}
+
+// Whether the relocation table of a DOS program is where the header of another format would be pointed to.
+fn is_dos(first: &[u8]) -> bool {
+    match number_at::<u16>(first, 0x18, ByteOrder::LittleEndian) {
+        Ok(table) => (0x1c..0x40).contains(&table),
+        Err(_) => false,
+    }
 }
 
 // Whether these bytes are a number that is 0.
@@ -156,6 +238,9 @@ fn other_of(first: &[u8]) -> Option<Foreign> {
     if first.starts_with(b"BC\xc0\xde") || first.starts_with(b"\xde\xc0\x17\x0b") {
         return Some(Foreign::Bitcode);
     }
+    if let Some(packed) = packed_of(first) {
+        return Some(packed);
+    }
     if is_coff(first) {
         return Some(Foreign::Coff);
     }
@@ -166,6 +251,19 @@ fn other_of(first: &[u8]) -> Option<Foreign> {
         return Some(Foreign::Text);
     }
     None
+}
+
+// A compressed file.
+fn packed_of(first: &[u8]) -> Option<Foreign> {
+    if first.starts_with(b"\x1f\x8b") {
+        Some(Foreign::Gzip)
+    } else if first.starts_with(b"\xfd7zXZ\0") {
+        Some(Foreign::Xz)
+    } else if first.starts_with(b"\x28\xb5\x2f\xfd") {
+        Some(Foreign::Zstd)
+    } else {
+        None
+    }
 }
 
 // Whether a COFF file header of an object is there: of a known machine, and without an optional header.

@@ -149,7 +149,8 @@ pub enum Error {
 }
 
 /// What a file is that no reader reads, where its first 512 bytes name it: a universal, 32-bit or big-endian Mach-O file, a Java
-/// class file, an archive, a COFF object file, a PDB file, a WebAssembly module, LLVM bitcode, a script, or a text in ASCII.
+/// class file, an archive, a COFF object file, a PDB file, a WebAssembly module, LLVM bitcode, a core file, a DOS program, an NE or LE
+/// file, a file of gzip, xz or zstd, a script, or a text in ASCII.
 ///
 /// `{}` prints what it is and what would help, as the command `binfarce` does.
 ///

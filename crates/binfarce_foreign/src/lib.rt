@@ -203,7 +203,7 @@ fn mz_of(first: &[u8]) -> Option<Foreign>
     }
 }
 
-// Whether the relocation table of a DOS program is where the header of another format would be pointed to.
+// Whether a DOS program has its relocation table in the first 64 bytes, and so no offset of another header there.
 fn is_dos(first: &[u8]) -> bool
     requires { 64 ≤ length first.now }
     ensures { result ≡ is_dos first.now }

@@ -184,7 +184,7 @@ fn mz_of(first: &[u8]) -> Option<Foreign> {
     }
 }
 
-// Whether the relocation table of a DOS program is where the header of another format would be pointed to.
+// Whether a DOS program has its relocation table in the first 64 bytes, and so no offset of another header there.
 fn is_dos(first: &[u8]) -> bool {
     match number_at::<u16>(first, 0x18, ByteOrder::LittleEndian) {
         Ok(table) => (0x1c..0x40).contains(&table),

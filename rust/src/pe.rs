@@ -320,8 +320,9 @@ impl<'a> Pe<'a> {
     /// Returns the function symbols of all sections, external and static, each with its section's number: by section, and in
     /// each by offset in it and at equal offsets in table order. An address is a virtual address, modulo 2^64; in an
     /// object, a file without an optional header of PE32 or PE32+, it is the offset in the section. A size ends at the
-    /// next greater address of an external or static symbol of the section, which needn't be a function, and with the
-    /// section in memory at the latest. Sections are numbered from 1 on, also those whose name isn't UTF-8.
+    /// next greater address of an external or static symbol of the section, which needn't be a function, or of a label
+    /// whose name doesn't begin with `.`, `L` or `$`, and with the section in memory at the latest. Sections are numbered
+    /// from 1 on, also those whose name isn't UTF-8.
     ///
     /// # Errors
     ///

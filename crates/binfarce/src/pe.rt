@@ -176,10 +176,10 @@ impl<'a> Pe<'a> {
     ///
     /// An address is a virtual address: the image base, the section's address and the row's value, modulo 2^64. A file
     /// without an optional header of PE32 or PE32+ is an object, and there it is the value, the offset in the section.
-    /// A size ends at the next greater address of an external or static row of the section, whatever its type, and with
-    /// the section in memory at the latest (`VirtualSize`, or where that is 0 `SizeOfRawData`). Sections are numbered
-    /// from 1 on, also those whose name isn't UTF-8. A row without a section, or whose section doesn't exist, isn't
-    /// kept.
+    /// A size ends at the next greater address of an external or static row of the section, whatever its type, or of a
+    /// label whose name doesn't begin with `.`, `L` or `$`, and with the section in memory at the latest (`VirtualSize`,
+    /// or where that is 0 `SizeOfRawData`). Sections are numbered from 1 on, also those whose name isn't UTF-8. A row
+    /// without a section, or whose section doesn't exist, isn't kept.
     ///
     /// # Errors
     ///

@@ -10,7 +10,7 @@ use Rattle.std.proofs.lemmas.List.Sorted.{All-permutation, IsPermutation-sym}
 use Rattle.std.proofs.lemmas.Slice.Zip.{AllZip-long}
 use Rattle.binfarce_bytes.specs.Sizes.{RowAddress, arranged, addresses_of}
 use Rattle.binfarce_pe.specs.PeSymbols.{CoffTable, record_count, symbol_of, rows_from, row_numbers}
-use Rattle.binfarce_pe.specs.PeRules.{SectionRules, accepted_name, ending_row, ending_rows, entry_under, entries_under}
+use Rattle.binfarce_pe.specs.PeRules.{SectionRules, accepted_name, ends_at, ending_row, ending_rows, entry_under, entries_under}
 use Rattle.binfarce_pe.specs.machine.RawPe.{numbered, IsNameOf, HoldsThese, ending_name}
 use Rattle.binfarce_bytes.proofs.Arranging.{arranged_same}
 
@@ -78,7 +78,7 @@ row_at table k = record { address = (symbol_of table k).value; row = k }
 
 -- a row that ends no size
 pub not_ending : (table : CoffTable) (rules : SectionRules) (k : ℕ) → ending_name table rules k (symbol_of table k) ≡ None → (ending_row table rules k ≡ None) × (accepted_name table rules.accepts k (symbol_of table k) ≡ None)
-not_ending table rules k e = by_test (rules.ends (symbol_of table k)) (accepted_name table rules.accepts k (symbol_of table k)) e
+not_ending table rules k e = by_test (ends_at table rules k (symbol_of table k)) (accepted_name table rules.accepts k (symbol_of table k)) e
   where
     by_test : (b : Bool) (o : Option (List ℕ)) → (if b then Some o else option_map (λ (name : List ℕ). Some name) o) ≡ None → ((if b then Some (row_at table k) else option_map (λ _. row_at table k) o) ≡ None) × (o ≡ None)
     by_test true o e = absurd cc
@@ -87,7 +87,7 @@ not_ending table rules k e = by_test (rules.ends (symbol_of table k)) (accepted_
 
 -- one that ends sizes, with its name where it is kept
 pub ending : (table : CoffTable) (rules : SectionRules) (k : ℕ) (name : Option (List ℕ)) → ending_name table rules k (symbol_of table k) ≡ Some name → (ending_row table rules k ≡ Some (row_at table k)) × (accepted_name table rules.accepts k (symbol_of table k) ≡ name)
-ending table rules k name e = by_test (rules.ends (symbol_of table k)) (accepted_name table rules.accepts k (symbol_of table k)) e
+ending table rules k name e = by_test (ends_at table rules k (symbol_of table k)) (accepted_name table rules.accepts k (symbol_of table k)) e
   where
     by_test : (b : Bool) (o : Option (List ℕ)) → (if b then Some o else option_map (λ (name : List ℕ). Some name) o) ≡ Some name → ((if b then Some (row_at table k) else option_map (λ _. row_at table k) o) ≡ Some (row_at table k)) × (o ≡ name)
     by_test true o e = (refl, cc)
@@ -96,7 +96,7 @@ ending table rules k name e = by_test (rules.ends (symbol_of table k)) (accepted
 
 -- a row that is kept ends sizes
 pub kept_ends : (table : CoffTable) (rules : SectionRules) (k : ℕ) (name : List ℕ) → accepted_name table rules.accepts k (symbol_of table k) ≡ Some name → ending_row table rules k ≡ Some (row_at table k)
-kept_ends table rules k name e = by_test (rules.ends (symbol_of table k)) (accepted_name table rules.accepts k (symbol_of table k)) e
+kept_ends table rules k name e = by_test (ends_at table rules k (symbol_of table k)) (accepted_name table rules.accepts k (symbol_of table k)) e
   where
     by_test : (b : Bool) (o : Option (List ℕ)) → o ≡ Some name → (if b then Some (row_at table k) else option_map (λ _. row_at table k) o) ≡ Some (row_at table k)
     by_test true o e = refl
@@ -105,7 +105,7 @@ kept_ends table rules k name e = by_test (rules.ends (symbol_of table k)) (accep
 
 -- a row that ends sizes has its number
 pub row_number : (table : CoffTable) (rules : SectionRules) (k : ℕ) (r : RowAddress) → ending_row table rules k ≡ Some r → r.row ≡ k
-row_number table rules k r e = by_test (rules.ends (symbol_of table k)) (accepted_name table rules.accepts k (symbol_of table k)) e
+row_number table rules k r e = by_test (ends_at table rules k (symbol_of table k)) (accepted_name table rules.accepts k (symbol_of table k)) e
   where
     by_test : (b : Bool) (o : Option (List ℕ)) → (if b then Some (row_at table k) else option_map (λ _. row_at table k) o) ≡ Some r → r.row ≡ k
     by_test true o e = let same : row_at table k ≡ r = cc in sym (ap (λ (s : RowAddress). s.row) same)

@@ -6,16 +6,16 @@ use Rattle.binfarce_bytes.specs.Entries.{Entry}
 use Rattle.binfarce_bytes.specs.Sizes.{RowAddress, arranged, addresses_of}
 use Rattle.binfarce_pe.specs.PeSymbols.{SymbolRow, CoffTable, symbol_of, row_numbers, name_of, is_function_of, size_among}
 
--- the rules of a section: which rows are kept if their names can be read; which end sizes even if they aren't kept; and the size at an address, by the
--- addresses of all rows that end sizes
+-- the rules of a section: which rows are kept if their names can be read; which end sizes even if they aren't kept, by the row and its name, where it can be
+-- read; and the size at an address, by the addresses of all rows that end sizes
 pub record SectionRules : Type 0 where
   pub accepts : SymbolRow ℕ → Bool
-  pub ends : SymbolRow ℕ → Bool
+  pub ends : SymbolRow ℕ → Option (List ℕ) → Bool
   pub size : List ℕ → ℕ → ℕ
 
 -- the rules of a text of this index and size in the file: those of `pe_answer`
 abbrev pub text_rules : ℕ → ℕ → SectionRules
-text_rules index text_size = record { accepts = is_function_of index; ends = λ row. false; size = λ addresses. size_among (text_size ∷ addresses) }
+text_rules index text_size = record { accepts = is_function_of index; ends = λ row name. false; size = λ addresses. size_among (text_size ∷ addresses) }
 
 -- the name of row k, with this record, if the row is accepted
 unfoldable pub accepted_name : CoffTable → (SymbolRow ℕ → Bool) → ℕ → SymbolRow ℕ → Option (List ℕ)
@@ -25,10 +25,14 @@ accepted_name table accepts k row = if accepts row then name_of table k row else
 abbrev pub accepted_row : CoffTable → (SymbolRow ℕ → Bool) → ℕ → Option RowAddress
 accepted_row table accepts k = option_map (λ _. record { address = (symbol_of table k).value; row = k }) (accepted_name table accepts k (symbol_of table k))
 
--- those of row k, if it ends sizes: a row that is kept, or another
+-- row k, with this record, ends sizes even if it isn't kept
+abbrev pub ends_at : CoffTable → SectionRules → ℕ → SymbolRow ℕ → Bool
+ends_at table rules k row = rules.ends row (name_of table k row)
+
+-- the address and the number of row k, if it ends sizes: a row that is kept, or another
 abbrev pub ending_row : CoffTable → SectionRules → ℕ → Option RowAddress
 ending_row table rules k =
-    if rules.ends (symbol_of table k) then Some (record { address = (symbol_of table k).value; row = k }) else accepted_row table rules.accepts k
+    if ends_at table rules k (symbol_of table k) then Some (record { address = (symbol_of table k).value; row = k }) else accepted_row table rules.accepts k
 
 -- the rows that end sizes, in table order
 unfoldable pub ending_rows : CoffTable → SectionRules → List RowAddress

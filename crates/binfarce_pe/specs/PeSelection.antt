@@ -1,7 +1,7 @@
 -- The function symbols of the selected sections of a PE file: of the text, or of all sections at their addresses in memory.
-use Rattle.std.specs.Prelude.{◌≢◌, ℕ, ◌+◌, ◌-◌, ◌*◌, ◌%◌, ◌^◌, ◌≤◌, Bool, false, ◌&&◌, ◌||◌, List, map, Option, Some, None, is_none, Result, Ok, nat_eq, nat_le, if◌then◌else◌}
+use Rattle.std.specs.Prelude.{◌≢◌, ℕ, ◌+◌, ◌-◌, ◌*◌, ◌%◌, ◌^◌, ◌≤◌, Bool, false, ◌&&◌, ◌||◌, not, List, codes, map, Option, Some, None, is_none, unwrap_or, Result, Ok, nat_eq, nat_le, if◌then◌else◌}
 use Rattle.std.specs.Option.{option_map}
-use Rattle.std.specs.List.{range_with_len, flat_map}
+use Rattle.std.specs.List.{range_with_len, flat_map, starts_with}
 use Rattle.binfarce_bytes.specs.Number.{bytes_at}
 use Rattle.binfarce_bytes.specs.Refusal.{◌>>=◌, Refusal, if_as_long_as}
 use Rattle.binfarce_bytes.specs.Field.{Field, number_in}
@@ -28,10 +28,23 @@ load_address_at file places = if_as_long_as (places.optional_header + places.opt
 abbrev pub file_load_address : List ℕ → Result (Option ℕ) Refusal
 file_load_address file = if_as_long_as (least_length file) file (load_address_at file (places_of file))
 
--- a row that is external (class 2) or static (class 3), in the section of this index: its value is the symbol's offset there. A code label (class 6) lies
--- within a function, and records for a debugger have other values
+-- a row that is external (class 2) or static (class 3), in the section of this index: its value is the symbol's offset there. Records for a debugger have
+-- other values
 abbrev pub is_external_or_static : ℕ → SymbolRow ℕ → Bool
 is_external_or_static index row = (nat_eq row.storage_class 2 || nat_eq row.storage_class 3) && nat_eq row.section_number (index + 1)
+
+-- a name that compilers and assemblers give to labels within functions: `.l_end`, `L12`, `$LN4`
+abbrev pub is_inner : List ℕ → Bool
+is_inner name = starts_with nat_eq name (codes ".") || starts_with nat_eq name (codes "L") || starts_with nat_eq name (codes "$")
+
+-- a code label ("Storage Class", class 6) of a routine, in the section of this index: it has no such name. Where its name can't be read it is one too, so that
+-- the bytes behind it have no name rather than another function's
+abbrev pub is_routine : ℕ → SymbolRow ℕ → Option (List ℕ) → Bool
+is_routine index row name = nat_eq row.storage_class 6 && not (unwrap_or (option_map is_inner name) false) && nat_eq row.section_number (index + 1)
+
+-- a row that ends sizes in the section of this index, whatever its type
+abbrev pub ends_sizes : ℕ → SymbolRow ℕ → Option (List ℕ) → Bool
+ends_sizes index row name = is_external_or_static index row || is_routine index row name
 
 -- a number of the section header of this index
 abbrev pub number_of : SectionTable → ℕ → Field → ℕ
@@ -59,11 +72,11 @@ pub data SelectedSections : Type 0 where
 abbrev pub size_within : ℕ → List ℕ → ℕ → ℕ
 size_within section_size addresses address = least_of section_size (least_above addresses address) - address
 
--- the rules of the section of this index of a table: external and static functions are kept; external and static rows end sizes, whatever their type
+-- the rules of the section of this index of a table: external and static functions are kept; external and static rows and labels of routines end sizes
 abbrev pub section_rules : SectionTable → ℕ → SectionRules
 section_rules sections index = record {
   accepts = λ row. is_function row && is_external_or_static index row;
-  ends = is_external_or_static index;
+  ends = ends_sizes index;
   size = size_within (memory_size sections index);
 }
 

@@ -12,8 +12,8 @@ ghost use Rattle.binfarce_bytes.specs.Sizes.{addresses_of, least_above, least_of
 ghost use Rattle.binfarce_bytes.specs.SymbolViews.{section_function_view, HoldsSized};
 ghost use Rattle.binfarce_pe.specs.Pe.{section_at};
 ghost use Rattle.binfarce_pe.specs.PeParts.{places_of, places_view, headers_view, section_table, table_view, whole_in};
-ghost use Rattle.binfarce_pe.specs.PeRules.{accepted_name};
-ghost use Rattle.binfarce_pe.specs.PeSelection.{is_external_or_static, memory_size, memory_address, rules_of, name_of, section_entries, entries_by, section_size, whole_sections, sections_in, selected_answer, sections_view, IsWhole};
+ghost use Rattle.binfarce_pe.specs.PeRules.{accepted_name, ends_at};
+ghost use Rattle.binfarce_pe.specs.PeSelection.{is_external_or_static, is_inner, is_routine, memory_size, memory_address, rules_of, name_of, section_entries, entries_by, section_size, whole_sections, sections_in, selected_answer, sections_view, IsWhole};
 ghost use Rattle.binfarce_pe.specs.PeSymbols as pe_symbols;
 ghost use Rattle.binfarce_pe.specs.PeSymbols.{record_count};
 ghost use Rattle.binfarce_pe.specs.machine.RawPe.{symbol_view, bound_of, ending_name, function_in, names_view, HoldsRows, HoldsSections};
@@ -34,6 +34,8 @@ use std::mem;
 const IMAGE_SYM_CLASS_EXTERNAL: u8 = 2;
 
 const IMAGE_SYM_CLASS_STATIC: u8 = 3;
+
+const IMAGE_SYM_CLASS_LABEL: u8 = 6;
 
 /// The sections of a file whose function symbols are listed.
 #[derive(Clone, Copy)]
@@ -188,17 +190,50 @@ fn accepts(sections: SelectedSections<'_>, row: SymbolRow) -> bool
 }
 
 // Whether a row ends sizes in the section that it names, if that is selected, even where it isn't kept.
-fn ends_sizes(sections: SelectedSections<'_>, row: SymbolRow) -> bool
-    ensures { (index : ℕ) → ((rules_of (sections_view sections.entry)).section index).ends (symbol_view row)
+fn ends_sizes(
+    sections: SelectedSections<'_>,
+    symbols: CoffTable<'_>,
+    number: usize,
+    row: SymbolRow,
+) -> bool
+    requires { number < record_count (table_view symbols) }
+    ensures { (index : ℕ) → ends_at (table_view symbols.entry)
+        ((rules_of (sections_view sections.entry)).section index) number (symbol_view row)
         ≡ (result && nat_eq (symbol_view row).section_number (index + 1)) }
 {
     match sections {
         SelectedSections::Text(_) => false,
-        SelectedSections::All(_, _) => is_external_or_static(row),
+        SelectedSections::All(_, _) => {
+            is_external_or_static(row) || is_routine(symbols, number, row)
+        }
     }
 }
 
-// Whether a row's value is the offset of a symbol in its section. A code label lies within a function.
+// Whether a row is the label of a routine, and not of a place within a function. Where its name can't be read it is.
+fn is_routine(symbols: CoffTable<'_>, number: usize, row: SymbolRow) -> bool
+    requires { number < record_count (table_view symbols) }
+    ensures { (index : ℕ) → is_routine index (symbol_view row)
+        (pe_symbols.name_of (table_view symbols.entry) number (symbol_view row))
+        ≡ (result && nat_eq (symbol_view row).section_number (index + 1)) }
+{
+    if row.storage_class != IMAGE_SYM_CLASS_LABEL {
+        return false;
+    }
+    match name_of(symbols, number, row) {
+        None => true,
+        Some(name) => !is_inner(name),
+    }
+}
+
+// Whether a name is one that compilers and assemblers give to labels within functions.
+fn is_inner(name: &str) -> bool
+    ensures { result ≡ is_inner name.now }
+{
+    let name = name.as_bytes();
+    name.starts_with(b".") || name.starts_with(b"L") || name.starts_with(b"$")
+}
+
+// Whether a row's value is the offset of a symbol in its section, and no label's.
 fn is_external_or_static(row: SymbolRow) -> bool
     ensures { (index : ℕ) → is_external_or_static index (symbol_view row)
         ≡ (result && nat_eq (symbol_view row).section_number (index + 1)) }
@@ -245,7 +280,7 @@ fn ending_of<'a>(
     match function_name(sections, symbols, number, row) {
         Some(name) => Some((at, Some(name))),
         None => {
-            if ends_sizes(sections, row) {
+            if ends_sizes(sections, symbols, number, row) {
                 Some((at, None))
             } else {
                 None

@@ -1,9 +1,9 @@
 //! Worked examples, computed from the definitions alone.
 
-ghost use Rattle.std.specs.Prelude.{◌≡◌, ℕ, [], ◌∷◌, ◌++◌, replicate, codes, Some, Ok};
+ghost use Rattle.std.specs.Prelude.{◌≡◌, ℕ, true, false, [], ◌∷◌, ◌++◌, replicate, codes, Some, None, Ok};
 ghost use Rattle.binfarce_pe.specs.Pe.{section_at};
-ghost use Rattle.binfarce_pe.specs.PeSelection.{size_within};
-ghost use Rattle.binfarce_pe.specs.PeSymbols.{symbol_at, row_numbers, size_among, entries_of, pe_answer};
+ghost use Rattle.binfarce_pe.specs.PeSelection.{ends_sizes, size_within};
+ghost use Rattle.binfarce_pe.specs.PeSymbols.{SymbolRow, symbol_at, row_numbers, size_among, entries_of, pe_answer};
 
 /// The section `.text`, of 0x1F bytes in memory at 0x1000 and 0x200 in the file, from 0x400 on.
 #[tactic(auto, unfolding(crate::specs::Pe::section_at, crate::specs::Pe::section_fields, crate::specs::Pe::characteristics_at, binfarce_bytes::proofs::Computing::computing))]
@@ -88,4 +88,17 @@ fn worked_sizes_within()
     ensures up_to_the_end { size_within 256 (384 ∷ 0 ∷ 64 ∷ 0 ∷ []) 64 ≡ 192 }
     ensures at_the_end { size_within 256 (384 ∷ 0 ∷ 64 ∷ 0 ∷ 256 ∷ []) 256 ≡ 0 }
     ensures past_the_end { size_within 256 (384 ∷ 512 ∷ []) 384 ≡ 0 }
+{}
+
+/// What ends sizes in the first section, by storage class, section number and name, whatever the type: a static row, and
+/// a label, also one without a readable name; and not a label of a compiler, one of another section, or a debugger's
+/// record.
+#[tactic(auto, unfolding(binfarce_bytes::proofs::Computing::computing))]
+fn worked_ends()
+    ensures { let row : ℕ → ℕ → SymbolRow ℕ = λ class section. record { zeroes = 1; offset = 0; value = 0x10; section_number = section; kind = 0; storage_class = class; number_of_aux_symbols = 0 } in
+        (ends_sizes 0 (row 3 1) (Some (codes "L1")) ≡ true)
+        × (ends_sizes 0 (row 6 1) (Some (codes "enc_blk4")) ≡ true) × (ends_sizes 0 (row 6 1) None ≡ true)
+        × (ends_sizes 0 (row 6 1) (Some (codes ".l_end")) ≡ false) × (ends_sizes 0 (row 6 1) (Some (codes "L1")) ≡ false)
+        × (ends_sizes 0 (row 6 1) (Some (codes "$LN4")) ≡ false)
+        × (ends_sizes 0 (row 6 2) (Some (codes "enc_blk4")) ≡ false) × (ends_sizes 0 (row 101 1) None ≡ false) }
 {}

@@ -13,7 +13,7 @@ use Rattle.binfarce_bytes.specs.Refusal.{unexpected_eof}
 use Rattle.binfarce_bytes.specs.SectionEntries.{SectionEntry, in_section}
 use Rattle.binfarce_pe.specs.Pe.{Section, section_fields}
 use Rattle.binfarce_pe.specs.PeParts.{TablePlaces, SectionTable, headers_alone, whole_in, table_walk}
-use Rattle.binfarce_pe.specs.PeSelection.{all_sections, is_external_or_static, number_of, memory_size, memory_address, moved, size_within, rules_of, section_entries, entries_by, name_of, symbols_of}
+use Rattle.binfarce_pe.specs.PeSelection.{all_sections, is_external_or_static, ends_sizes, number_of, memory_size, memory_address, moved, size_within, rules_of, section_entries, entries_by, name_of, symbols_of}
 use Rattle.binfarce_pe.specs.PeSymbols.{CoffTable, is_function}
 use Rattle.binfarce_pe.specs.PeRules.{entries_under}
 use Rattle.binfarce_tables.specs.machine.PePlaces.{headers_at, alone_at, whole_at}
@@ -82,7 +82,7 @@ module _ (file : List ℕ) (places : TablePlaces) where
     entries_same : (base : Option ℕ) (symbols : CoffTable) → entries_by (rules_of (all_sections base alone)) symbols ≡ entries_by (rules_of (all_sections base table)) symbols
     entries_same base symbols =
         flat_map_same (section_entries (rules_of (all_sections base alone)) symbols) (section_entries (rules_of (all_sections base table)) symbols) 0 places.section_count
-        (λ i lt. ap₂ (λ (start size : ℕ). in_section (i + 1) (map (moved (λ value. (start + value) % 2 ^ 64)) (entries_under symbols (record { accepts = λ row. is_function row && is_external_or_static i row; ends = is_external_or_static i; size = size_within size })))) (address_same base i (omega (arith, lt))) (size_same i (omega (arith, lt))))
+        (λ i lt. ap₂ (λ (start size : ℕ). in_section (i + 1) (map (moved (λ value. (start + value) % 2 ^ 64)) (entries_under symbols (record { accepts = λ row. is_function row && is_external_or_static i row; ends = ends_sizes i; size = size_within size })))) (address_same base i (omega (arith, lt))) (size_same i (omega (arith, lt))))
 
     name_same : (number : ℕ) → name_of alone number ≡ name_of table number
     name_same number = elim (cases_eq number 0) [

@@ -9,7 +9,7 @@ use Rattle.binfarce_pe.specs.declared.functions.Held.{Held}
 use Rattle.binfarce_pe.specs.Pe as pe
 use Rattle.binfarce_pe.specs.PeParts.{SectionTable, whole_in, section_in, table_walk}
 use Rattle.binfarce_pe.specs.PeSymbols as symbols
-use Rattle.binfarce_pe.specs.PeRules.{SectionRules, accepted_name, ending_rows}
+use Rattle.binfarce_pe.specs.PeRules.{SectionRules, accepted_name, ends_at, ending_rows}
 use Rattle.binfarce_pe.specs.PeSelection.{SelectedSections, the_text, all_sections, Rules, memory_size}
 use Rattle.binfarce_bytes.specs.Sizes.{RowAddress, addresses_of}
 use Rattle.binfarce_bytes.specs.SectionEntries.{SectionEntry}
@@ -67,7 +67,7 @@ HoldsSections table rules from held =
 -- the name of a row that ends sizes, and none of it where it isn't kept
 abbrev pub ending_name : symbols.CoffTable → SectionRules → ℕ → symbols.SymbolRow ℕ → Option (Option (List ℕ))
 ending_name table rules k row =
-    if rules.ends row then Some (accepted_name table rules.accepts k row) else option_map (λ name. Some name) (accepted_name table rules.accepts k row)
+    if ends_at table rules k row then Some (accepted_name table rules.accepts k row) else option_map (λ name. Some name) (accepted_name table rules.accepts k row)
 
 -- the size that sizes end at in the section of this index
 abbrev pub bound_of : SelectedSections → ℕ → ℕ

@@ -20,6 +20,8 @@ const IMAGE_SYM_CLASS_EXTERNAL: u8 = 2;
 
 const IMAGE_SYM_CLASS_STATIC: u8 = 3;
 
+const IMAGE_SYM_CLASS_LABEL: u8 = 6;
+
 /// The sections of a file whose function symbols are listed.
 #[derive(Clone, Copy)]
 pub enum SelectedSections<'a> {
@@ -139,14 +141,38 @@ fn accepts(sections: SelectedSections<'_>, row: SymbolRow) -> bool {
 }
 
 // Whether a row ends sizes in the section that it names, if that is selected, even where it isn't kept.
-fn ends_sizes(sections: SelectedSections<'_>, row: SymbolRow) -> bool {
+fn ends_sizes(
+    sections: SelectedSections<'_>,
+    symbols: CoffTable<'_>,
+    number: usize,
+    row: SymbolRow,
+) -> bool {
     match sections {
         SelectedSections::Text(_) => false,
-        SelectedSections::All(_, _) => is_external_or_static(row),
+        SelectedSections::All(_, _) => {
+            is_external_or_static(row) || is_routine(symbols, number, row)
+        }
     }
 }
 
-// Whether a row's value is the offset of a symbol in its section. A code label lies within a function.
+// Whether a row is the label of a routine, and not of a place within a function. Where its name can't be read it is.
+fn is_routine(symbols: CoffTable<'_>, number: usize, row: SymbolRow) -> bool {
+    if row.storage_class != IMAGE_SYM_CLASS_LABEL {
+        return false;
+    }
+    match name_of(symbols, number, row) {
+        None => true,
+        Some(name) => !is_inner(name),
+    }
+}
+
+// Whether a name is one that compilers and assemblers give to labels within functions.
+fn is_inner(name: &str) -> bool {
+    let name = name.as_bytes();
+    name.starts_with(b".") || name.starts_with(b"L") || name.starts_with(b"$")
+}
+
+// Whether a row's value is the offset of a symbol in its section, and no label's.
 fn is_external_or_static(row: SymbolRow) -> bool {
     let class = row.storage_class;
     class == IMAGE_SYM_CLASS_EXTERNAL || class == IMAGE_SYM_CLASS_STATIC
@@ -177,7 +203,7 @@ fn ending_of<'a>(
     match function_name(sections, symbols, number, row) {
         Some(name) => Some((at, Some(name))),
         None => {
-            if ends_sizes(sections, row) {
+            if ends_sizes(sections, symbols, number, row) {
                 Some((at, None))
             } else {
                 None

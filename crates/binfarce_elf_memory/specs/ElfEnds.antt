@@ -24,9 +24,10 @@ kind_of class table = file_kind (header_of class table.order table.file)
 abbrev pub is_function_kind : (indirect : Bool) → SymbolRow ℕ → Bool
 is_function_kind indirect row = is_function row || (indirect && nat_eq (row.info % 16) 10)
 
--- bit 0 of a function's value is its instruction set and no part of its address: in files of EM_ARM (40) (ELF for the Arm Architecture, "Symbol values")
+-- bit 0 of a function's value is its instruction set and no part of its address: in files of EM_ARM (40) (ELF for the Arm Architecture, "Symbol values"), and
+-- of EM_MIPS (8), where it is that of MIPS16 and microMIPS code (MIPS Architecture for Programmers, "ISA mode")
 abbrev pub has_modes : FileKind → Bool
-has_modes kind = nat_eq kind.machine 40
+has_modes kind = nat_eq kind.machine 40 || nat_eq kind.machine 8
 
 -- a row's address in memory, or in an object in its section: its value; a function's without that bit
 abbrev pub address_of : (has_modes : Bool) → SymbolRow ℕ → ℕ

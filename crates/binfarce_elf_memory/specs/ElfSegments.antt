@@ -62,7 +62,8 @@ load_at width order headers start =
 abbrev pub page_of : ℕ → ℕ
 page_of address = address - address % 4096
 
--- the page of the lowest address of a loaded segment, where there is one
+-- the page of the lowest address of a loaded segment, where there is one. It's the same for every size of pages where that segment has the file's first byte,
+-- since its address is then a multiple of its alignment; else it's an address as good as any other to say where the file is, by a mapping of its code
 unfoldable pub load_page : Width → ByteOrder → List ℕ → Option ℕ
 load_page width order headers =
     option_map page_of (least (filter_map (λ i. load_at width order headers (i * program_length width)) (range_with_len 0 (length headers / program_length width))))
@@ -85,6 +86,8 @@ code_at width order headers start =
       address = value_at order headers start fields.vaddr;
       offset = value_at order headers start fields.offset;
       size = value_at order headers start fields.filesz;
+      memory_size = value_at order headers start fields.memsz;
+      align = value_at order headers start fields.align;
     }) else None
 
 -- the first of several, where there is one

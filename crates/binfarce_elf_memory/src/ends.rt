@@ -46,7 +46,8 @@ impl FileKind {
         ensures { result ≡ has_modes (kind_view self) }
     {
         const EM_ARM: Half = 40;
-        self.machine == EM_ARM
+        const EM_MIPS: Half = 8;
+        self.machine == EM_ARM || self.machine == EM_MIPS
     }
 }
 

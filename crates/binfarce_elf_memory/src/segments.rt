@@ -42,6 +42,11 @@ pub struct CodeSegment {
     pub offset: u64,
     /// How many bytes it has in the file (`p_filesz`): none in a debug file, whose offset says nothing of the program's.
     pub size: u64,
+    /// How many bytes it has in memory (`p_memsz`), also by a debug file.
+    pub memory_size: u64,
+    /// Its alignment (`p_align`): its address and its offset in the program's file are alike modulo this, and no page of
+    /// a size that doesn't divide it loads it.
+    pub align: u64,
 }
 
 /// Where a file with these program headers says that it is loaded: the page of 4096 bytes where its lowest loaded segment
@@ -143,16 +148,22 @@ fn code_at(headers: &[u8], start: usize, width: Width, byte_order: ByteOrder) ->
             let offset: u32 = number_at(headers, start + 4, byte_order).unwrap();
             let address: u32 = number_at(headers, start + 8, byte_order).unwrap();
             let size: u32 = number_at(headers, start + 16, byte_order).unwrap();
+            let memory_size: u32 = number_at(headers, start + 20, byte_order).unwrap();
+            let align: u32 = number_at(headers, start + 28, byte_order).unwrap();
             Some(CodeSegment {
                 address: u64::from(address),
                 offset: u64::from(offset),
                 size: u64::from(size),
+                memory_size: u64::from(memory_size),
+                align: u64::from(align),
             })
         }
         Width::Bits64 => Some(CodeSegment {
             address: number_at(headers, start + 16, byte_order).unwrap(),
             offset: number_at(headers, start + 8, byte_order).unwrap(),
             size: number_at(headers, start + 32, byte_order).unwrap(),
+            memory_size: number_at(headers, start + 40, byte_order).unwrap(),
+            align: number_at(headers, start + 48, byte_order).unwrap(),
         }),
     }
 }

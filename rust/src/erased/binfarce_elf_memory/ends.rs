@@ -32,7 +32,8 @@ impl FileKind {
     /// Whether bit 0 of a function's value is its instruction set, and no part of its address.
     pub fn has_modes(self) -> bool {
         const EM_ARM: Half = 40;
-        self.machine == EM_ARM
+        const EM_MIPS: Half = 8;
+        self.machine == EM_ARM || self.machine == EM_MIPS
     }
 }
 

@@ -11,7 +11,7 @@ use Rattle.binfarce_bytes.specs.SectionEntries.{SectionEntry, SelectedSymbols, A
 use Rattle.binfarce_bytes.specs.Sizes.{arranged}
 use Rattle.binfarce_bytes.specs.SymbolViews.{function_view, section_function_view, HoldsFunctions, HoldsSectionFunctions, HoldsSized}
 use Rattle.binfarce_macho.specs.MachoSections.{NumberedSection, HasSection, section_starts, numbered_at, numbered_sections}
-use Rattle.binfarce_macho.specs.MachoSelection.{SelectedSections, the_text, all_sections, sections_in, selected_tables, is_object, entries_in, section_size, section_name, shares_addresses, symbols_of, selected_answer, all_answer, SomeAddress, NeedsMemory, FileNeedsMemory}
+use Rattle.binfarce_macho.specs.MachoSelection.{SelectedSections, the_text, all_sections, sections_in, selected_tables, entries_in, section_size, section_name, symbols_of, selected_answer, all_answer, SomeAddress, NeedsMemory, FileNeedsMemory}
 use Rattle.binfarce_macho.specs.MachoSymbols.{SymtabCommand, Extent, Symbols, Located, text_extent, table_of, symbols_by, located_by, located_at, located, entry_of, kept, row_addresses, answer_of, macho_answer, HasAddress}
 use Rattle.binfarce_macho.proofs.MachoAnswers.{refusal_answers, needs_address}
 use Rattle.binfarce_macho.proofs.SectionLists.{has_start}
@@ -58,7 +58,7 @@ module _ (section : Option (List ℕ)) (file : List ℕ) where
       module _ (symbols : Option Symbols) (is : symbols_by file table ≡ Ok symbols) where
         abbrev of_entries : List SectionEntry → Result SelectedSymbols Refusal
         of_entries entries =
-            Ok (record { entries = entries; section_size = section_size sections symbols; section_name = section_name sections; shares_addresses = shares_addresses sections (is_object file); version_name = λ version. None })
+            Ok (record { entries = entries; section_size = section_size sections symbols; section_name = section_name sections; shares_addresses = false; version_name = λ version. None })
 
         made : selected_answer section file ≡ (entries_in sections symbols >>= of_entries)
         unfolding selected_tables symbols_of
@@ -121,11 +121,11 @@ module _ (section : Option (List ℕ)) (file : List ℕ) where
 abbrev pub as_selected : Listed → Result SelectedSymbols Refusal
 as_selected listed = Ok (record { entries = in_section 1 listed.entries; section_size = Some listed.section_size; section_name = λ number. None; shares_addresses = false; version_name = λ version. None })
 
-text_made : (text : Extent) (symbols : Option Symbols) (object : Bool)
-    → symbols_of (record { sections = the_text text; symbols = symbols; is_object = object }) ≡ ((located_by text symbols >>= answer_of) >>= as_selected)
+text_made : (text : Extent) (symbols : Option Symbols)
+    → symbols_of (record { sections = the_text text; symbols = symbols }) ≡ ((located_by text symbols >>= answer_of) >>= as_selected)
 unfolding symbols_of entries_in located_at answer_of
-text_made text None object = refl
-text_made text (Some symbols) object = by_end (nat_lt (text.address + text.size) (2 ^ 64))
+text_made text None = refl
+text_made text (Some symbols) = by_end (nat_lt (text.address + text.size) (2 ^ 64))
   where
     found : Located
     found = record { text_end = text.address + text.size; text_size = text.size; strings = symbols.strings; rows = symbols.rows }
@@ -152,18 +152,18 @@ module _ (name file : List ℕ) where
   text_selected = by_text (text_extent file)
     where
       by_symbols : (text : Extent) (r : Result (Option Symbols) Refusal)
-          → ((r >>= λ symbols. Ok (record { sections = the_text text; symbols = symbols; is_object = is_object file })) >>= symbols_of) ≡ (((r >>= λ symbols. located_by text symbols) >>= answer_of) >>= as_selected)
+          → ((r >>= λ symbols. Ok (record { sections = the_text text; symbols = symbols })) >>= symbols_of) ≡ (((r >>= λ symbols. located_by text symbols) >>= answer_of) >>= as_selected)
       by_symbols text (Err why) = refl
-      by_symbols text (Ok symbols) = text_made text symbols (is_object file)
+      by_symbols text (Ok symbols) = text_made text symbols
 
       by_table : (text : Extent) (r : Result (Option (SymtabCommand ℕ)) Refusal)
-          → ((r >>= λ table. symbols_by file table >>= λ symbols. Ok (record { sections = the_text text; symbols = symbols; is_object = is_object file })) >>= symbols_of)
+          → ((r >>= λ table. symbols_by file table >>= λ symbols. Ok (record { sections = the_text text; symbols = symbols })) >>= symbols_of)
           ≡ (((r >>= λ table. symbols_by file table >>= λ symbols. located_by text symbols) >>= answer_of) >>= as_selected)
       by_table text (Err why) = refl
       by_table text (Ok table) = by_symbols text (symbols_by file table)
 
       by_text : (r : Result Extent Refusal)
-          → (((r >>= λ text. Ok (the_text text)) >>= λ sections. table_of file >>= λ table. symbols_by file table >>= λ symbols. Ok (record { sections = sections; symbols = symbols; is_object = is_object file })) >>= symbols_of)
+          → (((r >>= λ text. Ok (the_text text)) >>= λ sections. table_of file >>= λ table. symbols_by file table >>= λ symbols. Ok (record { sections = sections; symbols = symbols })) >>= symbols_of)
           ≡ (((r >>= λ text. table_of file >>= λ table. symbols_by file table >>= λ symbols. located_by text symbols) >>= answer_of) >>= as_selected)
       by_text (Err why) = refl
       by_text (Ok text) = by_table text (table_of file)

@@ -1,5 +1,5 @@
 -- The function symbols of a selection of a Mach-O file: those of the text, or those of all sections.
-use Rattle.std.specs.Prelude.{◌≢◌, ℕ, Bool, false, List, [], map, nat_eq, is_some, Option, Some, None, Result, Ok, Err, if◌then◌else◌}
+use Rattle.std.specs.Prelude.{◌≢◌, ℕ, Bool, false, List, [], map, is_some, Option, Some, None, Result, Ok, Err, if◌then◌else◌}
 use Rattle.std.specs.Option.{option_map}
 use Rattle.std.specs.String.{string_bytes}
 use Rattle.binfarce_bytes.specs.Refusal.{◌>>=◌, Refusal, if_as_long_as}
@@ -9,7 +9,7 @@ use Rattle.binfarce_macho.specs.declared.numbered.SelectedSections as code_secti
 use Rattle.binfarce_macho.specs.declared.numbered.SelectedSections.TheVariants as variants
 use Rattle.binfarce_macho.specs.declared.symbols.Extent as code_extent
 use Rattle.binfarce_macho.specs.declared.symbols.SymbolBytes as code_symbols
-use Rattle.binfarce_macho.specs.Macho.{header_of, least_length}
+use Rattle.binfarce_macho.specs.Macho.{least_length}
 use Rattle.binfarce_macho.specs.MachoSections.{NumberedSection, numbered_sections, name_of, entries_of_all, HasSection}
 use Rattle.binfarce_macho.specs.MachoSymbols.{Extent, Symbols, Located, text_extent, table_of, symbols_by, located_by, answer_of, row_addresses, HasAddress}
 
@@ -23,15 +23,10 @@ unfoldable pub sections_in : Option (List ℕ) → List ℕ → Result SelectedS
 sections_in (Some name) file = text_extent file >>= λ text. Ok (the_text text)
 sections_in None file = numbered_sections file >>= λ sections. Ok (all_sections sections)
 
--- what the function symbols of a selection are made of: the sections; the symbols, where the file has a symbol table; and whether it is an object file
+-- what the function symbols of a selection are made of: the sections; and the symbols, where the file has a symbol table
 pub record SelectedTables : Type 0 where
   pub sections : SelectedSections
   pub symbols : Option Symbols
-  pub is_object : Bool
-
--- an object file is of the type MH_OBJECT (1)
-abbrev pub is_object : List ℕ → Bool
-is_object file = nat_eq (header_of file).filetype 1
 
 -- those of a file, or its refusals in order
 unfoldable pub selected_tables : Option (List ℕ) → List ℕ → Result SelectedTables Refusal
@@ -39,7 +34,7 @@ selected_tables section file = do
   sections ← sections_in section file
   table ← table_of file
   symbols ← symbols_by file table
-  Ok (record { sections = sections; symbols = symbols; is_object = is_object file })
+  Ok (record { sections = sections; symbols = symbols })
 
 -- where the file has a header
 abbrev pub selected_file_tables : Option (List ℕ) → List ℕ → Result SelectedTables Refusal
@@ -67,12 +62,7 @@ abbrev pub section_name : SelectedSections → ℕ → Option (List ℕ)
 section_name (the_text text) number = None
 section_name (all_sections sections) number = name_of sections number
 
--- all sections of an object file share addresses
-abbrev pub shares_addresses : SelectedSections → Bool → Bool
-shares_addresses (the_text text) is_object = false
-shares_addresses (all_sections sections) is_object = is_object
-
--- the function symbols that are made of these tables
+-- the function symbols that are made of these tables. The sections of an object file, too, have addresses of their own
 unfoldable pub symbols_of : SelectedTables → Result SelectedSymbols Refusal
 symbols_of tables = do
   entries ← entries_in tables.sections tables.symbols
@@ -80,7 +70,7 @@ symbols_of tables = do
     entries = entries;
     section_size = section_size tables.sections tables.symbols;
     section_name = section_name tables.sections;
-    shares_addresses = shares_addresses tables.sections tables.is_object;
+    shares_addresses = false;
     version_name = λ version. None;
   })
 

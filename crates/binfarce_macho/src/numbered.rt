@@ -1,13 +1,13 @@
 //! The sections of a file by their numbers, and those that a selection takes.
 
-ghost use Rattle.std.specs.Prelude.{◌≡◌, ◌≢◌, ◌+◌, ◌*◌, ◌<◌, ◌≤◌, ◌^◌, ◌++◌, ◌&&◌, ◌⊎◌, [], length, map, nat_eq, nat_le, take, All, None, Some, Ok, Err, IfOk, OnErr, MatchResult};
+ghost use Rattle.std.specs.Prelude.{◌≡◌, ◌≢◌, ◌+◌, ◌*◌, ◌<◌, ◌≤◌, ◌^◌, ◌++◌, ◌&&◌, ◌⊎◌, [], length, map, nat_le, take, All, None, Some, Ok, Err, IfOk, OnErr, MatchResult};
 ghost use Rattle.std.specs.Option.{option_map};
 ghost use Rattle.std.specs.String.{string_bytes};
 ghost use Rattle.binfarce_bytes.specs.Refusal.{refusal_of, out_of_memory};
 ghost use Rattle.binfarce_bytes.specs.Selection.{section_of};
 ghost use Rattle.binfarce_macho.specs.Macho.{header_of, segment, segment_read, section_count, whole_headers};
 ghost use Rattle.binfarce_macho.specs.MachoSections.{greatest_section, first_starts, starts_in, section_starts, HasSection, has_instructions, extent_at, full_name, name_at, numbered_at, numbered_sections, name_of};
-ghost use Rattle.binfarce_macho.specs.MachoSelection.{sections_in, size_of, section_name, shares_addresses, extent_view, numbered_view, sections_view};
+ghost use Rattle.binfarce_macho.specs.MachoSelection.{sections_in, size_of, section_name, extent_view, numbered_view, sections_view};
 ghost use Rattle.binfarce_macho.specs.MachoViews.{header_view, section_view};
 
 use crate::commands::{LC_SEGMENT_64, commands};
@@ -62,16 +62,6 @@ impl SelectedSections {
         match self {
             SelectedSections::Text(_) => None,
             SelectedSections::All(sections) => name_of(sections, number),
-        }
-    }
-
-    /// Whether the sections share addresses: all those of an object file may.
-    pub fn share_addresses(&self, is_object: bool) -> bool
-        ensures { result ≡ shares_addresses (sections_view self.now) is_object }
-    {
-        match self {
-            SelectedSections::Text(_) => false,
-            SelectedSections::All(_) => is_object,
         }
     }
 }
@@ -258,12 +248,3 @@ fn full_name(alloc: Global, section: Section<'_>) -> Result<String, AllocError>
     name.push_str(section.section_name)?;
     Ok(name)
 }
-
-/// Whether a file with this header is an object file (`MH_OBJECT`), whose sections may share addresses.
-pub fn is_object(header: MachoHeader) -> bool
-    ensures { result ≡ nat_eq (header_view header).filetype 1 }
-{
-    header.filetype == MH_OBJECT
-}
-
-const MH_OBJECT: u32 = 1;

@@ -124,7 +124,7 @@ module _ (section : Option (List ℕ)) (file other : List ℕ) (same : SameParts
       steps_are section other (omega (arith, inside, same.lengths))
       ∙ ap (λ (r : Result CommandParts Refusal). r >>= after_commands other) (selected_same file other same.lengths inside (section_parts (SameIn file other) file same.each) section)
       ∙ after_same (selected_commands section file) (after_commands other) (after_commands file)
-      (λ found is. ap (λ (r : Result (Option Symbols) Refusal). r >>= λ symbols. Ok (record { sections = found.sections; symbols = symbols; is_object = found.is_object }))
+      (λ found is. ap (λ (r : Result (Option Symbols) Refusal). r >>= λ symbols. Ok (record { sections = found.sections; symbols = symbols }))
       (symbols_same file other same.lengths found.table (symbol_parts (SameIn file other) file found.table (commands_table section file found is) same.each)))
       ∙ sym (steps_are section file inside)
 

@@ -8,7 +8,7 @@ use Rattle.binfarce_bytes.specs.Entries.{Answers}
 use Rattle.binfarce_bytes.specs.SectionEntries.{SectionEntry, SelectedSymbols}
 use Rattle.binfarce_bytes.specs.SymbolViews.{HoldsSectionFunctions, HoldsSelected}
 use Rattle.binfarce_bytes.specs.declared.functions.SectionFunction.{SectionFunction}
-use Rattle.binfarce_macho.specs.MachoSelection.{SelectedSections, SelectedTables, sections_in, is_object, selected_tables, selected_file_tables, entries_in, section_size, section_name, shares_addresses, symbols_of}
+use Rattle.binfarce_macho.specs.MachoSelection.{SelectedSections, SelectedTables, sections_in, selected_tables, selected_file_tables, entries_in, section_size, section_name, symbols_of}
 use Rattle.binfarce_macho.specs.MachoSymbols.{SymtabCommand, symbols_by, table_of}
 use Rattle.binfarce_tables.specs.declared.error.ReadError.{ReadError}
 use Rattle.binfarce_tables.specs.declared.error.ReadError.TheVariants.{Refused, Unreadable, OutOfMemory}
@@ -20,7 +20,7 @@ use Rattle.binfarce_tables.proofs.MachoPrefix.{same_sections}
 -- a file, by the bytes that its commands are in
 module _ (section : Option (List ℕ)) (file bytes : List ℕ) (inside : 28 ≤ length file) (are : bytes ≡ command_bytes file) where
   pub commands_same : selected_commands section bytes ≡ selected_commands section file
-  commands_same = let same = same_sections file bytes inside are in rw (same.sections section, same.table, same.object) refl
+  commands_same = let same = same_sections file bytes inside are in rw (same.sections section, same.table) refl
 
   pub sections_refused : (why : Refusal) → sections_in section bytes ≡ Err why → selected_commands section file ≡ Err why
   sections_refused why at = sym commands_same ∙ rw at refl
@@ -28,12 +28,12 @@ module _ (section : Option (List ℕ)) (file bytes : List ℕ) (inside : 28 ≤ 
   pub table_refused : (sections : SelectedSections) (why : Refusal) → sections_in section bytes ≡ Ok sections → table_of bytes ≡ Err why → selected_commands section file ≡ Err why
   table_refused sections why at is = sym commands_same ∙ rw (at, is) refl
 
-  pub all_found : (found : CommandParts) → sections_in section bytes ≡ Ok found.sections → table_of bytes ≡ Ok found.table → found.is_object ≡ is_object bytes → selected_commands section file ≡ Ok found
-  all_found found at is object = sym commands_same ∙ rw (at, is, sym object) refl
+  pub all_found : (found : CommandParts) → sections_in section bytes ≡ Ok found.sections → table_of bytes ≡ Ok found.table → selected_commands section file ≡ Ok found
+  all_found found at is = sym commands_same ∙ rw (at, is) refl
 
 -- what follows the commands
 abbrev pub after_commands : List ℕ → CommandParts → Result SelectedTables Refusal
-after_commands file found = symbols_by file found.table >>= λ symbols. Ok (record { sections = found.sections; symbols = symbols; is_object = found.is_object })
+after_commands file found = symbols_by file found.table >>= λ symbols. Ok (record { sections = found.sections; symbols = symbols })
 
 module _ (section : Option (List ℕ)) (file : List ℕ) where
   tables_are : selected_tables section file ≡ (selected_commands section file >>= after_commands file)
@@ -41,8 +41,8 @@ module _ (section : Option (List ℕ)) (file : List ℕ) where
   tables_are = by_steps (sections_in section file) (table_of file)
     where
       by_steps : (r : Result SelectedSections Refusal) (t : Result (Option (SymtabCommand ℕ)) Refusal)
-          → (r >>= λ sections. t >>= λ table. symbols_by file table >>= λ symbols. Ok (record { sections = sections; symbols = symbols; is_object = is_object file }))
-          ≡ ((r >>= λ sections. t >>= λ table. Ok (record { sections = sections; table = table; is_object = is_object file })) >>= after_commands file)
+          → (r >>= λ sections. t >>= λ table. symbols_by file table >>= λ symbols. Ok (record { sections = sections; symbols = symbols }))
+          ≡ ((r >>= λ sections. t >>= λ table. Ok (record { sections = sections; table = table })) >>= after_commands file)
       by_steps (Err why) t = refl
       by_steps (Ok sections) (Err why) = refl
       by_steps (Ok sections) (Ok table) = refl
@@ -64,7 +64,7 @@ entries_selected tables N result given = by_entries (entries_in tables.sections 
       entries = entries;
       section_size = section_size tables.sections tables.symbols;
       section_name = section_name tables.sections;
-      shares_addresses = shares_addresses tables.sections tables.is_object;
+      shares_addresses = false;
       version_name = λ version. None;
     }
 

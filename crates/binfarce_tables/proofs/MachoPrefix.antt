@@ -15,7 +15,7 @@ use Rattle.binfarce_bytes.specs.SectionEntries.{unless}
 use Rattle.binfarce_bytes.specs.Walk.{Walk, first, found_or_end, ahead_of, and_then}
 use Rattle.binfarce_macho.specs.Macho.{Command, Section, header_of, header_fields, header_length, command_at, body_of, commands_from, commands, section_at, section_fields, flags_at, section_offset, section_count, whole_headers, sections_below, segment, is_segment, sections_of, walk, is_named}
 use Rattle.binfarce_macho.specs.MachoSections.{NumberedSection, first_starts, starts_in, starts_among, section_starts, has_instructions, extent_at, numbered_at, numbered_sections}
-use Rattle.binfarce_macho.specs.MachoSelection.{the_text, all_sections, sections_in, is_object}
+use Rattle.binfarce_macho.specs.MachoSelection.{the_text, all_sections, sections_in}
 use Rattle.binfarce_macho.specs.MachoSymbols.{SymtabCommand, symbol_table_at, symbol_table_fields, Extent, some_size, text_extent, symbol_command, whole_table, named_table, table_of}
 use Rattle.binfarce_macho.specs.MachoParts.{holds_body, holds_from, holds_commands, segment_address, is_text_segment, load_address}
 use Rattle.binfarce_macho.proofs.AllWalks.{each_start}
@@ -337,10 +337,6 @@ module _ (file bytes : List ℕ) (short : length bytes ≤ length file) (same : 
         found_same (find (is_text_segment bytes) (commands bytes).items) (find (is_text_segment file) (commands bytes).items) (commands bytes).refusal (addresses_same (commands bytes).items agrees.1)
         ∙ ap (λ (w : Walk Command). first (is_text_segment file) w >>= λ found. Ok (address_in file found)) commands_same
 
-  pub filetype_same : 28 ≤ length bytes → (header_of bytes).filetype ≡ (header_of file).filetype
-  unfolding header_of header_fields
-  filetype_same whole = number_same 0 header_fields.filetype (omega (arith, whole))
-
   -- where the header says that its commands end
   pub said_same : 28 ≤ length bytes → (header_of bytes).sizeofcmds ≡ (header_of file).sizeofcmds
   unfolding header_of header_fields
@@ -397,7 +393,6 @@ begins_with_commands file bytes is = by_held (holds_commands (bytes_at file 0 (s
 pub record SameSections (file bytes : List ℕ) : Type 0 where
   pub sections : (section : Option (List ℕ)) → sections_in section bytes ≡ sections_in section file
   pub table : table_of bytes ≡ table_of file
-  pub object : is_object bytes ≡ is_object file
   pub loaded : load_address bytes ≡ load_address file
 
 pub same_sections : (file bytes : List ℕ) → 28 ≤ length file → bytes ≡ command_bytes file → SameSections file bytes
@@ -412,7 +407,6 @@ same_sections file bytes inside is = rw is (by_held (holds_commands (bytes_at fi
         record {
           sections = sections_held file begins short (λ k width h. prefix_same file (said_end file) k width (omega arith) h) whole held;
           table = table_held file begins short (λ k width h. prefix_same file (said_end file) k width (omega arith) h) whole held;
-          object = ap (λ (n : ℕ). nat_eq n 1) (filetype_same file begins short (λ k width h. prefix_same file (said_end file) k width (omega arith) h) whole);
           loaded = load_same file begins short (λ k width h. prefix_same file (said_end file) k width (omega arith) h) whole held;
         }
-    by_held false held = record { sections = λ section. refl; table = refl; object = refl; loaded = refl }
+    by_held false held = record { sections = λ section. refl; table = refl; loaded = refl }

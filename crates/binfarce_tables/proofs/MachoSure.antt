@@ -5,7 +5,7 @@ use Rattle.std.proofs.lemmas.List.Elements.{All-head, All-tail}
 use Rattle.binfarce_bytes.specs.Number.{bytes_at}
 use Rattle.binfarce_bytes.specs.Part.{Part, part, parts_if}
 use Rattle.binfarce_bytes.specs.Refusal.{◌>>=◌, Refusal}
-use Rattle.binfarce_macho.specs.MachoSelection.{SelectedSections, sections_in, is_object}
+use Rattle.binfarce_macho.specs.MachoSelection.{SelectedSections, sections_in}
 use Rattle.binfarce_macho.specs.MachoParts.{holds_commands}
 use Rattle.binfarce_macho.specs.MachoSymbols.{SymtabCommand, table_of}
 use Rattle.binfarce_tables.specs.MachoReads.{said_end, whole_file, macho_section_parts, table_parts, found_parts, macho_parts}
@@ -41,7 +41,7 @@ pub commands_table : (section : Option (List ℕ)) (file : List ℕ) (found : Co
 commands_table section file found is = by_sections (sections_in section file) (table_of file) is
   where
     by_sections : (r : Result SelectedSections Refusal) (table : Result (Option (SymtabCommand ℕ)) Refusal)
-        → (r >>= λ s. table >>= λ t. Ok (record { sections = s; table = t; is_object = is_object file })) ≡ Ok found → table ≡ Ok found.table
+        → (r >>= λ s. table >>= λ t. Ok (record { sections = s; table = t })) ≡ Ok found → table ≡ Ok found.table
     by_sections (Ok s) (Ok t) is = cc
     by_sections (Ok s) (Err why) is = absurd cc
     by_sections (Err why) table is = absurd cc

@@ -11,4 +11,4 @@ symbols_view s = record { strings = s.strings.items; rows = s.rows.items }
 
 -- the content of a file's parts, of which its function symbols are made
 abbrev pub parts_view : Parts → SelectedTables
-parts_view p = record { sections = sections_view p.sections; symbols = option_map symbols_view p.symbols; is_object = p.is_object }
+parts_view p = record { sections = sections_view p.sections; symbols = option_map symbols_view p.symbols }

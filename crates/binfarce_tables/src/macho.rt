@@ -11,7 +11,7 @@ ghost use Rattle.binfarce_bytes.specs.SymbolViews.{HoldsSelected};
 ghost use Rattle.binfarce_macho.specs.Macho.{least_length, header_of};
 ghost use Rattle.binfarce_macho.specs.MachoParts.{table_view, holds_commands, load_address, file_load_address};
 ghost use Rattle.binfarce_macho.specs.MachoSelection as selection;
-ghost use Rattle.binfarce_macho.specs.MachoSelection.{selected_file_tables, section_name, section_size, shares_addresses, symbols_of, NeedsMemory};
+ghost use Rattle.binfarce_macho.specs.MachoSelection.{selected_file_tables, section_name, section_size, symbols_of, NeedsMemory};
 ghost use Rattle.binfarce_macho.specs.MachoSymbols.{slice_at, symbols_by};
 ghost use Rattle.binfarce_macho.specs.MachoViews.{header_view};
 ghost use Rattle.binfarce_tables.specs.BeginningReading.{ReadsBeginning, macho_sections};
@@ -29,7 +29,7 @@ use binfarce_bytes::functions::{SectionFunction, Selection};
 use binfarce_bytes::source::Source;
 use binfarce_macho::functions::functions_of;
 use binfarce_macho::header::{MachoHeader, parse_header};
-use binfarce_macho::numbered::{SelectedSections, is_object, selected_sections};
+use binfarce_macho::numbered::{SelectedSections, selected_sections};
 use binfarce_macho::parts::{commands_end, holds_commands, load_address};
 use binfarce_macho::symbols::{SYMBOL_LENGTH, SymbolBytes, SymtabCommand, symbol_table};
 use std::alloc::Global;
@@ -42,7 +42,6 @@ const HEADER: u64 = 28;
 pub struct Parts {
     sections: SelectedSections,
     symbols: Option<SymbolParts>,
-    is_object: bool,
 }
 
 // The string table and the symbol table.
@@ -81,13 +80,6 @@ impl Parts {
         ensures { option_map (λ t. t.now) result ≡ section_name (parts_view self.entry.now).sections number }
     {
         self.sections.name(number)
-    }
-
-    /// Whether the selected sections share addresses: all those of an object file (`MH_OBJECT`) may.
-    pub fn shares_addresses(&self) -> bool
-        ensures { let tables = parts_view self.now in result ≡ shares_addresses tables.sections tables.is_object }
-    {
-        self.sections.share_addresses(self.is_object)
     }
 }
 
@@ -140,7 +132,6 @@ pub fn read<S: Source>(
     Ok(Parts {
         sections: found.sections,
         symbols,
-        is_object: found.is_object,
     })
 }
 
@@ -149,7 +140,6 @@ pub fn read<S: Source>(
 struct Found {
     sections: SelectedSections,
     table: Option<SymtabCommand>,
-    is_object: bool,
 }
 
 // What the load commands say, which these bytes of the file hold.
@@ -163,11 +153,7 @@ fn found_in(alloc: Global, commands: &[u8], selection: Selection<'_>) -> Result<
         Err(e) => return Err(error_of(e)),
     };
     let table = symbol_table(commands, header)?;
-    Ok(Found {
-        sections,
-        table,
-        is_object: is_object(header),
-    })
+    Ok(Found { sections, table })
 }
 
 // A failed allocation is returned as such, and any other error as a refusal.

@@ -10,7 +10,7 @@ ghost use Rattle.binfarce_bytes.specs.SymbolViews.{HoldsSelected};
 ghost use Rattle.binfarce_pe.specs.PeParts.{headers_alone, places_view, text_view, whole_in};
 ghost use Rattle.binfarce_pe.specs.PeSelection.{sections_view, selected_file_answer, load_address_at, file_load_address, IsWhole};
 ghost use Rattle.binfarce_tables.specs.BeginningReading.{ReadsBeginning, pe_sections};
-ghost use Rattle.binfarce_tables.specs.PeReading.{selected_view};
+ghost use Rattle.binfarce_tables.specs.PeReading.{file_has_symbols, selected_view};
 ghost use Rattle.binfarce_tables.specs.PeReads.{pointer_part, places_parts, optional_header_part, headers_part, selected_parts, table_parts, pe_section_parts, pe_parts, pe_load_parts};
 ghost use Rattle.binfarce_tables.specs.Reading.{Reads, Known};
 ghost use Rattle.binfarce_tables.specs.declared.error.ReadError.TheVariants.{Unreadable};
@@ -268,6 +268,31 @@ pub fn read_load_address<S: Source>(
     let len = source.length()?;
     let places = read_places(alloc, source, log, len)?;
     read_base(alloc, source, log, len, places)
+}
+
+/// Whether the file has a symbol table: where its file header counts symbols (`NumberOfSymbols`), which that of a
+/// stripped file doesn't. The offset of the signature, the signature and the file header, which are 24 bytes, are read,
+/// and no other byte. The signature isn't checked.
+///
+/// # Errors
+///
+/// `Refused` with `UnexpectedEof` where the file is too short for its file header; `Unreadable` where the source can't
+/// be read at offsets, or a read of it fails, and never for a source that can't fail, such as bytes in memory;
+/// `OutOfMemory` where an allocation fails.
+pub fn has_symbols<S: Source>(
+    alloc: Global,
+    source: &S,
+    log: &mut S::Log,
+) -> Result<bool, ReadError>
+    ensures answer { (file : List ℕ) → S.bytes source.now ≡ Some file
+        → Reads (S.may_fail source.now) (λ has. has) (file_has_symbols file) result }
+    ensures only { (file : List ℕ) → S.bytes source.now ≡ Some file
+        → ReadsOnly (S.is_sure source.now) (S.logs_only log.old) (S.logs_only log.new)
+        (places_parts file) (IfErr result (λ e. e ≢ Unreadable)) }
+{
+    let len = source.length()?;
+    let places = read_places(alloc, source, log, len)?;
+    Ok(places.symbols_size > 0)
 }
 
 // The image base, in the optional header's first bytes.

@@ -187,19 +187,19 @@ module _ (file : List ℕ) where
   made section t is = by_test (ltb (length file) least_length) is
     where
       by_symbols : (sections : macho.SelectedSections) (table : Option (SymtabCommand ℕ)) (r : Result (Option Symbols) Refusal) → symbols_by file table ≡ r
-          → (r >>= λ symbols. Ok (record { sections = sections; symbols = symbols; is_object = macho.is_object file })) ≡ Ok t → (sections ≡ t.sections) × (symbols_by file table ≡ Ok t.symbols)
+          → (r >>= λ symbols. Ok (record { sections = sections; symbols = symbols })) ≡ Ok t → (sections ≡ t.sections) × (symbols_by file table ≡ Ok t.symbols)
       by_symbols sections table (Err why) at e = absurd cc
       by_symbols sections table (Ok symbols) at e =
           (ap (λ (t : macho.SelectedTables). t.sections) (ok_is e), at ∙ ap (λ (t : macho.SelectedTables). Ok t.symbols) (ok_is e))
 
       by_table : (sections : macho.SelectedSections) (r : Result (Option (SymtabCommand ℕ)) Refusal) → table_of file ≡ r
-          → (r >>= λ table. symbols_by file table >>= λ symbols. Ok (record { sections = sections; symbols = symbols; is_object = macho.is_object file })) ≡ Ok t
+          → (r >>= λ table. symbols_by file table >>= λ symbols. Ok (record { sections = sections; symbols = symbols })) ≡ Ok t
           → (sections ≡ t.sections) × ((table : Option (SymtabCommand ℕ)) × (table_of file ≡ Ok table) × (symbols_by file table ≡ Ok t.symbols))
       by_table sections (Err why) at e = absurd cc
       by_table sections (Ok table) at e = let both = by_symbols sections table (symbols_by file table) refl e in (both.0, (table, at, both.1))
 
       by_sections : (r : Result macho.SelectedSections Refusal) → macho.sections_in section file ≡ r
-          → (r >>= λ sections. table_of file >>= λ table. symbols_by file table >>= λ symbols. Ok (record { sections = sections; symbols = symbols; is_object = macho.is_object file })) ≡ Ok t → Made section t
+          → (r >>= λ sections. table_of file >>= λ table. symbols_by file table >>= λ symbols. Ok (record { sections = sections; symbols = symbols })) ≡ Ok t → Made section t
       by_sections (Err why) at e = absurd cc
       by_sections (Ok sections) at e =
           let both = by_table sections (table_of file) refl e in (at ∙ ap (λ (s : macho.SelectedSections). Ok s) both.0, both.1)
@@ -214,13 +214,13 @@ module _ (file : List ℕ) where
 
   abbrev pub IsMadeOf : macho.SelectedTables → SelectedSymbols → Type 0
   IsMadeOf t seen =
-      (seen.section_size ≡ macho.section_size t.sections t.symbols) × (macho.section_name t.sections ≡ seen.section_name) × (macho.shares_addresses t.sections t.is_object ≡ seen.shares_addresses) × (seen.version_name ≡ (λ version. None))
+      (seen.section_size ≡ macho.section_size t.sections t.symbols) × (macho.section_name t.sections ≡ seen.section_name) × (false ≡ seen.shares_addresses) × (seen.version_name ≡ (λ version. None))
 
   pub macho_made : (t : macho.SelectedTables) (seen : SelectedSymbols) → macho.symbols_of t ≡ Ok seen → IsMadeOf t seen
   unfolding macho.symbols_of
   macho_made t seen is = by_entries (macho.entries_in t.sections t.symbols) is
     where
-      by_entries : (r : Result _ Refusal) → (r >>= λ entries. Ok (record { entries = entries; section_size = macho.section_size t.sections t.symbols; section_name = macho.section_name t.sections; shares_addresses = macho.shares_addresses t.sections t.is_object; version_name = λ version. None })) ≡ Ok seen → IsMadeOf t seen
+      by_entries : (r : Result _ Refusal) → (r >>= λ entries. Ok (record { entries = entries; section_size = macho.section_size t.sections t.symbols; section_name = macho.section_name t.sections; shares_addresses = false; version_name = λ version. None })) ≡ Ok seen → IsMadeOf t seen
       by_entries (Err why) e = absurd cc
       by_entries (Ok entries) e =
           let same = ok_is e in (ap (λ (s : SelectedSymbols). s.section_size) (sym same), ap (λ (s : SelectedSymbols). s.section_name) same, ap (λ (s : SelectedSymbols). s.shares_addresses) same, ap (λ (s : SelectedSymbols). s.version_name) (sym same))

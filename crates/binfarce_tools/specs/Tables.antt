@@ -60,6 +60,11 @@ may_be_refused (Made functions size versions) = false
 abbrev pub AcceptsTables : SymbolTable → (file : List ℕ) → (section : Option (List ℕ)) → Result Tables ListError → Type 0
 AcceptsTables which file section result = GetsAs (λ selected. AreTablesOf which file section) (MemoryIn file section) (selected_answer which section file) result
 
+-- all bytes of a file, of which nothing was read
+abbrev pub is_whole : Tables → Bool
+is_whole (Whole whole named) = true
+is_whole tables = false
+
 -- the names of the sections that were read, by their numbers
 abbrev pub section_names : Tables → ℕ → Option (List ℕ)
 section_names (Elf parts) = (elf.parts_view parts).section_name
@@ -70,7 +75,6 @@ section_names tables = λ number. None
 -- whether the sections that were read share addresses
 abbrev pub shares_addresses_of : Tables → Bool
 shares_addresses_of (Elf parts) = (elf.parts_view parts).shares_addresses
-shares_addresses_of (Macho parts) = macho_file.shares_addresses (macho.parts_view parts).sections (macho.parts_view parts).is_object
 shares_addresses_of (Pe parts) = (pe.selected_view parts).shares_addresses
 shares_addresses_of tables = false
 

@@ -1,6 +1,6 @@
 //! The tables of a file's function symbols, read from a source.
 
-ghost use Rattle.std.specs.Prelude.{◌≡◌, ◌≢◌, ℕ, List, true, Option, Ok, Some, None, IfErr, MatchResult, codes};
+ghost use Rattle.std.specs.Prelude.{◌≡◌, ◌≢◌, ℕ, List, true, false, Option, Ok, Some, None, IfErr, IfOk, MatchResult, codes};
 ghost use Rattle.std.specs.Option.{option_map};
 ghost use Rattle.binfarce.specs.SelectionViews.{version_names};
 ghost use Rattle.binfarce.specs.Refusal.{refusal_of, section_is_missing};
@@ -15,7 +15,7 @@ ghost use Rattle.binfarce_tools.specs.Entries.{GetsIn};
 ghost use Rattle.binfarce_tools.specs.Parts.{format_parts, parts_in};
 ghost use Rattle.binfarce_bytes.specs.Selection.{section_of};
 ghost use Rattle.binfarce_tools.specs.declared.list.ListError.TheVariants.{Write};
-ghost use Rattle.binfarce_tools.specs.Tables.{AcceptsTables, AreTablesOf, ReadsTables, may_be_refused, section_names, shares_addresses_of, version_names_of};
+ghost use Rattle.binfarce_tools.specs.Tables.{AcceptsTables, AreTablesOf, ReadsTables, is_whole, may_be_refused, section_names, shares_addresses_of, version_names_of};
 
 use crate::functions::{Selected, listed, of_elf, section_functions, section_lent};
 use crate::list::ListError;
@@ -161,8 +161,8 @@ impl<'a> Tables<'a> {
         }
     }
 
-    /// Whether the sections that the tables were read for share addresses: all sections of an object file do (in ELF
-    /// `ET_REL`, in Mach-O `MH_OBJECT`), and those of a PE file, whose addresses are offsets in a section.
+    /// Whether the sections that the tables were read for share addresses: all sections of an ELF object file
+    /// (`ET_REL`), and of a PE file without an image base, do, whose addresses are offsets in a section.
     pub fn shares_addresses(&self) -> bool
         ensures { (which : SymbolTable) (file : List ℕ) (section : Option (List ℕ)) (selected : SelectedSymbols)
             → AreTablesOf which file section self.now → selected_answer which section file ≡ Some (Ok selected)
@@ -176,7 +176,6 @@ impl<'a> Tables<'a> {
     {
         match self {
             Tables::Elf(parts) => parts.shares_addresses(),
-            Tables::Macho(parts) => parts.shares_addresses(),
             Tables::Pe(parts) => parts.shares_addresses(),
             _ => false,
         }
@@ -202,6 +201,7 @@ pub fn read<S: Source>(
 ) -> Result<Tables<'static>, ReadError>
     ensures answer { (file : List ℕ) → S.bytes source.now ≡ Some file
         → ReadsTables (S.may_fail source.now ≡ true) which file (section_of selection.entry) result }
+    ensures parts { IfOk result (λ tables. is_whole tables ≡ false) }
     ensures only { (file : List ℕ) → S.bytes source.now ≡ Some file
         → ReadsOnly (S.is_sure source.now) (S.logs_only log.old) (S.logs_only log.new)
         (parts_in which (section_of selection.entry) file) (IfErr result (λ e. e ≢ Unreadable)) }
@@ -225,6 +225,7 @@ pub fn read_tables<S: Source>(
 ) -> Result<Tables<'static>, ReadError>
     ensures answer { (file : List ℕ) → S.bytes source.now ≡ Some file → format ≡ format_of file
         → ReadsTables (S.may_fail source.now ≡ true) which file (section_of selection.entry) result }
+    ensures parts { IfOk result (λ tables. is_whole tables ≡ false) }
     ensures only { (file : List ℕ) → S.bytes source.now ≡ Some file
         → ReadsOnly (S.is_sure source.now) (S.logs_only log.old) (S.logs_only log.new)
         (format_parts which (section_of selection.entry) format file) (IfErr result (λ e. e ≢ Unreadable)) }

@@ -51,14 +51,6 @@ impl SelectedSections {
             SelectedSections::All(sections) => name_of(sections, number),
         }
     }
-
-    /// Whether the sections share addresses: all those of an object file may.
-    pub fn share_addresses(&self, is_object: bool) -> bool {
-        match self {
-            SelectedSections::Text(_) => false,
-            SelectedSections::All(_) => is_object,
-        }
-    }
 }
 
 fn name_of(sections: &[NumberedSection], number: u32) -> Option<&str> {
@@ -182,10 +174,3 @@ fn full_name(alloc: Global, section: Section<'_>) -> Result<String, AllocError> 
     name.push_str(section.section_name)?;
     Ok(name)
 }
-
-/// Whether a file with this header is an object file (`MH_OBJECT`), whose sections may share addresses.
-pub fn is_object(header: MachoHeader) -> bool {
-    header.filetype == MH_OBJECT
-}
-
-const MH_OBJECT: u32 = 1;

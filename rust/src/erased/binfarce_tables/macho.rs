@@ -11,7 +11,7 @@ use crate::erased::binfarce_bytes::functions::{SectionFunction, Selection};
 use crate::erased::binfarce_bytes::source::Source;
 use crate::erased::binfarce_macho::functions::functions_of;
 use crate::erased::binfarce_macho::header::{MachoHeader, parse_header};
-use crate::erased::binfarce_macho::numbered::{SelectedSections, is_object, selected_sections};
+use crate::erased::binfarce_macho::numbered::{SelectedSections, selected_sections};
 use crate::erased::binfarce_macho::parts::{commands_end, holds_commands, load_address};
 use crate::erased::binfarce_macho::symbols::{
     SYMBOL_LENGTH, SymbolBytes, SymtabCommand, symbol_table,
@@ -25,7 +25,6 @@ const HEADER: u64 = 28;
 pub struct Parts {
     sections: SelectedSections,
     symbols: Option<SymbolParts>,
-    is_object: bool,
 }
 
 // The string table and the symbol table.
@@ -56,11 +55,6 @@ impl Parts {
     /// section, where one of its two names isn't valid, and where the text alone is selected.
     pub fn section_name(&self, number: u32) -> Option<&str> {
         self.sections.name(number)
-    }
-
-    /// Whether the selected sections share addresses: all those of an object file (`MH_OBJECT`) may.
-    pub fn shares_addresses(&self) -> bool {
-        self.sections.share_addresses(self.is_object)
     }
 }
 
@@ -103,7 +97,6 @@ pub fn read<S: Source>(
     Ok(Parts {
         sections: found.sections,
         symbols,
-        is_object: found.is_object,
     })
 }
 
@@ -111,7 +104,6 @@ pub fn read<S: Source>(
 struct Found {
     sections: SelectedSections,
     table: Option<SymtabCommand>,
-    is_object: bool,
 }
 
 // What the load commands say, which these bytes of the file hold.
@@ -122,11 +114,7 @@ fn found_in(alloc: Global, commands: &[u8], selection: Selection<'_>) -> Result<
         Err(e) => return Err(error_of(e)),
     };
     let table = symbol_table(commands, header)?;
-    Ok(Found {
-        sections,
-        table,
-        is_object: is_object(header),
-    })
+    Ok(Found { sections, table })
 }
 
 // A failed allocation is returned as such, and any other error as a refusal.

@@ -195,6 +195,25 @@ pub fn read_load_address<S: Source>(
     read_base(alloc, source, log, len, places)
 }
 
+/// Whether the file has a symbol table: where its file header counts symbols (`NumberOfSymbols`), which that of a
+/// stripped file doesn't. The offset of the signature, the signature and the file header, which are 24 bytes, are read,
+/// and no other byte. The signature isn't checked.
+///
+/// # Errors
+///
+/// `Refused` with `UnexpectedEof` where the file is too short for its file header; `Unreadable` where the source can't
+/// be read at offsets, or a read of it fails, and never for a source that can't fail, such as bytes in memory;
+/// `OutOfMemory` where an allocation fails.
+pub fn has_symbols<S: Source>(
+    alloc: Global,
+    source: &S,
+    log: &mut S::Log,
+) -> Result<bool, ReadError> {
+    let len = source.length()?;
+    let places = read_places(alloc, source, log, len)?;
+    Ok(places.symbols_size > 0)
+}
+
 // The image base, in the optional header's first bytes.
 fn read_base<S: Source>(
     alloc: Global,

@@ -119,8 +119,8 @@ impl<'a> Tables<'a> {
         }
     }
 
-    /// Whether the sections that the tables were read for share addresses: all sections of an object file do (in ELF
-    /// `ET_REL`, in Mach-O `MH_OBJECT`), and those of a PE file, whose addresses are offsets in a section.
+    /// Whether the sections that the tables were read for share addresses: all sections of an ELF object file
+    /// (`ET_REL`), and of a PE file without an image base, do, whose addresses are offsets in a section.
     pub fn shares_addresses(&self) -> bool {
         self.sharing_read()
     }
@@ -128,7 +128,6 @@ impl<'a> Tables<'a> {
     fn sharing_read(&self) -> bool {
         match self {
             Tables::Elf(parts) => parts.shares_addresses(),
-            Tables::Macho(parts) => parts.shares_addresses(),
             Tables::Pe(parts) => parts.shares_addresses(),
             _ => false,
         }

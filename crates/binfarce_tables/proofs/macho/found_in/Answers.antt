@@ -1,7 +1,6 @@
-use Rattle.std.proofs.Common.{◌∙◌, ap, false, ℕ, nat_eq, inl, inr}
+use Rattle.std.proofs.Common.{false, inl, inr}
 use Rattle.binfarce_bytes.specs.Refusal.{refusal_of}
 use Rattle.binfarce_bytes.specs.Selection.{section_of}
-use Rattle.binfarce_macho.specs.Macho.{Header}
 use Rattle.binfarce_macho.specs.MachoSelection.{sections_view}
 use Rattle.binfarce_tables.specs.machine.MachoPlaces.{selected_commands, found_view}
 use Rattle.binfarce_tables.proofs.MachoLocated.{sections_refused, table_refused, all_found, with_memory}
@@ -24,4 +23,3 @@ returns-in_err-table c = λ file inside are.
 pub returns : goal.returns
 returns c = λ file inside are.
     all_found (section_of c.args.selection) file c.args.commands.now inside are _ c.in-Ok.ensures c.in_ok-table.ensures
-    (c.is_object.ensures ∙ ap (λ (h : Header ℕ). nat_eq h.filetype 1) c.in_ok-header.ensures.1)

@@ -10,10 +10,10 @@ use Rattle.std.specs.List.{after_first, before_first, list_all, onto_first, posi
 use Rattle.std.proofs.lemmas.Bool.{cases_lt}
 use Rattle.std.proofs.lemmas.List.{take_all}
 use Rattle.std.proofs.lemmas.List.Splits.{slice_split_first}
-use Rattle.binfarce_logs.specs.Maps.{before_blank, begun_at, behind_blank, less_of, lowest_among, mapping_at, mapping_for, mapping_of, start_of, base_by, code_offset_of, first_start_of, other_than}
+use Rattle.binfarce_logs.specs.Maps.{before_blank, begun_at, behind_blank, less_of, lowest_among, mapping_at, mapping_for, mapping_of, start_of, base_by, code_offset_of, first_start_of, other_than, same_as}
 use Rattle.binfarce_logs.specs.declared.maps.Mapping.{Mapping}
 use Rattle.binfarce_logs.specs.declared.maps.Wanted.{Wanted}
-use Rattle.binfarce_logs.specs.declared.maps.Wanted.TheVariants.{AnyStart, Start, FirstStart, CodeOffset, Base, OtherBase}
+use Rattle.binfarce_logs.specs.declared.maps.Wanted.TheVariants.{AnyStart, Start, FirstStart, FirstAt, OtherFirst, CodeOffset, Base, OtherBase}
 use Rattle.binfarce_logs.specs.machine.Wanted.{value_for}
 
 pub less_of_none : (one : Option ℕ) → less_of one None ≡ one
@@ -41,6 +41,8 @@ none_on_empty : (wanted : Wanted) → value_in wanted [] ≡ None
 none_on_empty AnyStart = refl
 none_on_empty (Start end) = ap start_of (no_mapping end.now)
 none_on_empty (FirstStart end) = ap first_start_of (no_mapping end.now)
+none_on_empty (FirstAt end one) = ap (λ (m : Option Mapping). same_as one (first_start_of m)) (no_mapping end.now)
+none_on_empty (OtherFirst end one) = ap (λ (m : Option Mapping). other_than one (first_start_of m)) (no_mapping end.now)
 none_on_empty (CodeOffset end) = ap code_offset_of (no_mapping end.now)
 none_on_empty (Base end loaded) = ap (base_by loaded) (no_mapping end.now)
 none_on_empty (OtherBase end loaded base) = ap (λ (m : Option Mapping). other_than base (base_by loaded m)) (no_mapping end.now)

@@ -2,5 +2,6 @@ pub mod Annotated
 pub mod Faults
 pub mod Maps
 pub mod Module
+pub mod Pages
 pub mod Word
 pub mod machine

@@ -1,12 +1,13 @@
 -- Where a file is loaded, by a text in the form of /proc/PID/maps (proc(5)): each line is `start-end perms offset dev inode path`, with blanks before the path.
 -- A log may have words of its own before that in a line, and carriage returns behind it. Also by lines of faults (`Faults`).
-use Rattle.std.specs.Prelude.{◌≡◌, ◌+◌, ◌-◌, ◌^◌, ◌%◌, ◌&&◌, ◌||◌, ℕ, List, [], ◌∷◌, codes, length, take, drop, reverse, min, nat_eq, nat_lt, Bool, true, false, not, Option, Some, None, unwrap_or, Result, Ok, Err, is_some, if◌then◌else◌}
+use Rattle.std.specs.Prelude.{◌≡◌, ◌+◌, ◌-◌, ◌^◌, ◌%◌, ◌&&◌, ◌||◌, ℕ, List, [], ◌∷◌, codes, length, take, drop, reverse, min, nat_eq, nat_le, nat_lt, Bool, true, false, not, Option, Some, None, Result, Ok, Err, is_some, if◌then◌else◌}
 use Rattle.std.proofs.Common.{refl}
 use Rattle.std.specs.List.{after_first, before_first, ends_with, list_all, list_any, position_or_len, slice_split}
 use Rattle.std.specs.Option.{ok_or, option_and_then, option_map, option_or}
 use Rattle.binfarce_addresses.specs.Address.{hexadecimal}
 use Rattle.binfarce_addresses.specs.Stream.{trim_start}
 use Rattle.binfarce_logs.specs.Faults.{fault_in}
+use Rattle.binfarce_logs.specs.Pages.{beginning, largest_page, only_beginning}
 use Rattle.binfarce_logs.specs.declared.maps.Mapping.{Mapping}
 use Rattle.binfarce_logs.specs.declared.maps.NoBase.{NoBase}
 use Rattle.binfarce_logs.specs.declared.maps.NoBase.TheVariants.{NotMaps, NotMapped, NoCode, Several}
@@ -125,13 +126,17 @@ shares_bytes segment mapping = nat_lt (mapping.offset - segment.offset) segment.
 abbrev pub base_by_code : (address : ℕ) → CodeSegment → Mapping → ℕ
 base_by_code address segment mapping = (minus (minus mapping.start mapping.offset) (minus segment.address segment.offset) + address) % 2 ^ 64
 
--- where it is by a mapping of its code whose offset isn't known: there the page of 4096 bytes begins in which the segment does
-abbrev pub base_by_page : (address : ℕ) → CodeSegment → Mapping → ℕ
-base_by_page address segment mapping = (minus mapping.start (segment.address - segment.address % 4096) + address) % 2 ^ 64
+-- where it is by a mapping that begins with this address of the file
+abbrev pub base_by_beginning : (address : ℕ) → Mapping → (beginning : ℕ) → ℕ
+base_by_beginning address mapping beginning = (minus mapping.start beginning + address) % 2 ^ 64
+
+-- where it is by a mapping of its code whose offset isn't known: there the page begins in which the segment does
+abbrev pub base_by_page : (address : ℕ) → CodeSegment → Mapping → Option ℕ
+base_by_page address segment mapping = option_map (base_by_beginning address mapping) (only_beginning (largest_page segment.align) segment.address)
 
 abbrev pub base_in_segment : LoadAddress → CodeSegment → Mapping → Option ℕ
 base_in_segment loaded segment mapping =
-    if not mapping.has_offset then Some (base_by_page loaded.address segment mapping)
+    if not mapping.has_offset then base_by_page loaded.address segment mapping
     else if mapping.is_code && shares_bytes segment mapping then Some (base_by_code loaded.address segment mapping) else None
 
 abbrev pub base_in : LoadAddress → Option CodeSegment → Mapping → Option ℕ
@@ -146,10 +151,18 @@ base_by loaded mapping = option_and_then (base_in loaded loaded.code) mapping
 abbrev pub code_offset_of : Option Mapping → Option ℕ
 code_offset_of mapping = option_and_then (λ (m : Mapping). if m.is_code && m.has_offset then Some m.offset else None) mapping
 
--- a debug file has no bytes of its code segment, and doesn't say at which offset the program's file has them: they are in all mappings that may be executed,
--- and the page of 4096 bytes where the segment begins is at the lowest offset of these
+-- a debug file has no bytes of its code segment (`p_filesz` is 0), and doesn't say at which offset the program's file has them. They are in all mappings that
+-- may be executed, and at the lowest offset of these the page begins in which the segment does
+abbrev pub is_debug : CodeSegment → Bool
+is_debug segment = nat_eq segment.size 0
+
+abbrev pub placed_by : CodeSegment → (lowest : ℕ) → (beginning : Option ℕ) → CodeSegment
+placed_by segment lowest None = segment
+placed_by segment lowest (Some beginning) = record { address = beginning; offset = lowest; size = 2 ^ 64 - 1; memory_size = segment.memory_size; align = segment.align }
+
 abbrev pub placed : (lowest : Option ℕ) → CodeSegment → CodeSegment
-placed lowest segment = if nat_eq segment.size 0 then record { address = segment.address - segment.address % 4096; offset = unwrap_or lowest 0; size = 2 ^ 64 - 1 } else segment
+placed None segment = segment
+placed (Some lowest) segment = if is_debug segment then placed_by segment lowest (beginning (largest_page segment.align) lowest segment.address) else segment
 
 abbrev pub placed_in : (maps end : List ℕ) → LoadAddress → LoadAddress
 placed_in maps end loaded = record { address = loaded.address; code = option_map (placed (lowest (λ line. code_offset_of (mapping_for end line)) maps)) loaded.code }
@@ -159,6 +172,11 @@ abbrev pub other_than : (one : ℕ) → Option ℕ → Option ℕ
 other_than one None = None
 other_than one (Some a) = if nat_eq one a then None else Some a
 
+-- one that is this one
+abbrev pub same_as : (one : ℕ) → Option ℕ → Option ℕ
+same_as one None = None
+same_as one (Some a) = if nat_eq one a then Some a else None
+
 -- a mapping is one of the file if its path ends with the given one, where any does; or else if it ends with the name in it
 abbrev pub end_in : (maps path : List ℕ) → List ℕ
 end_in maps path = if is_some (lowest (λ line. start_of (mapping_for path line)) maps) then path else name_of path
@@ -167,10 +185,21 @@ end_in maps path = if is_some (lowest (λ line. start_of (mapping_for path line)
 abbrev pub first_start_of : Option Mapping → Option ℕ
 first_start_of mapping = option_and_then (λ (m : Mapping). if m.has_offset && nat_eq m.offset 0 then Some m.start else None) mapping
 
--- where the file is loaded by mappings of which none has its code: without code at the lowest address of any of them, and else at that of its first byte
-abbrev pub base_without : (maps end : List ℕ) → (has_code : Bool) → Result ℕ NoBase
-base_without maps end true = ok_or (lowest (λ line. first_start_of (mapping_for end line)) maps) NoCode
-base_without maps end false = ok_or (lowest (λ line. start_of (mapping_for end line)) maps) NotMapped
+-- the file's first byte is in no mapping but that of its lowest segment, which begins with this address: a page of any size begins there, and the code, which
+-- is as long as the largest, is between that byte and other segments
+abbrev pub begins_alone : (largest address : ℕ) → CodeSegment → Bool
+begins_alone largest address segment = nat_lt 1 largest && (nat_eq (address % largest) 0 && nat_le largest segment.memory_size)
+
+-- where the file is loaded by its first byte, which all its mappings have at the same place
+abbrev pub base_by_first : (maps end : List ℕ) → (first : Option ℕ) → Result ℕ NoBase
+base_by_first maps end None = Err NoCode
+base_by_first maps end (Some first) = if is_some (lowest (λ line. other_than first (first_start_of (mapping_for end line))) maps) then Err Several else Ok first
+
+-- where it is by mappings of which none has its code: without code at the lowest address of any of them, and else at that of its first byte
+abbrev pub base_without : (maps end : List ℕ) → (address : ℕ) → Option CodeSegment → Result ℕ NoBase
+base_without maps end address (Some segment) =
+    if begins_alone (largest_page segment.align) address segment then base_by_first maps end (lowest (λ line. first_start_of (mapping_for end line)) maps) else Err NoCode
+base_without maps end address None = ok_or (lowest (λ line. start_of (mapping_for end line)) maps) NotMapped
 
 -- why no mapping is one of the file: no line is a mapping, or all are others'
 abbrev pub unmapped : (maps : List ℕ) → NoBase
@@ -180,16 +209,27 @@ unmapped maps = if is_some (lowest (λ line. start_of (mapping_in line)) maps) t
 -- once
 abbrev pub base_with : (maps end : List ℕ) → LoadAddress → Option ℕ → Result ℕ NoBase
 base_with maps end loaded (Some base) = if is_some (lowest (λ line. other_than base (base_by loaded (mapping_for end line))) maps) then Err Several else Ok base
-base_with maps end loaded None = if is_some (lowest (λ line. start_of (mapping_for end line)) maps) then base_without maps end (is_some loaded.code) else Err (unmapped maps)
+base_with maps end loaded None = if is_some (lowest (λ line. start_of (mapping_for end line)) maps) then base_without maps end loaded.address loaded.code else Err (unmapped maps)
 
 abbrev pub base_at : (maps end : List ℕ) → LoadAddress → Result ℕ NoBase
 base_at maps end loaded = base_with maps end loaded (lowest (λ line. base_by loaded (mapping_for end line)) maps)
 
-abbrev pub base_for : (maps end : List ℕ) → LoadAddress → Result ℕ NoBase
-base_for maps end loaded = base_at maps end (placed_in maps end loaded)
+-- mappings of the file's first byte, where there are any, and a base are as one loader makes them: one of them begins there. A program may have others, to
+-- read the file
+abbrev pub agrees : (maps end : List ℕ) → (base : ℕ) → Bool
+agrees maps end base = is_some (lowest (λ line. same_as base (first_start_of (mapping_for end line))) maps) || not (is_some (lowest (λ line. first_start_of (mapping_for end line)) maps))
 
--- where the file at this path is loaded, which says that it is loaded there, or why that isn't known: no line is a mapping, none is one of this file, none has
--- its code or its first byte, or it is loaded several times
+-- that decides for a debug file, whose code may be at a higher offset than those of the maps are
+abbrev pub if_agreed : (maps end : List ℕ) → Option CodeSegment → Result ℕ NoBase → Result ℕ NoBase
+if_agreed maps end (Some segment) (Ok base) = if is_debug segment && not (agrees maps end base) then Err NoCode else Ok base
+if_agreed maps end None (Ok base) = Ok base
+if_agreed maps end code (Err why) = Err why
+
+abbrev pub base_for : (maps end : List ℕ) → LoadAddress → Result ℕ NoBase
+base_for maps end loaded = if_agreed maps end loaded.code (base_at maps end (placed_in maps end loaded))
+
+-- where the file at this path is loaded, which says that it is loaded there, or why that isn't known: no line is a mapping, none is one of this file, none
+-- says where its code is, or it is loaded several times
 abbrev pub base_of : (maps path : List ℕ) → LoadAddress → Result ℕ NoBase
 base_of maps path loaded = base_for maps (end_in maps path) loaded
 
@@ -222,18 +262,18 @@ worked_none : path_of (codes "7fa8dc3e4000-7fa8dc3e7000 rw-p 00000000 00:00 0 ")
 worked_none = refl
 
 -- a shared object by lld, whose code at 0x970 is linked at 0x1970, is loaded where its code is, and not where the program mapped it to read it
-worked_read : base_of (codes "7fb14231b000-7fb14231f000 r--p 00000000 fe:00 5431306 /x/lib.so\n7fb14231f000-7fb142320000 r--p 00000000 fe:00 5431306 /x/lib.so\n7fb142320000-7fb142321000 r-xp 00000000 fe:00 5431306 /x/lib.so") (codes "y/lib.so") (record { address = 0; code = Some (record { address = 0x1970; offset = 0x970; size = 0x370 }) }) ≡ Ok 0x7fb14231f000
+worked_read : base_of (codes "7fb14231b000-7fb14231f000 r--p 00000000 fe:00 5431306 /x/lib.so\n7fb14231f000-7fb142320000 r--p 00000000 fe:00 5431306 /x/lib.so\n7fb142320000-7fb142321000 r-xp 00000000 fe:00 5431306 /x/lib.so") (codes "y/lib.so") (record { address = 0; code = Some (record { address = 0x1970; offset = 0x970; size = 0x370; memory_size = 0x370; align = 0x1000 }) }) ≡ Ok 0x7fb14231f000
 worked_read = refl
 
 -- it is loaded twice; one of them has the given path
-worked_twice : base_of (codes "7fb142320000-7fb142321000 r-xp 00000000 fe:00 5431306 /x/lib.so\n7fb142330000-7fb142331000 r-xp 00000000 fe:00 5431307 /y/lib.so") (codes "lib.so") (record { address = 0; code = Some (record { address = 0x1970; offset = 0x970; size = 0x370 }) }) ≡ Err Several
+worked_twice : base_of (codes "7fb142320000-7fb142321000 r-xp 00000000 fe:00 5431306 /x/lib.so\n7fb142330000-7fb142331000 r-xp 00000000 fe:00 5431307 /y/lib.so") (codes "lib.so") (record { address = 0; code = Some (record { address = 0x1970; offset = 0x970; size = 0x370; memory_size = 0x370; align = 0x1000 }) }) ≡ Err Several
 worked_twice = refl
 
-worked_one : base_of (codes "7fb142320000-7fb142321000 r-xp 00000000 fe:00 5431306 /x/lib.so\n7fb142330000-7fb142331000 r-xp 00000000 fe:00 5431307 /y/lib.so") (codes "y/lib.so") (record { address = 0; code = Some (record { address = 0x1970; offset = 0x970; size = 0x370 }) }) ≡ Ok 0x7fb14232f000
+worked_one : base_of (codes "7fb142320000-7fb142321000 r-xp 00000000 fe:00 5431306 /x/lib.so\n7fb142330000-7fb142331000 r-xp 00000000 fe:00 5431307 /y/lib.so") (codes "y/lib.so") (record { address = 0; code = Some (record { address = 0x1970; offset = 0x970; size = 0x370; memory_size = 0x370; align = 0x1000 }) }) ≡ Ok 0x7fb14232f000
 worked_one = refl
 
 -- a debug file, which has no bytes of the code at 0x1351; `mprotect` has divided the mapping
-worked_debug : base_of (codes "7fb14231f000-7fb142320000 r--p 00000000 fe:00 5431306 /x/app\n7fb142320000-7fb142321000 r-xp 00001000 fe:00 5431306 /x/app\n7fb142321000-7fb142322000 rwxp 00002000 fe:00 5431306 /x/app") (codes "app") (record { address = 0; code = Some (record { address = 0x1351; offset = 0; size = 0 }) }) ≡ Ok 0x7fb14231f000
+worked_debug : base_of (codes "7fb14231f000-7fb142320000 r--p 00000000 fe:00 5431306 /x/app\n7fb142320000-7fb142321000 r-xp 00001000 fe:00 5431306 /x/app\n7fb142321000-7fb142322000 rwxp 00002000 fe:00 5431306 /x/app") (codes "app") (record { address = 0; code = Some (record { address = 0x1351; offset = 0; size = 0; memory_size = 0x21; align = 0x1000 }) }) ≡ Ok 0x7fb14231f000
 worked_debug = refl
 
 -- a file without code is at the lowest address of its mappings
@@ -241,15 +281,61 @@ worked_lowest : base_of (codes "7fb142320000-7fb142321000 r--p 00001000 fe:00 54
 worked_lowest = refl
 
 -- the line of a fault by Linux 6.18 of a program whose code at 0x1040 is linked at the same address; and one by an older kernel
-worked_fault : base_of (codes "[ 3074.339987] segv[5191]: segfault at 0 ip 0000557084b26139 sp 00007ffe96183da0 error 4 in segv[1139,557084b26000+1000] likely on CPU 2 (core 2, socket 0)") (codes "/tmp/segv") (record { address = 0; code = Some (record { address = 0x1000; offset = 0x1000; size = 0x14d }) }) ≡ Ok 0x557084b25000
+worked_fault : base_of (codes "[ 3074.339987] segv[5191]: segfault at 0 ip 0000557084b26139 sp 00007ffe96183da0 error 4 in segv[1139,557084b26000+1000] likely on CPU 2 (core 2, socket 0)") (codes "/tmp/segv") (record { address = 0; code = Some (record { address = 0x1000; offset = 0x1000; size = 0x14d; memory_size = 0x14d; align = 0x1000 }) }) ≡ Ok 0x557084b25000
 worked_fault = refl
 
-worked_old_fault : base_of (codes "app[7]: segfault at 0 ip 000055555556c123 sp 00007ffe96183da0 error 4 in app[55555556b000+48000]") (codes "app") (record { address = 0; code = Some (record { address = 0x17450; offset = 0x16450; size = 0x40000 }) }) ≡ Ok 0x555555554000
+worked_old_fault : base_of (codes "app[7]: segfault at 0 ip 000055555556c123 sp 00007ffe96183da0 error 4 in app[55555556b000+48000]") (codes "app") (record { address = 0; code = Some (record { address = 0x17450; offset = 0x16450; size = 0x40000; memory_size = 0x40000; align = 0x1000 }) }) ≡ Ok 0x555555554000
 worked_old_fault = refl
 
--- a mapping of other bytes of a file with code doesn't say where that is loaded; one of its first byte does
-worked_no_code : base_of (codes "7fb14231f000-7fb142320000 r--p 00005000 fe:00 5431306 /x/lib.so") (codes "lib.so") (record { address = 0; code = Some (record { address = 0x1970; offset = 0x970; size = 0x370 }) }) ≡ Err NoCode
+-- a mapping of other bytes of a file with code doesn't say where that is loaded; one of its first byte does, where the code is as long as a page
+worked_no_code : base_of (codes "7fb14231f000-7fb142320000 r--p 00005000 fe:00 5431306 /x/lib.so") (codes "lib.so") (record { address = 0; code = Some (record { address = 0x4970; offset = 0x3970; size = 0x1370; memory_size = 0x1370; align = 0x1000 }) }) ≡ Err NoCode
 worked_no_code = refl
 
-worked_first : base_of (codes "7fb14231f000-7fb142320000 r--p 00000000 fe:00 5431306 /x/lib.so") (codes "lib.so") (record { address = 0; code = Some (record { address = 0x1970; offset = 0x970; size = 0x370 }) }) ≡ Ok 0x7fb14231f000
+worked_first : base_of (codes "7fb14231f000-7fb142320000 r--p 00000000 fe:00 5431306 /x/lib.so") (codes "lib.so") (record { address = 0; code = Some (record { address = 0x4970; offset = 0x3970; size = 0x1370; memory_size = 0x1370; align = 0x1000 }) }) ≡ Ok 0x7fb14231f000
 worked_first = refl
+
+-- and not in a smaller file, whose data may be mapped with its first byte, too
+worked_small : base_of (codes "7fb142321000-7fb142322000 r--p 00000000 fe:00 5431306 /x/lib.so") (codes "lib.so") (record { address = 0; code = Some (record { address = 0x1970; offset = 0x970; size = 0x370; memory_size = 0x370; align = 0x1000 }) }) ≡ Err NoCode
+worked_small = refl
+
+-- a debug file of a program by lld, aligned to 64 KiB, whose code at 0x1a20 is linked at 0x11a20, in pages of 4 and of 64 KiB; these begin four mappings at
+-- the file's first byte
+worked_debug_4 : base_of (codes "7fb142300000-7fb142302000 r--p 00000000 fe:00 5431306 /x/app\n7fb142311000-7fb142313000 r-xp 00001000 fe:00 5431306 /x/app\n7fb142322000-7fb142323000 r--p 00002000 fe:00 5431306 /x/app") (codes "app") (record { address = 0; code = Some (record { address = 0x11a20; offset = 0x1a20; size = 0; memory_size = 0xcc0; align = 0x10000 }) }) ≡ Ok 0x7fb142300000
+worked_debug_4 = refl
+
+worked_debug_64 : base_of (codes "7fb142300000-7fb142310000 r--p 00000000 fe:00 5431306 /x/app\n7fb142310000-7fb142320000 r-xp 00000000 fe:00 5431306 /x/app\n7fb142320000-7fb142330000 r--p 00000000 fe:00 5431306 /x/app\n7fb142330000-7fb142340000 rw-p 00000000 fe:00 5431306 /x/app") (codes "app") (record { address = 0; code = Some (record { address = 0x11a20; offset = 0x1a20; size = 0; memory_size = 0xcc0; align = 0x10000 }) }) ≡ Ok 0x7fb142300000
+worked_debug_64 = refl
+
+-- the code alone: the offset says that the page has 4 KiB; the other doesn't tell code that is mapped with the file's first byte from that byte's segment
+worked_debug_code : base_of (codes "7fb142311000-7fb142313000 r-xp 00001000 fe:00 5431306 /x/app") (codes "app") (record { address = 0; code = Some (record { address = 0x11a20; offset = 0x1a20; size = 0; memory_size = 0xcc0; align = 0x10000 }) }) ≡ Ok 0x7fb142300000
+worked_debug_code = refl
+
+worked_debug_first : base_of (codes "7fb142310000-7fb142320000 r-xp 00000000 fe:00 5431306 /x/app") (codes "app") (record { address = 0; code = Some (record { address = 0x11a20; offset = 0x1a20; size = 0; memory_size = 0xcc0; align = 0x10000 }) }) ≡ Err NoCode
+worked_debug_first = refl
+
+-- a longer one in pages of 16 KiB: the code, of which a part is at 0x26351, the file's first byte alone, and both with mappings of another start
+worked_debug_16 : base_of (codes "7fb142300000-7fb142328000 r--p 00000000 fe:00 5431306 /x/app\n7fb142334000-7fb142348000 r-xp 00024000 fe:00 5431306 /x/app") (codes "app") (record { address = 0; code = Some (record { address = 0x36351; offset = 0; size = 0; memory_size = 0x12345; align = 0x10000 }) }) ≡ Ok 0x7fb142300000
+worked_debug_16 = refl
+
+worked_debug_lowest : base_of (codes "7fb142300000-7fb142328000 r--p 00000000 fe:00 5431306 /x/app") (codes "app") (record { address = 0; code = Some (record { address = 0x36351; offset = 0; size = 0; memory_size = 0x12345; align = 0x10000 }) }) ≡ Ok 0x7fb142300000
+worked_debug_lowest = refl
+
+worked_debug_read : base_of (codes "7fb142200000-7fb142250000 r--p 00000000 fe:00 5431306 /x/app\n7fb142300000-7fb142328000 r--p 00000000 fe:00 5431306 /x/app\n7fb142334000-7fb142348000 r-xp 00024000 fe:00 5431306 /x/app") (codes "app") (record { address = 0; code = Some (record { address = 0x36351; offset = 0; size = 0; memory_size = 0x12345; align = 0x10000 }) }) ≡ Ok 0x7fb142300000
+worked_debug_read = refl
+
+worked_debug_twice : base_of (codes "7fb142200000-7fb142228000 r--p 00000000 fe:00 5431306 /x/app\n7fb142300000-7fb142328000 r--p 00000000 fe:00 5431306 /x/app") (codes "app") (record { address = 0; code = Some (record { address = 0x36351; offset = 0; size = 0; memory_size = 0x12345; align = 0x10000 }) }) ≡ Err Several
+worked_debug_twice = refl
+
+-- a part of the code that isn't its beginning
+worked_debug_part : base_of (codes "7fb142300000-7fb142328000 r--p 00000000 fe:00 5431306 /x/app\n7fb142344000-7fb142348000 r-xp 00034000 fe:00 5431306 /x/app") (codes "app") (record { address = 0; code = Some (record { address = 0x36351; offset = 0; size = 0; memory_size = 0x12345; align = 0x10000 }) }) ≡ Err NoCode
+worked_debug_part = refl
+
+-- one by GNU ld, not PIE, which aligns the code to 64 KiB; as an older kernel writes its fault, too, which says nothing of the other's page
+worked_gnu : base_of (codes "410000-411000 r-xp 00010000 fe:00 5431306 /x/app") (codes "app") (record { address = 0x400000; code = Some (record { address = 0x410000; offset = 0; size = 0; memory_size = 0xbc5; align = 0x10000 }) }) ≡ Ok 0x400000
+worked_gnu = refl
+
+worked_gnu_fault : base_of (codes "app[7]: segfault at 0 ip 0000000000410123 sp 00007ffe96183da0 error 4 in app[410000+10000]") (codes "app") (record { address = 0x400000; code = Some (record { address = 0x410000; offset = 0; size = 0; memory_size = 0xbc5; align = 0x10000 }) }) ≡ Ok 0x400000
+worked_gnu_fault = refl
+
+worked_page_fault : base_of (codes "app[7]: segfault at 0 ip 00007fb142336400 sp 00007ffe96183da0 error 4 in app[7fb142336000+12000]") (codes "app") (record { address = 0; code = Some (record { address = 0x36351; offset = 0x26351; size = 0x12345; memory_size = 0x12345; align = 0x10000 }) }) ≡ Err NoCode
+worked_page_fault = refl

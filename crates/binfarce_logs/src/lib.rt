@@ -8,6 +8,7 @@ pub mod laws;
 pub mod maps;
 mod module;
 pub mod modules;
+mod pages;
 mod word;
 
 pub use crate::modules::Module;

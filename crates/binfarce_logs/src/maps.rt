@@ -3,10 +3,12 @@
 ghost use Rattle.std.specs.Prelude.{◌≡◌, ◌≤◌, ◌+◌, drop, length, nat_eq, reverse, true};
 ghost use Rattle.std.specs.List.{list_all, position_or_len};
 ghost use Rattle.std.specs.Option.{option_map};
-ghost use Rattle.binfarce_logs.specs.Maps.{are_permissions, base_at, base_by, base_of, before_blank, begun, begun_at, behind_blank, end_in, ends_with_path, is_permission, less_of, listed_in, lowest, mapped_in, mapping_at, mapping_for, mapping_of, mapping_with, name_of, other_than, path_of, placed_in, unmapped, without_mark, without_return};
+ghost use Rattle.binfarce_logs.specs.Maps.{agrees, are_permissions, base_at, base_by, base_by_page, base_of, base_without, before_blank, begins_alone, begun, begun_at, behind_blank, end_in, ends_with_path, first_start_of, if_agreed, is_permission, less_of, listed_in, lowest, mapped_in, mapping_at, mapping_for, mapping_of, mapping_with, name_of, other_than, path_of, placed, placed_in, same_as, unmapped, without_mark, without_return};
+ghost use Rattle.binfarce_logs.specs.Pages.{largest_page};
 ghost use Rattle.binfarce_logs.specs.machine.Wanted.{value_for};
 
 use crate::faults::fault_in;
+use crate::pages::{beginning, largest_page, only_beginning};
 use binfarce_addresses::address::hex_number;
 use binfarce_elf_memory::segments::{CodeSegment, LoadAddress};
 
@@ -17,10 +19,11 @@ pub enum NoBase {
     NotMaps,
     /// No line of it is a mapping of the file.
     NotMapped,
-    /// The file has code, and no mapping has this or the file's first byte.
+    /// The file has code, and no mapping says where this is: none has it, or the file's first byte; or it depends on the
+    /// size of pages, which the maps don't say.
     NoCode,
-    /// Its mappings have the code of the file at several places: it is loaded several times, or several files are named
-    /// alike.
+    /// Its mappings have the code of the file, or its first byte, at several places: it is loaded several times, or
+    /// several files are named alike.
     Several,
 }
 
@@ -47,6 +50,9 @@ enum Wanted<'a> {
     Start(&'a [u8]),
     // Where a mapping of the file's first byte begins.
     FirstStart(&'a [u8]),
+    // The same, if it is this one, and if it isn't.
+    FirstAt(&'a [u8], u64),
+    OtherFirst(&'a [u8], u64),
     // The offset in the file of a mapping of it that may be executed.
     CodeOffset(&'a [u8]),
     // Where the file is loaded by a mapping of its code.
@@ -56,23 +62,53 @@ enum Wanted<'a> {
 }
 
 /// Where a file is loaded that says that it is loaded there: where the mappings of its code have it; without such a
-/// mapping where that of its first byte begins, or of a file without code the lowest of its mappings. A mapping is a line as in `/proc/PID/maps`, or such words at its end: it begins at
-/// the first word from which the line has this form, and words are behind blanks. So is what Linux says of a fault:
-/// `ip ADDRESS .. in NAME[PLACE,START+SIZE]`, with the offset in the file of what is at the address; without it, as in
-/// older kernels, the mapping begins with the page of 4096 bytes in which the code segment does. A mapping is one of the file if its
-/// path ends with the given one, after a `/` if there is one, or is the same; where none is, if it ends so with the name
-/// behind the last `/` of the given one. A ` (deleted)` after a path isn't part of it, nor is a carriage return. Nothing
-/// is allocated.
+/// mapping where that of its first byte begins, or of a file without code the lowest of its mappings. A mapping is a
+/// line as in `/proc/PID/maps`, or such words at its end: it begins at the first word from which the line has this form,
+/// and words are behind blanks. So is what Linux says of a fault: `ip ADDRESS .. in NAME[PLACE,START+SIZE]`, with the
+/// offset in the file of what is at the address. A mapping is one of the file if its path ends with the given one, after
+/// a `/` if there is one, or is the same; where none is, if it ends so with the name behind the last `/` of the given
+/// one. A ` (deleted)` after a path isn't part of it, nor is a carriage return. Nothing is allocated.
+///
+/// Pages may have 4, 16 or 64 KiB, if their size divides the alignment of the code. A debug file has no bytes of its
+/// code: with the mapping of code at the lowest offset begins the page in which the code segment does, and that offset
+/// says of which size it is; and if there are mappings of the file's first byte, one of them begins where the file is
+/// loaded. Without an offset, as older kernels write of a fault, a mapping begins with the page in which the code
+/// segment does, if pages of all sizes begin alike there. The first byte says where a file is loaded if no other segment
+/// can be mapped with it: if the code is as long as the largest page.
 ///
 /// # Errors
 ///
-/// `NotMaps` if no line is a mapping; `NotMapped` if none is one of the file; `NoCode` if the file has code, and none has
-/// this or the file's first byte; `Several` if mappings of its code have it at different places.
+/// `NotMaps` if no line is a mapping; `NotMapped` if none is one of the file; `NoCode` if the file has code, and none
+/// says where this is; `Several` if mappings have its code, or its first byte, at different places.
 pub fn base_of(maps: &[u8], path: &[u8], loaded: LoadAddress) -> Result<u64, NoBase>
     ensures { result ≡ base_of maps.now path.now loaded }
 {
     let end = end_in(maps, path);
-    base_at(maps, end, placed_in(maps, end, loaded))
+    let base = base_at(maps, end, placed_in(maps, end, loaded));
+    if_agreed(maps, end, loaded.code, base)
+}
+
+// That base, if it isn't one of a debug file with which mappings of its first byte don't agree.
+fn if_agreed(
+    maps: &[u8],
+    end: &[u8],
+    code: Option<CodeSegment>,
+    base: Result<u64, NoBase>,
+) -> Result<u64, NoBase>
+    ensures { result ≡ if_agreed maps.now end.now code base }
+{
+    match (code, base) {
+        (Some(code), Ok(base)) if code.size == 0 && !agrees(maps, end, base) => Err(NoBase::NoCode),
+        _ => base,
+    }
+}
+
+// Whether a mapping of the file's first byte begins there, or there is none.
+fn agrees(maps: &[u8], end: &[u8], base: u64) -> bool
+    ensures { result ≡ agrees maps.now end.now base }
+{
+    lowest(Wanted::FirstAt(end, base), maps).is_some()
+        || lowest(Wanted::FirstStart(end), maps).is_none()
 }
 
 // Where a file is loaded whose mappings' paths have this end.
@@ -86,12 +122,34 @@ fn base_at(maps: &[u8], end: &[u8], loaded: LoadAddress) -> Result<u64, NoBase>
         };
     }
     match lowest(Wanted::Start(end), maps) {
-        Some(_) if loaded.code.is_some() => {
-            lowest(Wanted::FirstStart(end), maps).ok_or(NoBase::NoCode)
-        }
-        Some(start) => Ok(start),
+        Some(start) => match loaded.code {
+            Some(code) => base_by_first(maps, end, loaded.address, code),
+            None => Ok(start),
+        },
         None => Err(unmapped(maps)),
     }
+}
+
+// Where the file is loaded by its first byte.
+fn base_by_first(maps: &[u8], end: &[u8], address: u64, code: CodeSegment) -> Result<u64, NoBase>
+    ensures { result ≡ base_without maps.now end.now address (Some code) }
+{
+    if !begins_alone(address, code) {
+        return Err(NoBase::NoCode);
+    }
+    let first = lowest(Wanted::FirstStart(end), maps).ok_or(NoBase::NoCode)?;
+    match lowest(Wanted::OtherFirst(end, first), maps) {
+        Some(_) => Err(NoBase::Several),
+        None => Ok(first),
+    }
+}
+
+// Whether the file's first byte is mapped with its lowest segment alone.
+fn begins_alone(address: u64, code: CodeSegment) -> bool
+    ensures { result ≡ begins_alone (largest_page code.align) address code }
+{
+    let largest = largest_page(code.align);
+    largest > 1 && address % largest == 0 && code.memory_size >= largest
 }
 
 // Why no mapping is one of the file.
@@ -109,16 +167,34 @@ fn unmapped(maps: &[u8]) -> NoBase
 fn placed_in(maps: &[u8], end: &[u8], loaded: LoadAddress) -> LoadAddress
     ensures { result ≡ placed_in maps.now end.now loaded }
 {
-    match loaded.code {
-        Some(code) if code.size == 0 => LoadAddress {
-            address: loaded.address,
-            code: Some(CodeSegment {
-                address: code.address - code.address % 4096,
-                offset: lowest(Wanted::CodeOffset(end), maps).unwrap_or(0),
-                size: u64::MAX,
-            }),
+    LoadAddress {
+        address: loaded.address,
+        code: match loaded.code {
+            Some(code) => Some(placed(lowest(Wanted::CodeOffset(end), maps), code)),
+            None => None,
         },
-        _ => loaded,
+    }
+}
+
+// The code of a debug file, placed by the lowest offset of mappings that may be executed.
+fn placed(lowest: Option<u64>, code: CodeSegment) -> CodeSegment
+    ensures { result ≡ placed lowest code }
+{
+    let Some(offset) = lowest else {
+        return code;
+    };
+    if code.size != 0 {
+        return code;
+    }
+    match beginning(largest_page(code.align), offset, code.address) {
+        Some(address) => CodeSegment {
+            address,
+            offset,
+            size: u64::MAX,
+            memory_size: code.memory_size,
+            align: code.align,
+        },
+        None => code,
     }
 }
 
@@ -200,10 +276,9 @@ fn value_for(wanted: Wanted<'_>, line: &[u8]) -> Option<u64>
     match wanted {
         Wanted::AnyStart => Some(mapped_in(line)?.0.start),
         Wanted::Start(end) => Some(mapping_for(end, line)?.start),
-        Wanted::FirstStart(end) => match mapping_for(end, line) {
-            Some(mapping) if mapping.has_offset && mapping.offset == 0 => Some(mapping.start),
-            _ => None,
-        },
+        Wanted::FirstStart(end) => first_start_of(mapping_for(end, line)),
+        Wanted::FirstAt(end, one) => same_as(one, first_start_of(mapping_for(end, line))),
+        Wanted::OtherFirst(end, one) => other_than(one, first_start_of(mapping_for(end, line))),
         Wanted::CodeOffset(end) => match mapping_for(end, line) {
             Some(mapping) if mapping.is_code && mapping.has_offset => Some(mapping.offset),
             _ => None,
@@ -212,6 +287,26 @@ fn value_for(wanted: Wanted<'_>, line: &[u8]) -> Option<u64>
         Wanted::OtherBase(end, loaded, base) => {
             other_than(base, base_by(loaded, mapping_for(end, line)))
         }
+    }
+}
+
+// The first address of a mapping of the file's first byte.
+fn first_start_of(mapping: Option<Mapping>) -> Option<u64>
+    ensures { result ≡ first_start_of mapping }
+{
+    match mapping {
+        Some(mapping) if mapping.has_offset && mapping.offset == 0 => Some(mapping.start),
+        _ => None,
+    }
+}
+
+// An address that is this one.
+fn same_as(one: u64, base: Option<u64>) -> Option<u64>
+    ensures { result ≡ same_as one base }
+{
+    match base {
+        Some(other) if other == one => Some(other),
+        _ => None,
     }
 }
 
@@ -232,9 +327,7 @@ fn base_by(loaded: LoadAddress, mapping: Option<Mapping>) -> Option<u64>
     let mapping = mapping?;
     let code = loaded.code?;
     if !mapping.has_offset {
-        let page = code.address - code.address % 4096;
-        let in_memory = mapping.start.wrapping_sub(page);
-        return Some(in_memory.wrapping_add(loaded.address));
+        return base_by_page(loaded.address, code, mapping);
     }
     let ends_before = code.offset.saturating_sub(mapping.offset) >= mapping.size;
     let begins_behind = mapping.offset.saturating_sub(code.offset) >= code.size;
@@ -244,6 +337,15 @@ fn base_by(loaded: LoadAddress, mapping: Option<Mapping>) -> Option<u64>
     let in_memory = mapping.start.wrapping_sub(mapping.offset);
     let in_file = code.address.wrapping_sub(code.offset);
     Some(in_memory.wrapping_sub(in_file).wrapping_add(loaded.address))
+}
+
+// Where the file is loaded by a mapping of its code whose offset isn't known.
+fn base_by_page(address: u64, code: CodeSegment, mapping: Mapping) -> Option<u64>
+    ensures { result ≡ base_by_page address code mapping }
+{
+    let beginning = only_beginning(largest_page(code.align), code.address)?;
+    let in_memory = mapping.start.wrapping_sub(beginning);
+    Some(in_memory.wrapping_add(address))
 }
 
 // The mapping of a line, where its path ends with this one.

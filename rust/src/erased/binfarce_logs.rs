@@ -8,6 +8,7 @@ pub(crate) mod faults;
 pub mod maps;
 pub(crate) mod module;
 pub mod modules;
+pub(crate) mod pages;
 pub(crate) mod word;
 
 pub use crate::erased::binfarce_logs::modules::Module;

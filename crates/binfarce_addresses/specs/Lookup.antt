@@ -1,5 +1,5 @@
 -- What an address symbolizes to.
-use Rattle.std.specs.Prelude.{ℕ, ◌+◌, ◌-◌, ◌^◌, Bool, true, false, ◌&&◌, List, ◌++◌, Option, Some, None, nat_lt, if◌then◌else◌}
+use Rattle.std.specs.Prelude.{ℕ, ◌+◌, ◌-◌, ◌^◌, Bool, true, false, not, ◌&&◌, ◌||◌, List, ◌++◌, Option, Some, None, is_some, nat_le, nat_lt, if◌then◌else◌}
 use Rattle.std.specs.List.{filter_map, list_any}
 use Rattle.std.specs.Option.{option_map, option_or}
 use Rattle.std.specs.Str.{bytes_eq}
@@ -34,15 +34,23 @@ has_symbol entries name = list_any (λ (entry : Entry). bytes_eq entry.name name
 abbrev pub in_64_bits : ℕ → Option ℕ
 in_64_bits n = if nat_lt n (2 ^ 64) then Some n else None
 
--- the address in the file of an address in memory, where the file is loaded at the base, and says itself that it is loaded at the linked address. It has
--- the same distance to both. None below the base. Without a base addresses are the file's own
-abbrev pub loaded_at : (base : Option ℕ) (linked address : ℕ) → Option ℕ
-loaded_at None linked address = Some address
-loaded_at (Some base) linked address = if nat_lt address base then None else in_64_bits (address - base + linked)
+-- what is so far behind the base is within these bytes, if there is a number of them; of return addresses also the one behind a call at their end
+abbrev pub is_within : (size : Option ℕ) (is_return : Bool) (distance : ℕ) → Bool
+is_within None is_return distance = true
+is_within (Some size) false distance = nat_lt distance size
+is_within (Some size) true distance = nat_le distance size
+
+-- the address in the file of an address in memory, where the file is loaded at the base, and says itself that it is loaded at the linked address; or of an
+-- offset in the file, where so many bytes of it, of which the first has the base as its offset, are loaded at the linked address. It has the same distance
+-- to both. None below the base, or for other bytes. Without a base addresses are the file's own
+abbrev pub loaded_at : (base size : Option ℕ) (is_return : Bool) (linked address : ℕ) → Option ℕ
+loaded_at None size is_return linked address = Some address
+loaded_at (Some base) size is_return linked address =
+    if nat_lt address base || not (is_within size is_return (address - base)) then None else in_64_bits (address - base + linked)
 
 -- the address in the file by this lookup
 abbrev pub in_file : Lookup → ℕ → Option ℕ
-in_file lookup address = loaded_at lookup.base lookup.linked address
+in_file lookup address = loaded_at lookup.base lookup.size lookup.is_return lookup.linked address
 
 -- the entry that an address in the file symbolizes to. A return address is that behind a call: its entry is that of the address before it. Where that has
 -- none, the address is of a frame that a signal interrupted at its first instruction, and its entry begins there
@@ -59,6 +67,6 @@ found_in entries is_return (Some address) = option_map (λ entry. (entry, addres
 abbrev pub found_at : List Entry → Lookup → ℕ → Option (Entry × ℕ)
 found_at entries lookup address = found_in entries lookup.is_return (in_file lookup address)
 
--- an offset from the file's origin, as an address in the file
+-- the address in the file of an offset behind its name: from the file's origin, or, where offsets in the file are looked up, of the byte there
 abbrev pub at_offset : Lookup → (offset : ℕ) → Option ℕ
-at_offset lookup offset = in_64_bits (offset + lookup.origin)
+at_offset lookup offset = if is_some lookup.size then in_file lookup offset else in_64_bits (offset + lookup.origin)

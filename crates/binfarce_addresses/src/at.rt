@@ -237,8 +237,8 @@ fn ranges_of(
 /// of the address. A symbol holds the addresses of its range, or of size 0 its own. Of several that hold an address, it
 /// is the one of greatest address, and of several there the first in the order of the listing, in an ELF file the first
 /// that isn't local, if there is one. The line is
-/// `{address:016x} ??` for an address that none holds, and for one below the base. Returns how many addresses there are,
-/// and how many of them a symbol holds.
+/// `{address:016x} ??` for an address that none holds, and for one below the base, or, where `size` bytes are loaded from
+/// there, behind them. Returns how many addresses there are, and how many of them a symbol holds.
 ///
 /// # Errors
 ///

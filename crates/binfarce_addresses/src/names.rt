@@ -120,11 +120,15 @@ impl<'b, 'a> Names<'b, 'a> {
         self.places.find_place(self.lookup, Some(address))
     }
 
-    /// What an offset from the file's origin symbolizes to; nothing where the address passes 64 bits.
+    /// What an offset behind the file's name symbolizes to: one from the file's origin, or in the file, where offsets in
+    /// it are looked up. Nothing where the address passes 64 bits.
     pub fn find_offset(&self, offset: u64) -> Option<Found>
         ensures { IsFoundIn self.now.0 self.now.1.is_return (at_offset self.now.1 offset) result }
     {
-        let address = offset.checked_add(self.lookup.origin);
+        let address = match self.lookup.size {
+            Some(_) => self.lookup.in_file(offset),
+            None => offset.checked_add(self.lookup.origin),
+        };
         self.places.find_in(self.lookup.is_return, address)
     }
 

@@ -40,7 +40,7 @@ flags_of Size = flags.By ∷ flags.First ∷ flags.Percent ∷ flags.Std ∷ fla
 flags_of Map = flags.First ∷ flags.Std ∷ flags.Folded ∷ flags.Section ∷ flags.Dynamic ∷ flags.All ∷ flags.Help ∷ []
 flags_of Diff = flags.By ∷ flags.First ∷ flags.Percent ∷ flags.Std ∷ flags.Json ∷ flags.FailAbove ∷ flags.Section ∷ flags.Dynamic ∷ flags.All ∷ flags.Help ∷ []
 flags_of Filter = flags.Full ∷ flags.Help ∷ []
-flags_of At = flags.Return ∷ flags.Annotate ∷ flags.Bare ∷ flags.Base ∷ flags.Maps ∷ flags.As ∷ flags.Json ∷ flags.Section ∷ flags.Dynamic ∷ flags.All ∷ flags.Help ∷ []
+flags_of At = flags.Return ∷ flags.Annotate ∷ flags.Bare ∷ flags.Base ∷ flags.Maps ∷ flags.Offsets ∷ flags.As ∷ flags.Json ∷ flags.Section ∷ flags.Dynamic ∷ flags.All ∷ flags.Help ∷ []
 flags_of Section = flags.Json ∷ flags.Help ∷ []
 
 -- how an option is written: its name, its short name if it has one, and what it takes
@@ -51,6 +51,7 @@ form_of flags.Full = (codes "--full", [], Nothing)
 form_of flags.Base = (codes "--base", [], Page)
 form_of flags.Maps = (codes "--maps", [], Text)
 form_of flags.As = (codes "--as", [], Text)
+form_of flags.Offsets = (codes "--offsets", [], Nothing)
 form_of flags.Return = (codes "--return", [], Nothing)
 form_of flags.Annotate = (codes "--annotate", [], Nothing)
 form_of flags.Bare = (codes "--bare", [], Nothing)
@@ -442,6 +443,8 @@ checked command given = if are_given flags.All flags.Section given then Err (exc
     else if are_given flags.Annotate flags.Json given then Err (exclusive flags.Annotate flags.Json)
     else if is_of_bytes command given.operands && is_some (value_given flags.Json given) then Err bytes_as_json
     else if are_given flags.Base flags.Maps given then Err (exclusive flags.Base flags.Maps)
+    else if are_given flags.Base flags.Offsets given then Err (exclusive flags.Base flags.Offsets)
+    else if are_given flags.Maps flags.Offsets given then Err (exclusive flags.Maps flags.Offsets)
     else if is_some (value_given flags.Bare given) && not (is_some (value_given flags.Annotate given)) then Err (needs flags.Bare flags.Annotate)
     else if is_some (value_given flags.Annotate given) && not (is_each flags.Base given) then Err (not_each flags.Base)
     else if is_some (value_given flags.Annotate given) && not (is_each flags.As given) then Err (not_each flags.As)

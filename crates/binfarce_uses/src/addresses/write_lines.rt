@@ -1,4 +1,4 @@
-ghost use Rattle.std.specs.Prelude.{List, Option, Some, ℕ, true, false};
+ghost use Rattle.std.specs.Prelude.{List, None, Option, Some, ℕ, true, false};
 ghost use Rattle.binfarce_addresses.specs.Lines.{AreLinesAt, outcome_of};
 ghost use Rattle.binfarce_tools.specs.Answer.{selected_answer};
 ghost use Rattle.binfarce_tools.specs.Tables.{AreTablesOf};
@@ -26,6 +26,7 @@ pub fn write_lines<S: Sink>(
         → Takes (AreLinesAt (record {
           base = Some 0x555555554000;
           linked = 0;
+          size = None;
           origin = 0;
           is_return = true;
           form = Lines;
@@ -36,6 +37,7 @@ pub fn write_lines<S: Sink>(
     let lookup = Lookup {
         base: Some(0x5555_5555_4000),
         linked: 0,
+        size: None,
         origin: 0,
         is_return: true,
         form: Form::Lines,

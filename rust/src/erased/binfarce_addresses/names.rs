@@ -90,9 +90,13 @@ impl<'b, 'a> Names<'b, 'a> {
         self.places.find_place(self.lookup, Some(address))
     }
 
-    /// What an offset from the file's origin symbolizes to; nothing where the address passes 64 bits.
+    /// What an offset behind the file's name symbolizes to: one from the file's origin, or in the file, where offsets in
+    /// it are looked up. Nothing where the address passes 64 bits.
     pub fn find_offset(&self, offset: u64) -> Option<Found> {
-        let address = offset.checked_add(self.lookup.origin);
+        let address = match self.lookup.size {
+            Some(_) => self.lookup.in_file(offset),
+            None => offset.checked_add(self.lookup.origin),
+        };
         self.places.find_in(self.lookup.is_return, address)
     }
 

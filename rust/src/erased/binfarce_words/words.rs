@@ -6,7 +6,7 @@ use crate::shim::{String, Vec};
 use crate::erased::binfarce_words::named::{Named, find_named, nearest};
 use crate::erased::binfarce_words::words::Flag::{
     All, Annotate, As, Bare, Base, By, Dynamic, FailAbove, First, Folded, Full, Help, Json, Maps,
-    NoTotal, Percent, Raw, Return, Section, Sort, Std,
+    NoTotal, Offsets, Percent, Raw, Return, Section, Sort, Std,
 };
 use crate::erased::binfarce_addresses::address::parse_address;
 use crate::erased::binfarce_figures::key::Key;
@@ -137,6 +137,8 @@ pub enum Flag {
     Maps,
     /// The file's name or path in maps and in a text: of several files once for each.
     As,
+    /// The addresses are offsets in the file.
+    Offsets,
     /// The addresses are return addresses.
     Return,
     /// Annotates the addresses in standard input.
@@ -284,6 +286,7 @@ impl Flag {
             Base => ("--base", "", Takes::Page),
             Maps => ("--maps", "", Takes::Text),
             As => ("--as", "", Takes::Text),
+            Offsets => ("--offsets", "", Takes::Nothing),
             Return => ("--return", "", Takes::Nothing),
             Annotate => ("--annotate", "", Takes::Nothing),
             Bare => ("--bare", "", Takes::Nothing),
@@ -330,7 +333,7 @@ impl Command {
             ],
             Command::Filter => &[Full, Help],
             Command::At => &[
-                Return, Annotate, Bare, Base, Maps, As, Json, Section, Dynamic, All, Help,
+                Return, Annotate, Bare, Base, Maps, Offsets, As, Json, Section, Dynamic, All, Help,
             ],
             Command::Section => &[Json, Help],
         }
@@ -718,6 +721,12 @@ fn check<'a>(command: Command, given: &Arguments<'a>) -> Result<(), Wrong<'a>> {
     }
     if are_given(given, Flag::Base, Flag::Maps) {
         return Err(Wrong::Exclusive(Flag::Base, Flag::Maps));
+    }
+    if are_given(given, Flag::Base, Flag::Offsets) {
+        return Err(Wrong::Exclusive(Flag::Base, Flag::Offsets));
+    }
+    if are_given(given, Flag::Maps, Flag::Offsets) {
+        return Err(Wrong::Exclusive(Flag::Maps, Flag::Offsets));
     }
     if given.has(Flag::Bare) && !given.has(Flag::Annotate) {
         return Err(Wrong::Needs(Flag::Bare, Flag::Annotate));

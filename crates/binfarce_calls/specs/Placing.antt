@@ -1,5 +1,5 @@
 -- Where the files of `at` are loaded, and how addresses are looked up in them.
-use Rattle.std.specs.Prelude.{◌≡◌, ◌==◌, ◌-◌, ◌||◌, ◌++◌, ℕ, Bool, List, [], ◌∷◌, Option, Some, None, Result, Ok, Err, length, map, nat_eq, nat_le, nat_lt, take, unwrap_or, if◌then◌else◌}
+use Rattle.std.specs.Prelude.{◌≡◌, ◌==◌, ◌-◌, ◌&&◌, ◌||◌, ◌++◌, ℕ, Bool, true, false, not, List, [], ◌∷◌, Option, Some, None, Result, Ok, Err, length, map, nat_eq, nat_le, nat_lt, take, unwrap_or, if◌then◌else◌}
 use Rattle.std.specs.List.{flat_map, range_with_len, slice_get}
 use Rattle.std.specs.Option.{option_map}
 use Rattle.std.specs.Str.{NoCharPasses}
@@ -7,19 +7,23 @@ use Rattle.binfarce_logs.specs.Maps.{base_of}
 use Rattle.binfarce_logs.specs.declared.maps.NoBase.{NoBase}
 use Rattle.binfarce_logs.specs.declared.maps.NoBase.TheVariants as reasons
 use Rattle.binfarce_tables.specs.declared.loading.LoadAddress.{LoadAddress}
+use Rattle.binfarce_tables.specs.declared.loading.CodeSegment.{CodeSegment}
 use Rattle.binfarce_words.specs.Words.{Argument, Arguments, number_in, operand_at, value_given, values_given}
 use Rattle.binfarce_words.specs.declared.words.Flag.{Flag}
 use Rattle.binfarce_words.specs.declared.words.Flag.TheVariants as flags
 use Rattle.binfarce_addresses.specs.declared.counts.Counts.{Counts}
 use Rattle.binfarce_jobs.specs.declared.hint.Hint.{Hint}
-use Rattle.binfarce_jobs.specs.declared.hint.Hint.TheVariants.{Missed, Unclear, Offsets, NoAddress}
+use Rattle.binfarce_jobs.specs.declared.hint.Hint.TheVariants.{Instead, Missed, Unclear, Offsets, NoAddress}
 use Rattle.binfarce_jobs.specs.declared.hint.Loaded.{Loaded}
 use Rattle.binfarce_jobs.specs.declared.hint.Loaded.TheVariants as loading
-use Rattle.binfarce_jobs.specs.Files.{Refused, Reports}
+use Rattle.binfarce_tools.specs.declared.SymbolTable.{SymbolTable}
+use Rattle.binfarce_tools.specs.declared.SymbolTable.TheVariants as tables
+use Rattle.binfarce_jobs.specs.Files.{Hinted, Refused, Reports}
+use Rattle.binfarce_jobs.specs.Hints.{hint_words}
 use Rattle.binfarce_jobs.specs.FaultWords.{IsUnplaced, unplaced_words}
 use Rattle.binfarce_jobs.specs.declared.fault.Fault.{Fault}
 use Rattle.binfarce_jobs.specs.declared.message.Unplaced.{Unplaced}
-use Rattle.binfarce_jobs.specs.declared.message.Unplaced.TheVariants.{NotMapped, NoCode, Several}
+use Rattle.binfarce_jobs.specs.declared.message.Unplaced.TheVariants.{NotMapped, NoCode, Several, NoBytes}
 use Rattle.binfarce_calls.specs.Asked.{has}
 use Rattle.binfarce_calls.specs.Compared.{refusal}
 use Rattle.binfarce_calls.specs.declared.at.Place.{Place}
@@ -54,9 +58,32 @@ abbrev pub base_for : Arguments → (maps : Option (List ℕ)) → (place : ℕ)
 base_for given None place loaded = Ok (base_given given place)
 base_for given (Some maps) place loaded = known (base_of maps (path_for given place) loaded)
 
--- what is known of where files are loaded
-abbrev pub loaded_asked : Arguments → Loaded
-loaded_asked given = if has flags.Maps given then loading.Maps else (if has flags.Base given then loading.Base else loading.Unknown)
+-- a code segment has bytes in the file
+abbrev pub has_bytes : Option CodeSegment → Bool
+has_bytes None = false
+has_bytes (Some segment) = nat_lt 0 segment.size
+
+-- addresses are offsets in the file, and it has no code with bytes
+abbrev pub lacks_bytes : Arguments → LoadAddress → Bool
+lacks_bytes given loaded = has flags.Offsets given && not (has_bytes loaded.code)
+
+-- what is looked up, from where on, the file's address for that, and how many bytes: addresses from the base on, if that is known; or offsets in the file, of
+-- the bytes of its first code segment (p_offset, p_vaddr, p_filesz)
+abbrev pub span_in : (base : Option ℕ) → LoadAddress → Option CodeSegment → Option ℕ × ℕ × Option ℕ
+span_in base loaded None = (base, loaded.address, None)
+span_in base loaded (Some segment) = (Some segment.offset, segment.address, Some segment.size)
+
+abbrev pub span_for : (are_offsets : Bool) (base : Option ℕ) → LoadAddress → Option ℕ × ℕ × Option ℕ
+span_for false base loaded = (base, loaded.address, None)
+span_for true base loaded = span_in base loaded loaded.code
+
+-- what is known of where files are loaded, or that one of the addresses is behind a function symbol
+abbrev pub loaded_asked : (is_behind : Bool) → Arguments → Loaded
+loaded_asked is_behind given = if is_behind then loading.Behind
+    else if has flags.Maps given then loading.Maps
+    else if has flags.Base given then loading.Base
+    else if has flags.Offsets given then loading.Offsets
+    else loading.Unknown
 
 -- the name that a path ends with, behind its last `/` (47), if it has one
 abbrev pub IsNameIn : (path : List ℕ) → Option (List ℕ) → Type 0
@@ -82,13 +109,24 @@ IsPlacedBy given place (Err reasons.NotMaps) before after result = (result ≡ p
 IsPlacedBy given place (Err reason) before after result =
     (result ≡ places.Refused) × ((fault : Fault) × IsFaultOf (path_for given place) reason fault × Reports before after ((file_at given place, fault) ∷ []))
 
+-- the same of a file that may lack the bytes that offsets are of, which is reported so
+abbrev pub IsPlacedUnless : (lacks : Bool) → Arguments → (place : ℕ) → Result (Option ℕ) NoBase → (before after : Option (List Refused)) → Place → Type 0
+IsPlacedUnless false given place known before after result = IsPlacedBy given place known before after result
+IsPlacedUnless true given place known before after result =
+    (result ≡ places.Refused) × ((fault : Fault) × IsUnplaced (unplaced_words NoBytes) fault × Reports before after ((file_at given place, fault) ∷ []))
+
 abbrev pub IsPlaced : Arguments → (maps : Option (List ℕ)) → (place : ℕ) → LoadAddress → (before after : Option (List Refused)) → Place → Type 0
-IsPlaced given maps place loaded before after result = IsPlacedBy given place (base_for given maps place loaded) before after result
+IsPlaced given maps place loaded before after result = IsPlacedUnless (lacks_bytes given loaded) given place (base_for given maps place loaded) before after result
 
 -- the file at a path is opened; or it is refused, which is reported by its path
 abbrev pub Opens : {T : Type 0} → (path : List ℕ) → (before after : Option (List Refused)) → Option T → Type 0
 Opens path before after (Some file) = Reports before after []
 Opens path before after None = (fault : Fault) × Reports before after ((path, fault) ∷ [])
+
+-- the hint on the file at a path whose function symbols are those of `.dynsym` in place of `.symtab`
+abbrev pub instead : (path : List ℕ) → (asked read : SymbolTable) → List Hinted
+instead path tables.Symtab tables.Dynsym = (path, hint_words Instead) ∷ []
+instead path asked read = []
 
 -- what is left of a file at a place, which is refused for a fault or not
 abbrev pub left_of : ℕ × Option Fault → List ℕ

@@ -4,20 +4,20 @@ ghost use Rattle.std.specs.Prelude.{◌≡◌, length};
 ghost use Rattle.std.specs.Option.{option_map};
 ghost use Rattle.binfarce_rows.specs.Json.{style_of};
 ghost use Rattle.binfarce_words.specs.WordViews.{given_view};
-ghost use Rattle.binfarce_words.specs.declared.words.Flag.TheVariants.{Return};
+ghost use Rattle.binfarce_words.specs.declared.words.Flag.TheVariants.{Offsets, Return};
 ghost use Rattle.binfarce_calls.specs.Asked.{has, style_asked};
-ghost use Rattle.binfarce_calls.specs.Placing.{base_for, base_given, file_at, files_asked, loaded_asked, missed_hint, path_for, unclear_hint, unfound_hint, value_for};
+ghost use Rattle.binfarce_calls.specs.Placing.{base_for, base_given, file_at, files_asked, has_bytes, lacks_bytes, loaded_asked, missed_hint, path_for, span_for, unclear_hint, unfound_hint, value_for};
 
 use crate::request::form_of;
 use binfarce_addresses::{Counts, Lookup, parse_address};
 use binfarce_jobs::hint::{Hint, Loaded};
 use binfarce_logs::maps::{NoBase, base_of};
-use binfarce_tables::loading::LoadAddress;
-use binfarce_words::words::Flag::{Annotate, As, Base, Maps, Return};
+use binfarce_tables::loading::{CodeSegment, LoadAddress};
+use binfarce_words::words::Flag::{Annotate, As, Base, Maps, Offsets, Return};
 use binfarce_words::words::{Arguments, Flag};
 
 // How many files there are: all operands where a text is annotated, else the first one.
-fn count_of_files(given: &Arguments<'_>) -> usize
+pub(crate) fn count_of_files(given: &Arguments<'_>) -> usize
     ensures { result ≡ length (files_asked (given_view given.now)) }
 {
     let all = given.operands.len();
@@ -79,25 +79,59 @@ pub fn base_for(
     }
 }
 
+/// Whether addresses are offsets in a file that says that it is loaded there, and has no code with bytes.
+pub(crate) fn lacks_bytes(given: &Arguments<'_>, loaded: LoadAddress) -> bool
+    ensures { result ≡ lacks_bytes (given_view given.now) loaded }
+{
+    given.has(Offsets) && !has_bytes(loaded.code)
+}
+
+// Whether there is a segment with bytes.
+fn has_bytes(code: Option<CodeSegment>) -> bool
+    ensures { result ≡ has_bytes code }
+{
+    match code {
+        Some(code) => code.size > 0,
+        None => false,
+    }
+}
+
+// What is looked up in a file that is loaded at the base, if that is known, and says itself that it is loaded there: from
+// where on, the file's address for that, and how many bytes. Addresses from the base on, or offsets of the code.
+fn span_for(
+    given: &Arguments<'_>,
+    base: Option<u64>,
+    loaded: LoadAddress,
+) -> (Option<u64>, u64, Option<u64>)
+    ensures { result ≡ span_for (has Offsets (given_view given.now)) base loaded }
+{
+    match loaded.code {
+        Some(code) if given.has(Offsets) => (Some(code.offset), code.address, Some(code.size)),
+        _ => (base, loaded.address, None),
+    }
+}
+
 /// How addresses are looked up in the file at a place, which is loaded at the base, if that is known, and says itself
-/// that it is loaded at the linked address; an offset of 0 after its name means the origin.
+/// that it is loaded there; an offset of 0 after its name means the origin, unless addresses are offsets in the file.
 pub fn lookup_for<'a>(
     given: &Arguments<'a>,
     place: usize,
     base: Option<u64>,
-    linked: u64,
+    loaded: LoadAddress,
     origin: u64,
 ) -> Lookup<'a>
-    ensures base { result.base ≡ base }
-    ensures linked { result.linked ≡ linked }
+    ensures span { (result.base, result.linked, result.size)
+        ≡ span_for (has Offsets (given_view given.now)) base loaded }
     ensures origin { result.origin ≡ origin }
     ensures returns { result.is_return ≡ has Return (given_view given.now) }
     ensures form { style_of result.form ≡ style_asked (file_at (given_view given.now) place) (given_view given.now) }
     ensures path { result.path.now ≡ path_for (given_view given.now) place }
 {
+    let (base, linked, size) = span_for(given, base, loaded);
     Lookup {
         base,
         linked,
+        size,
         origin,
         is_return: given.has(Return),
         form: form_of(given, file_at(given, place)),
@@ -105,14 +139,18 @@ pub fn lookup_for<'a>(
     }
 }
 
-/// What is known of where the files are loaded.
-pub fn loaded_by(given: &Arguments<'_>) -> Loaded
-    ensures { result ≡ loaded_asked (given_view given.now) }
+/// What is known of where the files are loaded, or that one of the addresses is behind a function symbol.
+pub fn loaded_by(given: &Arguments<'_>, is_behind: bool) -> Loaded
+    ensures { result ≡ loaded_asked is_behind (given_view given.now) }
 {
-    if given.has(Maps) {
+    if is_behind {
+        Loaded::Behind
+    } else if given.has(Maps) {
         Loaded::Maps
     } else if given.has(Base) {
         Loaded::Base
+    } else if given.has(Offsets) {
+        Loaded::Offsets
     } else {
         Loaded::Unknown
     }

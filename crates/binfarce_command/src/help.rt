@@ -121,6 +121,8 @@ it. Without an ADDRESS the addresses are the lines of standard input.
   --maps=FILE      takes the base from a copy of /proc/PID/maps, or from Linux's line
                    on a fault; - is standard input, with --annotate the text itself,
                    which is then read to its end
+  --offsets        addresses are offsets in the code of FILE, an ELF file, as perf script
+                   writes those of call chains
   --as=NAME        the file's name or path in the maps and in a text
                    (of several files --base and --as come once for each, in order)
   --dynamic        by the dynamic symbol table of an ELF file (.dynsym)

@@ -10,9 +10,7 @@ use crate::help::{VERSION, help};
 use crate::report::{ended, refuse as refuse_call, report, say};
 use binfarce_addresses::Counts;
 use binfarce_addresses::at::Places;
-use binfarce_calls::at::{
-    Given, Opened, Place, Placed, open_at, place_at, places_of_files, read_files,
-};
+use binfarce_calls::at::{Given, Placed, ReadFile, places_of_files, read_file, read_files};
 use binfarce_calls::compare::{Pair, Sizes, compare, compare_sections};
 use binfarce_calls::filter::lines_of;
 use binfarce_calls::placing::{file_at, loaded_by, lookup_for, missed, unclear, unfound};
@@ -21,13 +19,14 @@ use binfarce_calls::sections::{show_section, sum_files};
 use binfarce_filtering::stream::{StreamError, filter_stream};
 use binfarce_jobs::at::{answer_all, answer_input};
 use binfarce_jobs::fault::Fault;
-use binfarce_jobs::files::{System, give, refuse, show_files};
+use binfarce_jobs::files::{System, give, show_files};
 use binfarce_jobs::hint::{Hint, lack};
 use binfarce_jobs::input::{FileOrStdin, OpenFile};
 use binfarce_jobs::limit::Verdict;
 use binfarce_jobs::message::{Message, message_of, push_refusal};
 use binfarce_jobs::output::Output;
 use binfarce_jobs::section::Asked;
+use binfarce_jobs::show::Symbols;
 use binfarce_logs::Module;
 use binfarce_logs::annotate::annotate_stream;
 use binfarce_sections::error::SectionError;
@@ -254,35 +253,26 @@ impl<'a, W: Write> Work<'a, '_, W> {
             words,
             maps: asked.maps(),
         };
-        let Some(opened) = open_at(alloc, &mut self.host, &given, 0)? else {
-            return Ok(Some(Verdict::refused()));
-        };
-        let Opened {
-            file,
-            loaded,
-            origin,
-        } = opened;
-        let base = match place_at(alloc, &mut self.host, &given, 0, loaded) {
-            Place::At(base) => base,
-            Place::Refused => return Ok(Some(Verdict::refused())),
-            Place::NoMaps => return Ok(None),
-        };
         let symbols = symbols_of(words, true);
-        let lookup = lookup_for(words, 0, base, loaded.address, origin);
+        let file = match read_file(alloc, &mut self.host, &given, 0, &symbols)? {
+            ReadFile::Placed(file) => file,
+            ReadFile::Refused => return Ok(Some(Verdict::refused())),
+            ReadFile::NoMaps => return Ok(None),
+        };
+        let lookup = lookup_for(words, 0, file.base, file.loaded, file.origin);
         let addresses = asked.addresses.as_slice();
         let input = &mut OpenFile::new(self.host.rt.reader());
         let done = if addresses.is_empty() {
-            answer_input(alloc, &file, &symbols, lookup, input, self.out)
+            answer_input(alloc, &file.tables, lookup, input, self.out)
         } else {
-            answer_all(alloc, &file, &symbols, lookup, addresses, self.out)
+            answer_all(alloc, &file.tables, lookup, addresses, self.out)
         };
         let path = file_at(words, 0);
         match done {
             Ok(answered) => {
                 let counts = answered.counts;
-                if let Some(missed) = missed(counts, loaded_by(words)) {
-                    let is_empty = answered.symbols == 0;
-                    let lack = lack(alloc, &file, &symbols, is_empty).unwrap_or(None);
+                if let Some(missed) = missed(counts, loaded_by(words, answered.is_behind)) {
+                    let lack = lack_of(alloc, &file, &symbols, answered.symbols == 0);
                     self.host.hint(path, lack.unwrap_or(missed));
                 }
                 match counts.missing {
@@ -291,7 +281,11 @@ impl<'a, W: Write> Work<'a, '_, W> {
                 }
             }
             Err(Fault::Stream(StreamError::Read)) => Ok(Some(self.host.report_input(input))),
-            Err(fault) => Ok(Some(refuse(alloc, &mut self.host, path, &file, fault)?)),
+            Err(fault) if fault.is_of_file() => {
+                self.host.report(path, fault, None);
+                Ok(Some(Verdict::refused()))
+            }
+            Err(fault) => Err(fault),
         }
     }
 
@@ -318,7 +312,7 @@ impl<'a, W: Write> Work<'a, '_, W> {
         }
         let mut modules = Vec::new(alloc);
         for (file, places) in found.iter() {
-            let lookup = lookup_for(words, file.place, file.base, file.linked, file.origin);
+            let lookup = lookup_for(words, file.place, file.base, file.loaded, file.origin);
             let module = Module { places, lookup };
             if modules.push(module).is_err() {
                 return Err(Fault::Report(ReportError::OutOfMemory));
@@ -334,11 +328,9 @@ impl<'a, W: Write> Work<'a, '_, W> {
             Ok(counts) => {
                 let is_empty = asked.text().is_none() && input.len() == 0;
                 if !is_empty {
-                    let is_empty = matches!(found.first(), Some((_, places)) if places.len() == 0);
-                    let alone = files.first().map(|file| &file.alone);
-                    let lack = match alone {
-                        Some(Some(file)) => lack(alloc, file, &symbols, is_empty).unwrap_or(None),
-                        _ => None,
+                    let lack = match found.first() {
+                        Some((file, places)) => lack_of(alloc, file, &symbols, places.len() == 0),
+                        None => None,
                     };
                     self.hint_on_text(counts, lack);
                 }
@@ -361,7 +353,7 @@ impl<'a, W: Write> Work<'a, '_, W> {
             "standard input",
             unfound(counts, given.has(Bare)),
         );
-        if let Some(missed) = missed(counts, loaded_by(given)) {
+        if let Some(missed) = missed(counts, loaded_by(given, false)) {
             let alloc = self.host.rt.alloc();
             let joined = given
                 .operand_texts(alloc)
@@ -388,6 +380,23 @@ impl<'a, W: Write> Work<'a, '_, W> {
             form,
             self.out,
         )
+    }
+}
+
+// What the only file lacks that has none of these function symbols.
+fn lack_of(
+    alloc: Global,
+    file: &Placed<FileOrStdin<File, Stdin>>,
+    symbols: &Symbols<'_>,
+    is_empty: bool,
+) -> Option<Hint> {
+    let symbols = Symbols {
+        which: file.which,
+        selection: symbols.selection,
+    };
+    match &file.alone {
+        Some(file) => lack(alloc, file, &symbols, is_empty).unwrap_or(None),
+        None => None,
     }
 }
 

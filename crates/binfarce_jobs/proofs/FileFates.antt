@@ -8,7 +8,7 @@ use Rattle.binfarce.specs.SectionEntries.{SelectedSymbols}
 use Rattle.binfarce_bytes.specs.declared.format.Format.{Format}
 use Rattle.binfarce_bytes.specs.declared.format.Format.TheVariants as formats
 use Rattle.binfarce_tools.specs.declared.SymbolTable.{SymbolTable}
-use Rattle.binfarce_tools.specs.declared.SymbolTable.TheVariants.{Dynsym}
+use Rattle.binfarce_tools.specs.declared.SymbolTable.TheVariants.{Dynsym, Symtab}
 use Rattle.binfarce_bytes.specs.Selection.{section_of}
 use Rattle.binfarce_tools.specs.Answer.{selected_answer, selected_symbols}
 use Rattle.binfarce_sections.specs.Named.{bytes_named}
@@ -20,12 +20,13 @@ use Rattle.binfarce_tools.specs.Writing as writing
 use Rattle.binfarce_tools.specs.Writing.{AppendsBeginning, IsDue, Leaves, Outcome, EndsAs, wrong_usage}
 use Rattle.binfarce_jobs.specs.Faults.{failure, is_failed_write, is_of_call}
 use Rattle.binfarce_jobs.specs.Files.{FailsAs, Files, Grows, HintsFault, IsFoundIn, MayBeRefused, RefusesArgument, Reports, ReportsFault, ShowsSource, ShowsOne, State, heading, hinted, refused, shown}
-use Rattle.binfarce_jobs.specs.Hints.{IsOrNone, IsSaidOfRefused, IsSaidOfShown, all_words, bytes_had, count_of, debug_by, debug_in, dynamic_by, dynamic_for, dynamic_in, has_none, is_stripped, lack_in, section_in, stripped_for, stripped_words, unknown_for, words_of}
+use Rattle.binfarce_jobs.specs.At.{is_elf}
+use Rattle.binfarce_jobs.specs.Hints.{IsOrNone, IsSaidOfRefused, IsSaidOfShown, all_words, count_of, debug_in, debug_of, dynamic_by, dynamic_for, dynamic_in, has_none, is_stripped, lack_in, stripped_for, stripped_words, unknown_for, words_of}
 use Rattle.binfarce_jobs.specs.Output.{pending, taken, writer_of}
 use Rattle.binfarce_foreign.specs.Foreign.{first_bytes, foreign_in}
 use Rattle.binfarce_jobs.specs.Input.{IsForeign, IsReadOf, IsUnreadable}
 use Rattle.binfarce_jobs.proofs.Streams.{format_of_beginning}
-use Rattle.binfarce_jobs.specs.Show.{Fits, HasSumsOf, IsAskedText, IsSeenOf, IsShownText, MayEnd, MemoryFor, TakesText, answer_for, answer_taken, excess_of, exceeds, is_taken}
+use Rattle.binfarce_jobs.specs.Show.{Fits, HasSumsOf, IsAskedText, IsSeenOf, IsShownText, MayEnd, MemoryFor, TakesText, answer_for, answer_taken, answer_with, excess_of, exceeds, has_table, is_taken}
 use Rattle.binfarce_jobs.specs.declared.fault.Fault.{Fault}
 use Rattle.binfarce_jobs.specs.declared.fault.Fault.TheVariants.{Report, Section, Stream, Unsupported, NotUtf8, SharedAddresses, Unplaced, Missing}
 use Rattle.binfarce_jobs.specs.declared.hint.Hint.{Hint}
@@ -54,9 +55,16 @@ unknown_taken : (section : Option (List ℕ)) → is_taken section formats.Unkno
 unknown_taken None = refl
 unknown_taken (Some name) = refl
 
+-- by any symbol table
+unknown_table : (which : SymbolTable) (file : List ℕ) → has_table which formats.Unknown file ≡ Ok true
+unknown_table Symtab file = refl
+unknown_table Dynsym file = refl
+
 pub no_taken : (which : SymbolTable) (file : List ℕ) (section : Option (List ℕ)) → format_of file ≡ formats.Unknown → answer_taken which file section ≡ None
 no_taken which file section is =
-    ap (λ (b : Bool). if b then selected_answer which section file else Some (Err symbols_section_is_missing)) (ap (is_taken section) is ∙ unknown_taken section) ∙ no_answer which file section is
+    ap (λ (b : Bool). if b then answer_with (has_table which (format_of file) file) (selected_answer which section file) else Some (Err symbols_section_is_missing)) (ap (is_taken section) is ∙ unknown_taken section)
+    ∙ ap (λ (has : Result Bool Refusal). answer_with has (selected_answer which section file)) (ap (λ (f : Format). has_table which f file) is ∙ unknown_table which file)
+    ∙ no_answer which file section is
 
 no_shown : (asked : Request) (file : List ℕ) → format_of file ≡ formats.Unknown → answer_for asked.symbols file ≡ None
 no_shown asked file is = no_taken asked.symbols.which file (section_of asked.symbols.selection) is
@@ -92,16 +100,12 @@ found_of_file asked file bytes sums said (inl same) has says = (sums, subst (λ 
 found_of_file asked file bytes sums said (inr (unknown, first)) (selected, answer, is) says =
     let never : Path (Option (Result SelectedSymbols Refusal)) None (Some (Ok selected)) = sym (no_shown asked bytes (unknown_too file bytes unknown first)) ∙ answer in absurd cc
 
--- a file of an unknown format has no dynamic function symbols, and no sections
+-- a file of an unknown format has no dynamic function symbols
 no_dynamic : (file : List ℕ) → format_of file ≡ formats.Unknown → dynamic_in file ≡ None
-no_dynamic file is = ap (λ (answer : Option (Result SelectedSymbols Refusal)). dynamic_by (count_of answer)) (no_answer Dynsym file None is)
+no_dynamic file is = ap (λ (answer : Option (Result SelectedSymbols Refusal)). dynamic_by (count_of answer)) (no_taken Dynsym file None is)
 
-no_sections : (file name : List ℕ) → format_of file ≡ formats.Unknown → section_in file name ≡ None
-unfolding sections_of bytes_named
-no_sections file name is = ap (λ (f : Format). bytes_had (bytes_named (sections_of f file) file name)) is
-
-no_debug : (file : List ℕ) → format_of file ≡ formats.Unknown → debug_in file ≡ None
-no_debug file is = ap (λ (note : Option (List ℕ)). debug_by note (section_in file (codes ".gnu_debuglink"))) (no_sections file (codes ".note.gnu.build-id") is)
+no_debug : (file : List ℕ) → format_of file ≡ formats.Unknown → debug_of file ≡ Some (codes "a .pdb file, if it is an MSVC program")
+no_debug file is = ap (λ (f : Format). if is_elf f then debug_in file else Some (codes "a .pdb file, if it is an MSVC program")) is
 
 -- what is said of what was read of a file that is refused is what is said of the file
 pub said_of_file : (fault : Fault) (file bytes : List ℕ) (said : List (List ℕ)) → IsReadOf file bytes → IsSaidOfRefused fault bytes said → IsSaidOfRefused fault file said
@@ -109,7 +113,7 @@ said_of_file fault file bytes said (inl same) says = subst (λ (f : List ℕ). I
 said_of_file fault file bytes said (inr (unknown, first)) (dynamic, debug, one, other, is) =
     let less = unknown_too file bytes unknown first in
     let same_dynamic : dynamic_in bytes ≡ dynamic_in file = no_dynamic bytes less ∙ sym (no_dynamic file unknown) in
-    let same_debug : debug_in bytes ≡ debug_in file = no_debug bytes less ∙ sym (no_debug file unknown) in (
+    let same_debug : debug_of bytes ≡ debug_of file = no_debug bytes less ∙ sym (no_debug file unknown) in (
       dynamic,
       debug,
       subst (λ (d : Option Hint). IsOrNone (words_of (if is_stripped fault then d else None)) dynamic) same_dynamic one,

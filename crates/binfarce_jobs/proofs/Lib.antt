@@ -5,6 +5,7 @@ pub mod Shown
 pub mod Making
 pub mod Lines
 pub mod AddressWords
+mod Dynamic
 mod Outcomes
 pub mod FileLoop
 pub mod FileFates

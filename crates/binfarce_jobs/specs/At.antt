@@ -1,14 +1,15 @@
 -- The requested addresses, and the answers to those of standard input.
-use Rattle.std.specs.Prelude.{◌≡◌, ◌⊎◌, ℕ, Bool, true, false, List, [], ◌∷◌, length, Option, Some, None, unwrap_or, Result, Ok, Err, if◌then◌else◌}
+use Rattle.std.specs.Prelude.{◌≡◌, ◌⊎◌, ◌&&◌, ℕ, Bool, true, false, List, [], ◌∷◌, codes, length, nat_lt, Option, Some, None, is_some, unwrap_or, Result, Ok, Err, if◌then◌else◌}
 use Rattle.std.specs.Io.KnownBytes.{Appends, Consumes}
 use Rattle.binfarce.specs.Format.{format_of}
 use Rattle.binfarce_bytes.specs.declared.format.Format.{Format}
 use Rattle.binfarce_bytes.specs.declared.format.Format.TheVariants.{Elf32, Elf64}
-use Rattle.binfarce.specs.Refusal.{◌>>=◌, Refusal}
+use Rattle.std.specs.Str.{bytes_eq}
+use Rattle.binfarce.specs.Refusal.{◌>>=◌, Refusal, section_is_missing}
 use Rattle.binfarce.specs.SectionEntries.{SelectedSymbols}
 use Rattle.binfarce.specs.Symbol.{Entry}
 use Rattle.binfarce_addresses.specs.Address.{address_of}
-use Rattle.binfarce_addresses.specs.Lookup.{places_in}
+use Rattle.binfarce_addresses.specs.Lookup.{found_at, places_in}
 use Rattle.binfarce_addresses.specs.PlacesViews.{IsMadeOf}
 use Rattle.binfarce_addresses.specs.Stream.{Streams}
 use Rattle.binfarce_addresses.specs.declared.counts.Counts.{Counts}
@@ -18,10 +19,12 @@ use Rattle.binfarce_elf_memory.specs.declared.segments.LoadAddress.{LoadAddress}
 use Rattle.binfarce_tables.specs.Loading.{load_address}
 use Rattle.binfarce_tools.specs.ListWords as list
 use Rattle.binfarce_tools.specs.declared.list.ListError.{ListError}
-use Rattle.binfarce_tools.specs.Answer.{addresses_are_shared}
-use Rattle.binfarce_tools.specs.Writing.{no_memory, unreadable}
+use Rattle.binfarce_tools.specs.Writing.{no_memory}
 use Rattle.binfarce_jobs.specs.Faults.{failure, list_fault}
-use Rattle.binfarce_jobs.specs.Show.{answer_for}
+use Rattle.binfarce_tools.specs.declared.SymbolTable.{SymbolTable}
+use Rattle.binfarce_tools.specs.declared.SymbolTable.TheVariants.{Dynsym}
+use Rattle.binfarce_tools.specs.declared.tables.Tables.{Tables}
+use Rattle.binfarce_jobs.specs.Show.{AreTablesFor, answer_for}
 use Rattle.binfarce_jobs.specs.declared.at.Answered.{Answered}
 use Rattle.binfarce_jobs.specs.declared.show.Symbols.{Symbols}
 use Rattle.binfarce_words.specs.Words.{Wrong, no_address}
@@ -48,6 +51,38 @@ is_elf (Elf32 order) = true
 is_elf (Elf64 order) = true
 is_elf format = false
 
+-- the answer is that the file has no `.symtab`: it is stripped
+abbrev pub is_no_symtab : Refusal → Bool
+is_no_symtab (section_is_missing name) = bytes_eq name (codes ".symtab")
+is_no_symtab refusal = false
+
+abbrev pub lacks_symtab : Option (Result SelectedSymbols Refusal) → Bool
+lacks_symtab (Some (Err refusal)) = is_no_symtab refusal
+lacks_symtab answer = false
+
+-- the answer has a function symbol
+abbrev pub has_functions : Option (Result SelectedSymbols Refusal) → Bool
+has_functions (Some (Ok selected)) = nat_lt 0 (length selected.entries)
+has_functions answer = false
+
+-- these function symbols by the dynamic symbol table
+abbrev pub dynamic : Symbols → Symbols
+dynamic symbols = record { which = Dynsym; selection = symbols.selection }
+
+-- the function symbols in which addresses of a file are looked up: these; but by `.dynsym` of an ELF file that has some there, and no `.symtab`
+abbrev pub symbols_at : Symbols → (file : List ℕ) → Symbols
+symbols_at symbols file =
+    if is_elf (format_of file) && lacks_symtab (answer_for symbols file) && has_functions (answer_for (dynamic symbols) file) then dynamic symbols else symbols
+
+-- what a file answers for them
+abbrev pub answer_at : Symbols → (file : List ℕ) → Option (Result SelectedSymbols Refusal)
+answer_at symbols file = answer_for (symbols_at symbols file) file
+
+-- the tables are those of a file for them, by this symbol table
+abbrev pub AreTablesAt : Symbols → (file : List ℕ) → Tables × SymbolTable → Type 0
+AreTablesAt symbols file read =
+    let taken = symbols_at symbols file in (read.1 ≡ taken.which) × AreTablesFor taken file read.0
+
 -- where a file is loaded that doesn't say it
 abbrev pub unstated : LoadAddress
 unstated = record { address = 0; code = None }
@@ -58,39 +93,41 @@ abbrev pub loaded_and_origin : (file : List ℕ) → Result (LoadAddress × ℕ)
 loaded_and_origin file =
     load_address (format_of file) file >>= λ stated. let loaded = unwrap_or stated unstated in Ok (loaded, if is_elf (format_of file) then 0 else loaded.address)
 
+-- this lookup, of return addresses
+abbrev pub returning : Lookup → Lookup
+returning lookup = record { base = lookup.base; linked = lookup.linked; size = lookup.size; origin = lookup.origin; is_return = true; form = lookup.form; path = lookup.path }
+
+-- an address is found as a return address
+abbrev pub is_behind : List Entry → Lookup → (address : ℕ) → Bool
+is_behind entries lookup address = is_some (found_at entries (returning lookup) address)
+
 -- nothing of the lines was read, and nothing was written
 abbrev pub IsUntouched : Option (List ℕ) → Option (List ℕ) → Option (List ℕ) → Option (List ℕ) → Type 0
 IsUntouched given left old new = Consumes given left [] × Appends old new []
 
 -- the result of answering lines by so many function symbols
 abbrev pub lines_end : (symbols : ℕ) → Result Counts StreamError → Result Answered Fault
-lines_end symbols (Ok counts) = Ok (record { counts = counts; symbols = symbols })
+lines_end symbols (Ok counts) = Ok (record { counts = counts; symbols = symbols; is_behind = false })
 lines_end symbols (Err e) = Err (Stream e)
 
--- the function symbols that are taken share addresses: those of all sections of an object file
-abbrev pub share_addresses : Symbols → (file : List ℕ) → Bool
-share_addresses symbols file = addresses_are_shared (answer_for symbols file)
-
--- so they aren't looked up: that is reported, unless the file can't be read, which is reported only where MayFail says so, or an allocation failed
-abbrev pub IsShared : {T : Type 0} → (MayFail : Type 0) → Result T Fault → Type 0
-IsShared MayFail (Ok value) = ⊥
-IsShared MayFail (Err e) = (e ≡ SharedAddresses) ⊎ (MayFail × (failure e ≡ unreadable)) ⊎ (failure e ≡ no_memory)
+-- function symbols that share addresses aren't looked up: that is reported, unless an allocation failed
+abbrev pub IsShared : {T : Type 0} → Result T Fault → Type 0
+IsShared (Ok value) = ⊥
+IsShared (Err e) = (e ≡ SharedAddresses) ⊎ (failure e ≡ no_memory)
 
 -- what is made of a file whose answer is this: places of its entries, unless they share addresses
 abbrev pub HasPlaces : (share : Bool) → (Result SelectedSymbols Refusal → Type 0) → Option (Result SelectedSymbols Refusal) → Result (List Entry) Fault → Type 0
 HasPlaces share NeedsMemory answer (Ok entries) = (share ≡ false) × IsMadeOf NeedsMemory answer (Ok entries)
 HasPlaces share NeedsMemory answer (Err e) = ((share ≡ true) × (e ≡ SharedAddresses)) ⊎ ((error : ListError) × IsMadeOf NeedsMemory answer (Err error) × (e ≡ list_fault error))
 
--- a fault before anything of standard input is read, for a file whose answer is this: the file can't be read, which is reported only where MayFail says so, or an allocation failed; its function symbols share addresses; or the file is refused
-abbrev pub IsWhyNot : Type 0 → (share : Bool) → (Result SelectedSymbols Refusal → Type 0) → Option (Result SelectedSymbols Refusal) → Fault → Type 0
-IsWhyNot MayFail share NeedsMemory answer fault =
-    (MayFail × (failure fault ≡ unreadable))
-    ⊎ (failure fault ≡ no_memory)
-    ⊎ ((share ≡ true) × (fault ≡ SharedAddresses))
+-- a fault before anything of standard input is read, for a file whose answer is this: its function symbols share addresses; or the file is refused, or an allocation failed
+abbrev pub IsWhyNot : (share : Bool) → (Result SelectedSymbols Refusal → Type 0) → Option (Result SelectedSymbols Refusal) → Fault → Type 0
+IsWhyNot share NeedsMemory answer fault =
+    ((share ≡ true) × (fault ≡ SharedAddresses))
     ⊎ ((e : ListError) × IsMadeOf NeedsMemory answer (Err e) × (failure fault ≡ list.outcome_of (Err e)))
 
 -- how standard input is answered of a file whose answer is this: not at all for such a fault; or its places answer the lines
-abbrev pub AnswersInput : Type 0 → (share : Bool) → (Result SelectedSymbols Refusal → Type 0) → Option (Result SelectedSymbols Refusal) → Lookup → Option (List ℕ) → Option (List ℕ) → Option (List ℕ) → Option (List ℕ) → Result Answered Fault → Type 0
-AnswersInput MayFail share NeedsMemory answer lookup given left old new result =
-    ((fault : Fault) × (result ≡ Err fault) × IsWhyNot MayFail share NeedsMemory answer fault × IsUntouched given left old new)
+abbrev pub AnswersInput : (share : Bool) → (Result SelectedSymbols Refusal → Type 0) → Option (Result SelectedSymbols Refusal) → Lookup → Option (List ℕ) → Option (List ℕ) → Option (List ℕ) → Option (List ℕ) → Result Answered Fault → Type 0
+AnswersInput share NeedsMemory answer lookup given left old new result =
+    ((fault : Fault) × (result ≡ Err fault) × IsWhyNot share NeedsMemory answer fault × IsUntouched given left old new)
     ⊎ ((share ≡ false) × (selected : SelectedSymbols) × (ended : Result Counts StreamError) × (answer ≡ Some (Ok selected)) × Streams (places_in selected) lookup given left old new ended × (result ≡ lines_end (length (places_in selected)) ended))

@@ -18,7 +18,7 @@ use Rattle.binfarce_jobs.specs.Faults.{is_write, no_memory_fault}
 use Rattle.binfarce_jobs.specs.declared.message.Message.{Message}
 use Rattle.binfarce_jobs.specs.declared.message.Message.TheVariants as messages
 use Rattle.binfarce_jobs.specs.declared.message.Unplaced as message
-use Rattle.binfarce_jobs.specs.declared.message.Unplaced.TheVariants.{NotMapped, NoCode, Several}
+use Rattle.binfarce_jobs.specs.declared.message.Unplaced.TheVariants.{NotMapped, NoCode, Several, NoBytes}
 
 -- of a refusal: an ELF file without a symbol table may have a dynamic one
 abbrev pub refused_words : Refusal → List ℕ
@@ -66,14 +66,15 @@ IsMessageOf fault true (messages.Fault f) = f ≡ no_memory_fault
 IsMessageOf fault false (messages.Reason words) = ⊥
 IsMessageOf fault false (messages.Fault f) = f ≡ fault
 
--- of a file that maps don't place
+-- of a file that isn't placed
 abbrev pub unplaced_words : message.Unplaced → List ℕ
 unplaced_words (NotMapped path None) = codes "the maps have no file " ++ (path.now ++ codes "; --as=NAME takes another name")
 unplaced_words (NotMapped path (Some name)) = codes "the maps have no file " ++ (path.now ++ (codes " or " ++ (name.now ++ codes "; --as=NAME takes another name")))
-unplaced_words (NoCode path) = codes "the maps don't have the code of " ++ (path.now ++ codes ", or its first byte; give --base, or more of the maps")
+unplaced_words (NoCode path) = codes "the maps don't say where the code of " ++ (path.now ++ codes " is; give --base, or more of the maps")
 unplaced_words (Several path) = path.now ++ codes " is at several addresses in the maps; give --base in place of --maps, or --as=PATH for one of several paths"
+unplaced_words NoBytes = codes "no code segment with bytes; --offsets takes ELF programs and shared objects, and not their debug files"
 
--- the fault of a file that maps don't place has these words, or there is no memory for them
+-- the fault of a file that isn't placed has these words, or there is no memory for them
 abbrev pub IsUnplaced : (words : List ℕ) → Fault → Type 0
 IsUnplaced words (Unplaced text) = string_bytes text ≡ words
 IsUnplaced words fault = fault ≡ no_memory_fault

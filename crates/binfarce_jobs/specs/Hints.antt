@@ -14,7 +14,6 @@ use Rattle.binfarce_bytes.specs.Format.{format_of}
 use Rattle.binfarce_bytes.specs.Text.{up_to_nul}
 use Rattle.binfarce_bytes.specs.declared.format.Format.{Format}
 use Rattle.binfarce_bytes.specs.declared.format.Format.TheVariants as formats
-use Rattle.binfarce_tools.specs.Answer.{selected_answer}
 use Rattle.binfarce_figures.specs.declared.key.Key.{Key}
 use Rattle.binfarce_figures.specs.declared.key.Key.TheVariants.{Crate}
 use Rattle.binfarce_figures.specs.declared.sums.Sums.{Sums}
@@ -22,7 +21,8 @@ use Rattle.binfarce_sections.specs.Named.{Lack, bytes_named}
 use Rattle.binfarce_sections.specs.Section.{sections_of}
 use Rattle.binfarce_sections.specs.declared.error.SectionError.TheVariants as sections
 use Rattle.binfarce_words.specs.WordViews.{limit_words}
-use Rattle.binfarce_jobs.specs.Show.{answer_for, excess_of}
+use Rattle.binfarce_jobs.specs.At.{is_elf, is_no_symtab}
+use Rattle.binfarce_jobs.specs.Show.{answer_for, answer_taken, excess_of}
 use Rattle.binfarce_jobs.specs.MessageLine.{byte_text}
 use Rattle.binfarce_jobs.specs.declared.fault.Fault.{Fault}
 use Rattle.binfarce_jobs.specs.declared.fault.Fault.TheVariants.{Section}
@@ -41,6 +41,8 @@ abbrev pub loaded_words : Loaded → List ℕ
 loaded_words loads.Unknown = codes "--base or --maps is needed for addresses in memory"
 loaded_words loads.Base = codes "is --base right?"
 loaded_words loads.Maps = codes "are --maps and the addresses of one process?"
+loaded_words loads.Behind = codes "--return looks each up as a return address, behind a call"
+loaded_words loads.Offsets = codes "are they offsets in the file?"
 
 -- the printed words
 abbrev pub hint_words : Hint → List ℕ
@@ -50,6 +52,7 @@ hint_words hints.NoneOfPe = codes "no function symbols; those of an MSVC program
 hint_words hints.NoneOfMacho = codes "no function symbols; those of a stripped program may be in its .dSYM bundle"
 hint_words (hints.Others count) = codes "no function symbols in the section; --all takes " ++ decimal count
 hint_words (hints.Dynamic count) = codes "--dynamic --all takes " ++ (decimal count ++ codes " function symbols")
+hint_words hints.Instead = codes "no symbol table (.symtab): names are those of .dynsym"
 hint_words (hints.Stripped places) = codes "its debug symbols may be in " ++ string_bytes places
 hint_words (hints.Missed count loaded) = codes "0 of " ++ (decimal count ++ (codes " addresses are in a function symbol; " ++ loaded_words loaded))
 hint_words (hints.Unknown bytes sum) = decimal bytes ++ (codes " of " ++ (decimal sum ++ codes " bytes have no crate, as those of C, C++ and assembly; --by=function shows whose they are"))
@@ -94,7 +97,7 @@ lack_by which format (suc n) = hints.Others (suc n)
 
 -- the hint where a file has none of the function symbols that are taken
 abbrev pub lack_in : Symbols → (file : List ℕ) → Option Hint
-lack_in symbols file = if has_none symbols file then Some (lack_by symbols.which (format_of file) (count_of (selected_answer symbols.which None file))) else None
+lack_in symbols file = if has_none symbols file then Some (lack_by symbols.which (format_of file) (count_of (answer_taken symbols.which file None))) else None
 
 -- the hint where a file has dynamic function symbols
 abbrev pub dynamic_by : (count : ℕ) → Option Hint
@@ -102,7 +105,7 @@ dynamic_by zero = None
 dynamic_by (suc n) = Some (hints.Dynamic (suc n))
 
 abbrev pub dynamic_in : (file : List ℕ) → Option Hint
-dynamic_in file = dynamic_by (count_of (selected_answer Dynsym None file))
+dynamic_in file = dynamic_by (count_of (answer_taken Dynsym file None))
 
 -- the bytes of the first section of this name, if the file has them
 abbrev pub bytes_had : Result (List ℕ) Lack → Option (List ℕ)
@@ -133,6 +136,10 @@ debug_by None link = None
 abbrev pub debug_in : (file : List ℕ) → Option (List ℕ)
 debug_in file = debug_by (section_in file (codes ".note.gnu.build-id")) (section_in file (codes ".gnu_debuglink"))
 
+-- so of an ELF file; of another, which is a PE file, a program of MSVC has them in a file of its own
+abbrev pub debug_of : (file : List ℕ) → Option (List ℕ)
+debug_of file = if is_elf (format_of file) then debug_in file else Some (codes "a .pdb file, if it is an MSVC program")
+
 -- the words of a hint, if there is one
 abbrev pub words_of : Option Hint → List (List ℕ)
 words_of (Some hint) = hint_words hint ∷ []
@@ -143,10 +150,6 @@ stripped_words (Some places) = (codes "its debug symbols may be in " ++ places) 
 stripped_words None = []
 
 -- a file is refused since it has no symbol table
-abbrev pub is_no_symtab : Refusal → Bool
-is_no_symtab (section_is_missing name) = bytes_eq name (codes ".symtab")
-is_no_symtab refusal = false
-
 abbrev pub is_stripped : Fault → Bool
 is_stripped (Section (sections.Parse e)) = is_no_symtab (refusal_of e)
 is_stripped fault = false
@@ -156,7 +159,7 @@ abbrev pub dynamic_for : Fault → (file : List ℕ) → Option Hint
 dynamic_for fault file = if is_stripped fault then dynamic_in file else None
 
 abbrev pub stripped_for : Fault → (file : List ℕ) → List (List ℕ)
-stripped_for fault file = if is_stripped fault then stripped_words (debug_in file) else []
+stripped_for fault file = if is_stripped fault then stripped_words (debug_of file) else []
 
 -- this is said; or nothing, where the file can't be read for it, or an allocation failed
 abbrev pub IsOrNone : (due said : List (List ℕ)) → Type 0

@@ -9,3 +9,4 @@ pub mod Output
 pub mod Section
 pub mod At
 pub mod Limit
+pub mod machine

@@ -1,10 +1,10 @@
 -- How function symbols are shown.
-use Rattle.std.specs.Prelude.{◌≡◌, ℕ, Bool, true, List, [], codes, length, nat_eq, Option, Some, None, is_some, Result, Ok, Err, if◌then◌else◌}
+use Rattle.std.specs.Prelude.{◌≡◌, ℕ, Bool, true, false, List, [], codes, length, nat_eq, Option, Some, None, is_some, Result, Ok, Err, if◌then◌else◌}
 use Rattle.std.specs.Str.{bytes_eq}
 use Rattle.binfarce.specs.Format.{format_of}
 use Rattle.binfarce.specs.declared.Format.{Format}
 use Rattle.binfarce.specs.declared.Format.TheVariants as formats
-use Rattle.binfarce.specs.Refusal.{Refusal, symbols_section_is_missing}
+use Rattle.binfarce.specs.Refusal.{Refusal, section_is_missing, symbols_section_is_missing}
 use Rattle.binfarce.specs.SectionEntries.{SelectedSymbols}
 use Rattle.binfarce_figures.specs.Claims.{SumFits}
 use Rattle.binfarce_figures.specs.Figures.{AreFiguresBy, AreStacksIn, AreSumsBy, IsPictureBy}
@@ -17,7 +17,9 @@ use Rattle.binfarce_bytes.specs.Selection.{section_of}
 use Rattle.binfarce_tools.specs.Answer.{selected_answer, MemoryIn}
 use Rattle.binfarce_tools.specs.Tables.{AreTablesOf}
 use Rattle.binfarce_tools.specs.Writing.{Outcome, IsDue, ProgramEndsAs, Takes}
+use Rattle.binfarce_tables.specs.PeReading.{file_has_symbols}
 use Rattle.binfarce_tools.specs.declared.SymbolTable.{SymbolTable}
+use Rattle.binfarce_tools.specs.declared.SymbolTable.TheVariants.{Symtab}
 use Rattle.binfarce_tools.specs.declared.tables.Tables.{Tables}
 use Rattle.binfarce_jobs.specs.declared.hint.Hint.{Hint}
 use Rattle.binfarce_jobs.specs.declared.show.Request.{Request}
@@ -69,9 +71,22 @@ is_taken (Some name) formats.Macho = bytes_eq name (codes ".text")
 is_taken (Some name) formats.PE = bytes_eq name (codes ".text")
 is_taken section format = true
 
--- what a file answers for a selection: a section that can't be selected is missing
+-- whether a file of this format has this symbol table: a PE file may have none, or no header. That of another file is found when it is read
+abbrev pub has_table : SymbolTable → Format → (file : List ℕ) → Result Bool Refusal
+has_table Symtab formats.PE file = file_has_symbols file
+has_table which format file = Ok true
+
+-- the answer of a file, if it has the symbol table: else that is missing, as in a stripped ELF file
+abbrev pub answer_with : (has : Result Bool Refusal) → Option (Result SelectedSymbols Refusal) → Option (Result SelectedSymbols Refusal)
+answer_with (Err refusal) answer = Some (Err refusal)
+answer_with (Ok true) answer = answer
+answer_with (Ok false) answer = Some (Err (section_is_missing (codes ".symtab")))
+
+-- what a file answers for a selection: a section that can't be selected is missing, and so may the symbol table be
 abbrev pub answer_taken : SymbolTable → (file : List ℕ) → (section : Option (List ℕ)) → Option (Result SelectedSymbols Refusal)
-answer_taken which file section = if is_taken section (format_of file) then selected_answer which section file else Some (Err symbols_section_is_missing)
+answer_taken which file section =
+    if is_taken section (format_of file) then answer_with (has_table which (format_of file) file) (selected_answer which section file)
+    else Some (Err symbols_section_is_missing)
 
 -- so for the function symbols that are taken
 abbrev pub answer_for : Symbols → (file : List ℕ) → Option (Result SelectedSymbols Refusal)

@@ -1,19 +1,23 @@
 //! `binfarce at [OPTION..] FILE [ADDRESS..]`: the function symbol at each address.
 
-ghost use Rattle.std.specs.Prelude.{◌≡◌, ◌≢◌, ℕ, List, Option, true, false, length, map, Some, Ok, IfErr, IfOk};
+ghost use Rattle.std.specs.Prelude.{◌≡◌, ◌≢◌, ℕ, List, Option, true, false, length, map, Some, Ok, Err, IfErr, IfOk};
+ghost use Rattle.std.specs.List.{list_any};
 ghost use Rattle.binfarce.specs.SectionEntries.{SelectedSymbols};
 ghost use Rattle.binfarce_addresses.specs.Counts.{AreCountsOf, answers_at};
 ghost use Rattle.binfarce_addresses.specs.Lines.{AreLinesAt};
 ghost use Rattle.binfarce_addresses.specs.Lookup.{places_in};
+ghost use Rattle.binfarce.specs.Format.{format_of};
 ghost use Rattle.binfarce_tables.specs.Reading.{Reads};
+ghost use Rattle.binfarce_tables.specs.declared.error.ReadError.TheVariants.{OutOfMemory};
 ghost use Rattle.binfarce_tools.specs.Listing.{ListingFits};
 ghost use Rattle.binfarce_tools.specs.Answer.{addresses_are_shared, selected_answer, MemoryIn};
-ghost use Rattle.binfarce_tools.specs.Tables.{AreTablesOf};
+ghost use Rattle.binfarce_tools.specs.Tables.{AreTablesOf, ReadsAs};
 ghost use Rattle.binfarce_tools.specs.declared.SymbolTable.{SymbolTable};
-ghost use Rattle.binfarce_tools.specs.Writing.{ProgramEndsAs, Takes, Fails, Leaves, write_failed};
-ghost use Rattle.binfarce_jobs.specs.At.{AnswersInput, HasPlaces, IsShared, addresses_of, is_elf, loaded_and_origin, share_addresses};
+ghost use Rattle.binfarce_tools.specs.Writing.{EndsAs, Takes, Fails, Leaves, write_failed};
+ghost use Rattle.binfarce_jobs.specs.At.{AnswersInput, AreTablesAt, HasPlaces, IsShared, addresses_of, answer_at, has_functions, is_behind, is_elf, loaded_and_origin};
+ghost use Rattle.binfarce_jobs.specs.machine.Dynamic.{IsDynamic, is_refused_so};
 ghost use Rattle.binfarce_jobs.specs.Faults.{failure, outcome_of};
-ghost use Rattle.binfarce_jobs.specs.Show.{MemoryFor, answer_for};
+ghost use Rattle.binfarce_jobs.specs.Show.{AreTablesFor, answer_for};
 ghost use Rattle.binfarce_words.specs.WordViews.{Gives};
 
 use crate::fault::Fault;
@@ -21,12 +25,14 @@ use crate::show::{Symbols, tables_of};
 use binfarce_addresses::at::{Places, write_lines};
 use binfarce_addresses::stream::answer_lines;
 use binfarce_addresses::{Counts, Lookup, parse_address};
+use binfarce_bytes::ParseError;
 use binfarce_bytes::format::Format;
 use binfarce_bytes::source::Source;
 use binfarce_tables::ReadError;
 use binfarce_tables::format::read_format;
 use binfarce_tables::loading::{LoadAddress, read_load_address};
-use binfarce_tools::list::Sink;
+use binfarce_tools::SymbolTable;
+use binfarce_tools::list::{ListError, Sink};
 use binfarce_tools::tables::Tables;
 use binfarce_words::words::Wrong;
 use std::alloc::Global;
@@ -60,47 +66,160 @@ pub struct Answered {
     pub counts: Counts,
     /// How many function symbols they were looked up in.
     pub symbols: usize,
+    /// Whether one of them would be found as a return address. Of lines of standard input, which aren't kept, this isn't
+    /// asked.
+    pub is_behind: bool,
 }
 
-/// Symbolizes the addresses, by this lookup and these function symbols, and counts them. Of the source it reads the
-/// headers, the symbol table and the names alone.
+/// The tables of the source in which addresses are looked up, and the symbol table that they are read by: those for
+/// these function symbols; of an ELF file without `.symtab` those by `.dynsym`, if it has function symbols there.
 ///
 /// # Errors
 ///
-/// `Unreadable` where a read fails; `Unknown`, `Parse`, `OutOfMemory` and `Write` as `at` refuses; `SharedAddresses`
-/// for all sections of an object file.
-pub fn answer_all<S: Source<Log = ()>, K: Sink>(
+/// Those of `tables_of` for these function symbols; a failed read or allocation also for those by `.dynsym`.
+pub fn tables_at<S: Source<Log = ()>>(
     alloc: Global,
     source: &S,
     symbols: &Symbols<'_>,
+) -> Result<(Tables<'static>, SymbolTable), ReadError>
+    ensures { (file : List ℕ) → S.bytes source.now ≡ Some file → ReadsAs (AreTablesAt symbols.now file)
+        (S.may_fail source.now ≡ true) (answer_at symbols.now file) result }
+{
+    let format = read_format(alloc, source, &mut ())?;
+    match tables_of(alloc, source, symbols) {
+        Ok(tables) => Ok((tables, symbols.which)),
+        Err(e) => tables_after(alloc, source, symbols, &format, e),
+    }
+}
+
+// The tables of a file of this format, of which those for these function symbols weren't read.
+fn tables_after<S: Source<Log = ()>>(
+    alloc: Global,
+    source: &S,
+    symbols: &Symbols<'_>,
+    format: &Format,
+    e: ReadError,
+) -> Result<(Tables<'static>, SymbolTable), ReadError>
+    ensures { (file : List ℕ) → S.bytes source.now ≡ Some file → format.now ≡ format_of file
+        → ReadsAs (AreTablesFor symbols.now file) (S.may_fail source.now ≡ true) (answer_for symbols.now file) (Err e)
+        → ReadsAs (AreTablesAt symbols.now file)
+        (S.may_fail source.now ≡ true) (answer_at symbols.now file) result }
+{
+    if is_elf(format) && is_no_symtab(e) {
+        if let Some(tables) = dynamic_tables(alloc, source, symbols)? {
+            return Ok((tables, SymbolTable::Dynsym));
+        }
+    }
+    Err(e)
+}
+
+// Whether a file is refused since it has no `.symtab`.
+fn is_no_symtab(e: ReadError) -> bool
+    ensures { result ≡ is_refused_so e }
+{
+    matches!(
+        e,
+        ReadError::Refused(ParseError::SectionIsMissing(".symtab"))
+    )
+}
+
+// The tables by `.dynsym`. `None` where these are refused, or have no function symbol.
+fn dynamic_tables<S: Source<Log = ()>>(
+    alloc: Global,
+    source: &S,
+    symbols: &Symbols<'_>,
+) -> Result<Option<Tables<'static>>, ReadError>
+    ensures { (file : List ℕ) → S.bytes source.now ≡ Some file
+        → IsDynamic symbols.now file (S.may_fail source.now ≡ true) result }
+{
+    let dynamic = Symbols {
+        which: SymbolTable::Dynsym,
+        selection: symbols.selection,
+    };
+    let tables = match tables_of(alloc, source, &dynamic) {
+        Ok(tables) => tables,
+        Err(ReadError::Refused(_)) => return Ok(None),
+        Err(e) => return Err(e),
+    };
+    if has_functions(alloc, &tables)? {
+        Ok(Some(tables))
+    } else {
+        Ok(None)
+    }
+}
+
+// Whether tables have a function symbol.
+fn has_functions(alloc: Global, tables: &Tables<'_>) -> Result<bool, ReadError>
+    ensures has { (which : SymbolTable) (file : List ℕ) (section : Option (List ℕ))
+        → AreTablesOf which file section tables.now
+        → IfOk result (λ has. has ≡ has_functions (selected_answer which section file)) }
+    ensures memory { IfErr result (λ e. e ≡ OutOfMemory) }
+{
+    match tables.functions(alloc) {
+        Ok(selected) => Ok(!selected.functions.is_empty()),
+        Err(ListError::OutOfMemory) => Err(ReadError::OutOfMemory),
+        Err(_) => Ok(false),
+    }
+}
+
+/// Symbolizes the addresses, by this lookup and the function symbols of these tables, and counts them.
+///
+/// # Errors
+///
+/// `Unknown`, `Parse`, `OutOfMemory` and `Write` as `at` refuses; `SharedAddresses` for all sections of an object file.
+pub fn answer_all<K: Sink>(
+    alloc: Global,
+    tables: &Tables<'_>,
     lookup: Lookup<'_>,
     addresses: &[u64],
     out: &mut K,
 ) -> Result<Answered, Fault>
-    ensures outcome { (file : List ℕ) → S.bytes source.now ≡ Some file
-        → share_addresses symbols.now file ≡ false
-        → ProgramEndsAs (S.may_fail source.now ≡ true) ListingFits
-        (MemoryFor symbols.now file) (answer_for symbols.now file) (outcome_of result) }
-    ensures shared { (file : List ℕ) → S.bytes source.now ≡ Some file
-        → share_addresses symbols.now file ≡ true
-        → IsShared (S.may_fail source.now ≡ true) result }
-    ensures takes { (file : List ℕ) → S.bytes source.now ≡ Some file
-        → Takes (AreLinesAt lookup.entry addresses.now)
-        (answer_for symbols.now file) (K.taken out.old) (K.taken out.new) (outcome_of result) }
-    ensures counts { (file : List ℕ) (selected : SelectedSymbols) → S.bytes source.now ≡ Some file
-        → answer_for symbols.now file ≡ Some (Ok selected)
+    ensures outcome { (which : SymbolTable) (file : List ℕ) (section : Option (List ℕ))
+        → AreTablesOf which file section tables.now
+        → addresses_are_shared (selected_answer which section file) ≡ false
+        → EndsAs ListingFits (MemoryIn file section) (selected_answer which section file) (outcome_of result) }
+    ensures shared { (which : SymbolTable) (file : List ℕ) (section : Option (List ℕ))
+        → AreTablesOf which file section tables.now
+        → addresses_are_shared (selected_answer which section file) ≡ true → IsShared result }
+    ensures takes { (which : SymbolTable) (file : List ℕ) (section : Option (List ℕ))
+        → AreTablesOf which file section tables.now → Takes (AreLinesAt lookup.entry addresses.now)
+        (selected_answer which section file) (K.taken out.old) (K.taken out.new) (outcome_of result) }
+    ensures counts { (which : SymbolTable) (file : List ℕ) (section : Option (List ℕ)) (selected : SelectedSymbols)
+        → AreTablesOf which file section tables.now → selected_answer which section file ≡ Some (Ok selected)
         → IfOk result (λ a. AreCountsOf (answers_at (places_in selected) lookup.entry addresses.now) a.counts) }
-    ensures symbols { (file : List ℕ) (selected : SelectedSymbols) → S.bytes source.now ≡ Some file
-        → answer_for symbols.now file ≡ Some (Ok selected)
+    ensures symbols { (which : SymbolTable) (file : List ℕ) (section : Option (List ℕ)) (selected : SelectedSymbols)
+        → AreTablesOf which file section tables.now → selected_answer which section file ≡ Some (Ok selected)
         → IfOk result (λ a. a.symbols ≡ length (places_in selected)) }
+    ensures behind { (which : SymbolTable) (file : List ℕ) (section : Option (List ℕ)) (selected : SelectedSymbols)
+        → AreTablesOf which file section tables.now → selected_answer which section file ≡ Some (Ok selected)
+        → IfOk result (λ a. a.is_behind ≡ list_any (is_behind (places_in selected) lookup.entry) addresses.now) }
     ensures fails { Fails (K.has_failed out.old) (K.has_failed out.new) (outcome_of result) }
     ensures leaves { Leaves out.old out.new (outcome_of result) }
 {
-    let tables = tables_of(alloc, source, symbols)?;
-    let places = places_of(alloc, &tables)?;
+    let places = places_of(alloc, tables)?;
     let counts = write_lines(alloc, &places, lookup, addresses, out)?;
-    let symbols = places.len();
-    Ok(Answered { counts, symbols })
+    Ok(Answered {
+        counts,
+        symbols: places.len(),
+        is_behind: are_behind(&places, lookup, addresses),
+    })
+}
+
+// Whether one of the addresses would be found as a return address.
+fn are_behind(places: &Places<'_>, lookup: Lookup<'_>, addresses: &[u64]) -> bool
+    ensures { result ≡ list_any (is_behind places.now lookup.entry) addresses.now }
+{
+    addresses
+        .iter()
+        .any(|address| is_behind(places, lookup, *address))
+}
+
+fn is_behind(places: &Places<'_>, lookup: Lookup<'_>, address: u64) -> bool
+    ensures { result ≡ is_behind places.now lookup.entry address }
+{
+    let mut returning = lookup;
+    returning.is_return = true;
+    places.find(returning, address).is_some()
 }
 
 /// Where the file itself says that it is loaded, which is the address of the base, at 0 if it doesn't say it; and the
@@ -126,7 +245,7 @@ pub fn load_addresses_of<S: Source<Log = ()>>(
     Ok((loaded, if elf { 0 } else { loaded.address }))
 }
 
-fn is_elf(format: &Format) -> bool
+pub(crate) fn is_elf(format: &Format) -> bool
     ensures { result ≡ is_elf format.now }
 {
     match format {
@@ -159,24 +278,25 @@ pub fn places_of<'a>(alloc: Global, tables: &'a Tables<'_>) -> Result<Places<'a>
 /// # Errors
 ///
 /// Those of `answer_all`, before anything of `input` is read; `Input` where it can't be read.
-pub fn answer_input<S: Source<Log = ()>, I: Read, K: Sink>(
+pub fn answer_input<I: Read, K: Sink>(
     alloc: Global,
-    source: &S,
-    symbols: &Symbols<'_>,
+    tables: &Tables<'_>,
     lookup: Lookup<'_>,
     input: &mut I,
     out: &mut K,
 ) -> Result<Answered, Fault>
-    ensures answers { (file : List ℕ) → S.bytes source.now ≡ Some file
-        → AnswersInput (S.may_fail source.now ≡ true)
-        (share_addresses symbols.now file) (MemoryFor symbols.now file)
-        (answer_for symbols.now file) lookup.entry
+    ensures answers { (which : SymbolTable) (file : List ℕ) (section : Option (List ℕ))
+        → AreTablesOf which file section tables.now
+        → AnswersInput (addresses_are_shared (selected_answer which section file)) (MemoryIn file section)
+        (selected_answer which section file) lookup.entry
         (I.remaining input.old) (I.remaining input.new) (K.taken out.old) (K.taken out.new) result }
     ensures fails { Fails (K.has_failed out.old) (K.has_failed out.new) (outcome_of result) }
 {
-    let tables = tables_of(alloc, source, symbols)?;
-    let places = places_of(alloc, &tables)?;
+    let places = places_of(alloc, tables)?;
     let counts = answer_lines(alloc, &places, lookup, input, out)?;
-    let symbols = places.len();
-    Ok(Answered { counts, symbols })
+    Ok(Answered {
+        counts,
+        symbols: places.len(),
+        is_behind: false,
+    })
 }

@@ -4,15 +4,14 @@
 ghost use Rattle.std.specs.Prelude.{◌≡◌, ◌++◌, ℕ, List, None, Some, IfOk, OnOk, drop};
 ghost use Rattle.std.specs.Option.{option_map};
 ghost use Rattle.std.specs.String.{string_bytes};
-ghost use Rattle.binfarce_bytes.specs.Selection.{section_of};
-ghost use Rattle.binfarce_tools.specs.Answer.{selected_answer};
-ghost use Rattle.binfarce_jobs.specs.Hints.{IsOrNone, count_of, debug_in, debug_path, dynamic_for, dynamic_in, has_none, lack_by, lack_in, link_text, loaded_words, section_in, stripped_for, stripped_words, unknown_for, unknown_in, words_of};
-ghost use Rattle.binfarce_jobs.specs.Show.{excess_of};
+ghost use Rattle.binfarce_jobs.specs.Hints.{IsOrNone, count_of, debug_in, debug_of, debug_path, dynamic_for, dynamic_in, has_none, lack_by, lack_in, link_text, loaded_words, section_in, stripped_for, stripped_words, unknown_for, unknown_in, words_of};
+ghost use Rattle.binfarce_jobs.specs.Show.{answer_taken, excess_of};
 
+use crate::at::is_elf;
 use crate::fault::Fault;
 use crate::limit::above;
 use crate::message::push_byte;
-use crate::show::{Kind, Request, Seen, Symbols};
+use crate::show::{Kind, Request, Seen, Symbols, tables_of};
 use binfarce_bytes::ParseError;
 use binfarce_bytes::format::Format;
 use binfarce_bytes::functions::SectionFunction;
@@ -25,7 +24,7 @@ use binfarce_sections::error::SectionError;
 use binfarce_tables::format::read_format;
 use binfarce_tools::SymbolTable;
 use binfarce_tools::list::Out;
-use binfarce_tools::tables::{Selection, read};
+use binfarce_tools::tables::Selection;
 use binfarce_words::words::Limit;
 use std::alloc::{AllocError, Global};
 use std::fmt;
@@ -45,6 +44,8 @@ pub enum Hint {
     Others(usize),
     /// The dynamic symbol table has so many function symbols.
     Dynamic(usize),
+    /// The file has no symbol table, and function symbols are those of its dynamic one.
+    Instead,
     /// The file is stripped, and its debug symbols may be there.
     Stripped(String),
     /// None of so many addresses is in a function symbol.
@@ -83,6 +84,10 @@ pub enum Loaded {
     Base,
     /// Its mappings.
     Maps,
+    /// Addresses are offsets in it.
+    Offsets,
+    /// One of the addresses is behind a function symbol, as a return address may be.
+    Behind,
 }
 
 impl fmt::Display for Hint {
@@ -107,6 +112,7 @@ impl fmt::Display for Hint {
                 "no function symbols in the section; --all takes {count}"
             ),
             Hint::Dynamic(count) => write!(f, "--dynamic --all takes {count} function symbols"),
+            Hint::Instead => write!(f, "no symbol table (.symtab): names are those of .dynsym"),
             Hint::Stripped(places) => write!(f, "its debug symbols may be in {places}"),
             Hint::Missed(count, loaded) => {
                 let why = loaded.words();
@@ -147,6 +153,8 @@ impl Loaded {
             Loaded::Unknown => "--base or --maps is needed for addresses in memory",
             Loaded::Base => "is --base right?",
             Loaded::Maps => "are --maps and the addresses of one process?",
+            Loaded::Behind => "--return looks each up as a return address, behind a call",
+            Loaded::Offsets => "are they offsets in the file?",
         }
     }
 }
@@ -215,7 +223,7 @@ pub fn lack<S: Source<Log = ()>>(
     }
     let all = match symbols.selection {
         Selection::All => 0,
-        Selection::Section(_) => count_in(alloc, source, symbols.which, Selection::All)?,
+        Selection::Section(_) => count_of_all(alloc, source, symbols.which)?,
     };
     let format = read_format(alloc, source, &mut ())?;
     Ok(Some(lack_by(symbols.which, &format, all)))
@@ -234,17 +242,20 @@ fn lack_by(which: SymbolTable, format: &Format, all: usize) -> Hint
     }
 }
 
-// How many function symbols a selection has.
-fn count_in<S: Source<Log = ()>>(
+// How many function symbols all sections have.
+fn count_of_all<S: Source<Log = ()>>(
     alloc: Global,
     source: &S,
     which: SymbolTable,
-    selection: Selection<'_>,
 ) -> Result<usize, Fault>
     ensures { (file : List ℕ) → S.bytes source.now ≡ Some file
-        → IfOk result (λ count. count ≡ count_of (selected_answer which (section_of selection.entry) file)) }
+        → IfOk result (λ count. count ≡ count_of (answer_taken which file None)) }
 {
-    let tables = read(alloc, source, &mut (), which, selection)?;
+    let all = Symbols {
+        which,
+        selection: Selection::All,
+    };
+    let tables = tables_of(alloc, source, &all)?;
     let selected = tables.functions(alloc)?;
     let list: Vec<SectionFunction<'_>> = selected.functions.collect(alloc)?;
     Ok(list.len())
@@ -262,7 +273,7 @@ pub fn refusal_hints<S: Source<Log = ()>>(alloc: Global, source: &S, fault: &Fau
     match fault {
         Fault::Section(SectionError::Parse(ParseError::SectionIsMissing(".symtab"))) => Hints {
             first: dynamic(alloc, source).unwrap_or(None),
-            second: debug_files(alloc, source).unwrap_or(None),
+            second: stripped(alloc, source).unwrap_or(None),
             excess: None,
         },
         _ => Hints {
@@ -277,10 +288,23 @@ pub fn refusal_hints<S: Source<Log = ()>>(alloc: Global, source: &S, fault: &Fau
 fn dynamic<S: Source<Log = ()>>(alloc: Global, source: &S) -> Result<Option<Hint>, Fault>
     ensures { (file : List ℕ) → S.bytes source.now ≡ Some file → IfOk result (λ hint. hint ≡ dynamic_in file) }
 {
-    match count_in(alloc, source, SymbolTable::Dynsym, Selection::All)? {
+    match count_of_all(alloc, source, SymbolTable::Dynsym)? {
         0 => Ok(None),
         count => Ok(Some(Hint::Dynamic(count))),
     }
+}
+
+// Where the debug symbols of a stripped file may be.
+fn stripped<S: Source<Log = ()>>(alloc: Global, source: &S) -> Result<Option<Hint>, Fault>
+    ensures { (file : List ℕ) → S.bytes source.now ≡ Some file
+        → IfOk result (λ hint. words_of hint ≡ stripped_words (debug_of file)) }
+{
+    let format = read_format(alloc, source, &mut ())?;
+    if is_elf(&format) {
+        return debug_files(alloc, source);
+    }
+    let place = String::from_str(alloc, "a .pdb file, if it is an MSVC program")?;
+    Ok(Some(Hint::Stripped(place)))
 }
 
 // The files with the debug symbols: by the build ID, and by the debug link.

@@ -1,15 +1,16 @@
 //! Shows the function symbols of a file: as a listing, as sums, or as a picture.
 
-ghost use Rattle.std.specs.Prelude.{◌≡◌, ℕ, List, Option, true, Ok, Some, IfOk};
+ghost use Rattle.std.specs.Prelude.{◌≡◌, ℕ, List, Option, true, false, Ok, Some, IfOk};
 ghost use Rattle.binfarce_bytes.specs.Selection.{section_of};
 ghost use Rattle.binfarce_rows.specs.Json.{style_of};
 ghost use Rattle.binfarce.specs.SectionEntries.{SelectedSymbols};
+ghost use Rattle.binfarce_tables.specs.Reading.{Reads};
 ghost use Rattle.binfarce_tools.specs.Answer.{selected_answer, MemoryIn};
-ghost use Rattle.binfarce_tools.specs.Tables.{AreTablesOf, ReadsAs};
+ghost use Rattle.binfarce_tools.specs.Tables.{AreTablesOf, ReadsAs, is_whole};
 ghost use Rattle.binfarce_tools.specs.declared.SymbolTable.{SymbolTable};
 ghost use Rattle.binfarce_tools.specs.Writing.{EndsAs, Takes, Fails, Leaves};
 ghost use Rattle.binfarce_jobs.specs.Faults.{outcome_of};
-ghost use Rattle.binfarce_jobs.specs.Show.{AreTablesFor, Fits, IsSeenOf, IsTextOf, MayEnd, TakesText, answer_for, is_taken, style_for};
+ghost use Rattle.binfarce_jobs.specs.Show.{AreTablesFor, Fits, IsSeenOf, IsTextOf, MayEnd, TakesText, answer_for, has_table, is_taken, style_for};
 
 use crate::fault::Fault;
 use binfarce_bytes::ParseError;
@@ -25,6 +26,7 @@ use binfarce_figures::sums::{Figures, Sums, sum_by};
 use binfarce_rows::json::Form;
 use binfarce_tables::ReadError;
 use binfarce_tables::format::read_format;
+use binfarce_tables::pe::has_symbols;
 use binfarce_tools::SymbolTable;
 use binfarce_tools::list::{Sink, list_selected};
 use binfarce_tools::tables::{Selection, Tables, read_tables};
@@ -82,18 +84,22 @@ pub struct Seen {
 /// # Errors
 ///
 /// Those of `read`. Of a Mach-O or PE file `.text` is the code section, and `SymbolsSectionIsMissing` refuses any other
-/// name.
+/// name. A PE file without a symbol table is refused as an ELF file without one, by `SectionIsMissing` of `.symtab`.
 pub fn tables_of<S: Source<Log = ()>>(
     alloc: Global,
     source: &S,
     symbols: &Symbols<'_>,
 ) -> Result<Tables<'static>, ReadError>
-    ensures { (file : List ℕ) → S.bytes source.now ≡ Some file → ReadsAs (AreTablesFor symbols.now file)
+    ensures reads { (file : List ℕ) → S.bytes source.now ≡ Some file → ReadsAs (AreTablesFor symbols.now file)
         (S.may_fail source.now ≡ true) (answer_for symbols.now file) result }
+    ensures parts { IfOk result (λ tables. is_whole tables ≡ false) }
 {
     let format = read_format(alloc, source, &mut ())?;
     if !is_taken(&format, symbols.selection) {
         return Err(ReadError::Refused(ParseError::SymbolsSectionIsMissing));
+    }
+    if !has_table(alloc, source, &format, symbols.which)? {
+        return Err(ReadError::Refused(ParseError::SectionIsMissing(".symtab")));
     }
     read_tables(
         alloc,
@@ -103,6 +109,23 @@ pub fn tables_of<S: Source<Log = ()>>(
         symbols.which,
         symbols.selection,
     )
+}
+
+// Whether the file has this symbol table: a PE file may have none. That of another file is found when its tables are
+// read.
+fn has_table<S: Source<Log = ()>>(
+    alloc: Global,
+    source: &S,
+    format: &Format,
+    which: SymbolTable,
+) -> Result<bool, ReadError>
+    ensures { (file : List ℕ) → S.bytes source.now ≡ Some file → Reads (S.may_fail source.now) (λ has. has)
+        (has_table which format.now file) result }
+{
+    match (format, which) {
+        (Format::PE, SymbolTable::Symtab) => has_symbols(alloc, source, &mut ()),
+        _ => Ok(true),
+    }
 }
 
 // Whether a file of this format has what is selected: a Mach-O or PE file has the section `.text` alone.

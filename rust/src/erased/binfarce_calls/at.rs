@@ -3,21 +3,25 @@
 //! `binfarce at [OPTION..] FILE..`: its files are opened, read, and placed where they are loaded.
 
 use crate::shim::Vec;
-use crate::erased::binfarce_calls::placing::{base_for, base_given, file_at, path_for};
+use crate::erased::binfarce_calls::placing::{
+    base_for, base_given, count_of_files, file_at, lacks_bytes, path_for,
+};
 use crate::erased::binfarce_addresses::at::Places;
 use crate::erased::binfarce_bytes::source::Source;
-use crate::erased::binfarce_jobs::at::{load_addresses_of, places_of};
+use crate::erased::binfarce_jobs::at::{load_addresses_of, places_of, tables_at};
 use crate::erased::binfarce_jobs::fault::Fault;
 use crate::erased::binfarce_jobs::files::{System, open_input, refuse};
+use crate::erased::binfarce_jobs::hint::Hint;
 use crate::erased::binfarce_jobs::input::OpenFile;
 use crate::erased::binfarce_jobs::message::{Unplaced, unplaced_fault};
-use crate::erased::binfarce_jobs::show::{Symbols, tables_of};
+use crate::erased::binfarce_jobs::show::Symbols;
 use crate::erased::binfarce_logs::maps::NoBase;
 use crate::erased::binfarce_tables::ReadError;
 use crate::erased::binfarce_tables::loading::LoadAddress;
+use crate::erased::binfarce_tools::SymbolTable;
 use crate::erased::binfarce_tools::tables::Tables;
 use crate::erased::binfarce_words::words::Arguments;
-use crate::erased::binfarce_words::words::Flag::Annotate;
+use crate::erased::binfarce_words::words::Flag::{Annotate, Offsets};
 use crate::shim::alloc::{AllocError, Global};
 use crate::shim::io::Read;
 
@@ -30,28 +34,27 @@ pub struct Given<'b, 'm, 'a> {
     pub maps: Option<&'m [u8]>,
 }
 
-/// A file of `at` that is opened.
-pub struct Opened<F> {
-    /// The file.
-    pub file: OpenFile<F>,
-    /// Where it says that it is loaded, where that is asked for.
-    pub loaded: LoadAddress,
-    /// The address in it that an offset of 0 after its name means.
-    pub origin: u64,
+// A file that is opened.
+struct Opened<F> {
+    file: OpenFile<F>,
+    // Where it says that it is loaded, where that is asked for.
+    loaded: LoadAddress,
+    // The address in it that an offset of 0 after its name means.
+    origin: u64,
 }
 
-/// Where a file is placed.
+// Where a file is placed.
 #[derive(Debug, Clone, Copy, PartialEq)]
-pub enum Place {
-    /// At this base, if one is known.
+enum Place {
+    // At this base, if one is known.
     At(Option<u64>),
-    /// The maps don't place it, which is reported.
+    // The maps don't place it, which is reported.
     Refused,
-    /// The maps have no mapping.
+    // The maps have no mapping.
     NoMaps,
 }
 
-/// A file of a text that is read.
+/// A file that is read.
 pub struct Placed<F> {
     /// Its place among the files.
     pub place: usize,
@@ -59,30 +62,29 @@ pub struct Placed<F> {
     pub alone: Option<OpenFile<F>>,
     /// Its tables.
     pub tables: Tables<'static>,
+    /// The symbol table that they are read by.
+    pub which: SymbolTable,
     /// Where it is loaded, if that is known.
     pub base: Option<u64>,
     /// Where it says that it is loaded.
-    pub linked: u64,
+    pub loaded: LoadAddress,
     /// The address in it that an offset of 0 after its name means.
     pub origin: u64,
 }
 
-// Whether a file of a text is read.
-enum ReadFile<F> {
+/// Whether a file is read.
+pub enum ReadFile<F> {
+    /// It is read.
     Placed(Placed<F>),
-    // It is refused, which is reported.
+    /// It is refused, which is reported.
     Refused,
-    // The maps have no mapping.
+    /// The maps have no mapping.
     NoMaps,
 }
 
-/// Opens the file at a place, and reads where it says that it is loaded, if it is asked where it is, or a text is
-/// annotated. `None` where it is refused, which is reported.
-///
-/// # Errors
-///
-/// Those of `refuse`.
-pub fn open_at<F: Read + Source<Log = ()>, Y: System<F>>(
+// Opens the file at a place, and reads where it says that it is loaded, if it is asked where it is, or a text is
+// annotated. `None` where it is refused, which is reported.
+fn open_at<F: Read + Source<Log = ()>, Y: System<F>>(
     alloc: Global,
     system: &mut Y,
     given: &Given<'_, '_, '_>,
@@ -113,7 +115,7 @@ fn loaded_in<S: Source<Log = ()>>(
     place: usize,
 ) -> Result<(LoadAddress, u64), ReadError> {
     let is_placed = given.maps.is_some() || base_given(given.words, place).is_some();
-    if is_placed || given.words.has(Annotate) {
+    if is_placed || given.words.has(Annotate) || given.words.has(Offsets) {
         return load_addresses_of(alloc, file);
     }
     let loaded = LoadAddress {
@@ -123,15 +125,20 @@ fn loaded_in<S: Source<Log = ()>>(
     Ok((loaded, 0))
 }
 
-/// Where the file at a place is loaded, which says that it is loaded there. One that the maps don't place is reported,
-/// unless they have no mapping.
-pub fn place_at<F: Read + Source<Log = ()>, Y: System<F>>(
+// Where the file at a place is loaded, which says that it is loaded there. One that the maps don't place is reported,
+// unless they have no mapping, and one without the bytes that offsets are of.
+fn place_at<F: Read + Source<Log = ()>, Y: System<F>>(
     alloc: Global,
     system: &mut Y,
     given: &Given<'_, '_, '_>,
     place: usize,
     loaded: LoadAddress,
 ) -> Place {
+    if lacks_bytes(given.words, loaded) {
+        let fault = unplaced_fault(alloc, &Unplaced::NoBytes);
+        system.report(file_at(given.words, place), fault, None);
+        return Place::Refused;
+    }
     let why = match base_for(given.words, given.maps, place, loaded) {
         Ok(base) => return Place::At(base),
         Err(why) => why,
@@ -185,8 +192,37 @@ pub fn read_files<F: Read + Source<Log = ()>, Y: System<F>>(
     Ok(Some(files))
 }
 
-// Reads the file at a place. One that is refused is reported.
-fn read_file<F: Read + Source<Log = ()>, Y: System<F>>(
+// The tables in which addresses of the file at a path are looked up, and the symbol table that they are read by: a hint
+// says that it isn't the one that is asked for. `None` where the file is refused, which is reported.
+fn tables_for<F: Read + Source<Log = ()>, Y: System<F>>(
+    alloc: Global,
+    system: &mut Y,
+    path: &str,
+    file: &OpenFile<F>,
+    symbols: &Symbols<'_>,
+) -> Result<Option<(Tables<'static>, SymbolTable)>, Fault> {
+    match tables_at(alloc, file, symbols) {
+        Ok((tables, which)) => {
+            match (symbols.which, which) {
+                (SymbolTable::Symtab, SymbolTable::Dynsym) => system.hint(path, Hint::Instead),
+                _ => {}
+            }
+            Ok(Some((tables, which)))
+        }
+        Err(e) => {
+            refuse(alloc, system, path, file, Fault::from(e))?;
+            Ok(None)
+        }
+    }
+}
+
+/// Opens the file at a place, and reads the tables in which its addresses are looked up, and where it is loaded. One
+/// that is refused is reported.
+///
+/// # Errors
+///
+/// Those of `refuse`.
+pub fn read_file<F: Read + Source<Log = ()>, Y: System<F>>(
     alloc: Global,
     system: &mut Y,
     given: &Given<'_, '_, '_>,
@@ -201,27 +237,25 @@ fn read_file<F: Read + Source<Log = ()>, Y: System<F>>(
         loaded,
         origin,
     } = opened;
-    let tables = match tables_of(alloc, &file, symbols) {
-        Ok(tables) => tables,
-        Err(e) => {
-            refuse(
-                alloc,
-                system,
-                file_at(given.words, place),
-                &file,
-                Fault::from(e),
-            )?;
-            return Ok(ReadFile::Refused);
-        }
+    let Some((tables, which)) = tables_for(
+        alloc,
+        system,
+        file_at(given.words, place),
+        &file,
+        symbols,
+    )?
+    else {
+        return Ok(ReadFile::Refused);
     };
-    let is_alone = given.words.operands.len() == 1;
+    let is_alone = count_of_files(given.words) == 1;
     match place_at(alloc, system, given, place, loaded) {
         Place::At(base) => Ok(ReadFile::Placed(Placed {
             place,
             alone: if is_alone { Some(file) } else { None },
             tables,
+            which,
             base,
-            linked: loaded.address,
+            loaded,
             origin,
         })),
         Place::Refused => Ok(ReadFile::Refused),

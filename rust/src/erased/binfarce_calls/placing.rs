@@ -6,12 +6,12 @@ use crate::erased::binfarce_calls::request::form_of;
 use crate::erased::binfarce_addresses::{Counts, Lookup, parse_address};
 use crate::erased::binfarce_jobs::hint::{Hint, Loaded};
 use crate::erased::binfarce_logs::maps::{NoBase, base_of};
-use crate::erased::binfarce_tables::loading::LoadAddress;
-use crate::erased::binfarce_words::words::Flag::{Annotate, As, Base, Maps, Return};
+use crate::erased::binfarce_tables::loading::{CodeSegment, LoadAddress};
+use crate::erased::binfarce_words::words::Flag::{Annotate, As, Base, Maps, Offsets, Return};
 use crate::erased::binfarce_words::words::{Arguments, Flag};
 
 // How many files there are: all operands where a text is annotated, else the first one.
-fn count_of_files(given: &Arguments<'_>) -> usize {
+pub(crate) fn count_of_files(given: &Arguments<'_>) -> usize {
     let all = given.operands.len();
     if given.has(Annotate) { all } else { all.min(1) }
 }
@@ -61,18 +61,46 @@ pub fn base_for(
     }
 }
 
+/// Whether addresses are offsets in a file that says that it is loaded there, and has no code with bytes.
+pub(crate) fn lacks_bytes(given: &Arguments<'_>, loaded: LoadAddress) -> bool {
+    given.has(Offsets) && !has_bytes(loaded.code)
+}
+
+// Whether there is a segment with bytes.
+fn has_bytes(code: Option<CodeSegment>) -> bool {
+    match code {
+        Some(code) => code.size > 0,
+        None => false,
+    }
+}
+
+// What is looked up in a file that is loaded at the base, if that is known, and says itself that it is loaded there: from
+// where on, the file's address for that, and how many bytes. Addresses from the base on, or offsets of the code.
+fn span_for(
+    given: &Arguments<'_>,
+    base: Option<u64>,
+    loaded: LoadAddress,
+) -> (Option<u64>, u64, Option<u64>) {
+    match loaded.code {
+        Some(code) if given.has(Offsets) => (Some(code.offset), code.address, Some(code.size)),
+        _ => (base, loaded.address, None),
+    }
+}
+
 /// How addresses are looked up in the file at a place, which is loaded at the base, if that is known, and says itself
-/// that it is loaded at the linked address; an offset of 0 after its name means the origin.
+/// that it is loaded there; an offset of 0 after its name means the origin, unless addresses are offsets in the file.
 pub fn lookup_for<'a>(
     given: &Arguments<'a>,
     place: usize,
     base: Option<u64>,
-    linked: u64,
+    loaded: LoadAddress,
     origin: u64,
 ) -> Lookup<'a> {
+    let (base, linked, size) = span_for(given, base, loaded);
     Lookup {
         base,
         linked,
+        size,
         origin,
         is_return: given.has(Return),
         form: form_of(given, file_at(given, place)),
@@ -80,12 +108,16 @@ pub fn lookup_for<'a>(
     }
 }
 
-/// What is known of where the files are loaded.
-pub fn loaded_by(given: &Arguments<'_>) -> Loaded {
-    if given.has(Maps) {
+/// What is known of where the files are loaded, or that one of the addresses is behind a function symbol.
+pub fn loaded_by(given: &Arguments<'_>, is_behind: bool) -> Loaded {
+    if is_behind {
+        Loaded::Behind
+    } else if given.has(Maps) {
         Loaded::Maps
     } else if given.has(Base) {
         Loaded::Base
+    } else if given.has(Offsets) {
+        Loaded::Offsets
     } else {
         Loaded::Unknown
     }

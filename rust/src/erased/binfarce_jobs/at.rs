@@ -8,12 +8,14 @@ use crate::erased::binfarce_jobs::show::{Symbols, tables_of};
 use crate::erased::binfarce_addresses::at::{Places, write_lines};
 use crate::erased::binfarce_addresses::stream::answer_lines;
 use crate::erased::binfarce_addresses::{Counts, Lookup, parse_address};
+use crate::erased::binfarce_bytes::ParseError;
 use crate::erased::binfarce_bytes::format::Format;
 use crate::erased::binfarce_bytes::source::Source;
 use crate::erased::binfarce_tables::ReadError;
 use crate::erased::binfarce_tables::format::read_format;
 use crate::erased::binfarce_tables::loading::{LoadAddress, read_load_address};
-use crate::erased::binfarce_tools::list::Sink;
+use crate::erased::binfarce_tools::SymbolTable;
+use crate::erased::binfarce_tools::list::{ListError, Sink};
 use crate::erased::binfarce_tools::tables::Tables;
 use crate::erased::binfarce_words::words::Wrong;
 use crate::shim::alloc::Global;
@@ -45,28 +47,116 @@ pub struct Answered {
     pub counts: Counts,
     /// How many function symbols they were looked up in.
     pub symbols: usize,
+    /// Whether one of them would be found as a return address. Of lines of standard input, which aren't kept, this isn't
+    /// asked.
+    pub is_behind: bool,
 }
 
-/// Symbolizes the addresses, by this lookup and these function symbols, and counts them. Of the source it reads the
-/// headers, the symbol table and the names alone.
+/// The tables of the source in which addresses are looked up, and the symbol table that they are read by: those for
+/// these function symbols; of an ELF file without `.symtab` those by `.dynsym`, if it has function symbols there.
 ///
 /// # Errors
 ///
-/// `Unreadable` where a read fails; `Unknown`, `Parse`, `OutOfMemory` and `Write` as `at` refuses; `SharedAddresses`
-/// for all sections of an object file.
-pub fn answer_all<S: Source<Log = ()>, K: Sink>(
+/// Those of `tables_of` for these function symbols; a failed read or allocation also for those by `.dynsym`.
+pub fn tables_at<S: Source<Log = ()>>(
     alloc: Global,
     source: &S,
     symbols: &Symbols<'_>,
+) -> Result<(Tables<'static>, SymbolTable), ReadError> {
+    let format = read_format(alloc, source, &mut ())?;
+    match tables_of(alloc, source, symbols) {
+        Ok(tables) => Ok((tables, symbols.which)),
+        Err(e) => tables_after(alloc, source, symbols, &format, e),
+    }
+}
+
+// The tables of a file of this format, of which those for these function symbols weren't read.
+fn tables_after<S: Source<Log = ()>>(
+    alloc: Global,
+    source: &S,
+    symbols: &Symbols<'_>,
+    format: &Format,
+    e: ReadError,
+) -> Result<(Tables<'static>, SymbolTable), ReadError> {
+    if is_elf(format) && is_no_symtab(e) {
+        if let Some(tables) = dynamic_tables(alloc, source, symbols)? {
+            return Ok((tables, SymbolTable::Dynsym));
+        }
+    }
+    Err(e)
+}
+
+// Whether a file is refused since it has no `.symtab`.
+fn is_no_symtab(e: ReadError) -> bool {
+    matches!(
+        e,
+        ReadError::Refused(ParseError::SectionIsMissing(".symtab"))
+    )
+}
+
+// The tables by `.dynsym`. `None` where these are refused, or have no function symbol.
+fn dynamic_tables<S: Source<Log = ()>>(
+    alloc: Global,
+    source: &S,
+    symbols: &Symbols<'_>,
+) -> Result<Option<Tables<'static>>, ReadError> {
+    let dynamic = Symbols {
+        which: SymbolTable::Dynsym,
+        selection: symbols.selection,
+    };
+    let tables = match tables_of(alloc, source, &dynamic) {
+        Ok(tables) => tables,
+        Err(ReadError::Refused(_)) => return Ok(None),
+        Err(e) => return Err(e),
+    };
+    if has_functions(alloc, &tables)? {
+        Ok(Some(tables))
+    } else {
+        Ok(None)
+    }
+}
+
+// Whether tables have a function symbol.
+fn has_functions(alloc: Global, tables: &Tables<'_>) -> Result<bool, ReadError> {
+    match tables.functions(alloc) {
+        Ok(selected) => Ok(!selected.functions.is_empty()),
+        Err(ListError::OutOfMemory) => Err(ReadError::OutOfMemory),
+        Err(_) => Ok(false),
+    }
+}
+
+/// Symbolizes the addresses, by this lookup and the function symbols of these tables, and counts them.
+///
+/// # Errors
+///
+/// `Unknown`, `Parse`, `OutOfMemory` and `Write` as `at` refuses; `SharedAddresses` for all sections of an object file.
+pub fn answer_all<K: Sink>(
+    alloc: Global,
+    tables: &Tables<'_>,
     lookup: Lookup<'_>,
     addresses: &[u64],
     out: &mut K,
 ) -> Result<Answered, Fault> {
-    let tables = tables_of(alloc, source, symbols)?;
-    let places = places_of(alloc, &tables)?;
+    let places = places_of(alloc, tables)?;
     let counts = write_lines(alloc, &places, lookup, addresses, out)?;
-    let symbols = places.len();
-    Ok(Answered { counts, symbols })
+    Ok(Answered {
+        counts,
+        symbols: places.len(),
+        is_behind: are_behind(&places, lookup, addresses),
+    })
+}
+
+// Whether one of the addresses would be found as a return address.
+fn are_behind(places: &Places<'_>, lookup: Lookup<'_>, addresses: &[u64]) -> bool {
+    addresses
+        .iter()
+        .any(|address| is_behind(places, lookup, *address))
+}
+
+fn is_behind(places: &Places<'_>, lookup: Lookup<'_>, address: u64) -> bool {
+    let mut returning = lookup;
+    returning.is_return = true;
+    places.find(returning, address).is_some()
 }
 
 /// Where the file itself says that it is loaded, which is the address of the base, at 0 if it doesn't say it; and the
@@ -89,7 +179,7 @@ pub fn load_addresses_of<S: Source<Log = ()>>(
     Ok((loaded, if elf { 0 } else { loaded.address }))
 }
 
-fn is_elf(format: &Format) -> bool {
+pub(crate) fn is_elf(format: &Format) -> bool {
     match format {
         Format::Elf32 { .. } | Format::Elf64 { .. } => true,
         _ => false,
@@ -114,17 +204,18 @@ pub fn places_of<'a>(alloc: Global, tables: &'a Tables<'_>) -> Result<Places<'a>
 /// # Errors
 ///
 /// Those of `answer_all`, before anything of `input` is read; `Input` where it can't be read.
-pub fn answer_input<S: Source<Log = ()>, I: Read, K: Sink>(
+pub fn answer_input<I: Read, K: Sink>(
     alloc: Global,
-    source: &S,
-    symbols: &Symbols<'_>,
+    tables: &Tables<'_>,
     lookup: Lookup<'_>,
     input: &mut I,
     out: &mut K,
 ) -> Result<Answered, Fault> {
-    let tables = tables_of(alloc, source, symbols)?;
-    let places = places_of(alloc, &tables)?;
+    let places = places_of(alloc, tables)?;
     let counts = answer_lines(alloc, &places, lookup, input, out)?;
-    let symbols = places.len();
-    Ok(Answered { counts, symbols })
+    Ok(Answered {
+        counts,
+        symbols: places.len(),
+        is_behind: false,
+    })
 }

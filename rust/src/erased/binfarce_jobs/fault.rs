@@ -30,7 +30,7 @@ pub enum Fault {
     NotUtf8,
     /// The sections of an object file share addresses, so one has to be named.
     SharedAddresses,
-    /// The maps don't say where the file is loaded, and why in words.
+    /// Where the file is loaded isn't known, and why in words.
     Unplaced(String),
     /// This many lines of standard input have no address; all lines were answered.
     Missing(u64),

@@ -4,10 +4,11 @@
 //! status on those alone that say that a limit is exceeded.
 
 use crate::shim::{CollectIn, String, Vec};
+use crate::erased::binfarce_jobs::at::is_elf;
 use crate::erased::binfarce_jobs::fault::Fault;
 use crate::erased::binfarce_jobs::limit::above;
 use crate::erased::binfarce_jobs::message::push_byte;
-use crate::erased::binfarce_jobs::show::{Kind, Request, Seen, Symbols};
+use crate::erased::binfarce_jobs::show::{Kind, Request, Seen, Symbols, tables_of};
 use crate::erased::binfarce_bytes::ParseError;
 use crate::erased::binfarce_bytes::format::Format;
 use crate::erased::binfarce_bytes::functions::SectionFunction;
@@ -20,7 +21,7 @@ use crate::erased::binfarce_sections::error::SectionError;
 use crate::erased::binfarce_tables::format::read_format;
 use crate::erased::binfarce_tools::SymbolTable;
 use crate::erased::binfarce_tools::list::Out;
-use crate::erased::binfarce_tools::tables::{Selection, read};
+use crate::erased::binfarce_tools::tables::Selection;
 use crate::erased::binfarce_words::words::Limit;
 use crate::shim::alloc::{AllocError, Global};
 use core::fmt;
@@ -40,6 +41,8 @@ pub enum Hint {
     Others(usize),
     /// The dynamic symbol table has so many function symbols.
     Dynamic(usize),
+    /// The file has no symbol table, and function symbols are those of its dynamic one.
+    Instead,
     /// The file is stripped, and its debug symbols may be there.
     Stripped(String),
     /// None of so many addresses is in a function symbol.
@@ -78,6 +81,10 @@ pub enum Loaded {
     Base,
     /// Its mappings.
     Maps,
+    /// Addresses are offsets in it.
+    Offsets,
+    /// One of the addresses is behind a function symbol, as a return address may be.
+    Behind,
 }
 
 impl fmt::Display for Hint {
@@ -98,6 +105,7 @@ impl fmt::Display for Hint {
                 "no function symbols in the section; --all takes {count}"
             ),
             Hint::Dynamic(count) => write!(f, "--dynamic --all takes {count} function symbols"),
+            Hint::Instead => write!(f, "no symbol table (.symtab): names are those of .dynsym"),
             Hint::Stripped(places) => write!(f, "its debug symbols may be in {places}"),
             Hint::Missed(count, loaded) => {
                 let why = loaded.words();
@@ -136,6 +144,8 @@ impl Loaded {
             Loaded::Unknown => "--base or --maps is needed for addresses in memory",
             Loaded::Base => "is --base right?",
             Loaded::Maps => "are --maps and the addresses of one process?",
+            Loaded::Behind => "--return looks each up as a return address, behind a call",
+            Loaded::Offsets => "are they offsets in the file?",
         }
     }
 }
@@ -193,7 +203,7 @@ pub fn lack<S: Source<Log = ()>>(
     }
     let all = match symbols.selection {
         Selection::All => 0,
-        Selection::Section(_) => count_in(alloc, source, symbols.which, Selection::All)?,
+        Selection::Section(_) => count_of_all(alloc, source, symbols.which)?,
     };
     let format = read_format(alloc, source, &mut ())?;
     Ok(Some(lack_by(symbols.which, &format, all)))
@@ -210,14 +220,17 @@ fn lack_by(which: SymbolTable, format: &Format, all: usize) -> Hint {
     }
 }
 
-// How many function symbols a selection has.
-fn count_in<S: Source<Log = ()>>(
+// How many function symbols all sections have.
+fn count_of_all<S: Source<Log = ()>>(
     alloc: Global,
     source: &S,
     which: SymbolTable,
-    selection: Selection<'_>,
 ) -> Result<usize, Fault> {
-    let tables = read(alloc, source, &mut (), which, selection)?;
+    let all = Symbols {
+        which,
+        selection: Selection::All,
+    };
+    let tables = tables_of(alloc, source, &all)?;
     let selected = tables.functions(alloc)?;
     let list: Vec<SectionFunction<'_>> = selected.functions.collect_in(alloc)?;
     Ok(list.len())
@@ -229,7 +242,7 @@ pub fn refusal_hints<S: Source<Log = ()>>(alloc: Global, source: &S, fault: &Fau
     match fault {
         Fault::Section(SectionError::Parse(ParseError::SectionIsMissing(".symtab"))) => Hints {
             first: dynamic(alloc, source).unwrap_or(None),
-            second: debug_files(alloc, source).unwrap_or(None),
+            second: stripped(alloc, source).unwrap_or(None),
             excess: None,
         },
         _ => Hints {
@@ -242,10 +255,20 @@ pub fn refusal_hints<S: Source<Log = ()>>(alloc: Global, source: &S, fault: &Fau
 
 // How many dynamic function symbols the file has, if it has any.
 fn dynamic<S: Source<Log = ()>>(alloc: Global, source: &S) -> Result<Option<Hint>, Fault> {
-    match count_in(alloc, source, SymbolTable::Dynsym, Selection::All)? {
+    match count_of_all(alloc, source, SymbolTable::Dynsym)? {
         0 => Ok(None),
         count => Ok(Some(Hint::Dynamic(count))),
     }
+}
+
+// Where the debug symbols of a stripped file may be.
+fn stripped<S: Source<Log = ()>>(alloc: Global, source: &S) -> Result<Option<Hint>, Fault> {
+    let format = read_format(alloc, source, &mut ())?;
+    if is_elf(&format) {
+        return debug_files(alloc, source);
+    }
+    let place = String::from_str(alloc, "a .pdb file, if it is an MSVC program")?;
+    Ok(Some(Hint::Stripped(place)))
 }
 
 // The files with the debug symbols: by the build ID, and by the debug link.

@@ -29,15 +29,17 @@ impl fmt::Display for Message {
     }
 }
 
-/// Why maps don't place a file.
+/// Why a file isn't placed.
 #[derive(Debug, Clone, Copy, PartialEq)]
 pub enum Unplaced<'a> {
-    /// They map no file of this path, or of this name in it, if it has another.
+    /// The maps have no file of this path, or of this name in it, if it has another.
     NotMapped(&'a str, Option<&'a str>),
-    /// The file of this path has code, and they have neither this nor its first byte.
+    /// The file of this path has code, and the maps have neither this nor its first byte.
     NoCode(&'a str),
-    /// They have the code of the file of this path at several addresses.
+    /// The maps have the code of the file of this path at several addresses.
     Several(&'a str),
+    /// It states no code segment with bytes, in which offsets would be.
+    NoBytes,
 }
 
 impl<'a> fmt::Display for Unplaced<'a> {
@@ -53,17 +55,21 @@ impl<'a> fmt::Display for Unplaced<'a> {
             ),
             Unplaced::NoCode(path) => write!(
                 f,
-                "the maps don't have the code of {path}, or its first byte; give --base, or more of the maps"
+                "the maps don't say where the code of {path} is; give --base, or more of the maps"
             ),
             Unplaced::Several(path) => write!(
                 f,
                 "{path} is at several addresses in the maps; give --base in place of --maps, or --as=PATH for one of several paths"
             ),
+            Unplaced::NoBytes => write!(
+                f,
+                "no code segment with bytes; --offsets takes ELF programs and shared objects, and not their debug files"
+            ),
         }
     }
 }
 
-/// The fault of a file that the maps don't place: why in words, or that there is no memory for these.
+/// The fault of a file that isn't placed: why in words, or that there is no memory for these.
 pub fn unplaced_fault(alloc: Global, why: &Unplaced<'_>) -> Fault {
     match String::formatted(alloc, format_args!("{why}")) {
         Ok(words) => Fault::Unplaced(words),

@@ -17,6 +17,7 @@ use crate::erased::binfarce_figures::sums::{Figures, Sums, sum_by};
 use crate::erased::binfarce_rows::json::Form;
 use crate::erased::binfarce_tables::ReadError;
 use crate::erased::binfarce_tables::format::read_format;
+use crate::erased::binfarce_tables::pe::has_symbols;
 use crate::erased::binfarce_tools::SymbolTable;
 use crate::erased::binfarce_tools::list::{Sink, list_selected};
 use crate::erased::binfarce_tools::tables::{Selection, Tables, read_tables};
@@ -74,7 +75,7 @@ pub struct Seen {
 /// # Errors
 ///
 /// Those of `read`. Of a Mach-O or PE file `.text` is the code section, and `SymbolsSectionIsMissing` refuses any other
-/// name.
+/// name. A PE file without a symbol table is refused as an ELF file without one, by `SectionIsMissing` of `.symtab`.
 pub fn tables_of<S: Source<Log = ()>>(
     alloc: Global,
     source: &S,
@@ -84,6 +85,9 @@ pub fn tables_of<S: Source<Log = ()>>(
     if !is_taken(&format, symbols.selection) {
         return Err(ReadError::Refused(ParseError::SymbolsSectionIsMissing));
     }
+    if !has_table(alloc, source, &format, symbols.which)? {
+        return Err(ReadError::Refused(ParseError::SectionIsMissing(".symtab")));
+    }
     read_tables(
         alloc,
         source,
@@ -92,6 +96,20 @@ pub fn tables_of<S: Source<Log = ()>>(
         symbols.which,
         symbols.selection,
     )
+}
+
+// Whether the file has this symbol table: a PE file may have none. That of another file is found when its tables are
+// read.
+fn has_table<S: Source<Log = ()>>(
+    alloc: Global,
+    source: &S,
+    format: &Format,
+    which: SymbolTable,
+) -> Result<bool, ReadError> {
+    match (format, which) {
+        (Format::PE, SymbolTable::Symtab) => has_symbols(alloc, source, &mut ()),
+        _ => Ok(true),
+    }
 }
 
 // Whether a file of this format has what is selected: a Mach-O or PE file has the section `.text` alone.

@@ -24,7 +24,7 @@ pub returns-in-Ok-clause-reads : goal.returns-in-Ok-clause-reads
 returns-in-Ok-clause-reads g c = λ file is.
     let read = c.in-Some.ensures.input file is in
     let opened = c.open_input.new.system in (
-      record { part = read.0; is_part = read.1; held = read.2; is_read = read.4; tables_are = c.in-Ok.ensures read.0 read.2 },
+      record { part = read.0; is_part = read.1; held = read.2; is_read = read.4; tables_are = c.in-Ok.ensures.reads read.0 read.2 },
       (
         grows_unless (g.Y.System.reports c.args.system.now) (g.Y.System.reports opened) (ap g.Y.System.reports c.in-Some.ensures.unchanged),
         grows_unless (g.Y.System.hints c.args.system.now) (g.Y.System.hints opened) (ap g.Y.System.hints c.in-Some.ensures.unchanged),
@@ -55,6 +55,6 @@ returns-clause-reads g c = λ file is.
     let opened = messages (g.Y.System.reports c.open_input.new.system) (g.Y.System.hints c.open_input.new.system) in
     let after = messages (g.Y.System.reports c.refuse.new.system) (g.Y.System.hints c.refuse.new.system) in
     let of_file : is_of_file fault ≡ true = ap is_of_file c.from.ensures ∙ read_of_file c.in-Err.e in
-    let may = subst (λ (f : Fault). MayBeRefused (HasNoSum c.args.symbols.now) may_fail file f) (sym c.from.ensures) (unread c.args.symbols.now may_fail (may_fail_of g.F.Source.may_fail c.in-Some.file ≡ true) file read.0 c.in-Err.e read.4 read.1 read.3 (c.in-Err.ensures read.0 read.2)) in
+    let may = subst (λ (f : Fault). MayBeRefused (HasNoSum c.args.symbols.now) may_fail file f) (sym c.from.ensures) (unread c.args.symbols.now may_fail (may_fail_of g.F.Source.may_fail c.in-Some.file ≡ true) file read.0 c.in-Err.e read.4 read.1 read.3 (c.in-Err.ensures.reads read.0 read.2)) in
     refused_since (MayBeRefused (HasNoSum c.args.symbols.now) may_fail file) path file start opened after (ap g.Y.System.reports c.in-Some.ensures.unchanged) (ap g.Y.System.hints c.in-Some.ensures.unchanged)
     (was_refused (MayBeRefused (HasNoSum c.args.symbols.now) may_fail file) path file read.0 opened after fault (is_of_file fault) c.refuse.result of_file read.1 may c.refuse.ensures.reports (c.refuse.ensures.hints read.0 read.2))

@@ -1,5 +1,5 @@
 use Rattle.std.proofs.Common.{◌≡◌, [], Option, None, Result, Ok, Err, IfOk, Bool, true, ap, if◌then◌else◌, rules, subst, sym}
-use Rattle.binfarce_jobs.specs.Hints.{IsOrNone, debug_in, dynamic_in, is_stripped, stripped_words, words_of}
+use Rattle.binfarce_jobs.specs.Hints.{IsOrNone, debug_of, dynamic_in, is_stripped, stripped_words, words_of}
 use Rattle.binfarce_jobs.specs.declared.fault.Fault.{Fault}
 use Rattle.binfarce_jobs.specs.declared.hint.Hint.{Hint}
 use Rattle.binfarce_jobs.proofs.Said.{said_or_none}
@@ -19,6 +19,6 @@ returns-in-Section-Parse-SectionIsMissing-text-clause-first g c = λ file is.
 pub returns-in-Section-Parse-SectionIsMissing-text-clause-second : goal.returns-in-Section-Parse-SectionIsMissing-text-clause-second
 returns-in-Section-Parse-SectionIsMissing-text-clause-second g c = λ file is.
     let stripped : is_stripped c.args.fault.now ≡ true = search rules in
-    let said = said_or_none (stripped_words (debug_in file)) c.debug_files.result (c.debug_files.ensures file is) in
-    subst (λ (b : Bool). IsOrNone (if b then stripped_words (debug_in file) else []) (words_of c.unwrap_or-in-Section-Parse-SectionIsMissing-text.result)) (sym stripped)
-    (subst (λ (h : Option Hint). IsOrNone (stripped_words (debug_in file)) (words_of h)) (sym c.unwrap_or-in-Section-Parse-SectionIsMissing-text.ensures) said)
+    let said = said_or_none (stripped_words (debug_of file)) c.stripped.result (c.stripped.ensures file is) in
+    subst (λ (b : Bool). IsOrNone (if b then stripped_words (debug_of file) else []) (words_of c.unwrap_or-in-Section-Parse-SectionIsMissing-text.result)) (sym stripped)
+    (subst (λ (h : Option Hint). IsOrNone (stripped_words (debug_of file)) (words_of h)) (sym c.unwrap_or-in-Section-Parse-SectionIsMissing-text.ensures) said)

@@ -242,13 +242,14 @@ for first, line in ((b"a" * 512, is_text), (b"a" * 511 + b"\0", unknown), (b"!<a
     ends(1, "", f"binfarce: /dev/stdin: {line}", "binfarce", "list", "/dev/stdin", given=f"/dev/fd/{reader}")
     assert os.read(reader, 9) == b"\0rest", "more of a pipe is read than its first bytes"
 
-# A file's length is asked once, and its beginning read once; a pipe isn't read byte by byte.
+# A file's length is asked once, and its beginning read once; a pipe isn't read byte by byte. Of a file without a symbol table `at` looks for the dynamic one.
 if not is_static:
     for words in (["list"], ["list", "--all"], ["size"], ["map"], ["section"], ["at", "1000"], ["at", "--base=400000", "401000"]):
-        for path in (sample, large, "rust/samples/macho.bin", "rust/samples/pe.bin", assembled("no-functions", 4096)):
+        for path in (sample, large, "rust/samples/macho.bin", "rust/samples/pe.bin", bare := assembled("no-functions", 4096)):
+            most = 15 if words[0] == "at" and path == bare else 12
             made = system_calls(words[0], path, *words[1:])
             asked, start = [name for name, *_ in made], [it for it in made if it[0] == "pread" and it[1] < 512]
-            assert asked.count("statx") == 1 and "read" not in asked and len(start) == 1 and len(made) <= 12, f"{words} {path}: {made}"
+            assert asked.count("statx") == 1 and "read" not in asked and len(start) == 1 and len(made) <= most, f"{words} {path}: {made}"
         made = system_calls(words[0], "/dev/stdin", *words[1:], given=data)
         assert len(made) <= 6, f"{words} of a pipe: {made}"
 
@@ -387,7 +388,7 @@ ends(0, f"{0x400005:016x} foo+0x5\n", "", *at, "--base=400000", linked, "400005"
 ends(0, "linked+0x1005 <foo+0x5> 0x1005 <foo+0x5>\n(linked+0x1005 <foo+0x5>)\n\t(linked+0x1005 <foo+0x5>)\tlinked+0x1005 <foo+0x5>\n", "",
     *at, "--annotate", linked, given=b"linked+0x1005 0x1005\n(linked+0x1005)\n\t(linked+0x1005)\tlinked+0x1005\n")
 # Where it has code, that is loaded 0x1000 behind its page, whatever else is mapped of it; unless it is at two places.
-data[-52:-40], data[-24:-16] = b"\1" + bytes(3) + 0x10.to_bytes(8, "little"), 0x100.to_bytes(8, "little")
+data[-52:-40], data[-24:] = b"\1" + bytes(3) + 0x10.to_bytes(8, "little"), b"".join(n.to_bytes(8, "little") for n in (0x100, 0x1000, 0x1000))
 pathlib.Path(linked).write_bytes(data)
 read, code, again = (f"{start}000-{start}fff {kind}p 00000000 fe:00 11  {path}\n" for start, kind, path in
     (("300", "r--", "/x/linked"), ("400", "r-x", "/x/linked (deleted)"), ("500", "r-x", "/y/linked")))
@@ -400,12 +401,54 @@ for fault in ("ip 0000000000400005 sp 0 error 4 in linked[5,400000+1000] likely 
     ends(0, f"{0x400005:016x} foo+0x5\n", "", *code_at, "400005", given=f"[ 3.7] linked[7]: segfault at 0 {fault}\n".encode())
 # Other mappings of a file with code don't place it, but for that of its first byte.
 for kind, offset in (("r--p", "00005000"), ("r-xp", "00001000")):
-    ends(1, "", f"binfarce: {linked}: the maps don't have the code of {linked}, or its first byte; give --base, or more of the maps", *code_at, "400005",
+    ends(1, "", f"binfarce: {linked}: the maps don't say where the code of {linked} is; give --base, or more of the maps", *code_at, "400005",
         given=f"00400000-00401000 {kind} {offset} fe:00 11 {linked}\n".encode())
-ends(0, f"{0x400005:016x} foo+0x5\n", "", *code_at, "400005", given=f"00400000-00401000 r--p 00000000 fe:00 11 {linked}\n".encode())
+first = f"00400000-00401000 r--p 00000000 fe:00 11 {linked}\n"
+ends(0, f"{0x400005:016x} foo+0x5\n", "", *code_at, "400005", given=first.encode())
+# Where pages may be larger, the first byte, and a fault without an offset, don't say where the code is; of a debug file, without code bytes, its mapping does.
+nowhere = f"binfarce: {linked}: the maps don't say where the code of {linked} is; give --base, or more of the maps"
+data[-8:] = 0x10000.to_bytes(8, "little")
+pathlib.Path(linked).write_bytes(data)
+for it in (first, "linked[7]: segfault at 0 ip 0000000000400005 sp 0 error 4 in linked[400000+1000]\n"):
+    ends(1, "", nowhere, *code_at, "400005", given=it.encode())
+data[-24:-16] = bytes(8)
+pathlib.Path(linked).write_bytes(data)
+for start, offset in (("400", "00001000"), ("3ff", "00010000")):
+    ends(0, f"{0x400005:016x} foo+0x5\n", "", *code_at, "400005", given=f"00{start}000-00403000 r-xp {offset} fe:00 11 {linked}\n".encode())
+ends(1, "", nowhere, *code_at, "400005", given=f"00400000-00403000 r-xp 00002000 fe:00 11 {linked}\n".encode())
+data[-24:] = b"".join(n.to_bytes(8, "little") for n in (0x100, 0x1000, 0x1000))
+pathlib.Path(linked).write_bytes(data)
 fault = "linked[7]: segfault at 0 ip 0000000000400005 sp 0 error 4 in linked[5,400000+1000]\n"
 ends(0, fault.replace(" sp", " <foo+0x5> sp"), "", *at, "--annotate", "--bare", "--maps=-", linked, given=fault.encode())
 ends(2, "", "binfarce: no line of /dev/stdin is one of /proc/PID/maps", *code_at, "400005", given=fault.replace("ip 0000000000400005", "ip 00000000003ff005").encode())
+# Offsets in the file are those of its code, here 14 bytes at 0x800 for 0x1002; of return addresses also that behind them. Other offsets aren't found.
+data[-48:-32], data[-24:-16] = 0x800.to_bytes(8, "little") + 0x1002.to_bytes(8, "little"), (14).to_bytes(8, "little")
+pathlib.Path(linked).write_bytes(data)
+offsets, debug = (*at, "--offsets"), f"{scratch}/debug"
+for words, known in (((), ((0x7ff, "??"), (0x800, "foo+0x2"), (0x80d, "foo+0xf"), (0x80e, "??"), (0x1002, "??"))), (("--return",), ((0x800, "foo+0x2"), (0x80e, "foo+0x10"), (0x80f, "??")))):
+    ends(0, "".join(f"{it:016x} {answer}\n" for it, answer in known), "", *offsets, *words, linked, *(f"{it:x}" for it, answer in known))
+ends(0, f"{0x800:016x} foo+0x2\n{0x1002:016x} ??\n", "", *offsets, linked, given=b"800\n1002\n")
+in_text = b"0x0800 linked+0x800 (linked+0x803) linked+0x1002 0x1002\n"
+ends(0, in_text.replace(b"800", b"800 <foo+0x2>").replace(b"803", b"803 <foo+0x5>"), "", *offsets, "--annotate", linked, given=in_text)
+ends(0, f"{0x1002:016x} ??\n", f"binfarce: {linked}: 0 of 1 addresses are in a function symbol; are they offsets in the file?", *offsets, linked, "1002")
+# A file of another format, an object file and a debug file have no code with bytes.
+pathlib.Path(debug).write_bytes(data[:-24] + bytes(8) + data[-16:])
+no_code = "no code segment with bytes; --offsets takes ELF programs and shared objects, and not their debug files"
+for path in (sample, debug, "rust/samples/macho.bin", "rust/samples/pe-image.bin"):
+    ends(1, "", f"binfarce: {path}: {no_code}", *offsets, path, "800")
+ends(1, json.dumps({"file": debug, "error": no_code}, separators=(",", ":")) + "\n", f"binfarce: {debug}: {no_code}", *offsets, "--json", debug, "800")
+ends(1, b"linked+0x800 <foo+0x2>\n", f"binfarce: {debug}: {no_code}", *offsets, "--annotate", debug, linked, given=b"linked+0x800\n")
+ends(2, "", "binfarce: --base and --offsets exclude each other", *offsets, "--base=0", linked, "800")
+ends(2, "", "binfarce: --maps and --offsets exclude each other", *offsets, f"--maps={maps}", linked, "800")
+# In a program whose addresses are 0x400000 more than offsets each function has the name that its address has.
+moved, code = f"{scratch}/moved", "int one(int x) { return x + 1; } int main(void) { return one(1); }"
+printed("gcc", "-no-pie", "-static", "-Wl,-z,noseparate-code", "-o", moved, "-x", "c", "-", given=code)
+start, first, size = (int(it, 16) for it in re.search(r"LOAD +(\S+) (\S+) \S+ (\S+) \S+ R E", printed("readelf", "-lW", moved)).groups())
+starts = [address for it in re.findall(r": (\w+) +[1-9]\d* FUNC", printed("readelf", "-sW", moved)) if first <= (address := int(it, 16)) < first + size]
+assert first - start == 0x400000 and len(starts) > 100, "gcc links otherwise"
+by_address, by_offset = ([line[17:] for line in printed(folder / "binfarce", "at", *words, moved, given="".join(f"{it - less:x}\n" for it in starts)).splitlines()]
+    for words, less in (((), 0), (("--offsets",), first - start)))
+assert by_address == by_offset and "one+0x0" in by_offset, "an offset has another name than its address"
 data[56] = 2
 pathlib.Path(linked).write_bytes(data)
 ends(0, f"{0x1005:016x} foo+0x5\n", "", *at, linked, "1005")
@@ -428,11 +471,35 @@ build_id = re.search("Build ID: (..)(.*)", printed("readelf", "-n", stripped))
 printed("objcopy", "--remove-section=.gnu_debuglink", stripped)
 line = f"{stripped}: no symbol table (.symtab): it is stripped\nbinfarce: {stripped}: --dynamic --all takes {len(symbols)} function symbols\n"
 line += f"binfarce: {stripped}: its debug symbols may be in /usr/lib/debug/.build-id/{build_id[1]}/{build_id[2]}.debug"
-for words in (["list"], ["size", "--all"], ["map"], ["diff", sample], ["at", "--base=1000"]):
+for words in (["list"], ["size", "--all"], ["map"], ["diff", sample]):
     ends(1, "", f"binfarce: {line}", "binfarce", *words, stripped)
 starts = [row[0] for row in symbols]
 address, name = next((row[0], row[3]) for row in symbols if starts.count(row[0]) == 1)
 ends(0, f"0x{address} <{name}+0x0>\n", "", "binfarce", "at", "--annotate", "--dynamic", stripped, given=f"0x{address}\n".encode())
+# Without `.symtab`, `at` takes `.dynsym`, and says so once; without functions in either the file is refused.
+instead = "no symbol table (.symtab): names are those of .dynsym"
+ends(0, f"{address} {name}+0x0\n" * 2, f"binfarce: {stripped}: {instead}", "binfarce", "at", stripped, address, address)
+ends(0, f"{address} {name}+0x0\n" * 2, f"binfarce: {stripped}: {instead}", "binfarce", "at", stripped, given=f"{address}\n{address}\n".encode())
+ends(0, f"0x{address} <{name}+0x0> 0x140001017 <g+0x7>\n", f"binfarce: {stripped}: {instead}", "binfarce", "at", "--annotate", "rust/samples/pe-image.bin", stripped,
+     given=f"0x{address} 0x140001017\n".encode())
+ends(0, f"{address} {name}+0x0\n", "", "binfarce", "at", "--dynamic", stripped, address)
+bare = f"{scratch}/bare"
+printed("gcc", "-static", "-nostdlib", "-Wl,--build-id=none", "-s", "-o", bare, "-x", "c", "-", given="int _start() { return 0; }")
+for words in ((), ("--annotate",), ("--section=.text",)):
+    ends(1, "", f"binfarce: {bare}: no symbol table (.symtab): it is stripped", "binfarce", "at", *words, bare, given=b"1005\n")
+# An address behind a function symbol, as that behind a call that doesn't return, is one by --return.
+ends(0, f"{0x140001018:016x} ??\n", "binfarce: rust/samples/pe-image.bin: 0 of 1 addresses are in a function symbol; --return looks each up as a return address, behind a call",
+     "binfarce", "at", "rust/samples/pe-image.bin", "140001018")
+ends(0, f"{0x140001018:016x} g+0x8\n", "", "binfarce", "at", "--return", "rust/samples/pe-image.bin", "140001018")
+# A PE file without a symbol table, too, is refused: its file header, behind the signature at 0x40, counts no symbol.
+image = bytearray(pathlib.Path("rust/samples/pe-image.bin").read_bytes())
+place = int.from_bytes(image[0x3c:0x40], "little") + 12
+image[place:place + 8] = bytes(8)
+pathlib.Path(bare := f"{scratch}/bare.exe").write_bytes(image)
+line = f"binfarce: {bare}: no symbol table (.symtab): it is stripped\nbinfarce: {bare}: its debug symbols may be in a .pdb file, if it is an MSVC program"
+for words in (["list"], ["list", "--all"], ["size", "--all"], ["size", "--fail-above=1"], ["map", "--folded"], ["diff", sample], ["at"], ["at", "--section=.text"], ["at", "--annotate"]):
+    ends(1, "", line, "binfarce", *words, bare, given=b"1000\n")
+ends(0, f"text {512}\n", "", "binfarce-list", bare)
 # With a debug link, and of a program without dynamic function symbols.
 program, line = f"{scratch}/program", f"{scratch}/program: no symbol table (.symtab): it is stripped"
 printed("gcc", "-Wl,--build-id=0x0102030405", "-o", program, "-x", "c", "-", given="int main() { return 0; }")
@@ -475,6 +542,11 @@ pe = "rust/samples/pe-image.bin"
 ends(1, "0x401017 <g+0x7> x+0x1017 y+0x1017 <g+0x7>\n", shared, "binfarce", "at", "--annotate", "--base=0", "--base=400000", "--as=x", "--as=y", file, pe, given=b"0x401017 x+0x1017 y+0x1017\n")
 ends(1, "0x401017 <g+0x7> x+0x1017 y+0x1017 <g+0x7>\n", shared, "binfarce", "at", "--annotate", "--base=400000", "--base=0", "--as=y", "--as=x", pe, file, given=b"0x401017 x+0x1017 y+0x1017\n")
 ends(1, "0x1005 <foo+0x5>\n", f"binfarce: {line}", *at, "--annotate", sample, program, given=b"0x1005\n")
+# The sections of a Mach-O object file have addresses of their own.
+image = bytearray(pathlib.Path("rust/samples/macho.bin").read_bytes())
+image[12] = 1
+pathlib.Path(path := f"{scratch}/object.o").write_bytes(image)
+ends(0, f"{0x1045:016x} c+0x5\n", "", "binfarce", "at", path, "1045")
 
 # Hints, beside a result and beside a refusal.
 hint = f"binfarce: {file}: no function symbols in the section; --all takes 3"

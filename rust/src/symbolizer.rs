@@ -235,8 +235,15 @@ impl<'a> Symbolizer<'a> {
     }
 
     fn look_up(&self, address: u64, is_return: bool) -> Option<(FunctionSymbol<'_>, u64)> {
-        let lookup =
-            Lookup { base: self.base, linked: self.linked, origin: 0, is_return, form: Form::Lines, path: &[] };
+        let lookup = Lookup {
+            base: self.base,
+            linked: self.linked,
+            size: None,
+            origin: 0,
+            is_return,
+            form: Form::Lines,
+            path: &[],
+        };
         match &self.functions {
             Arranged::Borrowed(places) => places.find(lookup, address),
             Arranged::Owned { names, rows, ranges } => {
@@ -289,15 +296,15 @@ pub fn load_address(file: &[u8]) -> Result<Option<LoadAddress>, Error> {
 /// Returns where a file is loaded by a text in the form of `/proc/PID/maps`, if [`load_address`] returns this of it: where the
 /// mappings of its code have it, or of a file without code the lowest address of its mappings. A mapping is one of the file if its
 /// path ends with this path, after a `/` if there is one; if none is, those are whose paths end so with the name behind the last `/`.
-/// A ` (deleted)` after a path isn't part of it, nor is a carriage return. `None` where no line maps the file, and where its code is
-/// at several places. Other lines may stand between, and words of a log before a mapping in its line.
+/// A ` (deleted)` after a path isn't part of it, nor is a carriage return. `None` where no line maps the file, where its code is
+/// at several places, and where none says where it is: pages may have 4, 16 or 64 KiB. Other lines may stand between, and words of a log before a mapping in its line.
 ///
 /// # Examples
 ///
 /// ```
 /// use binfarce::{CodeSegment, LoadAddress, mapped_at};
 ///
-/// let code = CodeSegment { address: 0x2970, offset: 0x970, size: 0x370 };
+/// let code = CodeSegment { address: 0x2970, offset: 0x970, size: 0x370, memory_size: 0x370, align: 0x1000 };
 /// let loaded = LoadAddress { address: 0, code: Some(code) };
 /// // The first mapping is one to read the file: its backtraces do that.
 /// let maps = "\

@@ -185,7 +185,7 @@ impl<'a> Tables<'a> {
     }
 
     /// Returns whether the selected sections share addresses, so that an address may be that of symbols in several: all
-    /// sections of an object file do.
+    /// sections of an ELF object file do, and of a PE file without an image base.
     ///
     /// # Examples
     ///

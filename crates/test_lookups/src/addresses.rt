@@ -46,6 +46,7 @@ fn lookup_of(words: &str, is_return: bool) -> io::Result<Lookup<'static>> {
             Some(number(base, true)?)
         },
         linked: number(linked, true)?,
+        size: None,
         origin: number(linked, true)?,
         is_return,
         form: Form::Lines,

@@ -25,6 +25,7 @@ const OBJECTS: &str = "\
 const AS_THEY_ARE: Lookup<'static> = Lookup {
     base: None,
     linked: 0,
+    size: None,
     origin: 0,
     is_return: false,
     form: Form::Lines,
@@ -34,6 +35,7 @@ const AS_THEY_ARE: Lookup<'static> = Lookup {
 const AS_OBJECTS: Lookup<'static> = Lookup {
     base: None,
     linked: 0,
+    size: None,
     origin: 0,
     is_return: false,
     form: Form::Objects("a", ""),

@@ -109,7 +109,7 @@ IsPlacedBy given place (Err reasons.NotMaps) before after result = (result ≡ p
 IsPlacedBy given place (Err reason) before after result =
     (result ≡ places.Refused) × ((fault : Fault) × IsFaultOf (path_for given place) reason fault × Reports before after ((file_at given place, fault) ∷ []))
 
--- the same of a file that may lack the bytes that offsets are of, which is reported so
+-- where a file is loaded that may lack the bytes that offsets are of: it is refused then, which is reported
 abbrev pub IsPlacedUnless : (lacks : Bool) → Arguments → (place : ℕ) → Result (Option ℕ) NoBase → (before after : Option (List Refused)) → Place → Type 0
 IsPlacedUnless false given place known before after result = IsPlacedBy given place known before after result
 IsPlacedUnless true given place known before after result =

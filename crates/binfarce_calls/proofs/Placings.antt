@@ -1,5 +1,5 @@
 -- What is reported of a file of a text.
-use Rattle.std.proofs.Common.{◌≡◌, ◌∙◌, ◌==◌, ◌++◌, ℕ, Bool, true, false, List, [], ◌∷◌, Option, Some, None, MatchOption, Result, Ok, Err, Bor, ap, arith, subst, sym, take, take-append-drop}
+use Rattle.std.proofs.Common.{◌≡◌, ◌∙◌, ◌==◌, ◌++◌, ℕ, Bool, true, false, List, [], ◌∷◌, Option, Some, None, MatchOption, Result, Ok, Err, Bor, ap, arith, refl, subst, sym, take, take-append-drop}
 use Rattle.std.proofs.lemmas.Str.Pattern.{drop_at_char}
 use Rattle.std.specs.Option.{option_map}
 use Rattle.std.specs.Str.{NoCharPasses}
@@ -48,6 +48,15 @@ module _ (given : Arguments) (place : ℕ) (a b : Option (List Refused)) where
   pub placed_at : (lacks : Bool) (known : Result (Option ℕ) NoBase) (base : Option ℕ) → IsPlacedUnless lacks given place known a b (places.At base) → b ≡ a
   placed_at false known base placed = placed_at_by known base placed
   placed_at true known base (is, reported) = absurd cc
+
+  -- and it is loaded there
+  pub placed_base : (lacks : Bool) (known : Result (Option ℕ) NoBase) (base : Option ℕ) → IsPlacedUnless lacks given place known a b (places.At base) → (lacks ≡ false) × (known ≡ Ok base)
+  placed_base false (Ok x) base (is, same) = (refl, cc)
+  placed_base false (Err reasons.NotMaps) base (is, same) = absurd cc
+  placed_base false (Err reasons.NotMapped) base (is, reported) = absurd cc
+  placed_base false (Err reasons.NoCode) base (is, reported) = absurd cc
+  placed_base false (Err reasons.Several) base (is, reported) = absurd cc
+  placed_base true known base (is, reported) = absurd cc
 
   pub placed_by_none : (lacks : Bool) (known : Result (Option ℕ) NoBase) → IsPlacedUnless lacks given place known a b places.NoMaps → b ≡ a
   placed_by_none false known placed = no_maps_by known placed

@@ -27,6 +27,8 @@ use Rattle.binfarce_jobs.specs.declared.message.Unplaced.TheVariants.{NotMapped,
 use Rattle.binfarce_calls.specs.Asked.{has}
 use Rattle.binfarce_calls.specs.Compared.{refusal}
 use Rattle.binfarce_calls.specs.declared.at.Place.{Place}
+use Rattle.binfarce_calls.specs.declared.at.ReadFile.{ReadFile}
+use Rattle.binfarce_calls.specs.declared.at.ReadFile.TheVariants as readings
 use Rattle.binfarce_calls.specs.declared.at.Place.TheVariants as places
 
 -- the files: all operands where a text is annotated, else the first one
@@ -122,6 +124,14 @@ IsPlaced given maps place loaded before after result = IsPlacedUnless (lacks_byt
 abbrev pub Opens : {T : Type 0} → (path : List ℕ) → (before after : Option (List Refused)) → Option T → Type 0
 Opens path before after (Some file) = Reports before after []
 Opens path before after None = (fault : Fault) × Reports before after ((path, fault) ∷ [])
+
+-- the file at a place is read, and it is loaded where the options and the maps for it say so, by what it says itself; or it is refused, which is reported by
+-- its path; or the maps have no mapping
+abbrev pub IsReadFile : {F : Type 0} → Arguments → (maps : Option (List ℕ)) → (place : ℕ) → (before after : Option (List Refused)) → ReadFile F → Type 0
+IsReadFile given maps place before after (readings.Placed file) =
+    (file.place ≡ place) × Reports before after [] × (lacks_bytes given file.loaded ≡ false) × (base_for given maps place file.loaded ≡ Ok file.base)
+IsReadFile given maps place before after readings.Refused = (fault : Fault) × Reports before after ((file_at given place, fault) ∷ [])
+IsReadFile given maps place before after readings.NoMaps = Reports before after []
 
 -- the hint on the file at a path whose function symbols are those of `.dynsym` in place of `.symtab`
 abbrev pub instead : (path : List ℕ) → (asked read : SymbolTable) → List Hinted

@@ -4,8 +4,7 @@ ghost use Rattle.std.specs.Prelude.{IfOk, IfSome, map};
 ghost use Rattle.std.specs.Option.{option_map};
 ghost use Rattle.binfarce_jobs.specs.Files.{Grows};
 ghost use Rattle.binfarce_words.specs.WordViews.{given_view};
-ghost use Rattle.binfarce_calls.specs.Placing.{IsPlaced, IsWhy, Opens, TakesAll, TakesFiles, file_at, instead};
-ghost use Rattle.binfarce_calls.specs.machine.Reading.{IsReadFile};
+ghost use Rattle.binfarce_calls.specs.Placing.{IsPlaced, IsReadFile, IsWhy, Opens, TakesAll, TakesFiles, file_at, instead};
 
 use crate::placing::{base_for, base_given, count_of_files, file_at, lacks_bytes, path_for};
 use binfarce_addresses::at::Places;
@@ -249,8 +248,8 @@ pub fn read_file<F: Read + Source<Log = ()> + Drop, Y: System<F>>(
     place: usize,
     symbols: &Symbols<'_>,
 ) -> Result<ReadFile<F>, Fault>
-    ensures { IfOk result (λ r. IsReadFile (given_view given.now.words.now) place
-        (Y.reports system.old) (Y.reports system.new) r) }
+    ensures { IfOk result (λ r. IsReadFile (given_view given.now.words.now) (option_map (λ m. m.now) given.now.maps)
+        place (Y.reports system.old) (Y.reports system.new) r) }
 {
     let Some(opened) = open_at(alloc, system, given, place)? else {
         return Ok(ReadFile::Refused);

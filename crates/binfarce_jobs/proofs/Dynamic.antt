@@ -1,8 +1,7 @@
 -- By which symbol table addresses of a file are looked up, by what a reading of it came to.
-use Rattle.std.proofs.Common.{◌≡◌, ◌∙◌, ◌&&◌, ℕ, Bool, true, false, cond, List, Option, Some, None, Result, Ok, Err, refl, sym, ap, subst}
+use Rattle.std.proofs.Common.{◌≡◌, ◌∙◌, ◌&&◌, ℕ, Bool, true, false, cond, List, Some, Ok, Err, refl, sym, ap, subst}
 use Rattle.binfarce.specs.Format.{format_of}
 use Rattle.binfarce.specs.Refusal.{Refusal, refusal_of}
-use Rattle.binfarce.specs.SectionEntries.{SelectedSymbols}
 use Rattle.binfarce_tables.specs.declared.error.ReadError.{ReadError}
 use Rattle.binfarce_tables.specs.declared.error.ReadError.TheVariants.{Refused, Unreadable, OutOfMemory}
 use Rattle.binfarce_tools.specs.Tables.{AreTablesOf, ReadsAs, is_whole}

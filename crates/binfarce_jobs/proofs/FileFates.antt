@@ -11,8 +11,6 @@ use Rattle.binfarce_tools.specs.declared.SymbolTable.{SymbolTable}
 use Rattle.binfarce_tools.specs.declared.SymbolTable.TheVariants.{Dynsym, Symtab}
 use Rattle.binfarce_bytes.specs.Selection.{section_of}
 use Rattle.binfarce_tools.specs.Answer.{selected_answer, selected_symbols}
-use Rattle.binfarce_sections.specs.Named.{bytes_named}
-use Rattle.binfarce_sections.specs.Section.{sections_of}
 use Rattle.binfarce_filtering.specs.declared.stream.StreamError.TheVariants as stream
 use Rattle.binfarce_sections.specs.declared.error.SectionError.TheVariants as sections
 use Rattle.binfarce_tools.specs.declared.report.ReportError.TheVariants as sums

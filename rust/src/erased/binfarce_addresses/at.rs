@@ -37,8 +37,8 @@ impl<'a> Places<'a> {
     }
 
     /// The places of the function symbols of a file's tables: for the selection that they were read for. The sections
-    /// of an object file share addresses (`Tables::shares_addresses`), so with all of them an address may symbolize to
-    /// another section's symbol.
+    /// of an object file may share addresses (`Tables::shares_addresses`), so with all of them an address may symbolize
+    /// to another section's symbol.
     ///
     /// # Errors
     ///

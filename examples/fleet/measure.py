@@ -21,10 +21,9 @@ if __name__ == "__main__":
     regular = (it for it in paths if os.path.isfile(it) and not os.path.islink(it) and os.access(it, os.R_OK))
     found = [it for it in regular if open(it, "rb").read(4) == b"\x7fELF"]
     files, sizes = b"".join(it + b"\0" for it in found), os.path.join(os.path.dirname(os.path.realpath(__file__)), "sizes")
-    os.environ["PYTHON"] = sys.executable
     with LocalCluster(n_workers=2, threads_per_worker=2, dashboard_address=None) as cluster:
         engines = {"1": "1 process", "2": "2 processes", "4": "4 processes", cluster.scheduler_address: "Dask, 2 workers of 2 threads"}
-        rows = {f"`sizes`, {engines[it]}": [[sizes, it], [sizes, it, "--dynamic"]] for it in engines}
+        rows = {f"`sizes`, {engines[it]}": [[sys.executable, sizes, it], [sys.executable, sizes, it, "--dynamic"]] for it in engines}
         xargs = {it: ["xargs", "-0", "-n", "200", "-P", it, "nm"] for it in "124"}
         rows.update({f"nm, {engines[it]}": [[*xargs[it], "-S"], [*xargs[it], "-DS"]] for it in xargs})
         runs = [[[seconds(it) for it in commands] for commands in rows.values()] for _ in range(6)][1:]

@@ -1,8 +1,8 @@
 #!/usr/bin/env python3
 """Draws wall time and peak memory beside each peer and file, as an SVG on standard output: plot.py results.tsv >listing.svg
 
-Each bar is a command's least time, or its peak, as a multiple of the program's on the same file; the program is the line at 1.
-Of each file and command the last row counts.
+Each bar is a command's least time, or its peak, as a multiple of the program's on the same file; the program is the line at 1. The
+axis begins with the power of two below the least multiple. Of each file and command the last row counts.
 """
 
 import math
@@ -10,7 +10,7 @@ import sys
 
 PEERS = {"original": "#b45309", "nm -S": "#64748b", "nm -SC": "#0f766e", "llvm-nm": "#2563eb", "llvm-nm -C": "#7c3aed"}
 LEFT, TOP, BAR, GAP, WIDE = 180, 68, 14, 18, 300
-TICKS = (0.25, 0.5, 1, 2, 4, 8, 16, 32)
+TICKS = [1, 2, 4, 8, 16, 32]
 
 
 def read(path):
@@ -24,7 +24,7 @@ def read(path):
 
 
 def place(ratio):
-    """The position of a ratio on the axis, which doubles at each step, from a quarter to 32."""
+    """The position of a ratio on the axis, which doubles at each step."""
     low, high = TICKS[0], TICKS[-1]
     return WIDE * math.log2(min(max(ratio, low), high) / low) / math.log2(high / low)
 
@@ -44,11 +44,14 @@ def axis(x, bottom, title):
 
 def draw(figures):
     rows = [(file, [p for p in PEERS if p in by]) for file, by in figures.items() if "program" in by]
+    least = min(figures[file][peer][which] / figures[file]["program"][which] for file, peers in rows for peer in peers for which in (0, 1))
+    while TICKS[0] > least:
+        TICKS.insert(0, TICKS[0] / 2)
     bottom = TOP + sum(BAR * len(peers) + GAP for _, peers in rows)
     width, height = LEFT + 2 * WIDE + 130, bottom + 34
     yield f'<svg xmlns="http://www.w3.org/2000/svg" width="{width}" height="{height}" viewBox="0 0 {width} {height}" font-family="sans-serif">'
     yield f'<rect width="{width}" height="{height}" fill="white"/>'
-    yield text(12, 20, "Listing a file: other programs as multiples of binfarce-list (the line at 1)", 13)
+    yield text(12, 20, "Listing a file: what other programs take, as multiples of binfarce-list (the line at 1); longer is slower, or larger", 13)
     columns = (LEFT, "wall time", 0, "ms"), (LEFT + WIDE + 60, "peak memory", 1, "MiB")
     for x, title, _, _ in columns:
         yield from axis(x, bottom, title)

@@ -1,5 +1,5 @@
 -- Rows, one after the other.
-use Rattle.std.proofs.Common.{◌≡◌, ℕ, ◌+◌, ◌-◌, ◌*◌, ◌<◌, Bool, cond, Option, List, [], ◌∷◌, ◌++◌, length, map, drop, take, reverse, get_or, is_lt, nat_cmp, nat_le, true, false, refl, sym, ap, ◌∙◌, arith, append_assoc, append-nil}
+use Rattle.std.proofs.Common.{◌≡◌, ℕ, ◌+◌, ◌-◌, ◌*◌, ◌<◌, Bool, cond, max, Option, List, [], ◌∷◌, ◌++◌, length, map, drop, take, reverse, get_or, is_lt, nat_cmp, nat_le, true, false, refl, sym, ap, ◌∙◌, arith, append_assoc, append-nil}
 use Rattle.std.specs.List.{filter}
 use Rattle.std.specs.List.Sorted.{IsNonDecreasingBy, IsStableByKey, ties}
 use Rattle.std.proofs.lemmas.List.{drop_more, get_or-map, get_or-reverse, length-map, length-reverse, reverse-append, reverse-reverse, take-append-drop}
@@ -7,7 +7,7 @@ use Rattle.std.proofs.lemmas.List.Elements.{filter-append}
 use Rattle.std.proofs.lemmas.List.Sums.{sum_by-append, sum_by-cons}
 use Rattle.std.proofs.lemmas.Bool.Decides.{nat_tests}
 use Rattle.binfarce_chart.specs.declared.bars.Bar.{Bar}
-use Rattle.binfarce_chart.specs.Chart.{Row, Falls, KeepsOrder, bar_length, others, total, width, with_others}
+use Rattle.binfarce_chart.specs.Chart.{Row, Falls, KeepsOrder, bar_length, largest, others, total, width, with_others}
 use Rattle.binfarce_chart.specs.Svg.{foot, head, height, note, picture, row, rows}
 use Rattle.binfarce_chart.specs.Views.{bar_view}
 
@@ -17,17 +17,21 @@ left_sum bars i d low =
     ap (λ (xs : List Bar). total (map bar_view xs)) (drop_more bars i d low) ∙ sum_by-cons (λ (r : Row). r.size) (bar_view (get_or bars i d)) (map bar_view (drop (i + 1) bars))
 
 -- the row of the first that is left was written
-pub one_row : (bars : List Bar) (i : ℕ) (d : Bar) (sum before top : ℕ) (old new all : List ℕ) → i < length bars
-    → new ≡ old ++ row top (bar_view (get_or bars i d)) (bar_length sum before (get_or bars i d).size) (width (bar_length sum before (get_or bars i d).size) (get_or bars i d).size)
-    → old ++ rows sum before top (map bar_view (drop i bars)) ≡ all
-    → new ++ rows sum (before + (get_or bars i d).size) (top + 24) (map bar_view (drop (i + 1) bars)) ≡ all
-one_row bars i d sum before top old new all low grown is =
+pub one_row : (bars : List Bar) (i : ℕ) (d : Bar) (sum most before top : ℕ) (old new all : List ℕ) → i < length bars
+    → new ≡ old ++ row top (bar_view (get_or bars i d)) (bar_length sum before (get_or bars i d).size) (width most (get_or bars i d).size)
+    → old ++ rows sum most before top (map bar_view (drop i bars)) ≡ all
+    → new ++ rows sum most (before + (get_or bars i d).size) (top + 24) (map bar_view (drop (i + 1) bars)) ≡ all
+one_row bars i d sum most before top old new all low grown is =
     let b = get_or bars i d in
-    let share = bar_length sum before b.size in
-    let line = row top (bar_view b) share (width share b.size) in
-    let others = rows sum (before + b.size) (top + 24) (map bar_view (drop (i + 1) bars)) in
+    let line = row top (bar_view b) (bar_length sum before b.size) (width most b.size) in
+    let others = rows sum most (before + b.size) (top + 24) (map bar_view (drop (i + 1) bars)) in
     ap (λ (x : List ℕ). x ++ others) grown ∙ append_assoc old line others
-    ∙ sym (ap (λ (xs : List Bar). old ++ rows sum before top (map bar_view xs)) (drop_more bars i d low)) ∙ is
+    ∙ sym (ap (λ (xs : List Bar). old ++ rows sum most before top (map bar_view xs)) (drop_more bars i d low)) ∙ is
+
+-- the largest of what is left, with the first of it
+pub left_largest : (bars : List Bar) (i : ℕ) (d : Bar) → i < length bars
+    → largest (map bar_view (drop i bars)) ≡ max (get_or bars i d).size (largest (map bar_view (drop (i + 1) bars)))
+left_largest bars i d low = ap (λ (xs : List Bar). largest (map bar_view xs)) (drop_more bars i d low)
 
 -- sizes that don't fall, turned round
 pub falls : (bars : List Bar) → IsNonDecreasingBy (λ (b : Bar). b.size) bars → Falls (map bar_view (reverse bars))
@@ -87,12 +91,13 @@ shown_sum count bars = by_test (nat_le (length bars) count)
     )
 
 -- a picture, written in parts
-pub picture_is : (title : List ℕ) (bars : List Row) (n sum y : ℕ) (size : Option ℕ) (line : Option (List ℕ)) (none start more all : List ℕ) → none ≡ [] → n ≡ height bars → sum ≡ total bars → line ≡ note bars
-    → y ≡ 24 * length bars + 82 → start ≡ none ++ head title n sum size → more ≡ start ++ rows sum 0 64 bars → all ≡ more ++ foot y line → all ≡ picture title bars size
-picture_is title bars n sum y size line none start more all empty count whole noted low first second third =
-    third ∙ ap (λ (t : List ℕ). t ++ foot y line) (second ∙ ap (λ (t : List ℕ). t ++ rows sum 0 64 bars) (first ∙ ap (λ (t : List ℕ). t ++ head title n sum size) empty))
-    ∙ append_assoc (head title n sum size) (rows sum 0 64 bars) (foot y line)
-    ∙ ap (λ (k : ℕ). head title n sum size ++ (rows sum 0 64 bars ++ foot k line)) low
-    ∙ ap (λ (o : Option (List ℕ)). head title n sum size ++ (rows sum 0 64 bars ++ foot (24 * length bars + 82) o)) noted
-    ∙ ap (λ (k : ℕ). head title k sum size ++ (rows sum 0 64 bars ++ foot (24 * length bars + 82) (note bars))) count
-    ∙ ap (λ (k : ℕ). head title (height bars) k size ++ (rows k 0 64 bars ++ foot (24 * length bars + 82) (note bars))) whole
+pub picture_is : (title : List ℕ) (bars : List Row) (n sum most y : ℕ) (size : Option ℕ) (line : Option (List ℕ)) (none start more all : List ℕ) → none ≡ [] → n ≡ height bars → sum ≡ total bars → most ≡ largest bars → line ≡ note bars
+    → y ≡ 24 * length bars + 82 → start ≡ none ++ head title n sum size → more ≡ start ++ rows sum most 0 64 bars → all ≡ more ++ foot y line → all ≡ picture title bars size
+picture_is title bars n sum most y size line none start more all empty count whole widest noted low first second third =
+    third ∙ ap (λ (t : List ℕ). t ++ foot y line) (second ∙ ap (λ (t : List ℕ). t ++ rows sum most 0 64 bars) (first ∙ ap (λ (t : List ℕ). t ++ head title n sum size) empty))
+    ∙ append_assoc (head title n sum size) (rows sum most 0 64 bars) (foot y line)
+    ∙ ap (λ (k : ℕ). head title n sum size ++ (rows sum most 0 64 bars ++ foot k line)) low
+    ∙ ap (λ (o : Option (List ℕ)). head title n sum size ++ (rows sum most 0 64 bars ++ foot (24 * length bars + 82) o)) noted
+    ∙ ap (λ (k : ℕ). head title k sum size ++ (rows sum most 0 64 bars ++ foot (24 * length bars + 82) (note bars))) count
+    ∙ ap (λ (k : ℕ). head title (height bars) k size ++ (rows k most 0 64 bars ++ foot (24 * length bars + 82) (note bars))) whole
+    ∙ ap (λ (k : ℕ). head title (height bars) (total bars) size ++ (rows (total bars) k 0 64 bars ++ foot (24 * length bars + 82) (note bars))) widest

@@ -42,7 +42,7 @@ count_of None all = if nat_le all 40 then all else 39
 abbrev pub shown : (first : Option ℕ) → List Row → List Row
 shown first rows = with_others (count_of first (length rows)) rows
 
--- the length of all bars together: 100 per cent, in hundredths of a per cent
+-- all shares together: 100 per cent, in hundredths of a per cent
 abbrev pub whole : ℕ
 whole = 10000
 
@@ -59,9 +59,14 @@ abbrev pub lengths : ℕ → ℕ → List Row → List ℕ
 lengths total before [] = []
 lengths total before (row ∷ others) = bar_length total before row.size ∷ lengths total (before + row.size) others
 
--- the width of a bar: its length, but of a size above 0 at least 0.30 per cent, so that it is seen
-abbrev pub width : (length size : ℕ) → ℕ
-width length size = if nat_eq size 0 then 0 else max length 30
+-- the largest size
+abbrev pub largest : List Row → ℕ
+largest [] = 0
+largest (r ∷ others) = max r.size (largest others)
+
+-- the width of a bar, in hundredths of a per cent of the largest one's; but of a size above 0 at least 0.30 per cent, so that it is seen
+abbrev pub width : (most size : ℕ) → ℕ
+width most size = if nat_eq size 0 then 0 else max ((whole * size) / most) 30
 
 -- the length differs by less than one unit from the row's share of the whole
 abbrev pub IsWithinOne : ℕ → Row → ℕ → Type 0
@@ -80,10 +85,14 @@ abbrev pub groups : (most : ℕ) → ℕ → List ℕ
 groups zero n = decimal n
 groups (suc most) n = if nat_lt n 1000 then decimal n else (groups most (n / 1000) ++ last_group n)
 
--- a size in tenths of a KiB, rounded to the nearest
-abbrev pub tenths_of_kib : ℕ → ℕ
-tenths_of_kib size = (size * 10 + 512) / 1024
+-- a size in tenths of a unit, rounded to the nearest
+abbrev pub tenths_of : (unit size : ℕ) → ℕ
+tenths_of unit size = (size * 10 + unit / 2) / unit
 
--- a size in KiB with one decimal; 2^64 bytes have fewer than 18 digits before it
-unfoldable pub kib : ℕ → List ℕ
-kib size = groups 6 (tenths_of_kib size / 10) ++ (codes "." ++ (decimal (tenths_of_kib size % 10) ++ codes " KiB"))
+-- a size in this unit, with one decimal and the unit's name; 2^64 bytes have fewer than 18 digits before it
+unfoldable pub in_unit : (unit : ℕ) → (name : List ℕ) → (size : ℕ) → List ℕ
+in_unit unit name size = groups 6 (tenths_of unit size / 10) ++ (codes "." ++ (decimal (tenths_of unit size % 10) ++ (codes " " ++ name)))
+
+-- a size in KiB, and from 1 MiB on in MiB
+unfoldable pub amount : ℕ → List ℕ
+amount size = if nat_lt size 1048576 then in_unit 1024 (codes "KiB") size else in_unit 1048576 (codes "MiB") size

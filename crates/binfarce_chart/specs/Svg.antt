@@ -3,7 +3,7 @@ use Rattle.std.specs.Prelude.{◌≡◌, ◌≢◌, ℕ, ◌+◌, ◌*◌, ◌/�
 use Rattle.std.specs.Fmt.{decimal, digit_glyph}
 use Rattle.std.specs.List.{flat_map, list_any}
 use Rattle.std.specs.Str.{byte, bytes_eq}
-use Rattle.binfarce_chart.specs.Chart.{Row, Falls, KeepsOrder, bar_length, kib, percents, shown, total, width}
+use Rattle.binfarce_chart.specs.Chart.{Row, Falls, KeepsOrder, amount, bar_length, largest, percents, shown, total, width}
 
 -- `\x` and two hexadecimal digits
 abbrev pub hex_byte : ℕ → List ℕ
@@ -39,7 +39,7 @@ unfoldable pub share_text : ℕ → List ℕ
 share_text share = codes "<text x=\"664\" y=\"18\" text-anchor=\"end\">" ++ (percents share ++ codes "%</text>")
 
 unfoldable pub size_text : ℕ → List ℕ
-size_text size = codes "<text x=\"792\" y=\"18\" text-anchor=\"end\">" ++ (kib size ++ codes "</text></svg>\n")
+size_text size = codes "<text x=\"792\" y=\"18\" text-anchor=\"end\">" ++ (amount size ++ codes "</text></svg>\n")
 
 -- a name of at most so many bytes; of a longer one the whole as a title, its beginning, and an ellipsis
 unfoldable pub label : (most : ℕ) → List ℕ → List ℕ
@@ -49,10 +49,10 @@ label most name = if nat_le (length name) most then escaped name else (codes "<t
 unfoldable pub row : (top : ℕ) → Row → (share width : ℕ) → List ℕ
 row top r share width = row_start top ++ (label 26 r.name ++ (bar width ++ (share_text share ++ size_text r.size)))
 
--- the rows below each other, with so much of the sum before the first
-abbrev pub rows : (sum before top : ℕ) → List Row → List ℕ
-rows sum before top [] = []
-rows sum before top (r ∷ others) = row top r (bar_length sum before r.size) (width (bar_length sum before r.size) r.size) ++ rows sum (before + r.size) (top + 24) others
+-- the rows below each other, with so much of the sum before the first; most is the size that has the whole width
+abbrev pub rows : (sum most before top : ℕ) → List Row → List ℕ
+rows sum most before top [] = []
+rows sum most before top (r ∷ others) = row top r (bar_length sum before r.size) (width most r.size) ++ rows sum most (before + r.size) (top + 24) others
 
 -- a document of this height
 unfoldable pub opening : ℕ → List ℕ
@@ -69,11 +69,11 @@ heading title = codes "<text x=\"8\" y=\"25\" font-weight=\"bold\">" ++ (label 8
 -- the section's size, if one is selected
 abbrev pub section_part : Option ℕ → List ℕ
 section_part None = []
-section_part (Some size) = codes ", text " ++ kib size
+section_part (Some size) = codes ", text " ++ amount size
 
 -- a line with the sum and the section's size
 unfoldable pub caption : (sum : ℕ) → (size : Option ℕ) → List ℕ
-caption sum size = codes "<text x=\"8\" y=\"49\">sum " ++ (kib sum ++ (section_part size ++ codes ": share of the sum and size by crate</text>\n"))
+caption sum size = codes "<text x=\"8\" y=\"49\">sum " ++ (amount sum ++ (section_part size ++ codes ": share of the sum and size by crate</text>\n"))
 
 -- the text before the rows of a document of this height
 unfoldable pub head : List ℕ → (height sum : ℕ) → (size : Option ℕ) → List ℕ
@@ -105,7 +105,7 @@ height rows = 24 * length rows + (if is_some (note rows) then 96 else 72)
 
 -- the picture that shows these rows
 abbrev pub picture : List ℕ → List Row → (size : Option ℕ) → List ℕ
-picture title bars size = head title (height bars) (total bars) size ++ (rows (total bars) 0 64 bars ++ foot (24 * length bars + 82) (note bars))
+picture title bars size = head title (height bars) (total bars) size ++ (rows (total bars) (largest bars) 0 64 bars ++ foot (24 * length bars + 82) (note bars))
 
 -- text is the picture of the section's size, if one is selected, and of the first rows, if so many are asked for: the largest first, rows of one size in their given order
 abbrev pub IsChartOf : List ℕ → List Row → (size first : Option ℕ) → List ℕ → Type 0

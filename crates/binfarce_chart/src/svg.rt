@@ -4,13 +4,18 @@ ghost use Rattle.std.specs.Prelude.{◌≡◌, ◌++◌, ◌<◌, ◌≤◌, ◌
 ghost use Rattle.std.specs.List.{list_any};
 ghost use Rattle.std.specs.Option.{option_map};
 ghost use Rattle.std.specs.String.{string_bytes};
-ghost use Rattle.binfarce_chart.specs.Chart.{groups, kib, percents, total};
+ghost use Rattle.binfarce_chart.specs.Chart.{amount, groups, in_unit, largest, percents, total};
 ghost use Rattle.binfarce_chart.specs.Svg.{IsChartOf, bar, caption, document_title, escaped, escaped_byte, foot, is_unknown, head, heading, label, note, opening, picture, row, row_start, rows, section_part, share_text, size_text};
 ghost use Rattle.binfarce_chart.specs.Views.{bar_view};
 
-use crate::bars::{Bar, count_of, falling, length_of, others, shown_of, size_of_all, width_of};
+use crate::bars::{
+    Bar, count_of, falling, largest_of, length_of, others, shown_of, size_of_all, width_of,
+};
 use binfarce_text::digits::hex_digit;
 use std::alloc::{AllocError, Global};
+
+// The bytes of a MiB.
+const MIB: u64 = 1 << 20;
 
 // The name of the bar of names without a crate.
 const UNKNOWN: &str = "[unknown]";
@@ -18,12 +23,12 @@ const UNKNOWN: &str = "[unknown]";
 /// The picture of these sizes, as a whole SVG document: a bar for each, the greatest first.
 ///
 /// The sum of the sizes has to be below 2^64. Of `Some(n)` the first n bars are shown, of `None` the first 39 where there
-/// are more than 40; if some are left, one bar more sums up all of them. A bar is as long as its share of the sum,
-/// which is beside it in hundredths of a per cent, and adds up to 100.00 with the others; but a bar of a size above 0
-/// has at least 0.30 per cent of the whole width. After its share is its size in KiB. The title is above the bars, with
-/// the sum and, if it is given, `section_size`. Below them a line says what `[unknown]` is, if a bar that is shown has
-/// that name. Without bars the picture says `no function symbols`. Names and the title are escaped; the end of a long
-/// one is cut. The only error is a failed allocation.
+/// are more than 40; if some are left, one bar more sums up all of them. The largest bar has the whole width, and each
+/// other its part of that, but a bar of a size above 0 at least 0.30 per cent. Beside it is its share of the sum, in
+/// hundredths of a per cent, which adds up to 100.00 with the others, and its size in KiB, or from 1 MiB on in MiB. The
+/// title is above the bars, with the sum and, if it is given, `section_size`. Below them a line says what `[unknown]` is,
+/// if a bar that is shown has that name. Without bars the picture says `no function symbols`. Names and the title are
+/// escaped; the end of a long one is cut. The only error is a failed allocation.
 pub fn chart(
     alloc: Global,
     title: &str,
@@ -58,7 +63,7 @@ fn picture_of(
     let height = height_of(bars.len(), note);
     let mut text = String::new(alloc);
     push_head(&mut text, title, height, sum, section_size)?;
-    push_rows(&mut text, bars, sum)?;
+    push_rows(&mut text, bars, sum, largest_of(bars))?;
     push_foot(&mut text, 24 * bars.len() as u128 + 82, note)?;
     Ok(text)
 }
@@ -151,7 +156,7 @@ fn push_caption(text: &mut String, sum: u64, section_size: Option<u64>) -> Resul
     ensures { OnOk result (string_bytes text.new ≡ string_bytes text.old ++ caption sum section_size) }
 {
     text.push_str("<text x=\"8\" y=\"49\">sum ")?;
-    push_kib(text, sum)?;
+    push_amount(text, sum)?;
     push_section_part(text, section_size)?;
     text.push_str(": share of the sum and size by crate</text>\n")
 }
@@ -164,7 +169,7 @@ fn push_section_part(text: &mut String, size: Option<u64>) -> Result<(), AllocEr
         None => Ok(()),
         Some(size) => {
             text.push_str(", text ")?;
-            push_kib(text, size)
+            push_amount(text, size)
         }
     }
 }
@@ -184,16 +189,17 @@ fn push_foot(text: &mut String, y: u128, note: Option<&str>) -> Result<(), Alloc
 }
 
 // The rows of these bars.
-fn push_rows(text: &mut String, bars: &[Bar<'_>], sum: u64) -> Result<(), AllocError>
-    requires { total (map bar_view bars.now) ≤ sum }
+fn push_rows(text: &mut String, bars: &[Bar<'_>], sum: u64, most: u64) -> Result<(), AllocError>
+    requires sum { total (map bar_view bars.now) ≤ sum }
+    requires most { largest (map bar_view bars.now) ≤ most }
     ensures { OnOk result
-        (string_bytes text.new ≡ string_bytes text.old ++ rows sum 0 64 (map bar_view bars.now)) }
+        (string_bytes text.new ≡ string_bytes text.old ++ rows sum most 0 64 (map bar_view bars.now)) }
 {
     let mut before = 0;
     let mut top = 64u128;
     for bar in bars {
         let share = length_of(sum, before, bar.size);
-        push_row(text, top, *bar, share, width_of(share, bar.size))?;
+        push_row(text, top, *bar, share, width_of(most, bar.size))?;
         before += bar.size;
         top += 24;
     }
@@ -254,7 +260,7 @@ fn push_size(text: &mut String, size: u64) -> Result<(), AllocError>
     ensures { OnOk result (string_bytes text.new ≡ string_bytes text.old ++ size_text size) }
 {
     text.push_str("<text x=\"792\" y=\"18\" text-anchor=\"end\">")?;
-    push_kib(text, size)?;
+    push_amount(text, size)?;
     writeln!(text, "</text></svg>")
 }
 
@@ -266,14 +272,29 @@ fn push_percents(text: &mut String, n: u64) -> Result<(), AllocError>
     write!(text, "{}.{}{}", n / 100, n / 10 % 10, n % 10)
 }
 
-// KiB with one decimal, rounded to the nearest.
-#[tactic(auto, unfolding(crate::specs::Chart::kib))]
-fn push_kib(text: &mut String, size: u64) -> Result<(), AllocError>
-    ensures { OnOk result (string_bytes text.new ≡ string_bytes text.old ++ kib size) }
+// A size in KiB, or from 1 MiB on in MiB.
+#[tactic(auto, unfolding(crate::specs::Chart::amount))]
+fn push_amount(text: &mut String, size: u64) -> Result<(), AllocError>
+    ensures { OnOk result (string_bytes text.new ≡ string_bytes text.old ++ amount size) }
 {
-    let tenths = (u128::from(size) * 10 + 512) / 1024;
+    if size < MIB {
+        push_in_unit(text, 1024, "KiB", size)
+    } else {
+        push_in_unit(text, MIB, "MiB", size)
+    }
+}
+
+// A size in this unit with one decimal, rounded to the nearest, and the unit's name.
+#[tactic(auto, unfolding(crate::specs::Chart::in_unit))]
+fn push_in_unit(text: &mut String, unit: u64, name: &str, size: u64) -> Result<(), AllocError>
+    requires { 0 < unit }
+    ensures { OnOk result
+        (string_bytes text.new ≡ string_bytes text.old ++ in_unit unit name.now size) }
+{
+    let unit = u128::from(unit);
+    let tenths = (u128::from(size) * 10 + unit / 2) / unit;
     push_groups(text, 6, tenths / 10)?;
-    write!(text, ".{} KiB", tenths % 10)
+    write!(text, ".{} {name}", tenths % 10)
 }
 
 // A number with a comma before each of the last groups of three digits, at most so many.

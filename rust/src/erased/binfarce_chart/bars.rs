@@ -8,7 +8,7 @@ use crate::shim::alloc::{AllocError, Global};
 // The most bars that a picture shows where no number is asked for.
 const MOST_BARS: usize = 40;
 
-// The length of all bars together, in hundredths of a per cent.
+// All shares together, and the width of the largest bar, in hundredths of a per cent.
 const WHOLE: u128 = 10_000;
 
 // The least width of a bar of a size above 0, in hundredths of a per cent.
@@ -82,12 +82,22 @@ pub(crate) fn length_of(total: u64, before: u64, size: u64) -> u64 {
     edge(total, before + size) - edge(total, before)
 }
 
-// The width of a bar of this length and size.
-pub(crate) fn width_of(length: u64, size: u64) -> u64 {
+// The largest size.
+pub(crate) fn largest_of(bars: &[Bar<'_>]) -> u64 {
+    let mut most = 0;
+    for bar in bars {
+        most = bar.size.max(most);
+    }
+    most
+}
+
+// The width of a bar of this size, if the largest has the size `most`.
+pub(crate) fn width_of(most: u64, size: u64) -> u64 {
     if size == 0 {
         return 0;
     }
-    length.max(LEAST_WIDTH)
+    let part = (WHOLE * u128::from(size) / u128::from(most)) as u64;
+    part.max(LEAST_WIDTH)
 }
 
 // The share of the whole before this point.

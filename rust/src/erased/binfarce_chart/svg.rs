@@ -4,10 +4,13 @@
 
 use crate::shim::String;
 use crate::erased::binfarce_chart::bars::{
-    Bar, count_of, falling, length_of, others, shown_of, size_of_all, width_of,
+    Bar, count_of, falling, largest_of, length_of, others, shown_of, size_of_all, width_of,
 };
 use crate::erased::binfarce_text::digits::hex_digit;
 use crate::shim::alloc::{AllocError, Global};
+
+// The bytes of a MiB.
+const MIB: u64 = 1 << 20;
 
 // The name of the bar of names without a crate.
 const UNKNOWN: &str = "[unknown]";
@@ -15,9 +18,10 @@ const UNKNOWN: &str = "[unknown]";
 /// The picture of these sizes, as a whole SVG document: a bar for each, the greatest first.
 ///
 /// The sum of the sizes has to be below 2^64. Of `Some(n)` the first n bars are shown, of `None` the first 39 where there
-/// are more than 40; if some are left, one bar more sums up all of them. A bar is as long as its share of the sum,
-/// which is beside it in hundredths of a per cent, and adds up to 100.00 with the others; but a bar of a size above 0
-/// has at least 0.30 per cent of the whole width. After its share is its size in KiB. The title is above the bars, with
+/// are more than 40; if some are left, one bar more sums up all of them. The largest bar has the whole width, and each
+/// other its part of that, but a bar of a size above 0 at least 0.30 per cent. Beside it is its share of the sum, in
+/// hundredths of a per cent, which adds up to 100.00 with the others, and its size in KiB, or from 1 MiB on in MiB. The
+/// title is above the bars, with
 /// the sum and, if it is given, `section_size`. Below them a line says what `[unknown]` is, if a bar that is shown has
 /// that name. Without bars the picture says `no function symbols`. Names and the title are escaped; the end of a long
 /// one is cut. The only error is a failed allocation.
@@ -48,7 +52,7 @@ fn picture_of(
     let height = height_of(bars.len(), note);
     let mut text = String::new(alloc);
     push_head(&mut text, title, height, sum, section_size)?;
-    push_rows(&mut text, bars, sum)?;
+    push_rows(&mut text, bars, sum, largest_of(bars))?;
     push_foot(&mut text, 24 * bars.len() as u128 + 82, note)?;
     Ok(text)
 }
@@ -117,7 +121,7 @@ fn push_heading(text: &mut String, title: &str) -> Result<(), AllocError> {
 
 fn push_caption(text: &mut String, sum: u64, section_size: Option<u64>) -> Result<(), AllocError> {
     text.push_str("<text x=\"8\" y=\"49\">sum ")?;
-    push_kib(text, sum)?;
+    push_amount(text, sum)?;
     push_section_part(text, section_size)?;
     text.push_str(": share of the sum and size by crate</text>\n")
 }
@@ -128,7 +132,7 @@ fn push_section_part(text: &mut String, size: Option<u64>) -> Result<(), AllocEr
         None => Ok(()),
         Some(size) => {
             text.push_str(", text ")?;
-            push_kib(text, size)
+            push_amount(text, size)
         }
     }
 }
@@ -144,12 +148,12 @@ fn push_foot(text: &mut String, y: u128, note: Option<&str>) -> Result<(), Alloc
 }
 
 // The rows of these bars.
-fn push_rows(text: &mut String, bars: &[Bar<'_>], sum: u64) -> Result<(), AllocError> {
+fn push_rows(text: &mut String, bars: &[Bar<'_>], sum: u64, most: u64) -> Result<(), AllocError> {
     let mut before = 0;
     let mut top = 64u128;
     for bar in bars {
         let share = length_of(sum, before, bar.size);
-        push_row(text, top, *bar, share, width_of(share, bar.size))?;
+        push_row(text, top, *bar, share, width_of(most, bar.size))?;
         before += bar.size;
         top += 24;
     }
@@ -194,7 +198,7 @@ fn push_share(text: &mut String, share: u64) -> Result<(), AllocError> {
 
 fn push_size(text: &mut String, size: u64) -> Result<(), AllocError> {
     text.push_str("<text x=\"792\" y=\"18\" text-anchor=\"end\">")?;
-    push_kib(text, size)?;
+    push_amount(text, size)?;
     writeln!(text, "</text></svg>")
 }
 
@@ -203,11 +207,21 @@ fn push_percents(text: &mut String, n: u64) -> Result<(), AllocError> {
     write!(text, "{}.{}{}", n / 100, n / 10 % 10, n % 10)
 }
 
-// KiB with one decimal, rounded to the nearest.
-fn push_kib(text: &mut String, size: u64) -> Result<(), AllocError> {
-    let tenths = (u128::from(size) * 10 + 512) / 1024;
+// A size in KiB, or from 1 MiB on in MiB.
+fn push_amount(text: &mut String, size: u64) -> Result<(), AllocError> {
+    if size < MIB {
+        push_in_unit(text, 1024, "KiB", size)
+    } else {
+        push_in_unit(text, MIB, "MiB", size)
+    }
+}
+
+// A size in this unit with one decimal, rounded to the nearest, and the unit's name.
+fn push_in_unit(text: &mut String, unit: u64, name: &str, size: u64) -> Result<(), AllocError> {
+    let unit = u128::from(unit);
+    let tenths = (u128::from(size) * 10 + unit / 2) / unit;
     push_groups(text, 6, tenths / 10)?;
-    write!(text, ".{} KiB", tenths % 10)
+    write!(text, ".{} {name}", tenths % 10)
 }
 
 // A number with a comma before each of the last groups of three digits, at most so many.

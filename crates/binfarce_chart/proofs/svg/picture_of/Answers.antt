@@ -12,4 +12,4 @@ returns c =
     let line = c.note_of-note.result in
     let count : length c.args.bars.now ≡ length bars = omega (arith, length-map c.args.bars.now bar_view) in
     let high = ap (λ (n : ℕ). 24 * n + cond (is_some line) 96 72) count ∙ ap (λ (b : Bool). 24 * length bars + cond b 96 72) (sym (is_made _ line) ∙ ap is_some c.note_of-note.ensures) in
-    picture_is c.args.title.now bars _ c.size_of_all-sum.result _ c.args.section_size _ (string_bytes c.new-text.result) _ _ _ c.new-text.ensures.bytes (c.height_of-height.ensures ∙ high) c.size_of_all-sum.ensures c.note_of-note.ensures (omega (arith, count)) c.in_ok-push_head.ensures c.in_ok-push_rows.ensures c.in_ok-push_foot.ensures
+    picture_is c.args.title.now bars _ c.size_of_all-sum.result c.largest_of.result _ c.args.section_size _ (string_bytes c.new-text.result) _ _ _ c.new-text.ensures.bytes (c.height_of-height.ensures ∙ high) c.size_of_all-sum.ensures c.largest_of.ensures c.note_of-note.ensures (omega (arith, count)) c.in_ok-push_head.ensures c.in_ok-push_rows.ensures c.in_ok-push_foot.ensures

@@ -14,7 +14,4 @@ mod SectionsRead
 mod VersionsRead
 mod PeBeginning
 mod PeSure
-pub mod ElfLaw
-pub mod MachoLaw
 mod PeWhole
-pub mod PeLaw

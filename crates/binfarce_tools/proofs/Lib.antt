@@ -9,5 +9,4 @@ pub mod SectionAnswers
 pub mod FilesGive
 pub mod TablesRead
 pub mod TablesGive
-mod Decided
 mod SymbolLaws

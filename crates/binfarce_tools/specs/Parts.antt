@@ -1,17 +1,14 @@
--- The parts of a file that are read, and the law that no other byte of the file matters.
-use Rattle.std.specs.Prelude.{Option, Some, is_some, ◌≡◌, ◌↔◌, ℕ, List, [], ◌∷◌, length, min, Result}
-use Rattle.binfarce_bytes.specs.Part.{Part, part, SameParts}
+-- The parts of a file that are read.
+use Rattle.std.specs.Prelude.{Option, ℕ, List, [], ◌∷◌, length, min}
+use Rattle.binfarce_bytes.specs.Part.{Part, part}
 use Rattle.binfarce.specs.declared.Format.{Format}
 use Rattle.binfarce.specs.declared.Format.TheVariants.{Elf32, Elf64, Macho, PE, Unknown}
 use Rattle.binfarce.specs.declared.SymbolTable.{SymbolTable}
 use Rattle.binfarce.specs.Format.{format_of}
 use Rattle.binfarce.specs.Elf.{elf32, elf64}
-use Rattle.binfarce.specs.Refusal.{Refusal}
-use Rattle.binfarce.specs.SectionEntries.{SelectedSymbols}
 use Rattle.binfarce_tables.specs.ElfReads.{elf_parts}
 use Rattle.binfarce_tables.specs.MachoReads.{macho_parts}
 use Rattle.binfarce_tables.specs.PeReads.{pe_parts}
-use Rattle.binfarce_tools.specs.Answer.{selected_answer, MemoryIn}
 
 -- the first 8 bytes, or all of a shorter file, which name the format
 abbrev pub head_part : List ℕ → Part
@@ -28,12 +25,3 @@ format_parts which section Unknown file = []
 -- all that it reads of a file
 abbrev pub parts_in : SymbolTable → Option (List ℕ) → List ℕ → List Part
 parts_in which section file = head_part file ∷ format_parts which section (format_of file) file
-
--- files of one length that agree in the parts of the first for a section, or for all sections, by a symbol table, have one format; one answer for each
--- section, or for all sections; and for each section the same answers that need memory
-abbrev pub PartsDecide : List ℕ → List ℕ → Type 0
-PartsDecide file other =
-    (which : SymbolTable) (section : Option (List ℕ)) → SameParts (parts_in which section file) file other
-    → (format_of other ≡ format_of file)
-    × ((selection : Option (List ℕ)) → is_some selection ≡ is_some section → selected_answer which selection other ≡ selected_answer which selection file)
-    × ((name : List ℕ) (answer : Result SelectedSymbols Refusal) → MemoryIn other (Some name) answer ↔ MemoryIn file (Some name) answer)

@@ -1,6 +1,6 @@
-//! Laws of answers and of parts, proved from the definitions. Worked examples, computed from the definitions alone.
+//! Laws of answers, proved from the definitions. Worked examples, computed from the definitions alone.
 
-ghost use Rattle.std.specs.Prelude.{◌≡◌, ◌++◌, [], ◌∷◌, replicate, Option, Some, None, is_some, Bool, true, false, Ok, Err, List, ℕ};
+ghost use Rattle.std.specs.Prelude.{◌≡◌, ◌++◌, [], ◌∷◌, replicate, Option, Some, None, is_some, true, false, Ok, Err, List, ℕ};
 ghost use Rattle.binfarce.specs.declared.ByteOrder.TheVariants.{LittleEndian};
 ghost use Rattle.binfarce.specs.Refusal.{symbols_section_is_missing, malformed_input, unexpected_eof};
 ghost use Rattle.binfarce.specs.SectionEntries.{SelectedSymbols};
@@ -14,11 +14,10 @@ ghost use Rattle.binfarce.specs.PeSelection as pe;
 ghost use Rattle.binfarce.specs.PeSymbols.{pe_file_answer};
 ghost use Rattle.binfarce.specs.declared.SymbolTable.{SymbolTable};
 ghost use Rattle.binfarce.specs.declared.SymbolTable.TheVariants.{Symtab};
-ghost use Rattle.binfarce_bytes.specs.Part.{SameParts, part};
+ghost use Rattle.binfarce_bytes.specs.Part.{part};
 ghost use Rattle.binfarce_tables.specs.ElfReads.{elf_parts, headers_size};
 ghost use Rattle.binfarce_tables.specs.MachoReads.{macho_parts};
 ghost use Rattle.binfarce_tables.specs.PeReads.{pe_parts};
-ghost use Rattle.binfarce_tools.specs.Parts.{PartsDecide};
 ghost use Rattle.binfarce.specs.Symbol.{AreSymbolsOf, Listed};
 ghost use Rattle.binfarce_tools.specs.Answer.{one_list, selected_answer};
 ghost use Rattle.binfarce_tools.specs.SectionAnswer.{IsListingOf, IsReportOf};
@@ -50,64 +49,6 @@ pub fn sections_are_selected(file: &[u8], byte_order: ByteOrder, section: &str)
     let _ = section;
 }
 
-/// Two files of one length that agree in the parts of the first for a section, or for all sections, have one format, and
-/// one answer for each section, or for all sections: by the symbol table, or by the dynamic one.
-///
-/// No other byte matters to a listing or a report, and `tables::read` needs no other byte. The
-/// first 8 bytes are a part of every file. Of an ELF file the others are the file header, the section headers, the
-/// section names, the symbol table and its string table; of a Mach-O file the load commands, the symbol table and its
-/// string table; of a PE file the file header, the section headers, the symbol table and the rest of the file after it;
-/// any other file has none.
-pub fn parts_decide(file: &[u8], other: &[u8])
-    ensures { PartsDecide file.now other.now }
-{
-    let _ = file;
-    let _ = other;
-}
-
-/// As `parts_decide`, for the answers of the readers of both ELF classes, in either byte order.
-pub fn elf_parts_decide(file: &[u8], other: &[u8], byte_order: ByteOrder, section: &str)
-    ensures of_32_bits { (which : SymbolTable)
-        → SameParts (elf_parts which elf32 byte_order file.now) file.now other.now
-        → (section_file_answer which elf32 byte_order other.now section.now
-        ≡ section_file_answer which elf32 byte_order file.now section.now)
-        × ((selected : Option (List ℕ)) → elf.selected_file_answer which elf32 byte_order other.now selected
-        ≡ elf.selected_file_answer which elf32 byte_order file.now selected) }
-    ensures of_64_bits { (which : SymbolTable)
-        → SameParts (elf_parts which elf64 byte_order file.now) file.now other.now
-        → (section_file_answer which elf64 byte_order other.now section.now
-        ≡ section_file_answer which elf64 byte_order file.now section.now)
-        × ((selected : Option (List ℕ)) → elf.selected_file_answer which elf64 byte_order other.now selected
-        ≡ elf.selected_file_answer which elf64 byte_order file.now selected) }
-{
-    let _ = file;
-    let _ = other;
-    let _ = byte_order;
-    let _ = section;
-}
-
-/// As `parts_decide`, for the answers of the Mach-O reader.
-pub fn macho_parts_decide(file: &[u8], other: &[u8])
-    ensures { SameParts (macho_parts file.now) file.now other.now
-        → (macho_file_answer other.now ≡ macho_file_answer file.now)
-        × ((section : Option (List ℕ)) → macho.selected_file_answer section other.now
-        ≡ macho.selected_file_answer section file.now) }
-{
-    let _ = file;
-    let _ = other;
-}
-
-/// As `parts_decide`, for the answers of the PE reader.
-pub fn pe_parts_decide(file: &[u8], other: &[u8])
-    ensures text { (name : List ℕ) → SameParts (pe_parts (Some name) file.now) file.now other.now
-        → pe_file_answer other.now ≡ pe_file_answer file.now }
-    ensures selected { (section : Option (List ℕ)) → SameParts (pe_parts section file.now) file.now other.now
-        → pe.selected_file_answer section other.now ≡ pe.selected_file_answer section file.now }
-{
-    let _ = file;
-    let _ = other;
-}
-
 /// The section headers of a table at 2 that has three by its count: all three, and two where the file ends in the
 /// third.
 #[tactic(auto, unfolding(binfarce_elf::specs::Elf::elf32))]
@@ -118,7 +59,7 @@ fn worked_sizes()
         (record { order = LittleEndian; file = replicate 121 0; shoff = 2; shnum = 3; shstrndx = 0 }) ≡ 80 }
 {}
 
-/// Every byte of a part counts: two headers that differ in the last byte of `shoff` alone.
+/// Every byte of a header counts: two headers that differ in the last byte of `shoff` alone.
 #[tactic(auto, unfolding(binfarce_elf::specs::Elf::elf32, binfarce_elf::specs::Elf::section_table, binfarce_elf::specs::Elf::header_of, binfarce_elf::specs::Elf::walk, binfarce_elf::specs::ElfSymbols::elf_answer, binfarce_bytes::proofs::Computing::computing))]
 fn worked_answers()
     ensures no_sections { elf_file_answer elf32 LittleEndian (replicate 52 0) (0x66 ∷ [])

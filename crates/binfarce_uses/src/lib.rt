@@ -10,7 +10,6 @@ pub mod is_big_endian_elf;
 pub mod macho;
 pub mod name_at;
 pub mod names;
-pub mod parts;
 pub mod pe;
 pub mod reading;
 pub mod sections;

@@ -1,3 +1,0 @@
-//! Which bytes of a file matter.
-
-pub mod cite;

@@ -1,11 +1,11 @@
 -- The bytes of a section, and the section names.
-use Rattle.std.proofs.Common.{◌≡◌, ℕ, ◌+◌, ◌*◌, ◌-◌, ◌/◌, ◌<◌, ◌≤◌, ◌^◌, ◌⊎◌, List, length, drop, Option, Some, None, Result, Ok, Err, refl, sym, ap, ◌∙◌, arith, inl, inr, length-drop}
+use Rattle.std.proofs.Common.{◌≡◌, ℕ, ◌+◌, ◌*◌, ◌-◌, ◌/◌, ◌<◌, ◌≤◌, ◌^◌, List, length, drop, Option, Some, None, Result, Ok, Err, refl, sym, ap, ap₂, ◌∙◌, arith, inl, inr, length-drop}
 use Rattle.std.proofs.Math.Nat.{div-mul-le_self}
 use Rattle.std.proofs.lemmas.Bool.{cases_lt, lt-leb, le-leb, lt-ltb, le-ltb}
 use Rattle.std.proofs.lemmas.List.{length-take-le}
 use Rattle.binfarce_bytes.specs.Number.{bytes_at}
 use Rattle.binfarce_bytes.specs.Steps.{◌>>=◌}
-use Rattle.binfarce_bytes.specs.Refusal.{Refusal, malformed_input, unexpected_eof, bytes_in_file}
+use Rattle.binfarce_bytes.specs.Refusal.{Refusal, malformed_input, bytes_in_file, if_as_long_as}
 use Rattle.binfarce_elf.specs.Elf.{ElfClass, SectionTable, Section, section_at, section_of, whole_headers, contents, names_section, names_bytes}
 use Rattle.binfarce_elf.specs.ElfSymbols.{section_data}
 use Rattle.binfarce_tables.proofs.HeadersAlone.{HasWithin, section_in}
@@ -14,40 +14,23 @@ pub data_malformed : (file : List ℕ) (s : Section) → 2 ^ 64 ≤ s.offset + s
 unfolding section_data bytes_in_file
 data_malformed file s past = rw (le-leb (2 ^ 64) (s.offset + s.size) past) refl
 
-pub data_past : (file : List ℕ) (s : Section) → s.offset + s.size < 2 ^ 64 → length file < s.offset + s.size → section_data file s ≡ Err unexpected_eof
+pub data_below : (file : List ℕ) (s : Section) → s.offset + s.size < 2 ^ 64 → section_data file s ≡ if_as_long_as (s.offset + s.size) file (Ok (bytes_at file s.offset s.size))
 unfolding section_data bytes_in_file
-data_past file s end past = rw (lt-leb (2 ^ 64) (s.offset + s.size) end, lt-ltb (length file) (s.offset + s.size) past) refl
-
-pub data_inside : (file : List ℕ) (s : Section) → s.offset + s.size < 2 ^ 64 → s.offset + s.size ≤ length file → section_data file s ≡ Ok (bytes_at file s.offset s.size)
-unfolding section_data bytes_in_file
-data_inside file s end inside = rw (lt-leb (2 ^ 64) (s.offset + s.size) end, le-ltb (length file) (s.offset + s.size) inside) refl
+data_below file s end = rw (lt-leb (2 ^ 64) (s.offset + s.size) end) refl
 
 -- the bytes that were read are the contents
-pub contents_read : (file bytes : List ℕ) (s : Section) → length file < 2 ^ 64 → section_data file s ≡ Ok bytes → contents file s ≡ Some bytes
-contents_read file bytes s short read = elim (cases_lt (length file) (s.offset + s.size)) [
-  | inl past ↦ absurd (not_past (cases_lt (s.offset + s.size) (2 ^ 64)) past)
-  | inr inside ↦
-      let is : section_data file s ≡ Ok (bytes_at file s.offset s.size) = data_inside file s (omega arith) inside in
-      let same : Path (Result (List ℕ) Refusal) (Ok (bytes_at file s.offset s.size)) (Ok bytes) = sym is ∙ read in
-      rw (le-leb (s.offset + s.size) (length file) inside) (ap Some (of_same same))
-]
-  where
-    of_same : {a b : List ℕ} → Path (Result (List ℕ) Refusal) (Ok a) (Ok b) → a ≡ b
-    of_same e = cc
-
-    refused_read : (r : Refusal) → section_data file s ≡ Err r → ⊥
-    refused_read r is = let e : Path (Result (List ℕ) Refusal) (Err r) (Ok bytes) = sym is ∙ read in cc
-
-    not_past : (s.offset + s.size < 2 ^ 64) ⊎ (2 ^ 64 ≤ s.offset + s.size) → length file < s.offset + s.size → ⊥
-    not_past (inl end) past = refused_read unexpected_eof (data_past file s end past)
-    not_past (inr end) past = refused_read malformed_input (data_malformed file s end)
+pub contents_read : (file bytes : List ℕ) (s : Section) (offset size : ℕ) → offset ≡ s.offset → size ≡ s.size → offset + size ≤ length file → bytes ≡ bytes_at file offset size → contents file s ≡ Some bytes
+contents_read file bytes s offset size begins long inside is =
+    rw (le-leb (s.offset + s.size) (length file) (omega (arith, inside, begins, long))) (ap Some (sym (is ∙ ap₂ (λ (a b : ℕ). bytes_at file a b) begins long)))
 
 -- what was refused has no contents
-pub contents_refused : (file : List ℕ) (refusal : Refusal) (s : Section) → length file < 2 ^ 64 → section_data file s ≡ Err refusal → contents file s ≡ None
-contents_refused file refusal s short read = elim (cases_lt (length file) (s.offset + s.size)) [
-  | inl past ↦ rw (lt-leb (s.offset + s.size) (length file) past) refl
+pub contents_refused : (file : List ℕ) (refusal : Refusal) (s : Section) (offset size : ℕ) → offset ≡ s.offset → size ≡ s.size
+    → if_as_long_as (offset + size) file (Ok (bytes_at file offset size)) ≡ Err refusal → contents file s ≡ None
+contents_refused file refusal s offset size begins long read = elim (cases_lt (length file) (offset + size)) [
+  | inl past ↦ rw (lt-leb (s.offset + s.size) (length file) (omega (arith, past, begins, long))) refl
   | inr inside ↦
-      let e : Path (Result (List ℕ) Refusal) (Ok (bytes_at file s.offset s.size)) (Err refusal) = sym (data_inside file s (omega arith) inside) ∙ read in
+      let is : if_as_long_as (offset + size) file (Ok (bytes_at file offset size)) ≡ Ok (bytes_at file offset size) = rw (le-ltb (length file) (offset + size) inside) refl in
+      let e : Path (Result (List ℕ) Refusal) (Ok (bytes_at file offset size)) (Err refusal) = sym is ∙ read in
       absurd cc
 ]
 

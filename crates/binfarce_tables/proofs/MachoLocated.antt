@@ -1,5 +1,5 @@
 -- What the function symbols of a selection of a Mach-O file are made of, by what was read of it.
-use Rattle.std.proofs.Common.{◌≡◌, ◌⊎◌, ◌≢◌, ℕ, ◌≤◌, Bool, false, List, length, Option, None, Result, Ok, Err, inl, inr, refl, sym, ap, subst, ◌∙◌}
+use Rattle.std.proofs.Common.{◌≡◌, ◌⊎◌, ◌≢◌, ℕ, ◌≤◌, false, List, length, Option, None, Result, Ok, Err, inl, inr, refl, sym, ap, subst, ◌∙◌}
 use Rattle.std.specs.Global.{Vec}
 use Rattle.std.proofs.lemmas.Bool.{le-ltb}
 use Rattle.binfarce_bytes.specs.declared.error.ParseError.{ParseError}
@@ -11,7 +11,7 @@ use Rattle.binfarce_bytes.specs.declared.functions.SectionFunction.{SectionFunct
 use Rattle.binfarce_macho.specs.MachoSelection.{SelectedSections, SelectedTables, sections_in, selected_tables, selected_file_tables, entries_in, section_size, section_name, symbols_of}
 use Rattle.binfarce_macho.specs.MachoSymbols.{SymtabCommand, symbols_by, table_of}
 use Rattle.binfarce_tables.specs.declared.error.ReadError.{ReadError}
-use Rattle.binfarce_tables.specs.declared.error.ReadError.TheVariants.{Refused, Unreadable, OutOfMemory}
+use Rattle.binfarce_tables.specs.declared.error.ReadError.TheVariants.{Refused, OutOfMemory}
 use Rattle.binfarce_tables.specs.Reading.{Reads}
 use Rattle.binfarce_tables.specs.MachoReads.{command_bytes}
 use Rattle.binfarce_tables.specs.machine.MachoPlaces.{CommandParts, selected_commands}
@@ -73,17 +73,6 @@ entries_selected tables N result given = by_entries (entries_in tables.sections 
     by_entries (Ok entries) (Err e) h = h
     by_entries (Err why) (Ok functions) h = h
     by_entries (Err why) (Err e) h = h
-
--- a reading of bytes in memory
-pub in_memory : {X Y : Type 0} (fails : Bool) (view : X → Y) (answer : Result Y Refusal) (e : ReadError) → Reads false view answer (Err e) → Reads fails view answer (Err e)
-in_memory fails view answer (Refused p) reads = reads
-in_memory fails view answer Unreadable reads = absurd cc
-in_memory fails view answer OutOfMemory reads = tt
-
-pub in_memory_readable : {X Y : Type 0} (view : X → Y) (answer : Result Y Refusal) (e : ReadError) → Reads false view answer (Err e) → e ≢ Unreadable
-in_memory_readable view answer (Refused p) reads unreadable = cc
-in_memory_readable view answer Unreadable reads unreadable = absurd cc
-in_memory_readable view answer OutOfMemory reads unreadable = cc
 
 -- a refusal, or a failed allocation
 pub with_memory : {X Y : Type 0} (view : X → Y) (answer : Result Y Refusal) (p : ParseError) (e : ReadError) → ((refusal_of p ≡ out_of_memory) × (e ≡ OutOfMemory)) ⊎ ((refusal_of p ≢ out_of_memory) × (e ≡ Refused p))

@@ -1,6 +1,6 @@
 -- The answer of a PE file by the steps of a reading.
 use Rattle.std.proofs.Common.{◌≡◌, ℕ, ◌+◌, ◌-◌, ◌<◌, ◌≤◌, Bool, cond, ltb, List, length, drop, Option, Some, None, Result, Ok, Err, refl, sym, ap, ap₂, ◌∙◌, arith, inl, inr, length-drop}
-use Rattle.std.proofs.lemmas.Bool.{cases_lt, lt-ltb, le-ltb, lt-leb, le-leb}
+use Rattle.std.proofs.lemmas.Bool.{cases_lt, lt-ltb, le-ltb, lt-leb}
 use Rattle.std.proofs.lemmas.List.{take_all}
 use Rattle.binfarce_bytes.specs.Number.{bytes_at}
 use Rattle.binfarce_bytes.specs.Refusal.{◌>>=◌, Refusal, unexpected_eof}
@@ -69,12 +69,6 @@ table_inside file places begins ends =
     let rest : bytes_at file end (length file - end) ≡ drop end file = take_all (length file - end) (drop end file) (omega (arith, length-drop end file)) in
     rw (lt-leb (length file) places.symbols begins, le-ltb (length file) end ends, rest) refl
 
-pub table_outside : (file : List ℕ) (places : TablePlaces) → length file ≤ places.symbols → table_at file places ≡ Err unexpected_eof
-table_outside file places past = rw (le-leb (length file) places.symbols past) refl
-
-pub table_past : (file : List ℕ) (places : TablePlaces) → places.symbols < length file → length file < places.symbols + places.symbols_size → table_at file places ≡ Err unexpected_eof
-table_past file places begins past = rw (lt-leb (length file) places.symbols begins, lt-ltb (length file) (places.symbols + places.symbols_size) past) refl
-
 -- the signature's offset that was read is the file's
 pub signature_known : (file : List ℕ) (n : ℕ) → signature_step file ≡ Ok n → (64 ≤ length file) × (n ≡ signature_offset file)
 signature_known file n step = elim (cases_lt (length file) 64) [
@@ -87,6 +81,15 @@ signature_known file n step = elim (cases_lt (length file) 64) [
       let e : Path (Result ℕ Refusal) (Ok (signature_offset file)) (Ok n) = sym is ∙ step in
       (room, cc)
 ]
+
+-- a file that has the stub is too short where the file header ends past it
+pub header_past : (file : List ℕ) (n : ℕ) → signature_step file ≡ Ok n → ltb (length file) (least_length file) ≡ ltb (length file) (n + 24)
+header_past file n step =
+    let is = signature_known file n step in
+    elim (cases_lt (length file) (n + 24)) [
+      | inl short ↦ lt-ltb (length file) (least_length file) (omega (arith, is.0, is.1, short)) ∙ sym (lt-ltb (length file) (n + 24) short)
+      | inr room ↦ le-ltb (length file) (least_length file) (omega (arith, is.0, is.1, room)) ∙ sym (le-ltb (length file) (n + 24) room)
+    ]
 
 -- the places that were read are the file's
 pub places_are : (file headers : List ℕ) (signature : ℕ) (places : TablePlaces) → signature_step file ≡ Ok signature → signature + 24 ≤ length file

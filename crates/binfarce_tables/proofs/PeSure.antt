@@ -1,15 +1,15 @@
 -- What is true of each part of a PE file that is read, by the step that reads it.
-use Rattle.std.proofs.Common.{◌≡◌, ℕ, ◌+◌, ◌-◌, ◌≤◌, List, [], ◌∷◌, ◌++◌, length, Option, Ok, sym, subst}
+use Rattle.std.proofs.Common.{◌≡◌, ℕ, ◌+◌, ◌-◌, ◌≤◌, Bool, true, false, cond, leb, List, [], ◌∷◌, ◌++◌, length, Option, Ok, sym, subst}
 use Rattle.std.proofs.lemmas.Bool.{le-leb}
 use Rattle.std.proofs.lemmas.List.Elements.{All-head, All-tail, All-take}
 use Rattle.std.specs.Prelude.{All}
-use Rattle.binfarce_bytes.specs.Part.{Part, part}
+use Rattle.binfarce_bytes.specs.Part.{Part, part, whole_part}
 use Rattle.binfarce_pe.specs.PeParts.{TablePlaces, places_of}
 use Rattle.binfarce_tables.specs.PeReads.{pointer_part, header_part, places_parts, optional_header_part, table_parts, beginning_part, pe_section_parts, selected_parts, pe_parts, pe_load_parts}
 use Rattle.binfarce_tables.specs.machine.PePlaces.{signature_step, places_step}
 use Rattle.binfarce_tables.proofs.PeBeginning.{places_read}
 use Rattle.binfarce_tables.proofs.PeSteps.{signature_known}
-use Rattle.binfarce_tables.proofs.Sure.{front, back}
+use Rattle.binfarce_tables.proofs.Sure.{alone, front, back}
 
 module _ (P : Part → Type 0) (file : List ℕ) where
   -- those of the symbols of a selection, at the places that were read
@@ -80,10 +80,17 @@ module _ (P : Part → Type 0) (file : List ℕ) where
     both : All P (part places.symbols places.symbols_size ∷ part end (length file - end) ∷ [])
     both = rw (le-leb end (length file) inside) at are
 
-    pub rows_sure : P (part places.symbols places.symbols_size)
-    rows_sure = All-head P (part places.symbols places.symbols_size) (part end (length file - end) ∷ []) both
-
     pub strings_sure : (len : ℕ) → len ≡ length file → P (part end (len - end))
     strings_sure len is =
         subst (λ (n : ℕ). P (part end (n - end))) (sym is)
         (All-head P (part end (length file - end)) [] (All-tail P (part places.symbols places.symbols_size) (part end (length file - end) ∷ []) both))
+
+-- the records, where they lie in the file
+rows_if : (P : Part → Type 0) (fits : Bool) (rows strings : Part) → All P (cond fits (rows ∷ strings ∷ []) []) → All P (cond fits (rows ∷ []) [])
+rows_if P true rows strings all = alone P rows (All-head P rows (strings ∷ []) all)
+rows_if P false rows strings all = all
+
+pub rows_where : (P : Part → Type 0) (file : List ℕ) (places : TablePlaces) → All P (table_parts file places) → All P (whole_part file places.symbols places.symbols_size)
+rows_where P file places all =
+    let end = places.symbols + places.symbols_size in
+    rows_if P (leb end (length file)) (part places.symbols places.symbols_size) (part end (length file - end)) all

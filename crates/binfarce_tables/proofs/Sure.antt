@@ -1,8 +1,7 @@
 -- Parts that are surely given, and what a reading of them returns.
-use Rattle.std.proofs.Common.{◌≡◌, ℕ, ◌+◌, ◌≤◌, Bool, true, false, List, [], ◌∷◌, ◌++◌, length, Option, Some, Result, sym, subst, ◌∙◌}
+use Rattle.std.proofs.Common.{◌≡◌, ℕ, ◌+◌, Bool, true, false, cond, leb, List, [], ◌∷◌, ◌++◌, length, Option, Some, Result, sym, subst, ◌∙◌}
 use Rattle.std.specs.Prelude.{◌≢◌, All, IfErr}
 use Rattle.std.specs.Result.{IsErr, IsErrAnd}
-use Rattle.std.proofs.lemmas.Bool.{le-leb}
 use Rattle.std.proofs.lemmas.List.Elements.{All-nil, All-cons, All-head, All-tail}
 use Rattle.binfarce_bytes.specs.Part.{Part, part, whole_part, parts_if}
 use Rattle.binfarce_bytes.specs.Source.{ReadsOnly}
@@ -27,9 +26,13 @@ only P x all = All-head P x [] all
 pub alone : {X : Type 0} (P : X → Type 0) (x : X) → P x → All P (x ∷ [])
 alone P x is = All-cons P x [] is (All-nil P)
 
--- of a part that lies in the file
-pub in_file : (P : Part → Type 0) (file : List ℕ) (offset size : ℕ) → offset + size ≤ length file → All P (whole_part file offset size) → P (part offset size)
-in_file P file offset size inside all = only P (part offset size) (rw (le-leb (offset + size) (length file) inside) at all)
+-- of a part that is read only where it lies in the file
+maybe : (P : Part → Type 0) (fits : Bool) (p : Part) → P p → All P (cond fits (p ∷ []) [])
+maybe P true p is = alone P p is
+maybe P false p is = All-nil P
+
+pub in_any : (P : Part → Type 0) (file : List ℕ) (offset size : ℕ) → P (part offset size) → All P (whole_part file offset size)
+in_any P file offset size is = maybe P (leb (offset + size) (length file)) (part offset size) is
 
 -- of the parts of a structure that is there
 pub of_some : {A : Type 0} (P : Part → Type 0) (found : Option A) (x : A) (parts : A → List Part) → found ≡ Some x → All P (parts_if found parts) → All P (parts x)

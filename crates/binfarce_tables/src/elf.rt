@@ -1,11 +1,9 @@
 //! The parts of an ELF file that have the function symbols of a selection.
 
-ghost use Rattle.std.specs.Prelude.{[], ◌∷◌, ◌≡◌, ◌≢◌, ◌⊎◌, ◌+◌, ◌<◌, ◌≤◌, List, ℕ, true, Ok, Option, Some, None, length, IfOk, IfErr};
+ghost use Rattle.std.specs.Prelude.{[], ◌∷◌, ◌≡◌, ◌≢◌, ◌<◌, ◌≤◌, List, ℕ, true, Ok, Option, Some, None, IfOk, IfErr};
 ghost use Rattle.std.specs.BTreeMap.{get};
 ghost use Rattle.std.specs.Ordering.{nat_cmp};
-ghost use Rattle.std.specs.Result.{IsErr};
 ghost use Rattle.std.specs.Option.{option_map};
-ghost use Rattle.binfarce_bytes.specs.Number.{bytes_at};
 ghost use Rattle.binfarce_bytes.specs.Part.{part, parts_if};
 ghost use Rattle.binfarce_bytes.specs.Source.{ReadsOnly};
 ghost use Rattle.binfarce_bytes.specs.Refusal.{Gives, refusal_of};
@@ -23,14 +21,15 @@ ghost use Rattle.binfarce_tables.specs.ElfReading.{parts_view, symbols_by, symbo
 ghost use Rattle.binfarce_tables.specs.ElfReads.{elf_parts, headers_size, names_parts, rows_parts, section_parts, version_parts};
 ghost use Rattle.binfarce_tables.specs.Reading.{Reads, Known};
 ghost use Rattle.binfarce_tables.specs.SectionReading.{sections_view};
-ghost use Rattle.binfarce_tables.specs.declared.error.ReadError.TheVariants.{Unreadable, OutOfMemory};
+ghost use Rattle.binfarce_tables.specs.declared.error.ReadError.TheVariants.{Unreadable};
 ghost use Rattle.binfarce_tables.specs.machine.Places.{table_at, table_step, headers_of, rows_view};
 
 use crate::error::ReadError;
+use crate::opened::{Opened, open};
+use crate::sections::sections_of;
 pub use crate::sections::{SectionParts, read_sections};
 use binfarce_bytes::functions::Selection;
-use binfarce_bytes::parser::to_index;
-use binfarce_bytes::source::{Source, read_part};
+use binfarce_bytes::source::Source;
 use binfarce_bytes::{ByteOrder, ParseError};
 use binfarce_elf::class::{Half, Width, Word};
 use binfarce_elf::sections::Section;
@@ -131,11 +130,11 @@ pub fn read<S: Source>(
         → ReadsOnly (S.is_sure source.now) (S.logs_only log.old) (S.logs_only log.new)
         (elf_parts which (class_of width) byte_order file) (IfErr result (λ e. e ≢ Unreadable)) }
 {
-    let sections = read_sections(alloc, source, log, width, byte_order)?;
+    let opened = open(alloc, source)?;
+    let sections = sections_of(&opened, log, width, byte_order)?;
     let needed = needed_of(&sections, which, selection)?;
-    let len = sections.file_length;
-    let table = read_rows(alloc, source, log, len, sections.width, needed.table)?;
-    let versions = read_versions(alloc, source, log, &sections, which)?;
+    let table = read_rows(&opened, log, sections.width, needed.table)?;
+    let versions = read_versions(&opened, log, &sections, which)?;
     let sizes = sizes_of(alloc, &sections, needed.taken, &table)?;
     Ok(Parts {
         sections,
@@ -189,28 +188,25 @@ fn needed_of(
 }
 
 pub(crate) fn read_place<S: Source>(
-    alloc: Global,
-    source: &S,
+    opened: &Opened<'_, S>,
     log: &mut S::Log,
-    len: u64,
     width: Width,
     byte_order: ByteOrder,
 ) -> Result<HeaderTable, ReadError>
-    ensures table { (file : List ℕ) → Known (S.bytes source.now) len file
-        → Reads (S.may_fail source.now) (table_at file) (table_step (class_of width) byte_order file) result }
-    ensures kind_is { (file : List ℕ) → Known (S.bytes source.now) len file
+    ensures table { (file : List ℕ) → Known (S.bytes opened.now.source.now) opened.now.len file
+        → Reads (S.may_fail opened.now.source.now) (table_at file)
+        (table_step (class_of width) byte_order file) result }
+    ensures kind_is { (file : List ℕ) → Known (S.bytes opened.now.source.now) opened.now.len file
         → IfOk result (λ p. kind_view p.kind ≡ file_kind (header_of (class_of width) byte_order file)) }
-    ensures programs { (file : List ℕ) → Known (S.bytes source.now) len file
+    ensures programs { (file : List ℕ) → Known (S.bytes opened.now.source.now) opened.now.len file
         → let header = header_of (class_of width) byte_order file in IfOk result
         (λ p. (p.byte_order ≡ byte_order) × (p.phoff ≡ header.phoff) × (p.phnum ≡ header.phnum)) }
-    ensures only { ReadsOnly (S.is_sure source.now) (S.logs_only log.old) (S.logs_only log.new)
+    ensures only { (file : List ℕ) → Known (S.bytes opened.now.source.now) opened.now.len file
+        → ReadsOnly (S.is_sure opened.now.source.now) (S.logs_only log.old) (S.logs_only log.new)
         (part 0 (class_of width).header_length ∷ []) (IfErr result (λ e. e ≢ Unreadable)) }
 {
     let size = width.header_length() as u64;
-    if len < size {
-        return Err(ReadError::Refused(ParseError::UnexpectedEof));
-    }
-    let bytes = part(alloc, source, log, 0, size)?;
+    let bytes = opened.within(log, 0, size)?;
     Ok(place_in(&bytes, width, byte_order)?)
 }
 
@@ -225,51 +221,49 @@ pub(crate) fn slice_of(bytes: &Option<Vec<u8>>) -> Option<&[u8]>
 
 // The section headers that are whole, up to the count.
 pub(crate) fn read_headers<S: Source>(
-    alloc: Global,
-    source: &S,
+    opened: &Opened<'_, S>,
     log: &mut S::Log,
-    len: u64,
     width: Width,
     place: HeaderTable,
 ) -> Result<Vec<u8>, ReadError>
-    ensures answer { (file : List ℕ) → Known (S.bytes source.now) len file → place.shoff ≤ len
-        → Reads (S.may_fail source.now) (λ v. v.items) (Ok (headers_of (class_of width) (table_at file place))) result }
-    ensures only { (file : List ℕ) → Known (S.bytes source.now) len file
-        → ReadsOnly (S.is_sure source.now) (S.logs_only log.old) (S.logs_only log.new)
+    ensures answer { (file : List ℕ) → Known (S.bytes opened.now.source.now) opened.now.len file
+        → place.shoff ≤ opened.now.len
+        → Reads (S.may_fail opened.now.source.now) (λ v. v.items)
+        (Ok (headers_of (class_of width) (table_at file place))) result }
+    ensures only { (file : List ℕ) → Known (S.bytes opened.now.source.now) opened.now.len file
+        → ReadsOnly (S.is_sure opened.now.source.now) (S.logs_only log.old) (S.logs_only log.new)
         (part place.shoff (headers_size (class_of width) (table_at file place)) ∷ [])
         (IfErr result (λ e. e ≢ Unreadable)) }
 {
     let size = width.section_length() as u64;
-    let whole = len.saturating_sub(place.shoff) / size;
+    let whole = opened.len.saturating_sub(place.shoff) / size;
     let count = whole.min(place.shnum as u64);
-    part(alloc, source, log, place.shoff, count * size)
+    opened.part(log, place.shoff, count * size)
 }
 
 // The section names, where the file has them.
 pub(crate) fn read_names<S: Source>(
-    alloc: Global,
-    source: &S,
+    opened: &Opened<'_, S>,
     log: &mut S::Log,
-    len: u64,
     width: Width,
     place: HeaderTable,
 ) -> Result<Option<Vec<u8>>, ReadError>
-    ensures answer { (file : List ℕ) → Known (S.bytes source.now) len file
-        → Reads (S.may_fail source.now) (option_map (λ v. v.items))
+    ensures answer { (file : List ℕ) → Known (S.bytes opened.now.source.now) opened.now.len file
+        → Reads (S.may_fail opened.now.source.now) (option_map (λ v. v.items))
         (Ok (names_bytes (class_of width) (table_at file place))) result }
-    ensures only { (file : List ℕ) → Known (S.bytes source.now) len file
-        → ReadsOnly (S.is_sure source.now) (S.logs_only log.old) (S.logs_only log.new)
+    ensures only { (file : List ℕ) → Known (S.bytes opened.now.source.now) opened.now.len file
+        → ReadsOnly (S.is_sure opened.now.source.now) (S.logs_only log.old) (S.logs_only log.new)
         (names_parts (class_of width) (table_at file place)) (IfErr result (λ e. e ≢ Unreadable)) }
 {
     let size = width.section_length() as u64;
-    let whole = len.saturating_sub(place.shoff) / size;
+    let whole = opened.len.saturating_sub(place.shoff) / size;
     if place.shstrndx as u64 >= whole {
         return Ok(None);
     }
     let start = place.shoff + place.shstrndx as u64 * size;
-    let header = part(alloc, source, log, start, size)?;
+    let header = opened.part(log, start, size)?;
     match section_at(&header, 0, width, place.byte_order, place.shstrndx) {
-        Ok(section) => read_contents(alloc, source, log, len, section),
+        Ok(section) => read_contents(opened, log, section),
         Err(_) => Ok(None),
     }
 }
@@ -283,22 +277,20 @@ struct TableParts {
 
 // The bytes of a symbol table's sections; refused as those of a file in memory.
 fn read_rows<S: Source>(
-    alloc: Global,
-    source: &S,
+    opened: &Opened<'_, S>,
     log: &mut S::Log,
-    len: u64,
     width: Width,
     sections: TableSections,
 ) -> Result<TableParts, ReadError>
-    ensures answer { (file : List ℕ) → Known (S.bytes source.now) len file
-        → Reads (S.may_fail source.now) rows_view
+    ensures answer { (file : List ℕ) → Known (S.bytes opened.now.source.now) opened.now.len file
+        → Reads (S.may_fail opened.now.source.now) rows_view
         (rows_at (class_of width) file (table_sections_view sections)) result }
-    ensures only { (file : List ℕ) → Known (S.bytes source.now) len file
-        → ReadsOnly (S.is_sure source.now) (S.logs_only log.old) (S.logs_only log.new)
+    ensures only { (file : List ℕ) → Known (S.bytes opened.now.source.now) opened.now.len file
+        → ReadsOnly (S.is_sure opened.now.source.now) (S.logs_only log.old) (S.logs_only log.new)
         (rows_parts file (table_sections_view sections)) (IfErr result (λ e. e ≢ Unreadable)) }
 {
-    let strings = read_section(alloc, source, log, len, sections.strings)?;
-    let rows = read_section(alloc, source, log, len, sections.symbols)?;
+    let strings = read_section(opened, log, sections.strings)?;
+    let rows = read_section(opened, log, sections.symbols)?;
     let _ = whole_rows(width, &rows)?;
     Ok(TableParts { strings, rows })
 }
@@ -310,75 +302,70 @@ struct VersionParts {
     names: BTreeMap<Half, Word>,
 }
 
-// Those of this symbol table, of a file with these sections.
+// Reads them for this symbol table of a file with these sections.
 fn read_versions<S: Source>(
-    alloc: Global,
-    source: &S,
+    opened: &Opened<'_, S>,
     log: &mut S::Log,
     sections: &SectionParts,
     which: SymbolTable,
 ) -> Result<VersionParts, ReadError>
-    ensures rows { (file : List ℕ) → Known (S.bytes source.now) sections.now.file_length file
-        → Reads (S.may_fail source.now) (λ v. v.rows.items)
+    ensures rows { (file : List ℕ) → Known (S.bytes opened.now.source.now) opened.now.len file
+        → Reads (S.may_fail opened.now.source.now) (λ v. v.rows.items)
         (Ok (bytes_if file (versions_section which (sections_view sections.now).sections))) result }
-    ensures names { (file : List ℕ) → Known (S.bytes source.now) sections.now.file_length file
+    ensures names { (file : List ℕ) → Known (S.bytes opened.now.source.now) opened.now.len file
         → let seen = sections_view sections.now in IfOk result (λ v. (index : ℕ) → index < 32768
         → get nat_cmp v.names index
         ≡ name_offset (definitions seen.order (bytes_if file (definitions_section which seen.sections))) index) }
-    ensures only { (file : List ℕ) → Known (S.bytes source.now) sections.now.file_length file
-        → ReadsOnly (S.is_sure source.now) (S.logs_only log.old) (S.logs_only log.new)
+    ensures only { (file : List ℕ) → Known (S.bytes opened.now.source.now) opened.now.len file
+        → ReadsOnly (S.is_sure opened.now.source.now) (S.logs_only log.old) (S.logs_only log.new)
         (version_parts which file (sections_view sections.now).sections) (IfErr result (λ e. e ≢ Unreadable)) }
 {
-    let len = sections.file_length;
     let headers = &sections.headers;
     let found = parts::version_sections(headers, sections.width, sections.place, which);
-    let rows = read_if(alloc, source, log, len, found.versions)?;
-    let definitions = read_if(alloc, source, log, len, found.definitions)?;
-    let names = name_offsets(alloc, &definitions, sections.place.byte_order)?;
+    let rows = read_if(opened, log, found.versions)?;
+    let definitions = read_if(opened, log, found.definitions)?;
+    let names = name_offsets(opened.alloc, &definitions, sections.place.byte_order)?;
     Ok(VersionParts { rows, names })
 }
 
 // The bytes of a section, where there is one and they lie in the file.
 fn read_if<S: Source>(
-    alloc: Global,
-    source: &S,
+    opened: &Opened<'_, S>,
     log: &mut S::Log,
-    len: u64,
     section: Option<Section<u64>>,
 ) -> Result<Vec<u8>, ReadError>
-    ensures answer { (file : List ℕ) → Known (S.bytes source.now) len file
-        → Reads (S.may_fail source.now) (λ v. v.items)
+    ensures answer { (file : List ℕ) → Known (S.bytes opened.now.source.now) opened.now.len file
+        → Reads (S.may_fail opened.now.source.now) (λ v. v.items)
         (Ok (bytes_if file (option_map (section_view (λ n. n)) section))) result }
-    ensures only { (file : List ℕ) → Known (S.bytes source.now) len file
-        → ReadsOnly (S.is_sure source.now) (S.logs_only log.old) (S.logs_only log.new)
+    ensures only { (file : List ℕ) → Known (S.bytes opened.now.source.now) opened.now.len file
+        → ReadsOnly (S.is_sure opened.now.source.now) (S.logs_only log.old) (S.logs_only log.new)
         (parts_if (option_map (section_view (λ n. n)) section) (section_parts file))
         (IfErr result (λ e. e ≢ Unreadable)) }
 {
     let Some(section) = section else {
-        return Ok(Vec::new(alloc));
+        return Ok(Vec::new(opened.alloc));
     };
-    match read_contents(alloc, source, log, len, section)? {
-        None => Ok(Vec::new(alloc)),
+    match read_contents(opened, log, section)? {
+        None => Ok(Vec::new(opened.alloc)),
         Some(bytes) => Ok(bytes),
     }
 }
 
 // The section's bytes, where they lie in the file.
 fn read_contents<S: Source>(
-    alloc: Global,
-    source: &S,
+    opened: &Opened<'_, S>,
     log: &mut S::Log,
-    len: u64,
     section: Section<u64>,
 ) -> Result<Option<Vec<u8>>, ReadError>
-    ensures answer { (file : List ℕ) → Known (S.bytes source.now) len file
-        → Reads (S.may_fail source.now) (option_map (λ v. v.items))
+    ensures answer { (file : List ℕ) → Known (S.bytes opened.now.source.now) opened.now.len file
+        → Reads (S.may_fail opened.now.source.now) (option_map (λ v. v.items))
         (Ok (contents file (section_view (λ n. n) section))) result }
-    ensures only { (file : List ℕ) → Known (S.bytes source.now) len file
-        → ReadsOnly (S.is_sure source.now) (S.logs_only log.old) (S.logs_only log.new)
+    ensures only { (file : List ℕ) → Known (S.bytes opened.now.source.now) opened.now.len file
+        → ReadsOnly (S.is_sure opened.now.source.now) (S.logs_only log.old) (S.logs_only log.new)
         (section_parts file (section_view (λ n. n) section)) (IfErr result (λ e. e ≢ Unreadable)) }
 {
-    match read_section(alloc, source, log, len, section) {
+    let (offset, size) = (section.offset(), section.size());
+    match opened.within(log, offset, size) {
         Ok(bytes) => Ok(Some(bytes)),
         Err(ReadError::Refused(_)) => Ok(None),
         Err(e) => Err(e),
@@ -387,49 +374,20 @@ fn read_contents<S: Source>(
 
 // The section's bytes; refused as those of a file in memory.
 fn read_section<S: Source>(
-    alloc: Global,
-    source: &S,
+    opened: &Opened<'_, S>,
     log: &mut S::Log,
-    len: u64,
     section: Section<u64>,
 ) -> Result<Vec<u8>, ReadError>
-    ensures answer { (file : List ℕ) → Known (S.bytes source.now) len file
-        → Reads (S.may_fail source.now) (λ v. v.items) (section_data file (section_view (λ n. n) section)) result }
-    ensures only { (file : List ℕ) → Known (S.bytes source.now) len file
-        → ReadsOnly (S.is_sure source.now) (S.logs_only log.old) (S.logs_only log.new)
+    ensures answer { (file : List ℕ) → Known (S.bytes opened.now.source.now) opened.now.len file
+        → Reads (S.may_fail opened.now.source.now) (λ v. v.items)
+        (section_data file (section_view (λ n. n) section)) result }
+    ensures only { (file : List ℕ) → Known (S.bytes opened.now.source.now) opened.now.len file
+        → ReadsOnly (S.is_sure opened.now.source.now) (S.logs_only log.old) (S.logs_only log.new)
         (section_parts file (section_view (λ n. n) section)) (IfErr result (λ e. e ≢ Unreadable)) }
 {
     let (offset, size) = (section.offset(), section.size());
-    let Some(end) = offset.checked_add(size) else {
+    let Some(_) = offset.checked_add(size) else {
         return Err(ReadError::Refused(ParseError::MalformedInput));
     };
-    if end > len {
-        return Err(ReadError::Refused(ParseError::UnexpectedEof));
-    }
-    part(alloc, source, log, offset, size)
-}
-
-/// The `size` bytes of a file from the offset on, in memory of that size.
-///
-/// # Errors
-///
-/// `Unreadable` where a read of the source fails, for instance where it ends before `offset + size` (an opened file
-/// doesn't fail where `size` is 0). `OutOfMemory` where the allocation fails, and where `size` exceeds `usize`.
-pub fn part<S: Source>(
-    alloc: Global,
-    source: &S,
-    log: &mut S::Log,
-    offset: u64,
-    size: u64,
-) -> Result<Vec<u8>, ReadError>
-    ensures part { (file : List ℕ) → S.bytes source.now ≡ Some file → offset + size ≤ length file
-        → Reads (S.may_fail source.now) (λ v. v.items) (Ok (bytes_at file offset size)) result }
-    ensures past_end { (file : List ℕ) → S.bytes source.now ≡ Some file → length file < offset + size
-        → IsErr result }
-    ensures size { IfOk result (λ v. length v.items ≡ size) }
-    ensures failed { IfErr result (λ e. (e ≡ Unreadable) ⊎ (e ≡ OutOfMemory)) }
-    ensures only { ReadsOnly (S.is_sure source.now) (S.logs_only log.old) (S.logs_only log.new)
-        (part offset size ∷ []) (IfErr result (λ e. e ≢ Unreadable)) }
-{
-    Ok(read_part(alloc, source, log, offset, to_index(size))?)
+    opened.within(log, offset, size)
 }

@@ -7,8 +7,8 @@ ghost use Rattle.binfarce_bytes.specs.Source.{ReadsOnly};
 ghost use Rattle.binfarce_tables.specs.Reading.{Reads};
 ghost use Rattle.binfarce_tables.specs.declared.error.ReadError.TheVariants.{Unreadable};
 
-use crate::elf::part;
 use crate::error::ReadError;
+use crate::opened::open;
 use binfarce_bytes::format::{Format, detect_format};
 use binfarce_bytes::source::Source;
 use std::alloc::Global;
@@ -34,7 +34,7 @@ pub fn read_format<S: Source>(
         → ReadsOnly (S.is_sure source.now) (S.logs_only log.old) (S.logs_only log.new)
         (part 0 (min 8 (length file)) ∷ []) (IfErr result (λ e. e ≢ Unreadable)) }
 {
-    let len = source.length()?;
-    let head = part(alloc, source, log, 0, MAGIC_LENGTH.min(len))?;
+    let opened = open(alloc, source)?;
+    let head = opened.part(log, 0, MAGIC_LENGTH.min(opened.len))?;
     Ok(detect_format(&head))
 }

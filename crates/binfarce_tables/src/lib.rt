@@ -7,12 +7,13 @@ mod error;
 pub mod format;
 pub mod loading;
 pub mod macho;
+mod opened;
 pub mod pe;
 mod sections;
 mod segments;
 
 pub use crate::beginning::Beginning;
-pub use crate::elf::part;
 pub use crate::error::ReadError;
+pub use crate::opened::part;
 pub use binfarce_elf::class::Width;
 pub use binfarce_elf_memory::versions::VersionNames;

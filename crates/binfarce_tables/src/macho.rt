@@ -1,10 +1,10 @@
 //! 64-bit Mach-O files, of which only the tables are read (Apple's `<mach-o/loader.h>` and `<mach-o/nlist.h>`).
 
-ghost use Rattle.std.specs.Prelude.{◌∷◌, [], ◌≡◌, ◌≢◌, ◌⊎◌, ◌<◌, ◌≤◌, List, ℕ, false, true, Ok, Some, length, MatchResult, IfErr};
+ghost use Rattle.std.specs.Prelude.{◌∷◌, [], ◌≡◌, ◌≢◌, ◌⊎◌, ◌<◌, ◌≤◌, List, ℕ, false, true, Ok, Some, length, MatchResult, IfOk, IfErr};
 ghost use Rattle.std.specs.Option.{option_map};
 ghost use Rattle.binfarce_bytes.specs.Entries.{Answers};
-ghost use Rattle.binfarce_bytes.specs.Part.{part, whole_part, parts_if};
-ghost use Rattle.binfarce_bytes.specs.Refusal.{refusal_of, out_of_memory};
+ghost use Rattle.binfarce_bytes.specs.Part.{part, parts_if};
+ghost use Rattle.binfarce_bytes.specs.Refusal.{if_as_long_as, refusal_of, out_of_memory};
 ghost use Rattle.binfarce_bytes.specs.Selection.{section_of};
 ghost use Rattle.binfarce_bytes.specs.Source.{ReadsOnly};
 ghost use Rattle.binfarce_bytes.specs.SymbolViews.{HoldsSelected};
@@ -12,7 +12,7 @@ ghost use Rattle.binfarce_macho.specs.Macho.{least_length, header_of};
 ghost use Rattle.binfarce_macho.specs.MachoParts.{table_view, holds_commands, load_address, file_load_address};
 ghost use Rattle.binfarce_macho.specs.MachoSelection as selection;
 ghost use Rattle.binfarce_macho.specs.MachoSelection.{selected_file_tables, section_name, section_size, symbols_of, NeedsMemory};
-ghost use Rattle.binfarce_macho.specs.MachoSymbols.{slice_at, symbols_by};
+ghost use Rattle.binfarce_macho.specs.MachoSymbols.{symbols_by};
 ghost use Rattle.binfarce_macho.specs.MachoViews.{header_view};
 ghost use Rattle.binfarce_tables.specs.BeginningReading.{ReadsBeginning, macho_sections};
 ghost use Rattle.binfarce_tables.specs.MachoReading.{parts_view, symbols_view};
@@ -22,8 +22,8 @@ ghost use Rattle.binfarce_tables.specs.declared.error.ReadError.TheVariants.{Ref
 ghost use Rattle.binfarce_tables.specs.machine.MachoPlaces.{selected_commands, found_view};
 
 use crate::beginning::Beginning;
-use crate::elf::part;
 use crate::error::ReadError;
+use crate::opened::{Opened, open};
 use binfarce_bytes::ParseError;
 use binfarce_bytes::functions::{SectionFunction, Selection};
 use binfarce_bytes::source::Source;
@@ -122,13 +122,10 @@ pub fn read<S: Source>(
         → ReadsOnly (S.is_sure source.now) (S.logs_only log.old) (S.logs_only log.new)
         (macho_parts file) (IfErr result (λ e. e ≢ Unreadable)) }
 {
-    let len = source.length()?;
-    if len < HEADER {
-        return Err(ReadError::Refused(ParseError::UnexpectedEof));
-    }
-    let commands = read_commands(alloc, source, log, len)?;
+    let opened = open(alloc, source)?;
+    let commands = read_commands(&opened, log)?;
     let found = found_in(alloc, &commands, selection)?;
-    let symbols = read_symbols(alloc, source, log, len, found.table)?;
+    let symbols = read_symbols(&opened, log, found.table)?;
     Ok(Parts {
         sections: found.sections,
         symbols,
@@ -169,17 +166,15 @@ fn error_of(e: ParseError) -> ReadError
 
 // The string table and the symbol table, where there is one.
 fn read_symbols<S: Source>(
-    alloc: Global,
-    source: &S,
+    opened: &Opened<'_, S>,
     log: &mut S::Log,
-    len: u64,
     table: Option<SymtabCommand>,
 ) -> Result<Option<SymbolParts>, ReadError>
-    ensures answer { (file : List ℕ) → Known (S.bytes source.now) len file
-        → Reads (S.may_fail source.now) (option_map symbols_view) (symbols_by file (option_map table_view table))
-        result }
-    ensures only { (file : List ℕ) → Known (S.bytes source.now) len file
-        → ReadsOnly (S.is_sure source.now) (S.logs_only log.old) (S.logs_only log.new)
+    ensures answer { (file : List ℕ) → Known (S.bytes opened.now.source.now) opened.now.len file
+        → Reads (S.may_fail opened.now.source.now) (option_map symbols_view)
+        (symbols_by file (option_map table_view table)) result }
+    ensures only { (file : List ℕ) → Known (S.bytes opened.now.source.now) opened.now.len file
+        → ReadsOnly (S.is_sure opened.now.source.now) (S.logs_only log.old) (S.logs_only log.new)
         (parts_if (option_map table_view table) (table_parts file)) (IfErr result (λ e. e ≢ Unreadable)) }
 {
     let table = match table {
@@ -188,10 +183,10 @@ fn read_symbols<S: Source>(
     };
     let strings_at = table.strings_offset as u64;
     let strings_size = table.strings_size as u64;
-    let strings = read_table(alloc, source, log, len, strings_at, strings_size)?;
+    let strings = opened.within(log, strings_at, strings_size)?;
     let rows_at = table.symbol_offset as u64;
     let rows_size = SYMBOL_LENGTH as u64 * table.row_count as u64;
-    let rows = read_table(alloc, source, log, len, rows_at, rows_size)?;
+    let rows = opened.within(log, rows_at, rows_size)?;
     Ok(Some(SymbolParts { strings, rows }))
 }
 
@@ -216,12 +211,12 @@ pub fn read_sections<S: Source>(
         → ReadsOnly (S.is_sure source.now) (S.logs_only log.old) (S.logs_only log.new)
         (macho_section_parts file) (IfErr result (λ e. e ≢ Unreadable)) }
 {
-    let file_length = source.length()?;
-    if HEADER > file_length {
-        return Err(ReadError::Refused(ParseError::UnexpectedEof));
-    }
-    let bytes = read_commands(alloc, source, log, file_length)?;
-    Ok(Beginning { bytes, file_length })
+    let opened = open(alloc, source)?;
+    let bytes = read_commands(&opened, log)?;
+    Ok(Beginning {
+        bytes,
+        file_length: opened.len,
+    })
 }
 
 /// Where the file is loaded unless the loader slides it: the address of its first segment `__TEXT`. `None` without one,
@@ -243,11 +238,8 @@ pub fn read_load_address<S: Source>(
         → ReadsOnly (S.is_sure source.now) (S.logs_only log.old) (S.logs_only log.new)
         (macho_section_parts file) (IfErr result (λ e. e ≢ Unreadable)) }
 {
-    let len = source.length()?;
-    if len < HEADER {
-        return Err(ReadError::Refused(ParseError::UnexpectedEof));
-    }
-    let commands = read_commands(alloc, source, log, len)?;
+    let opened = open(alloc, source)?;
+    let commands = read_commands(&opened, log)?;
     address_in(&commands)
 }
 
@@ -260,45 +252,38 @@ fn address_in(commands: &[u8]) -> Result<Option<u64>, ReadError>
     Ok(load_address(commands, header)?)
 }
 
-// The prefix of the file that has the load commands.
-fn read_commands<S: Source>(
-    alloc: Global,
-    source: &S,
-    log: &mut S::Log,
-    len: u64,
-) -> Result<Vec<u8>, ReadError>
-    requires { least_length ≤ len }
-    ensures answer { (file : List ℕ) → Known (S.bytes source.now) len file
-        → Reads (S.may_fail source.now) (λ v. v.items) (Ok (command_bytes file)) result }
-    ensures only { (file : List ℕ) → Known (S.bytes source.now) len file
-        → ReadsOnly (S.is_sure source.now) (S.logs_only log.old) (S.logs_only log.new)
+// The prefix of the file that has the load commands; refused where the file is too short for its header.
+fn read_commands<S: Source>(opened: &Opened<'_, S>, log: &mut S::Log) -> Result<Vec<u8>, ReadError>
+    ensures answer { (file : List ℕ) → Known (S.bytes opened.now.source.now) opened.now.len file
+        → Reads (S.may_fail opened.now.source.now) (λ v. v.items)
+        (if_as_long_as least_length file (Ok (command_bytes file))) result }
+    ensures long { IfOk result (λ _. least_length ≤ opened.now.len) }
+    ensures only { (file : List ℕ) → Known (S.bytes opened.now.source.now) opened.now.len file
+        → ReadsOnly (S.is_sure opened.now.source.now) (S.logs_only log.old) (S.logs_only log.new)
         (macho_section_parts file) (IfErr result (λ e. e ≢ Unreadable)) }
 {
-    let end = read_end(alloc, source, log, len)?;
-    let commands = part(alloc, source, log, 0, end)?;
-    if end == len || are_held(&commands) {
+    let end = read_end(opened, log)?;
+    let commands = opened.part(log, 0, end)?;
+    if end == opened.len || are_held(&commands) {
         Ok(commands)
     } else {
-        part(alloc, source, log, 0, len)
+        opened.part(log, 0, opened.len)
     }
 }
 
 // Where the load commands end, as the header states, but within the file.
-fn read_end<S: Source>(
-    alloc: Global,
-    source: &S,
-    log: &mut S::Log,
-    len: u64,
-) -> Result<u64, ReadError>
-    requires { least_length ≤ len }
-    ensures answer { (file : List ℕ) → Known (S.bytes source.now) len file
-        → Reads (S.may_fail source.now) (λ n. n) (Ok (said_end file)) result }
-    ensures only { ReadsOnly (S.is_sure source.now) (S.logs_only log.old) (S.logs_only log.new)
+fn read_end<S: Source>(opened: &Opened<'_, S>, log: &mut S::Log) -> Result<u64, ReadError>
+    ensures answer { (file : List ℕ) → Known (S.bytes opened.now.source.now) opened.now.len file
+        → Reads (S.may_fail opened.now.source.now) (λ n. n)
+        (if_as_long_as least_length file (Ok (said_end file))) result }
+    ensures long { IfOk result (λ _. least_length ≤ opened.now.len) }
+    ensures only { (file : List ℕ) → Known (S.bytes opened.now.source.now) opened.now.len file
+        → ReadsOnly (S.is_sure opened.now.source.now) (S.logs_only log.old) (S.logs_only log.new)
         (part 0 least_length ∷ []) (IfErr result (λ e. e ≢ Unreadable)) }
 {
-    let bytes = part(alloc, source, log, 0, HEADER)?;
+    let bytes = opened.within(log, 0, HEADER)?;
     let header = header_in(&bytes)?;
-    Ok(commands_end(header).min(len))
+    Ok(commands_end(header).min(opened.len))
 }
 
 // The header in a file's first bytes; refused where it is truncated.
@@ -317,25 +302,4 @@ fn are_held(commands: &[u8]) -> bool
         Ok(header) => holds_commands(commands, header),
         Err(_) => false,
     }
-}
-
-// The bytes of a table; refused where they don't lie in the file.
-fn read_table<S: Source>(
-    alloc: Global,
-    source: &S,
-    log: &mut S::Log,
-    len: u64,
-    offset: u64,
-    size: u64,
-) -> Result<Vec<u8>, ReadError>
-    ensures answer { (file : List ℕ) → Known (S.bytes source.now) len file
-        → Reads (S.may_fail source.now) (λ v. v.items) (slice_at file offset size) result }
-    ensures only { (file : List ℕ) → Known (S.bytes source.now) len file
-        → ReadsOnly (S.is_sure source.now) (S.logs_only log.old) (S.logs_only log.new)
-        (whole_part file offset size) (IfErr result (λ e. e ≢ Unreadable)) }
-{
-    if offset > len || size > len - offset {
-        return Err(ReadError::Refused(ParseError::UnexpectedEof));
-    }
-    part(alloc, source, log, offset, size)
 }

@@ -17,8 +17,8 @@ ghost use Rattle.binfarce_tables.specs.declared.error.ReadError.TheVariants.{Unr
 ghost use Rattle.binfarce_tables.specs.machine.PePlaces.{signature_step, places_step, text_at, whole_at, chosen_at, table_at, read_view, records_view};
 
 use crate::beginning::Beginning;
-use crate::elf::part;
 use crate::error::ReadError;
+use crate::opened::{Opened, open};
 use binfarce_bytes::ParseError;
 use binfarce_bytes::functions::{SectionFunction, Selection};
 use binfarce_bytes::source::Source;
@@ -152,65 +152,56 @@ pub fn read<S: Source>(
         → ReadsOnly (S.is_sure source.now) (S.logs_only log.old) (S.logs_only log.new)
         (pe_parts (section_of selection.entry) file) (IfErr result (λ e. e ≢ Unreadable)) }
 {
-    let len = source.length()?;
-    let places = read_places(alloc, source, log, len)?;
-    let sections = read_selected(alloc, source, log, len, places, selection)?;
-    let records = read_records(alloc, source, log, len, places)?;
+    let opened = open(alloc, source)?;
+    let places = read_places(&opened, log)?;
+    let sections = read_selected(&opened, log, places, selection)?;
+    let records = read_records(&opened, log, places)?;
     Ok(Parts { sections, records })
 }
 
 // The selected sections of a file whose tables are at these places.
 fn read_selected<S: Source>(
-    alloc: Global,
-    source: &S,
+    opened: &Opened<'_, S>,
     log: &mut S::Log,
-    len: u64,
     places: TableOffsets,
     selection: Selection<'_>,
 ) -> Result<Sections, ReadError>
-    ensures answer { (file : List ℕ) → Known (S.bytes source.now) len file
+    ensures answer { (file : List ℕ) → Known (S.bytes opened.now.source.now) opened.now.len file
         → places_step file ≡ Ok (places_view places)
-        → Reads (S.may_fail source.now) read_view
+        → Reads (S.may_fail opened.now.source.now) read_view
         (chosen_at (section_of selection.entry) file (places_view places)) result }
     ensures whole { IfOk result (λ s. IsWhole (read_view s)) }
-    ensures only { (file : List ℕ) → Known (S.bytes source.now) len file
+    ensures only { (file : List ℕ) → Known (S.bytes opened.now.source.now) opened.now.len file
         → places_step file ≡ Ok (places_view places)
-        → ReadsOnly (S.is_sure source.now) (S.logs_only log.old) (S.logs_only log.new)
+        → ReadsOnly (S.is_sure opened.now.source.now) (S.logs_only log.old) (S.logs_only log.new)
         (selected_parts (section_of selection.entry) file (places_view places)) (IfErr result (λ e. e ≢ Unreadable)) }
 {
     match selection {
         Selection::Section(_) => {
-            let text = read_text(alloc, source, log, len, places)?;
+            let text = read_text(opened, log, places)?;
             Ok(Sections::Text(text))
         }
-        Selection::All => read_all_sections(alloc, source, log, len, places),
+        Selection::All => read_all_sections(opened, log, places),
     }
 }
 
 fn read_all_sections<S: Source>(
-    alloc: Global,
-    source: &S,
+    opened: &Opened<'_, S>,
     log: &mut S::Log,
-    len: u64,
     places: TableOffsets,
 ) -> Result<Sections, ReadError>
-    ensures answer { (file : List ℕ) → Known (S.bytes source.now) len file
+    ensures answer { (file : List ℕ) → Known (S.bytes opened.now.source.now) opened.now.len file
         → places_step file ≡ Ok (places_view places)
-        → Reads (S.may_fail source.now) read_view (chosen_at None file (places_view places)) result }
+        → Reads (S.may_fail opened.now.source.now) read_view (chosen_at None file (places_view places)) result }
     ensures whole { IfOk result (λ s. IsWhole (read_view s)) }
-    ensures only { (file : List ℕ) → Known (S.bytes source.now) len file
+    ensures only { (file : List ℕ) → Known (S.bytes opened.now.source.now) opened.now.len file
         → places_step file ≡ Ok (places_view places)
-        → ReadsOnly (S.is_sure source.now) (S.logs_only log.old) (S.logs_only log.new)
+        → ReadsOnly (S.is_sure opened.now.source.now) (S.logs_only log.old) (S.logs_only log.new)
         (selected_parts None file (places_view places)) (IfErr result (λ e. e ≢ Unreadable)) }
 {
-    let headers = read_headers(alloc, source, log, len, places)?;
-    let header = part(
-        alloc,
-        source,
-        log,
-        places.optional_header,
-        places.optional_header_size as u64,
-    )?;
+    let headers = read_headers(opened, log, places)?;
+    let size = places.optional_header_size as u64;
+    let header = opened.part(log, places.optional_header, size)?;
     Ok(Sections::All(image_base(&header), headers, places.section_count))
 }
 
@@ -234,15 +225,18 @@ pub fn read_sections<S: Source>(
         → ReadsOnly (S.is_sure source.now) (S.logs_only log.old) (S.logs_only log.new)
         (pe_section_parts file) (IfErr result (λ e. e ≢ Unreadable)) }
 {
-    let file_length = source.length()?;
-    let places = read_places(alloc, source, log, file_length)?;
+    let opened = open(alloc, source)?;
+    let places = read_places(&opened, log)?;
     let headers = places.section_count as u64 * SECTION_LENGTH as u64;
     let end = places
         .sections
         .saturating_add(headers.max(1))
         .max(STUB_LENGTH);
-    let bytes = part(alloc, source, log, 0, end.min(file_length))?;
-    Ok(Beginning { bytes, file_length })
+    let bytes = opened.part(log, 0, end.min(opened.len))?;
+    Ok(Beginning {
+        bytes,
+        file_length: opened.len,
+    })
 }
 
 /// Where the file is loaded unless the loader chooses another address: its image base (`ImageBase`). `None` without one,
@@ -265,9 +259,9 @@ pub fn read_load_address<S: Source>(
         → ReadsOnly (S.is_sure source.now) (S.logs_only log.old) (S.logs_only log.new)
         (pe_load_parts file) (IfErr result (λ e. e ≢ Unreadable)) }
 {
-    let len = source.length()?;
-    let places = read_places(alloc, source, log, len)?;
-    read_base(alloc, source, log, len, places)
+    let opened = open(alloc, source)?;
+    let places = read_places(&opened, log)?;
+    read_base(&opened, log, places)
 }
 
 /// Whether the file has a symbol table: where its file header counts symbols (`NumberOfSymbols`), which that of a
@@ -290,99 +284,80 @@ pub fn has_symbols<S: Source>(
         → ReadsOnly (S.is_sure source.now) (S.logs_only log.old) (S.logs_only log.new)
         (places_parts file) (IfErr result (λ e. e ≢ Unreadable)) }
 {
-    let len = source.length()?;
-    let places = read_places(alloc, source, log, len)?;
+    let opened = open(alloc, source)?;
+    let places = read_places(&opened, log)?;
     Ok(places.symbols_size > 0)
 }
 
 // The image base, in the optional header's first bytes.
 #[tactic(auto, unfolding(binfarce_pe::specs::PeSelection::load_address_at))]
 fn read_base<S: Source>(
-    alloc: Global,
-    source: &S,
+    opened: &Opened<'_, S>,
     log: &mut S::Log,
-    len: u64,
     places: TableOffsets,
 ) -> Result<Option<u64>, ReadError>
-    ensures answer { (file : List ℕ) → Known (S.bytes source.now) len file
-        → Reads (S.may_fail source.now) (λ address. address) (load_address_at file (places_view places)) result }
-    ensures only { (file : List ℕ) → Known (S.bytes source.now) len file
-        → ReadsOnly (S.is_sure source.now) (S.logs_only log.old) (S.logs_only log.new)
+    ensures answer { (file : List ℕ) → Known (S.bytes opened.now.source.now) opened.now.len file
+        → Reads (S.may_fail opened.now.source.now) (λ address. address)
+        (load_address_at file (places_view places)) result }
+    ensures only { (file : List ℕ) → Known (S.bytes opened.now.source.now) opened.now.len file
+        → ReadsOnly (S.is_sure opened.now.source.now) (S.logs_only log.old) (S.logs_only log.new)
         (optional_header_part (places_view places) ∷ []) (IfErr result (λ e. e ≢ Unreadable)) }
 {
     let offset = places.optional_header;
     let size = places.optional_header_size as u64;
-    if offset > len || size > len - offset {
-        return Err(ReadError::Refused(ParseError::UnexpectedEof));
-    }
-    let header = part(alloc, source, log, offset, size)?;
+    let header = opened.within(log, offset, size)?;
     Ok(image_base(&header))
 }
 
 // The places that the file header states.
 fn read_places<S: Source>(
-    alloc: Global,
-    source: &S,
+    opened: &Opened<'_, S>,
     log: &mut S::Log,
-    len: u64,
 ) -> Result<TableOffsets, ReadError>
-    ensures answer { (file : List ℕ) → Known (S.bytes source.now) len file
-        → Reads (S.may_fail source.now) places_view (places_step file) result }
-    ensures only { (file : List ℕ) → Known (S.bytes source.now) len file
-        → ReadsOnly (S.is_sure source.now) (S.logs_only log.old) (S.logs_only log.new)
+    ensures answer { (file : List ℕ) → Known (S.bytes opened.now.source.now) opened.now.len file
+        → Reads (S.may_fail opened.now.source.now) places_view (places_step file) result }
+    ensures only { (file : List ℕ) → Known (S.bytes opened.now.source.now) opened.now.len file
+        → ReadsOnly (S.is_sure opened.now.source.now) (S.logs_only log.old) (S.logs_only log.new)
         (places_parts file) (IfErr result (λ e. e ≢ Unreadable)) }
 {
-    let signature = read_signature(alloc, source, log, len)?;
+    let signature = read_signature(opened, log)?;
     let offset = signature as u64;
-    if len < offset + HEADERS_LENGTH {
-        return Err(ReadError::Refused(ParseError::UnexpectedEof));
-    }
-    let headers = part(alloc, source, log, offset, HEADERS_LENGTH)?;
+    let headers = opened.within(log, offset, HEADERS_LENGTH)?;
     Ok(places_in(&headers, signature)?)
 }
 
-fn read_signature<S: Source>(
-    alloc: Global,
-    source: &S,
-    log: &mut S::Log,
-    len: u64,
-) -> Result<u32, ReadError>
-    ensures answer { (file : List ℕ) → Known (S.bytes source.now) len file
-        → Reads (S.may_fail source.now) (λ n. n) (signature_step file) result }
-    ensures only { ReadsOnly (S.is_sure source.now) (S.logs_only log.old) (S.logs_only log.new)
+fn read_signature<S: Source>(opened: &Opened<'_, S>, log: &mut S::Log) -> Result<u32, ReadError>
+    ensures answer { (file : List ℕ) → Known (S.bytes opened.now.source.now) opened.now.len file
+        → Reads (S.may_fail opened.now.source.now) (λ n. n) (signature_step file) result }
+    ensures only { (file : List ℕ) → Known (S.bytes opened.now.source.now) opened.now.len file
+        → ReadsOnly (S.is_sure opened.now.source.now) (S.logs_only log.old) (S.logs_only log.new)
         (pointer_part ∷ []) (IfErr result (λ e. e ≢ Unreadable)) }
 {
-    let offset = SIGNATURE_POINTER as u64;
-    if len < offset + 4 {
-        return Err(ReadError::Refused(ParseError::UnexpectedEof));
-    }
-    let pointer = part(alloc, source, log, offset, 4)?;
+    let pointer = opened.within(log, SIGNATURE_POINTER as u64, 4)?;
     Ok(signature_in(&pointer)?)
 }
 
 // The text, found in the bytes of the section headers.
 fn read_text<S: Source>(
-    alloc: Global,
-    source: &S,
+    opened: &Opened<'_, S>,
     log: &mut S::Log,
-    len: u64,
     places: TableOffsets,
 ) -> Result<Text, ReadError>
-    ensures answer { (file : List ℕ) → Known (S.bytes source.now) len file
-        → Reads (S.may_fail source.now) text_view (text_at file (places_view places)) result }
-    ensures only { (file : List ℕ) → Known (S.bytes source.now) len file
-        → ReadsOnly (S.is_sure source.now) (S.logs_only log.old) (S.logs_only log.new)
+    ensures answer { (file : List ℕ) → Known (S.bytes opened.now.source.now) opened.now.len file
+        → Reads (S.may_fail opened.now.source.now) text_view (text_at file (places_view places)) result }
+    ensures only { (file : List ℕ) → Known (S.bytes opened.now.source.now) opened.now.len file
+        → ReadsOnly (S.is_sure opened.now.source.now) (S.logs_only log.old) (S.logs_only log.new)
         (headers_part file (places_view places) ∷ []) (IfErr result (λ e. e ≢ Unreadable)) }
 {
     let offset = places.sections;
-    if offset >= len {
+    if offset >= opened.len {
         return Err(ReadError::Refused(ParseError::UnexpectedEof));
     }
     if places.section_count == 0 {
         return Err(ReadError::Refused(ParseError::SymbolsSectionIsMissing));
     }
     let size = places.section_count as u64 * SECTION_LENGTH as u64;
-    let headers = part(alloc, source, log, offset, size.min(len - offset))?;
+    let headers = opened.part(log, offset, size.min(opened.len - offset))?;
     let table = Table {
         bytes: &headers,
         offset: 0,
@@ -393,32 +368,30 @@ fn read_text<S: Source>(
 
 // The section headers, of which none is truncated.
 fn read_headers<S: Source>(
-    alloc: Global,
-    source: &S,
+    opened: &Opened<'_, S>,
     log: &mut S::Log,
-    len: u64,
     places: TableOffsets,
 ) -> Result<Vec<u8>, ReadError>
-    ensures answer { (file : List ℕ) → Known (S.bytes source.now) len file
-        → Reads (S.may_fail source.now) (λ v. headers_alone v.items places.section_count)
+    ensures answer { (file : List ℕ) → Known (S.bytes opened.now.source.now) opened.now.len file
+        → Reads (S.may_fail opened.now.source.now) (λ v. headers_alone v.items places.section_count)
         (whole_at file (places_view places)) result }
-    ensures begins { IfOk result (λ _. places.sections < len) }
+    ensures begins { IfOk result (λ _. places.sections < opened.now.len) }
     ensures whole { IfOk result
         (λ v. places.section_count ≤ whole_in (headers_alone v.items places.section_count)) }
-    ensures only { (file : List ℕ) → Known (S.bytes source.now) len file
-        → ReadsOnly (S.is_sure source.now) (S.logs_only log.old) (S.logs_only log.new)
+    ensures only { (file : List ℕ) → Known (S.bytes opened.now.source.now) opened.now.len file
+        → ReadsOnly (S.is_sure opened.now.source.now) (S.logs_only log.old) (S.logs_only log.new)
         (headers_part file (places_view places) ∷ []) (IfErr result (λ e. e ≢ Unreadable)) }
 {
     let offset = places.sections;
-    if offset >= len {
+    if offset >= opened.len {
         return Err(ReadError::Refused(ParseError::UnexpectedEof));
     }
-    let rest = len - offset;
+    let rest = opened.len - offset;
     let size = places.section_count as u64 * SECTION_LENGTH as u64;
     if size.saturating_sub(SECTION_UNREAD) > rest {
         return Err(ReadError::Refused(ParseError::UnexpectedEof));
     }
-    part(alloc, source, log, offset, size.min(rest))
+    opened.part(log, offset, size.min(rest))
 }
 
 // The records of the symbol table, and the strings, which follow them.
@@ -430,24 +403,22 @@ struct Records {
 
 // The symbol table and its strings.
 fn read_records<S: Source>(
-    alloc: Global,
-    source: &S,
+    opened: &Opened<'_, S>,
     log: &mut S::Log,
-    len: u64,
     places: TableOffsets,
 ) -> Result<Records, ReadError>
-    ensures answer { (file : List ℕ) → Known (S.bytes source.now) len file
-        → Reads (S.may_fail source.now) records_view (table_at file (places_view places)) result }
-    ensures only { (file : List ℕ) → Known (S.bytes source.now) len file
-        → ReadsOnly (S.is_sure source.now) (S.logs_only log.old) (S.logs_only log.new)
+    ensures answer { (file : List ℕ) → Known (S.bytes opened.now.source.now) opened.now.len file
+        → Reads (S.may_fail opened.now.source.now) records_view (table_at file (places_view places)) result }
+    ensures only { (file : List ℕ) → Known (S.bytes opened.now.source.now) opened.now.len file
+        → ReadsOnly (S.is_sure opened.now.source.now) (S.logs_only log.old) (S.logs_only log.new)
         (table_parts file (places_view places)) (IfErr result (λ e. e ≢ Unreadable)) }
 {
     let offset = places.symbols;
-    if offset >= len || places.symbols_size > len - offset {
+    if offset >= opened.len {
         return Err(ReadError::Refused(ParseError::UnexpectedEof));
     }
+    let rows = opened.within(log, offset, places.symbols_size)?;
     let end = offset + places.symbols_size;
-    let rows = part(alloc, source, log, offset, places.symbols_size)?;
-    let strings = part(alloc, source, log, end, len - end)?;
+    let strings = opened.part(log, end, opened.len - end)?;
     Ok(Records { rows, strings })
 }

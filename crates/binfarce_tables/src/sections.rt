@@ -14,8 +14,9 @@ ghost use Rattle.binfarce_tables.specs.SectionReading.{file_sections, sections_v
 ghost use Rattle.binfarce_tables.specs.declared.error.ReadError.TheVariants.{Unreadable};
 ghost use Rattle.binfarce_tables.specs.machine.Places.{table_at};
 
-use crate::elf::{part, read_headers, read_names, read_place, slice_of};
+use crate::elf::{read_headers, read_names, read_place, slice_of};
 use crate::error::ReadError;
+use crate::opened::{Opened, open};
 use binfarce_bytes::ByteOrder;
 use binfarce_bytes::source::Source;
 use binfarce_elf::class::Width;
@@ -95,42 +96,57 @@ pub fn read_sections<S: Source>(
         → ReadsOnly (S.is_sure source.now) (S.logs_only log.old) (S.logs_only log.new)
         (elf_section_parts (class_of width) byte_order file) (IfErr result (λ e. e ≢ Unreadable)) }
 {
-    let len = source.length()?;
-    let place = read_place(alloc, source, log, len, width, byte_order)?;
-    let names = read_names(alloc, source, log, len, width, place)?;
-    let headers = read_table(alloc, source, log, len, width, place)?;
+    let opened = open(alloc, source)?;
+    sections_of(&opened, log, width, byte_order)
+}
+
+// Reads them of an opened file.
+pub(crate) fn sections_of<S: Source>(
+    opened: &Opened<'_, S>,
+    log: &mut S::Log,
+    width: Width,
+    byte_order: ByteOrder,
+) -> Result<SectionParts, ReadError>
+    ensures answer { (file : List ℕ) → Known (S.bytes opened.now.source.now) opened.now.len file
+        → Reads (S.may_fail opened.now.source.now) sections_view
+        (file_sections (class_of width) byte_order file) result }
+    ensures only { (file : List ℕ) → Known (S.bytes opened.now.source.now) opened.now.len file
+        → ReadsOnly (S.is_sure opened.now.source.now) (S.logs_only log.old) (S.logs_only log.new)
+        (elf_section_parts (class_of width) byte_order file) (IfErr result (λ e. e ≢ Unreadable)) }
+{
+    let place = read_place(opened, log, width, byte_order)?;
+    let names = read_names(opened, log, width, place)?;
+    let headers = read_table(opened, log, width, place)?;
     Ok(SectionParts {
         headers,
         names,
         width,
         place,
-        file_length: len,
+        file_length: opened.len,
     })
 }
 
 // The section headers that are whole, up to the count. For a table without headers, its first byte if the file has it;
 // for a table that begins past the file's end, nothing.
 fn read_table<S: Source>(
-    alloc: Global,
-    source: &S,
+    opened: &Opened<'_, S>,
     log: &mut S::Log,
-    len: u64,
     width: Width,
     place: HeaderTable,
 ) -> Result<Vec<u8>, ReadError>
-    ensures answer { (file : List ℕ) → Known (S.bytes source.now) len file
-        → Reads (S.may_fail source.now)
+    ensures answer { (file : List ℕ) → Known (S.bytes opened.now.source.now) opened.now.len file
+        → Reads (S.may_fail opened.now.source.now)
         (λ v. walk (class_of width) (headers_alone place.byte_order v.items place.shnum))
         (Ok (walk (class_of width) (table_at file place))) result }
-    ensures only { (file : List ℕ) → Known (S.bytes source.now) len file
-        → ReadsOnly (S.is_sure source.now) (S.logs_only log.old) (S.logs_only log.new)
+    ensures only { (file : List ℕ) → Known (S.bytes opened.now.source.now) opened.now.len file
+        → ReadsOnly (S.is_sure opened.now.source.now) (S.logs_only log.old) (S.logs_only log.new)
         (headers_parts (class_of width) (table_at file place)) (IfErr result (λ e. e ≢ Unreadable)) }
 {
-    if place.shoff >= len {
-        return Ok(Vec::new(alloc));
+    if place.shoff >= opened.len {
+        return Ok(Vec::new(opened.alloc));
     }
     if place.shnum == 0 {
-        return part(alloc, source, log, place.shoff, 1);
+        return opened.part(log, place.shoff, 1);
     }
-    read_headers(alloc, source, log, len, width, place)
+    read_headers(opened, log, width, place)
 }

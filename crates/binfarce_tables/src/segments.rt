@@ -8,10 +8,11 @@ ghost use Rattle.binfarce_tables.specs.ElfReads.{elf_load_parts};
 ghost use Rattle.binfarce_tables.specs.Reading.{Reads, Known};
 ghost use Rattle.binfarce_tables.specs.declared.error.ReadError.TheVariants.{Unreadable};
 
-use crate::elf::{part, read_place};
+use crate::elf::read_place;
 use crate::error::ReadError;
+use crate::opened::{Opened, open};
+use binfarce_bytes::ByteOrder;
 use binfarce_bytes::source::Source;
-use binfarce_bytes::{ByteOrder, ParseError};
 use binfarce_elf::class::Width;
 use binfarce_elf_memory::parts::HeaderTable;
 use binfarce_elf_memory::segments::{self, LoadAddress, load_address};
@@ -41,32 +42,27 @@ pub fn read_load_address<S: Source>(
         → ReadsOnly (S.is_sure source.now) (S.logs_only log.old) (S.logs_only log.new)
         (elf_load_parts width byte_order file) (IfErr result (λ e. e ≢ Unreadable)) }
 {
-    let len = source.length()?;
-    let place = read_place(alloc, source, log, len, width, byte_order)?;
-    read_segments(alloc, source, log, len, width, place)
+    let opened = open(alloc, source)?;
+    let place = read_place(&opened, log, width, byte_order)?;
+    read_segments(&opened, log, width, place)
 }
 
 // Where it is loaded, by the program headers at this place.
 #[tactic(auto, unfolding(binfarce_elf_memory::specs::ElfSegments::load_address_at))]
 fn read_segments<S: Source>(
-    alloc: Global,
-    source: &S,
+    opened: &Opened<'_, S>,
     log: &mut S::Log,
-    len: u64,
     width: Width,
     place: HeaderTable,
 ) -> Result<Option<LoadAddress>, ReadError>
-    ensures answer { (file : List ℕ) → Known (S.bytes source.now) len file
-        → Reads (S.may_fail source.now) (λ loaded. loaded)
+    ensures answer { (file : List ℕ) → Known (S.bytes opened.now.source.now) opened.now.len file
+        → Reads (S.may_fail opened.now.source.now) (λ loaded. loaded)
         (load_address_at width place.byte_order file place.phoff (place.phnum * program_length width)) result }
-    ensures only { (file : List ℕ) → Known (S.bytes source.now) len file
-        → ReadsOnly (S.is_sure source.now) (S.logs_only log.old) (S.logs_only log.new)
+    ensures only { (file : List ℕ) → Known (S.bytes opened.now.source.now) opened.now.len file
+        → ReadsOnly (S.is_sure opened.now.source.now) (S.logs_only log.old) (S.logs_only log.new)
         (whole_part file place.phoff (place.phnum * program_length width)) (IfErr result (λ e. e ≢ Unreadable)) }
 {
     let size = u64::from(place.phnum) * segments::program_length(width) as u64;
-    if place.phoff > len || size > len - place.phoff {
-        return Err(ReadError::Refused(ParseError::UnexpectedEof));
-    }
-    let headers = part(alloc, source, log, place.phoff, size)?;
+    let headers = opened.within(log, place.phoff, size)?;
     Ok(load_address(&headers, width, place.byte_order))
 }

@@ -8,12 +8,13 @@ pub(crate) mod error;
 pub mod format;
 pub mod loading;
 pub mod macho;
+pub(crate) mod opened;
 pub mod pe;
 pub(crate) mod sections;
 pub(crate) mod segments;
 
 pub use crate::erased::binfarce_tables::beginning::Beginning;
-pub use crate::erased::binfarce_tables::elf::part;
 pub use crate::erased::binfarce_tables::error::ReadError;
+pub use crate::erased::binfarce_tables::opened::part;
 pub use crate::erased::binfarce_elf::class::Width;
 pub use crate::erased::binfarce_elf_memory::versions::VersionNames;

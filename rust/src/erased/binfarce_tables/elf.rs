@@ -4,10 +4,11 @@
 
 use crate::shim::Vec;
 use crate::erased::binfarce_tables::error::ReadError;
+use crate::erased::binfarce_tables::opened::{Opened, open};
+use crate::erased::binfarce_tables::sections::sections_of;
 pub use crate::erased::binfarce_tables::sections::{SectionParts, read_sections};
 use crate::erased::binfarce_bytes::functions::Selection;
-use crate::erased::binfarce_bytes::parser::to_index;
-use crate::erased::binfarce_bytes::source::{Source, read_part};
+use crate::erased::binfarce_bytes::source::Source;
 use crate::erased::binfarce_bytes::{ByteOrder, ParseError};
 use crate::erased::binfarce_elf::class::{Half, Width, Word};
 use crate::erased::binfarce_elf::sections::Section;
@@ -93,11 +94,11 @@ pub fn read<S: Source>(
     which: SymbolTable,
     selection: Selection<'_>,
 ) -> Result<Parts, ReadError> {
-    let sections = read_sections(alloc, source, log, width, byte_order)?;
+    let opened = open(alloc, source)?;
+    let sections = sections_of(&opened, log, width, byte_order)?;
     let needed = needed_of(&sections, which, selection)?;
-    let len = sections.file_length;
-    let table = read_rows(alloc, source, log, len, sections.width, needed.table)?;
-    let versions = read_versions(alloc, source, log, &sections, which)?;
+    let table = read_rows(&opened, log, sections.width, needed.table)?;
+    let versions = read_versions(&opened, log, &sections, which)?;
     let sizes = sizes_of(alloc, &sections, needed.taken, &table)?;
     Ok(Parts {
         sections,
@@ -144,18 +145,13 @@ fn needed_of(
 }
 
 pub(crate) fn read_place<S: Source>(
-    alloc: Global,
-    source: &S,
+    opened: &Opened<'_, S>,
     log: &mut S::Log,
-    len: u64,
     width: Width,
     byte_order: ByteOrder,
 ) -> Result<HeaderTable, ReadError> {
     let size = width.header_length() as u64;
-    if len < size {
-        return Err(ReadError::Refused(ParseError::UnexpectedEof));
-    }
-    let bytes = part(alloc, source, log, 0, size)?;
+    let bytes = opened.within(log, 0, size)?;
     Ok(place_in(&bytes, width, byte_order)?)
 }
 
@@ -168,37 +164,33 @@ pub(crate) fn slice_of(bytes: &Option<Vec<u8>>) -> Option<&[u8]> {
 
 // The section headers that are whole, up to the count.
 pub(crate) fn read_headers<S: Source>(
-    alloc: Global,
-    source: &S,
+    opened: &Opened<'_, S>,
     log: &mut S::Log,
-    len: u64,
     width: Width,
     place: HeaderTable,
 ) -> Result<Vec<u8>, ReadError> {
     let size = width.section_length() as u64;
-    let whole = len.saturating_sub(place.shoff) / size;
+    let whole = opened.len.saturating_sub(place.shoff) / size;
     let count = whole.min(place.shnum as u64);
-    part(alloc, source, log, place.shoff, count * size)
+    opened.part(log, place.shoff, count * size)
 }
 
 // The section names, where the file has them.
 pub(crate) fn read_names<S: Source>(
-    alloc: Global,
-    source: &S,
+    opened: &Opened<'_, S>,
     log: &mut S::Log,
-    len: u64,
     width: Width,
     place: HeaderTable,
 ) -> Result<Option<Vec<u8>>, ReadError> {
     let size = width.section_length() as u64;
-    let whole = len.saturating_sub(place.shoff) / size;
+    let whole = opened.len.saturating_sub(place.shoff) / size;
     if place.shstrndx as u64 >= whole {
         return Ok(None);
     }
     let start = place.shoff + place.shstrndx as u64 * size;
-    let header = part(alloc, source, log, start, size)?;
+    let header = opened.part(log, start, size)?;
     match section_at(&header, 0, width, place.byte_order, place.shstrndx) {
-        Ok(section) => read_contents(alloc, source, log, len, section),
+        Ok(section) => read_contents(opened, log, section),
         Err(_) => Ok(None),
     }
 }
@@ -211,15 +203,13 @@ struct TableParts {
 
 // The bytes of a symbol table's sections; refused as those of a file in memory.
 fn read_rows<S: Source>(
-    alloc: Global,
-    source: &S,
+    opened: &Opened<'_, S>,
     log: &mut S::Log,
-    len: u64,
     width: Width,
     sections: TableSections,
 ) -> Result<TableParts, ReadError> {
-    let strings = read_section(alloc, source, log, len, sections.strings)?;
-    let rows = read_section(alloc, source, log, len, sections.symbols)?;
+    let strings = read_section(opened, log, sections.strings)?;
+    let rows = read_section(opened, log, sections.symbols)?;
     let _ = whole_rows(width, &rows)?;
     Ok(TableParts { strings, rows })
 }
@@ -230,49 +220,44 @@ struct VersionParts {
     names: BTreeMap<Half, Word>,
 }
 
-// Those of this symbol table, of a file with these sections.
+// Reads them for this symbol table of a file with these sections.
 fn read_versions<S: Source>(
-    alloc: Global,
-    source: &S,
+    opened: &Opened<'_, S>,
     log: &mut S::Log,
     sections: &SectionParts,
     which: SymbolTable,
 ) -> Result<VersionParts, ReadError> {
-    let len = sections.file_length;
     let headers = &sections.headers;
     let found = parts::version_sections(headers, sections.width, sections.place, which);
-    let rows = read_if(alloc, source, log, len, found.versions)?;
-    let definitions = read_if(alloc, source, log, len, found.definitions)?;
-    let names = name_offsets(alloc, &definitions, sections.place.byte_order)?;
+    let rows = read_if(opened, log, found.versions)?;
+    let definitions = read_if(opened, log, found.definitions)?;
+    let names = name_offsets(opened.alloc, &definitions, sections.place.byte_order)?;
     Ok(VersionParts { rows, names })
 }
 
 // The bytes of a section, where there is one and they lie in the file.
 fn read_if<S: Source>(
-    alloc: Global,
-    source: &S,
+    opened: &Opened<'_, S>,
     log: &mut S::Log,
-    len: u64,
     section: Option<Section<u64>>,
 ) -> Result<Vec<u8>, ReadError> {
     let Some(section) = section else {
-        return Ok(Vec::new(alloc));
+        return Ok(Vec::new(opened.alloc));
     };
-    match read_contents(alloc, source, log, len, section)? {
-        None => Ok(Vec::new(alloc)),
+    match read_contents(opened, log, section)? {
+        None => Ok(Vec::new(opened.alloc)),
         Some(bytes) => Ok(bytes),
     }
 }
 
 // The section's bytes, where they lie in the file.
 fn read_contents<S: Source>(
-    alloc: Global,
-    source: &S,
+    opened: &Opened<'_, S>,
     log: &mut S::Log,
-    len: u64,
     section: Section<u64>,
 ) -> Result<Option<Vec<u8>>, ReadError> {
-    match read_section(alloc, source, log, len, section) {
+    let (offset, size) = (section.offset(), section.size());
+    match opened.within(log, offset, size) {
         Ok(bytes) => Ok(Some(bytes)),
         Err(ReadError::Refused(_)) => Ok(None),
         Err(e) => Err(e),
@@ -281,34 +266,13 @@ fn read_contents<S: Source>(
 
 // The section's bytes; refused as those of a file in memory.
 fn read_section<S: Source>(
-    alloc: Global,
-    source: &S,
+    opened: &Opened<'_, S>,
     log: &mut S::Log,
-    len: u64,
     section: Section<u64>,
 ) -> Result<Vec<u8>, ReadError> {
     let (offset, size) = (section.offset(), section.size());
-    let Some(end) = offset.checked_add(size) else {
+    let Some(_) = offset.checked_add(size) else {
         return Err(ReadError::Refused(ParseError::MalformedInput));
     };
-    if end > len {
-        return Err(ReadError::Refused(ParseError::UnexpectedEof));
-    }
-    part(alloc, source, log, offset, size)
-}
-
-/// The `size` bytes of a file from the offset on, in memory of that size.
-///
-/// # Errors
-///
-/// `Unreadable` where a read of the source fails, for instance where it ends before `offset + size` (an opened file
-/// doesn't fail where `size` is 0). `OutOfMemory` where the allocation fails, and where `size` exceeds `usize`.
-pub fn part<S: Source>(
-    alloc: Global,
-    source: &S,
-    log: &mut S::Log,
-    offset: u64,
-    size: u64,
-) -> Result<Vec<u8>, ReadError> {
-    Ok(read_part(alloc, source, log, offset, to_index(size))?)
+    opened.within(log, offset, size)
 }

@@ -2,8 +2,8 @@
 
 //! The format of a file that is read at offsets.
 
-use crate::erased::binfarce_tables::elf::part;
 use crate::erased::binfarce_tables::error::ReadError;
+use crate::erased::binfarce_tables::opened::open;
 use crate::erased::binfarce_bytes::format::{Format, detect_format};
 use crate::erased::binfarce_bytes::source::Source;
 use crate::shim::alloc::Global;
@@ -23,7 +23,7 @@ pub fn read_format<S: Source>(
     source: &S,
     log: &mut S::Log,
 ) -> Result<Format, ReadError> {
-    let len = source.length()?;
-    let head = part(alloc, source, log, 0, MAGIC_LENGTH.min(len))?;
+    let opened = open(alloc, source)?;
+    let head = opened.part(log, 0, MAGIC_LENGTH.min(opened.len))?;
     Ok(detect_format(&head))
 }

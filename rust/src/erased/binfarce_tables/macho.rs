@@ -4,8 +4,8 @@
 
 use crate::shim::Vec;
 use crate::erased::binfarce_tables::beginning::Beginning;
-use crate::erased::binfarce_tables::elf::part;
 use crate::erased::binfarce_tables::error::ReadError;
+use crate::erased::binfarce_tables::opened::{Opened, open};
 use crate::erased::binfarce_bytes::ParseError;
 use crate::erased::binfarce_bytes::functions::{SectionFunction, Selection};
 use crate::erased::binfarce_bytes::source::Source;
@@ -87,13 +87,10 @@ pub fn read<S: Source>(
     log: &mut S::Log,
     selection: Selection<'_>,
 ) -> Result<Parts, ReadError> {
-    let len = source.length()?;
-    if len < HEADER {
-        return Err(ReadError::Refused(ParseError::UnexpectedEof));
-    }
-    let commands = read_commands(alloc, source, log, len)?;
+    let opened = open(alloc, source)?;
+    let commands = read_commands(&opened, log)?;
     let found = found_in(alloc, &commands, selection)?;
-    let symbols = read_symbols(alloc, source, log, len, found.table)?;
+    let symbols = read_symbols(&opened, log, found.table)?;
     Ok(Parts {
         sections: found.sections,
         symbols,
@@ -127,10 +124,8 @@ fn error_of(e: ParseError) -> ReadError {
 
 // The string table and the symbol table, where there is one.
 fn read_symbols<S: Source>(
-    alloc: Global,
-    source: &S,
+    opened: &Opened<'_, S>,
     log: &mut S::Log,
-    len: u64,
     table: Option<SymtabCommand>,
 ) -> Result<Option<SymbolParts>, ReadError> {
     let table = match table {
@@ -139,10 +134,10 @@ fn read_symbols<S: Source>(
     };
     let strings_at = table.strings_offset as u64;
     let strings_size = table.strings_size as u64;
-    let strings = read_table(alloc, source, log, len, strings_at, strings_size)?;
+    let strings = opened.within(log, strings_at, strings_size)?;
     let rows_at = table.symbol_offset as u64;
     let rows_size = SYMBOL_LENGTH as u64 * table.row_count as u64;
-    let rows = read_table(alloc, source, log, len, rows_at, rows_size)?;
+    let rows = opened.within(log, rows_at, rows_size)?;
     Ok(Some(SymbolParts { strings, rows }))
 }
 
@@ -161,12 +156,12 @@ pub fn read_sections<S: Source>(
     source: &S,
     log: &mut S::Log,
 ) -> Result<Beginning, ReadError> {
-    let file_length = source.length()?;
-    if HEADER > file_length {
-        return Err(ReadError::Refused(ParseError::UnexpectedEof));
-    }
-    let bytes = read_commands(alloc, source, log, file_length)?;
-    Ok(Beginning { bytes, file_length })
+    let opened = open(alloc, source)?;
+    let bytes = read_commands(&opened, log)?;
+    Ok(Beginning {
+        bytes,
+        file_length: opened.len,
+    })
 }
 
 /// Where the file is loaded unless the loader slides it: the address of its first segment `__TEXT`. `None` without one,
@@ -182,11 +177,8 @@ pub fn read_load_address<S: Source>(
     source: &S,
     log: &mut S::Log,
 ) -> Result<Option<u64>, ReadError> {
-    let len = source.length()?;
-    if len < HEADER {
-        return Err(ReadError::Refused(ParseError::UnexpectedEof));
-    }
-    let commands = read_commands(alloc, source, log, len)?;
+    let opened = open(alloc, source)?;
+    let commands = read_commands(&opened, log)?;
     address_in(&commands)
 }
 
@@ -196,32 +188,22 @@ fn address_in(commands: &[u8]) -> Result<Option<u64>, ReadError> {
     Ok(load_address(commands, header)?)
 }
 
-// The prefix of the file that has the load commands.
-fn read_commands<S: Source>(
-    alloc: Global,
-    source: &S,
-    log: &mut S::Log,
-    len: u64,
-) -> Result<Vec<u8>, ReadError> {
-    let end = read_end(alloc, source, log, len)?;
-    let commands = part(alloc, source, log, 0, end)?;
-    if end == len || are_held(&commands) {
+// The prefix of the file that has the load commands; refused where the file is too short for its header.
+fn read_commands<S: Source>(opened: &Opened<'_, S>, log: &mut S::Log) -> Result<Vec<u8>, ReadError> {
+    let end = read_end(opened, log)?;
+    let commands = opened.part(log, 0, end)?;
+    if end == opened.len || are_held(&commands) {
         Ok(commands)
     } else {
-        part(alloc, source, log, 0, len)
+        opened.part(log, 0, opened.len)
     }
 }
 
 // Where the load commands end, as the header states, but within the file.
-fn read_end<S: Source>(
-    alloc: Global,
-    source: &S,
-    log: &mut S::Log,
-    len: u64,
-) -> Result<u64, ReadError> {
-    let bytes = part(alloc, source, log, 0, HEADER)?;
+fn read_end<S: Source>(opened: &Opened<'_, S>, log: &mut S::Log) -> Result<u64, ReadError> {
+    let bytes = opened.within(log, 0, HEADER)?;
     let header = header_in(&bytes)?;
-    Ok(commands_end(header).min(len))
+    Ok(commands_end(header).min(opened.len))
 }
 
 // The header in a file's first bytes; refused where it is truncated.
@@ -234,19 +216,4 @@ fn are_held(commands: &[u8]) -> bool {
         Ok(header) => holds_commands(commands, header),
         Err(_) => false,
     }
-}
-
-// The bytes of a table; refused where they don't lie in the file.
-fn read_table<S: Source>(
-    alloc: Global,
-    source: &S,
-    log: &mut S::Log,
-    len: u64,
-    offset: u64,
-    size: u64,
-) -> Result<Vec<u8>, ReadError> {
-    if offset > len || size > len - offset {
-        return Err(ReadError::Refused(ParseError::UnexpectedEof));
-    }
-    part(alloc, source, log, offset, size)
 }

@@ -4,8 +4,8 @@
 
 use crate::shim::Vec;
 use crate::erased::binfarce_tables::beginning::Beginning;
-use crate::erased::binfarce_tables::elf::part;
 use crate::erased::binfarce_tables::error::ReadError;
+use crate::erased::binfarce_tables::opened::{Opened, open};
 use crate::erased::binfarce_bytes::ParseError;
 use crate::erased::binfarce_bytes::functions::{SectionFunction, Selection};
 use crate::erased::binfarce_bytes::source::Source;
@@ -108,46 +108,37 @@ pub fn read<S: Source>(
     log: &mut S::Log,
     selection: Selection<'_>,
 ) -> Result<Parts, ReadError> {
-    let len = source.length()?;
-    let places = read_places(alloc, source, log, len)?;
-    let sections = read_selected(alloc, source, log, len, places, selection)?;
-    let records = read_records(alloc, source, log, len, places)?;
+    let opened = open(alloc, source)?;
+    let places = read_places(&opened, log)?;
+    let sections = read_selected(&opened, log, places, selection)?;
+    let records = read_records(&opened, log, places)?;
     Ok(Parts { sections, records })
 }
 
 // The selected sections of a file whose tables are at these places.
 fn read_selected<S: Source>(
-    alloc: Global,
-    source: &S,
+    opened: &Opened<'_, S>,
     log: &mut S::Log,
-    len: u64,
     places: TableOffsets,
     selection: Selection<'_>,
 ) -> Result<Sections, ReadError> {
     match selection {
         Selection::Section(_) => {
-            let text = read_text(alloc, source, log, len, places)?;
+            let text = read_text(opened, log, places)?;
             Ok(Sections::Text(text))
         }
-        Selection::All => read_all_sections(alloc, source, log, len, places),
+        Selection::All => read_all_sections(opened, log, places),
     }
 }
 
 fn read_all_sections<S: Source>(
-    alloc: Global,
-    source: &S,
+    opened: &Opened<'_, S>,
     log: &mut S::Log,
-    len: u64,
     places: TableOffsets,
 ) -> Result<Sections, ReadError> {
-    let headers = read_headers(alloc, source, log, len, places)?;
-    let header = part(
-        alloc,
-        source,
-        log,
-        places.optional_header,
-        places.optional_header_size as u64,
-    )?;
+    let headers = read_headers(opened, log, places)?;
+    let size = places.optional_header_size as u64;
+    let header = opened.part(log, places.optional_header, size)?;
     Ok(Sections::All(image_base(&header), headers, places.section_count))
 }
 
@@ -165,15 +156,18 @@ pub fn read_sections<S: Source>(
     source: &S,
     log: &mut S::Log,
 ) -> Result<Beginning, ReadError> {
-    let file_length = source.length()?;
-    let places = read_places(alloc, source, log, file_length)?;
+    let opened = open(alloc, source)?;
+    let places = read_places(&opened, log)?;
     let headers = places.section_count as u64 * SECTION_LENGTH as u64;
     let end = places
         .sections
         .saturating_add(headers.max(1))
         .max(STUB_LENGTH);
-    let bytes = part(alloc, source, log, 0, end.min(file_length))?;
-    Ok(Beginning { bytes, file_length })
+    let bytes = opened.part(log, 0, end.min(opened.len))?;
+    Ok(Beginning {
+        bytes,
+        file_length: opened.len,
+    })
 }
 
 /// Where the file is loaded unless the loader chooses another address: its image base (`ImageBase`). `None` without one,
@@ -190,9 +184,9 @@ pub fn read_load_address<S: Source>(
     source: &S,
     log: &mut S::Log,
 ) -> Result<Option<u64>, ReadError> {
-    let len = source.length()?;
-    let places = read_places(alloc, source, log, len)?;
-    read_base(alloc, source, log, len, places)
+    let opened = open(alloc, source)?;
+    let places = read_places(&opened, log)?;
+    read_base(&opened, log, places)
 }
 
 /// Whether the file has a symbol table: where its file header counts symbols (`NumberOfSymbols`), which that of a
@@ -209,75 +203,54 @@ pub fn has_symbols<S: Source>(
     source: &S,
     log: &mut S::Log,
 ) -> Result<bool, ReadError> {
-    let len = source.length()?;
-    let places = read_places(alloc, source, log, len)?;
+    let opened = open(alloc, source)?;
+    let places = read_places(&opened, log)?;
     Ok(places.symbols_size > 0)
 }
 
 // The image base, in the optional header's first bytes.
 fn read_base<S: Source>(
-    alloc: Global,
-    source: &S,
+    opened: &Opened<'_, S>,
     log: &mut S::Log,
-    len: u64,
     places: TableOffsets,
 ) -> Result<Option<u64>, ReadError> {
     let offset = places.optional_header;
     let size = places.optional_header_size as u64;
-    if offset > len || size > len - offset {
-        return Err(ReadError::Refused(ParseError::UnexpectedEof));
-    }
-    let header = part(alloc, source, log, offset, size)?;
+    let header = opened.within(log, offset, size)?;
     Ok(image_base(&header))
 }
 
 // The places that the file header states.
 fn read_places<S: Source>(
-    alloc: Global,
-    source: &S,
+    opened: &Opened<'_, S>,
     log: &mut S::Log,
-    len: u64,
 ) -> Result<TableOffsets, ReadError> {
-    let signature = read_signature(alloc, source, log, len)?;
+    let signature = read_signature(opened, log)?;
     let offset = signature as u64;
-    if len < offset + HEADERS_LENGTH {
-        return Err(ReadError::Refused(ParseError::UnexpectedEof));
-    }
-    let headers = part(alloc, source, log, offset, HEADERS_LENGTH)?;
+    let headers = opened.within(log, offset, HEADERS_LENGTH)?;
     Ok(places_in(&headers, signature)?)
 }
 
-fn read_signature<S: Source>(
-    alloc: Global,
-    source: &S,
-    log: &mut S::Log,
-    len: u64,
-) -> Result<u32, ReadError> {
-    let offset = SIGNATURE_POINTER as u64;
-    if len < offset + 4 {
-        return Err(ReadError::Refused(ParseError::UnexpectedEof));
-    }
-    let pointer = part(alloc, source, log, offset, 4)?;
+fn read_signature<S: Source>(opened: &Opened<'_, S>, log: &mut S::Log) -> Result<u32, ReadError> {
+    let pointer = opened.within(log, SIGNATURE_POINTER as u64, 4)?;
     Ok(signature_in(&pointer)?)
 }
 
 // The text, found in the bytes of the section headers.
 fn read_text<S: Source>(
-    alloc: Global,
-    source: &S,
+    opened: &Opened<'_, S>,
     log: &mut S::Log,
-    len: u64,
     places: TableOffsets,
 ) -> Result<Text, ReadError> {
     let offset = places.sections;
-    if offset >= len {
+    if offset >= opened.len {
         return Err(ReadError::Refused(ParseError::UnexpectedEof));
     }
     if places.section_count == 0 {
         return Err(ReadError::Refused(ParseError::SymbolsSectionIsMissing));
     }
     let size = places.section_count as u64 * SECTION_LENGTH as u64;
-    let headers = part(alloc, source, log, offset, size.min(len - offset))?;
+    let headers = opened.part(log, offset, size.min(opened.len - offset))?;
     let table = Table {
         bytes: &headers,
         offset: 0,
@@ -288,22 +261,20 @@ fn read_text<S: Source>(
 
 // The section headers, of which none is truncated.
 fn read_headers<S: Source>(
-    alloc: Global,
-    source: &S,
+    opened: &Opened<'_, S>,
     log: &mut S::Log,
-    len: u64,
     places: TableOffsets,
 ) -> Result<Vec<u8>, ReadError> {
     let offset = places.sections;
-    if offset >= len {
+    if offset >= opened.len {
         return Err(ReadError::Refused(ParseError::UnexpectedEof));
     }
-    let rest = len - offset;
+    let rest = opened.len - offset;
     let size = places.section_count as u64 * SECTION_LENGTH as u64;
     if size.saturating_sub(SECTION_UNREAD) > rest {
         return Err(ReadError::Refused(ParseError::UnexpectedEof));
     }
-    part(alloc, source, log, offset, size.min(rest))
+    opened.part(log, offset, size.min(rest))
 }
 
 // The records of the symbol table, and the strings, which follow them.
@@ -314,18 +285,16 @@ struct Records {
 
 // The symbol table and its strings.
 fn read_records<S: Source>(
-    alloc: Global,
-    source: &S,
+    opened: &Opened<'_, S>,
     log: &mut S::Log,
-    len: u64,
     places: TableOffsets,
 ) -> Result<Records, ReadError> {
     let offset = places.symbols;
-    if offset >= len || places.symbols_size > len - offset {
+    if offset >= opened.len {
         return Err(ReadError::Refused(ParseError::UnexpectedEof));
     }
+    let rows = opened.within(log, offset, places.symbols_size)?;
     let end = offset + places.symbols_size;
-    let rows = part(alloc, source, log, offset, places.symbols_size)?;
-    let strings = part(alloc, source, log, end, len - end)?;
+    let strings = opened.part(log, end, opened.len - end)?;
     Ok(Records { rows, strings })
 }

@@ -3,8 +3,9 @@
 //! The section headers and the section names of an ELF file, read at their offsets.
 
 use crate::shim::Vec;
-use crate::erased::binfarce_tables::elf::{part, read_headers, read_names, read_place, slice_of};
+use crate::erased::binfarce_tables::elf::{read_headers, read_names, read_place, slice_of};
 use crate::erased::binfarce_tables::error::ReadError;
+use crate::erased::binfarce_tables::opened::{Opened, open};
 use crate::erased::binfarce_bytes::ByteOrder;
 use crate::erased::binfarce_bytes::source::Source;
 use crate::erased::binfarce_elf::class::Width;
@@ -70,34 +71,42 @@ pub fn read_sections<S: Source>(
     width: Width,
     byte_order: ByteOrder,
 ) -> Result<SectionParts, ReadError> {
-    let len = source.length()?;
-    let place = read_place(alloc, source, log, len, width, byte_order)?;
-    let names = read_names(alloc, source, log, len, width, place)?;
-    let headers = read_table(alloc, source, log, len, width, place)?;
+    let opened = open(alloc, source)?;
+    sections_of(&opened, log, width, byte_order)
+}
+
+// Reads them of an opened file.
+pub(crate) fn sections_of<S: Source>(
+    opened: &Opened<'_, S>,
+    log: &mut S::Log,
+    width: Width,
+    byte_order: ByteOrder,
+) -> Result<SectionParts, ReadError> {
+    let place = read_place(opened, log, width, byte_order)?;
+    let names = read_names(opened, log, width, place)?;
+    let headers = read_table(opened, log, width, place)?;
     Ok(SectionParts {
         headers,
         names,
         width,
         place,
-        file_length: len,
+        file_length: opened.len,
     })
 }
 
 // The section headers that are whole, up to the count. For a table without headers, its first byte if the file has it;
 // for a table that begins past the file's end, nothing.
 fn read_table<S: Source>(
-    alloc: Global,
-    source: &S,
+    opened: &Opened<'_, S>,
     log: &mut S::Log,
-    len: u64,
     width: Width,
     place: HeaderTable,
 ) -> Result<Vec<u8>, ReadError> {
-    if place.shoff >= len {
-        return Ok(Vec::new(alloc));
+    if place.shoff >= opened.len {
+        return Ok(Vec::new(opened.alloc));
     }
     if place.shnum == 0 {
-        return part(alloc, source, log, place.shoff, 1);
+        return opened.part(log, place.shoff, 1);
     }
-    read_headers(alloc, source, log, len, width, place)
+    read_headers(opened, log, width, place)
 }

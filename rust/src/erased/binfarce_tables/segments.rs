@@ -2,10 +2,11 @@
 
 //! Where an ELF file is loaded, read from its program headers.
 
-use crate::erased::binfarce_tables::elf::{part, read_place};
+use crate::erased::binfarce_tables::elf::read_place;
 use crate::erased::binfarce_tables::error::ReadError;
+use crate::erased::binfarce_tables::opened::{Opened, open};
+use crate::erased::binfarce_bytes::ByteOrder;
 use crate::erased::binfarce_bytes::source::Source;
-use crate::erased::binfarce_bytes::{ByteOrder, ParseError};
 use crate::erased::binfarce_elf::class::Width;
 use crate::erased::binfarce_elf_memory::parts::HeaderTable;
 use crate::erased::binfarce_elf_memory::segments::{self, LoadAddress, load_address};
@@ -28,24 +29,19 @@ pub fn read_load_address<S: Source>(
     width: Width,
     byte_order: ByteOrder,
 ) -> Result<Option<LoadAddress>, ReadError> {
-    let len = source.length()?;
-    let place = read_place(alloc, source, log, len, width, byte_order)?;
-    read_segments(alloc, source, log, len, width, place)
+    let opened = open(alloc, source)?;
+    let place = read_place(&opened, log, width, byte_order)?;
+    read_segments(&opened, log, width, place)
 }
 
 // Where it is loaded, by the program headers at this place.
 fn read_segments<S: Source>(
-    alloc: Global,
-    source: &S,
+    opened: &Opened<'_, S>,
     log: &mut S::Log,
-    len: u64,
     width: Width,
     place: HeaderTable,
 ) -> Result<Option<LoadAddress>, ReadError> {
     let size = u64::from(place.phnum) * segments::program_length(width) as u64;
-    if place.phoff > len || size > len - place.phoff {
-        return Err(ReadError::Refused(ParseError::UnexpectedEof));
-    }
-    let headers = part(alloc, source, log, place.phoff, size)?;
+    let headers = opened.within(log, place.phoff, size)?;
     Ok(load_address(&headers, width, place.byte_order))
 }

@@ -16,7 +16,7 @@ returns-in-Ok-clause-answer g c = λ file known.
     let table = table_at file c.args.place in
     let section = section_view (λ n. n) c.in-Ok.section in
     let size : c.section_length-size.result ≡ class.section_length = c.section_length-size.ensures.is in
-    let lt = index_below class table c.args.len c.saturating_sub.result c.section_length-size.result known.1 c.saturating_sub.ensures size c.if-place-whole.false in
+    let lt = index_below class table c.args.opened.now.len c.saturating_sub.result c.section_length-size.result known.1 c.saturating_sub.ensures size c.if-place-whole.false in
     let within : HasWithin class = within_of c.args.width in
     let is = names_section_read class table c.deref.result.now section c.section_length-size.result within size lt (λ there. c.deref.ensures.value ∙ taken (c.in_ok-header.ensures.part file known.0 there)) c.in-Ok.ensures.1 in
     instead _ _ _ _ _ (ap Ok (names_are class table section is)) (c.read_contents.ensures.answer file known)
@@ -26,7 +26,7 @@ returns-in_err-header-clause-only g c = λ file known.
     let class = class_of c.args.width in
     let table = table_at file c.args.place in
     let size : c.section_length-size.result ≡ class.section_length = c.section_length-size.ensures.is in
-    let lt = index_below class table c.args.len c.saturating_sub.result c.section_length-size.result known.1 c.saturating_sub.ensures size c.if-place-whole.false in
+    let lt = index_below class table c.args.opened.now.len c.saturating_sub.result c.section_length-size.result known.1 c.saturating_sub.ensures size c.if-place-whole.false in
     let at : ℕ → Part = λ n. part (c.args.place.shoff + c.args.place.shstrndx * n) n in
     passed_only _ (one (λ P all. subst (λ (n : ℕ). P (at n)) (sym size) (of_names_header P class table lt all)) c.in_err-header.ensures.only) c.from_residual.ensures
 
@@ -35,7 +35,7 @@ returns-in-Ok-clause-only g c = λ file known.
     let class = class_of c.args.width in
     let table = table_at file c.args.place in
     let size : c.section_length-size.result ≡ class.section_length = c.section_length-size.ensures.is in
-    let lt = index_below class table c.args.len c.saturating_sub.result c.section_length-size.result known.1 c.saturating_sub.ensures size c.if-place-whole.false in
+    let lt = index_below class table c.args.opened.now.len c.saturating_sub.result c.section_length-size.result known.1 c.saturating_sub.ensures size c.if-place-whole.false in
     let at : ℕ → Part = λ n. part (c.args.place.shoff + c.args.place.shstrndx * n) n in
     let section = section_view (λ n. n) c.in-Ok.section in
     let is = names_section_read class table c.deref.result.now section c.section_length-size.result (within_of c.args.width) size lt (λ there. c.deref.ensures.value ∙ taken (c.in_ok-header.ensures.part file known.0 there)) c.in-Ok.ensures.1 in

@@ -14,7 +14,7 @@ use Rattle.binfarce_tables.proofs.elf.read_rows.Goals as goal
 pub returns-in_err-strings-clause-answer : goal.returns-in_err-strings-clause-answer
 returns-in_err-strings-clause-answer g c = λ file known.
     let class = class_of c.args.width in
-    let fails = g.S.Source.may_fail c.args.source.now in
+    let fails = g.S.Source.may_fail c.args.opened.now.source.now in
     let n = table_sections_view c.args.sections in
     let e = c.in_err-strings.field-0.0 in
     passed fails rows_view _ e c.from_residual.result c.from_residual.ensures
@@ -24,7 +24,7 @@ returns-in_err-strings-clause-answer g c = λ file known.
 pub returns-in_err-rows-clause-answer : goal.returns-in_err-rows-clause-answer
 returns-in_err-rows-clause-answer g c = λ file known.
     let class = class_of c.args.width in
-    let fails = g.S.Source.may_fail c.args.source.now in
+    let fails = g.S.Source.may_fail c.args.opened.now.source.now in
     let n = table_sections_view c.args.sections in
     let strings = c.in_ok-strings.strings.items in
     let e = c.in_err-rows.field-0.0 in
@@ -39,7 +39,7 @@ returns-in_err-whole_rows-clause-answer g c = λ file known.
     let strings = c.in_ok-strings.strings.items in
     let p = c.in_err-whole_rows.field-0.0 in
     let truncated : whole_rows class c.in_ok-rows.rows.items ≡ Err (refusal_of p) = ap (whole_rows class) (sym c.deref.ensures.value) ∙ c.in_err-whole_rows.ensures in
-    converted (g.S.Source.may_fail c.args.source.now) rows_view _ p c.from_residual-in_err-whole_rows.result c.from_residual-in_err-whole_rows.ensures
+    converted (g.S.Source.may_fail c.args.opened.now.source.now) rows_view _ p c.from_residual-in_err-whole_rows.result c.from_residual-in_err-whole_rows.ensures
     (from_rows class file n strings (c.in_ok-strings.ensures.answer file known) c.in_ok-rows.rows.items (c.in_ok-rows.ensures.answer file known)
     ∙ ap (λ (a : Result (List ℕ) Refusal). a >>= λ rows. Ok (record { strings = strings; rows = rows })) truncated)
 

@@ -1,60 +1,13 @@
-use Rattle.std.specs.Option.{option_map}
-use Rattle.binfarce_elf.specs.Elf.{walk}
-use Rattle.binfarce_elf_memory.specs.ElfParts.{headers_alone}
 use Rattle.binfarce_elf.specs.Classes.{class_of}
-use Rattle.binfarce_elf_memory.specs.SelectionViews.{kind_view}
-use Rattle.binfarce_tables.specs.ElfReads.{names_parts, headers_parts}
-use Rattle.binfarce_tables.specs.Reading.{Known}
-use Rattle.binfarce_tables.specs.machine.Places.{table_at}
-use Rattle.binfarce_tables.proofs.ElfSure.{of_file_header, of_table}
-use Rattle.binfarce_tables.proofs.Readings.{length_known, taken}
-use Rattle.binfarce_tables.proofs.SectionsRead.{sections_read}
-use Rattle.binfarce_tables.proofs.Sure.{front, back, within, one, next, unmeasured, passed_only}
+use Rattle.binfarce_tables.proofs.ElfSure.{of_file_header}
+use Rattle.binfarce_tables.proofs.Sure.{unmeasured}
 use Rattle.binfarce_tables.proofs.sections.read_sections.Goals as goal
 
+pub returns-in_err-opened-clause-only : goal.returns-in_err-opened-clause-only
+returns-in_err-opened-clause-only g c = λ file known. unmeasured _ (λ P. of_file_header P (class_of c.args.width) c.args.byte_order file) c.in_err-opened.ensures.unsure
+
 pub returns-clause-answer : goal.returns-clause-answer
-returns-clause-answer g c = λ file known.
-    let class = class_of c.args.width in
-    let place = c.in_ok-place.place in
-    let is_known : Known (g.S.Source.bytes c.args.source.now) c.in_ok-len.len file = (known, length_known _ file c.in_ok-len.len known c.in_ok-len.ensures.length) in
-    sections_read class c.args.byte_order file (table_at file place) (kind_view place.kind) (walk class (headers_alone place.byte_order c.in_ok-headers.headers.items place.shnum)) (option_map (λ v. v.items) c.in_ok-names.names) c.in_ok-len.len
-    (c.in_ok-place.ensures.table file is_known) (c.in_ok-place.ensures.kind_is file is_known) (taken (c.in_ok-headers.ensures.answer file is_known)) (taken (c.in_ok-names.ensures.answer file is_known)) is_known.1
-
-pub returns-in_err-len-clause-only : goal.returns-in_err-len-clause-only
-returns-in_err-len-clause-only g c = λ file known. unmeasured _ (λ P. of_file_header P (class_of c.args.width) c.args.byte_order file) c.in_err-len.ensures.unsure
-
-pub returns-in_err-place-clause-only : goal.returns-in_err-place-clause-only
-returns-in_err-place-clause-only g c = λ file known. passed_only _ (one (λ P. of_file_header P (class_of c.args.width) c.args.byte_order file) c.in_err-place.ensures.only) c.from_residual-in_err-place.ensures
-
-pub returns-in_err-names-clause-only : goal.returns-in_err-names-clause-only
-returns-in_err-names-clause-only g c = λ file known.
-    let class = class_of c.args.width in
-    let is_known : Known (g.S.Source.bytes c.args.source.now) c.in_ok-len.len file = (known, length_known _ file c.in_ok-len.len known c.in_ok-len.ensures.length) in
-    let table = table_at file c.in_ok-place.place in
-    let step = c.in_ok-place.ensures.table file is_known in
-    passed_only _ (next (one (λ P. of_file_header P class c.args.byte_order file) c.in_ok-place.ensures.only)
-    (within (λ P all. front P (names_parts class table) (headers_parts class table) (of_table P class c.args.byte_order file table step all)) (c.in_err-names.ensures.only file is_known))) c.from_residual-in_err-names.ensures
-
-pub returns-in_err-headers-clause-only : goal.returns-in_err-headers-clause-only
-returns-in_err-headers-clause-only g c = λ file known.
-    let class = class_of c.args.width in
-    let is_known : Known (g.S.Source.bytes c.args.source.now) c.in_ok-len.len file = (known, length_known _ file c.in_ok-len.len known c.in_ok-len.ensures.length) in
-    let table = table_at file c.in_ok-place.place in
-    let step = c.in_ok-place.ensures.table file is_known in
-    let names = names_parts class table in
-    let headers = headers_parts class table in
-    passed_only _ (next (one (λ P. of_file_header P class c.args.byte_order file) c.in_ok-place.ensures.only)
-    (next (within (λ P all. front P names headers (of_table P class c.args.byte_order file table step all)) (c.in_ok-names.ensures.only file is_known))
-    (within (λ P all. back P names headers (of_table P class c.args.byte_order file table step all)) (c.in_err-headers.ensures.only file is_known)))) c.from_residual-in_err-headers.ensures
+returns-clause-answer g c = λ file known. rw c.in_ok-opened.ensures.source at (c.sections_of.ensures.answer file (c.in_ok-opened.ensures.known file known))
 
 pub returns-clause-only : goal.returns-clause-only
-returns-clause-only g c = λ file known.
-    let class = class_of c.args.width in
-    let is_known : Known (g.S.Source.bytes c.args.source.now) c.in_ok-len.len file = (known, length_known _ file c.in_ok-len.len known c.in_ok-len.ensures.length) in
-    let table = table_at file c.in_ok-place.place in
-    let step = c.in_ok-place.ensures.table file is_known in
-    let names = names_parts class table in
-    let headers = headers_parts class table in
-    next (one (λ P. of_file_header P class c.args.byte_order file) c.in_ok-place.ensures.only)
-    (next (within (λ P all. front P names headers (of_table P class c.args.byte_order file table step all)) (c.in_ok-names.ensures.only file is_known))
-    (within (λ P all. back P names headers (of_table P class c.args.byte_order file table step all)) (c.in_ok-headers.ensures.only file is_known)))
+returns-clause-only g c = λ file known. rw c.in_ok-opened.ensures.source at (c.sections_of.ensures.only file (c.in_ok-opened.ensures.known file known))

@@ -12,19 +12,19 @@ use Rattle.binfarce_tables.proofs.SectionsRead.{seen_as}
 use Rattle.binfarce_tables.proofs.Sure.{one}
 use Rattle.binfarce_tables.proofs.sections.read_table.Goals as goal
 
-pub returns-then-place-len-clause-answer : goal.returns-then-place-len-clause-answer
-returns-then-place-len-clause-answer g c = λ file known.
+pub returns-then-place-opened-clause-answer : goal.returns-then-place-opened-clause-answer
+returns-then-place-opened-clause-answer g c = λ file known.
     let class = class_of c.args.width in
     let none : length c.new.result.items ≤ 0 = omega (arith, ap length c.new.ensures.items) in
-    ap Ok (walk_outside class (table_at file c.args.place) (omega (arith, known.1, c.if-place-len.true)) ∙ sym (walk_outside class (headers_alone c.args.place.byte_order c.new.result.items c.args.place.shnum) none))
+    ap Ok (walk_outside class (table_at file c.args.place) (omega (arith, known.1, c.if-place-opened.true)) ∙ sym (walk_outside class (headers_alone c.args.place.byte_order c.new.result.items c.args.place.shnum) none))
 
 pub returns-then-place-eq0-clause-answer : goal.returns-then-place-eq0-clause-answer
 returns-then-place-eq0-clause-answer g c = λ file known.
     let class = class_of c.args.width in
     let table = table_at file c.args.place in
-    let inside : c.args.place.shoff < length file = omega (arith, known.1, c.if-place-len.false) in
+    let inside : c.args.place.shoff < length file = omega (arith, known.1, c.if-place-opened.false) in
     let there : c.args.place.shoff + 1 ≤ length file = omega (arith, inside) in
-    seen_as (g.S.Source.may_fail c.args.source.now) (λ (v : Vec ℕ Global). v.items) (λ (v : Vec ℕ Global). walk class (headers_alone c.args.place.byte_order v.items c.args.place.shnum))
+    seen_as (g.S.Source.may_fail c.args.opened.now.source.now) (λ (v : Vec ℕ Global). v.items) (λ (v : Vec ℕ Global). walk class (headers_alone c.args.place.byte_order v.items c.args.place.shnum))
     (bytes_at file c.args.place.shoff 1) (walk class table) c.part.result
     (λ v is.
     let one : 0 < length v.items = omega (arith, ap length is, part_long file c.args.place.shoff 1 there) in
@@ -37,17 +37,17 @@ returns-clause-answer g c = λ file known.
     let table = table_at file c.args.place in
     let within : HasWithin class = within_of c.args.width in
     let some : 0 < class.section_length = some_of c.args.width in
-    let inside : c.args.place.shoff < length file = omega (arith, known.1, c.if-place-len.false) in
+    let inside : c.args.place.shoff < length file = omega (arith, known.1, c.if-place-opened.false) in
     let any : 0 < c.args.place.shnum = omega (arith, c.if-place-eq0.false) in
-    seen_as (g.S.Source.may_fail c.args.source.now) (λ (v : Vec ℕ Global). v.items) (λ (v : Vec ℕ Global). walk class (headers_alone c.args.place.byte_order v.items c.args.place.shnum))
+    seen_as (g.S.Source.may_fail c.args.opened.now.source.now) (λ (v : Vec ℕ Global). v.items) (λ (v : Vec ℕ Global). walk class (headers_alone c.args.place.byte_order v.items c.args.place.shnum))
     (headers_of class table) (walk class table) c.read_headers.result
     (λ v is. ap (λ (h : List ℕ). walk class (headers_alone c.args.place.byte_order h c.args.place.shnum)) is ∙ headers_walk class table within some inside any)
-    (c.read_headers.ensures.answer file known (omega (arith, c.if-place-len.false)))
+    (c.read_headers.ensures.answer file known (omega (arith, c.if-place-opened.false)))
 
 pub returns-then-place-eq0-clause-only : goal.returns-then-place-eq0-clause-only
 returns-then-place-eq0-clause-only g c = λ file known.
-    one (λ P. of_no_header P (class_of c.args.width) (table_at file c.args.place) (omega (arith, known.1, c.if-place-len.false)) c.if-place-eq0.true) c.part.ensures.only
+    one (λ P. of_no_header P (class_of c.args.width) (table_at file c.args.place) (omega (arith, known.1, c.if-place-opened.false)) c.if-place-eq0.true) c.part.ensures.only
 
 pub returns-clause-only : goal.returns-clause-only
 returns-clause-only g c = λ file known.
-    one (λ P. of_headers P (class_of c.args.width) (table_at file c.args.place) (omega (arith, known.1, c.if-place-len.false)) (omega (arith, c.if-place-eq0.false))) (c.read_headers.ensures.only file known)
+    one (λ P. of_headers P (class_of c.args.width) (table_at file c.args.place) (omega (arith, known.1, c.if-place-opened.false)) (omega (arith, c.if-place-eq0.false))) (c.read_headers.ensures.only file known)

@@ -2,7 +2,7 @@ use Rattle.std.specs.IoError.{error_kind}
 use Rattle.binfarce_tables.proofs.Readings.{no_refusal, unread, part_read, none_past, surely}
 use Rattle.binfarce_tables.proofs.Sure.{only}
 use Rattle.std.proofs.Common.{◌≡◌, ◌∙◌, true}
-use Rattle.binfarce_tables.proofs.elf.part.Goals as goal
+use Rattle.binfarce_tables.proofs.opened.part.Goals as goal
 
 pub returns-clause-part : goal.returns-clause-part
 returns-clause-part g c = λ file known inside. part_read _ file _ _ _ known c.in_ok-read_part.ensures.part (c.in_ok-read_part.ensures.size ∙ c.to_index.ensures)

@@ -63,7 +63,7 @@ pub struct Arranged<'a> {
     next: usize,
 }
 
-/// The same, of a list that is lent.
+/// The function symbols of a list that another value owns, from an index on: so tables made once serve several readings.
 #[derive(Drop)]
 pub struct Lent<'a> {
     functions: &'a [SectionFunction<'a>],
@@ -163,7 +163,7 @@ pub fn functions_of_file<'a>(
     Ok((functions, size.unwrap_or(0)))
 }
 
-// Those of a section of a file, as a selection.
+// The function symbols of a section, which is looked for in a whole file, as a selection.
 #[tactic(auto, unfolding(crate::specs::Answer::selected_symbols, crate::specs::Answer::NeedsMemory))]
 pub(crate) fn section_functions<'a>(
     alloc: Global,
@@ -181,7 +181,7 @@ pub(crate) fn section_functions<'a>(
     }
 }
 
-// Those of a section of an ELF file of this class.
+// The function symbols of a section of an ELF file of this class.
 #[tactic(auto, unfolding(binfarce_elf_memory::specs::ElfSelection::selected_file_answer))]
 fn functions_of_elf<'a, C: Class>(
     file: &'a [u8],
@@ -209,7 +209,7 @@ pub(crate) fn of_elf(functions: selection::Functions<'_>) -> Selected<'_>
     }
 }
 
-// Those of the text of a Mach-O file, whichever the section.
+// The function symbols of a Mach-O file's text, which answers for every section.
 fn functions_of_macho<'a>(
     alloc: Global,
     file: &'a [u8],
@@ -223,7 +223,7 @@ fn functions_of_macho<'a>(
     Ok(listed(functions, size))
 }
 
-// Those of `.text` of a PE file, whichever the section.
+// The function symbols of a PE file's `.text`, which answers for every section.
 fn functions_of_pe<'a>(
     alloc: Global,
     file: &'a [u8],
@@ -248,7 +248,7 @@ pub(crate) fn listed(functions: Vec<SectionFunction<'_>>, size: Option<u64>) -> 
     }
 }
 
-// Those of a list that is lent, as those of a section of this size.
+// A list that another value owns, as the function symbols of a section of this size.
 pub(crate) fn section_lent<'a>(functions: &'a [SectionFunction<'a>], size: u64) -> Selected<'a>
     ensures functions { all_left result.functions ≡ map section_function_view functions.entry.now }
     ensures size { result.size ≡ Some size }

@@ -42,7 +42,7 @@ pub struct Arranged<'a> {
     next: usize,
 }
 
-/// The same, of a list that is lent.
+/// The function symbols of a list that another value owns, from an index on: so tables made once serve several readings.
 pub struct Lent<'a> {
     functions: &'a [SectionFunction<'a>],
     next: usize,
@@ -120,7 +120,7 @@ pub fn functions_of_file<'a>(
     Ok((functions, size.unwrap_or(0)))
 }
 
-// Those of a section of a file, as a selection.
+// The function symbols of a section, which is looked for in a whole file, as a selection.
 pub(crate) fn section_functions<'a>(
     alloc: Global,
     file: &'a [u8],
@@ -135,7 +135,7 @@ pub(crate) fn section_functions<'a>(
     }
 }
 
-// Those of a section of an ELF file of this class.
+// The function symbols of a section of an ELF file of this class.
 fn functions_of_elf<'a, C: Class>(
     file: &'a [u8],
     byte_order: ByteOrder,
@@ -156,7 +156,7 @@ pub(crate) fn of_elf(functions: selection::Functions<'_>) -> Selected<'_> {
     }
 }
 
-// Those of the text of a Mach-O file, whichever the section.
+// The function symbols of a Mach-O file's text, which answers for every section.
 fn functions_of_macho<'a>(
     alloc: Global,
     file: &'a [u8],
@@ -167,7 +167,7 @@ fn functions_of_macho<'a>(
     Ok(listed(functions, size))
 }
 
-// Those of `.text` of a PE file, whichever the section.
+// The function symbols of a PE file's `.text`, which answers for every section.
 fn functions_of_pe<'a>(
     alloc: Global,
     file: &'a [u8],
@@ -186,7 +186,7 @@ pub(crate) fn listed(functions: Vec<SectionFunction<'_>>, size: Option<u64>) -> 
     }
 }
 
-// Those of a list that is lent, as those of a section of this size.
+// A list that another value owns, as the function symbols of a section of this size.
 pub(crate) fn section_lent<'a>(functions: &'a [SectionFunction<'a>], size: u64) -> Selected<'a> {
     Selected {
         functions: AllFunctions::Lent(Lent { functions, next: 0 }),

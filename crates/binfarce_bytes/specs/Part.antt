@@ -1,7 +1,6 @@
--- A part of a file, sets of parts, and files that agree in parts.
+-- A part of a file, and sets of parts.
 use Rattle.std.specs.Prelude.{◌≡◌, ℕ, ◌+◌, Bool, true, List, [], ◌∷◌, length, All, Option, Some, None, nat_le, if◌then◌else◌}
 use Rattle.binfarce_bytes.specs.Field.{Field}
-use Rattle.binfarce_bytes.specs.Number.{bytes_at}
 
 -- so many bytes of a file from an offset on; for a part that extends past the file's end, those that are there
 pub record Part : Type 0 where
@@ -23,15 +22,6 @@ whole_part file offset size = if nat_le (offset + size) (length file) then part 
 abbrev pub parts_if : {A : Type 0} → Option A → (A → List Part) → List Part
 parts_if None parts = []
 parts_if (Some x) parts = parts x
-
--- two files agree in a part
-abbrev pub SameIn : List ℕ → List ℕ → Part → Type 0
-SameIn file other p = bytes_at file p.offset p.size ≡ bytes_at other p.offset p.size
-
--- two files of one length agree in each of these parts
-pub record SameParts (parts : List Part) (file other : List ℕ) : Type 0 where
-  pub lengths : length file ≡ length other
-  pub each : All (SameIn file other) parts
 
 -- a set of parts: its answer to the question whether it has a part
 abbrev pub PartSet : Type 0

@@ -14,7 +14,7 @@ use Rattle.std.proofs.lemmas.List.Elements.{All-nil, All-cons, All-take, All-dro
 use Rattle.std.proofs.lemmas.List.Folds.{list_all_at, prefix_len-append}
 use Rattle.std.proofs.lemmas.List.Sums.{prefix_len_stops, prefix_len_passes, prefix_len-le-length, suffix_len_is, suffix_len-le-length}
 use Rattle.std.proofs.lemmas.Str.Ascii.{trim_ascii_end_is}
-use Rattle.binfarce_addresses.specs.Address.{address_of, has_prefix, hexadecimal}
+use Rattle.binfarce_rows.specs.Address.{address_of, has_prefix, hexadecimal}
 use Rattle.binfarce_addresses.specs.Stream.{line_address, trim_start, trim_end, HasNoLineFeed}
 use Rattle.binfarce_addresses.specs.machine.Answering.{IsKeptOf}
 

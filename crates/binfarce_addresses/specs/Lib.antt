@@ -6,5 +6,4 @@ pub mod PlacesViews
 pub mod Stream
 pub mod Answered
 pub mod machine
-pub mod Address
 pub mod Range

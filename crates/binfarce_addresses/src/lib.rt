@@ -1,7 +1,6 @@
 //! Symbolizes addresses in an executable: the function symbol that holds each, and the offset into it.
 #![tactic(auto)]
 
-pub mod address;
 pub mod at;
 pub mod counts;
 pub mod digits;
@@ -11,6 +10,6 @@ pub mod ranges;
 mod slices;
 pub mod stream;
 
-pub use crate::address::parse_address;
 pub use crate::counts::Counts;
 pub use crate::lookup::Lookup;
+pub use binfarce_rows::address::parse_address;

@@ -6,11 +6,11 @@ ghost use Rattle.binfarce_addresses.specs.Answered.{AnswersOf};
 ghost use Rattle.binfarce_addresses.specs.Stream.{HasNoLineFeed, Streams};
 ghost use Rattle.binfarce_addresses.specs.machine.Answering.{AnswersLines, AreAddressesOf, Answers, IsKeptOf};
 
-use crate::address::parse_address;
 use crate::at::Places;
 use crate::counts::Counts;
 use crate::lookup::Lookup;
 use crate::names::Names;
+use binfarce_rows::address::parse_address;
 pub use binfarce_text::streams::StreamError;
 use binfarce_text::streams::{Pass, pass_stream};
 use binfarce_tools::list::Sink;

@@ -1,20 +1,27 @@
 -- What a call asks for, by its options.
 use Rattle.std.specs.Prelude.{ℕ, Bool, true, false, not, ◌&&◌, ◌||◌, List, [], codes, Option, Some, None, is_some, unwrap_or, if◌then◌else◌}
+use Rattle.std.specs.Option.{option_map}
 use Rattle.binfarce_tools.specs.declared.SymbolTable.{SymbolTable}
 use Rattle.binfarce_tools.specs.declared.SymbolTable.TheVariants.{Symtab, Dynsym}
 use Rattle.binfarce_figures.specs.declared.key.Grouping.{Grouping}
 use Rattle.binfarce_figures.specs.declared.key.Key.{Key}
 use Rattle.binfarce_figures.specs.declared.key.Key.TheVariants as keys
+use Rattle.binfarce_figures.specs.declared.order.Order.{Order}
+use Rattle.binfarce_figures.specs.declared.order.Order.TheVariants as orders
 use Rattle.binfarce_figures.specs.declared.rows.Naming.{Naming}
 use Rattle.binfarce_figures.specs.declared.rows.Naming.TheVariants.{Trimmed, Complete, Stored}
 use Rattle.binfarce_figures.specs.declared.rows.Shown.{Shown}
 use Rattle.binfarce_figures.specs.declared.sums.Figures.{Figures}
 use Rattle.binfarce_rows.specs.Json.{Style, lines, objects}
 use Rattle.binfarce_words.specs.Words.{Arguments, count_given, key_given, order_given, value_given}
-use Rattle.binfarce_words.specs.declared.words.Command.{Command}
-use Rattle.binfarce_words.specs.declared.words.Command.TheVariants as commands
-use Rattle.binfarce_words.specs.declared.words.Flag.{Flag}
-use Rattle.binfarce_words.specs.declared.words.Flag.TheVariants as flags
+use Rattle.binfarce_words.specs.declared.command.Command.{Command}
+use Rattle.binfarce_words.specs.declared.command.Command.TheVariants as commands
+use Rattle.binfarce_words.specs.declared.flag.Flag.{Flag}
+use Rattle.binfarce_words.specs.declared.flag.Flag.TheVariants as flags
+use Rattle.binfarce_words.specs.declared.takes.Key as key_words
+use Rattle.binfarce_words.specs.declared.takes.Key.TheVariants as named_keys
+use Rattle.binfarce_words.specs.declared.takes.Order as order_words
+use Rattle.binfarce_words.specs.declared.takes.Order.TheVariants as named_orders
 use Rattle.binfarce_jobs.specs.declared.show.Kind.{Kind}
 use Rattle.binfarce_jobs.specs.declared.show.Kind.TheVariants as kinds
 
@@ -25,6 +32,25 @@ has flag given = is_some (value_given flag given)
 -- the symbol table that is read
 abbrev pub table_asked : Arguments → SymbolTable
 table_asked given = if has flags.Dynamic given then Dynsym else Symtab
+
+-- the order of lines that is named
+abbrev pub order_for : order_words.Order → Order
+order_for named_orders.Address = orders.Address
+order_for named_orders.Size = orders.Size
+order_for named_orders.Name = orders.Name
+
+abbrev pub order_asked : Arguments → Option Order
+order_asked given = option_map order_for (order_given given)
+
+-- the key of sums that is named
+abbrev pub key_for : key_words.Key → Key
+key_for named_keys.Crate = keys.Crate
+key_for named_keys.Function = keys.Function
+key_for named_keys.Generic = keys.Generic
+key_for named_keys.Section = keys.Section
+
+abbrev pub key_asked : Arguments → Option Key
+key_asked given = option_map key_for (key_given given)
 
 -- all sections are taken by default, and for sums by section
 abbrev pub all_unnamed : (are_all : Bool) → Option Key → Bool
@@ -39,7 +65,7 @@ section_or false None = Some (codes ".text")
 
 -- the section whose function symbols are taken; none where those of all sections are
 abbrev pub section_asked : (are_all : Bool) → Arguments → Option (List ℕ)
-section_asked are_all given = if has flags.All given then None else section_or (all_unnamed are_all (key_given given)) (value_given flags.Section given)
+section_asked are_all given = if has flags.All given then None else section_or (all_unnamed are_all (key_asked given)) (value_given flags.Section given)
 
 -- what is shown of a name
 abbrev pub naming_asked : Arguments → Naming
@@ -50,7 +76,7 @@ abbrev pub is_cut : Arguments → Bool
 is_cut given = (has flags.Sort given || has flags.First given) || has flags.NoTotal given
 
 abbrev pub shown_asked : Arguments → Shown
-shown_asked given = record { order = order_given given; first = count_given flags.First given; naming = naming_asked given; has_total = not (is_cut given) }
+shown_asked given = record { order = order_asked given; first = count_given flags.First given; naming = naming_asked given; has_total = not (is_cut given) }
 
 -- a listing, in its order and whole unless something else is asked for
 abbrev pub listing_asked : Arguments → Kind
@@ -59,7 +85,7 @@ listing_asked given =
 
 -- what sizes are summed by: by crate, if nothing else is asked for
 abbrev pub grouping_asked : Arguments → Grouping
-grouping_asked given = record { key = unwrap_or (key_given given) keys.Crate; joins_std = has flags.Std given }
+grouping_asked given = record { key = unwrap_or (key_asked given) keys.Crate; joins_std = has flags.Std given }
 
 abbrev pub figures_asked : Arguments → Figures
 figures_asked given = record { grouping = grouping_asked given; first = count_given flags.First given; has_percent = has flags.Percent given }

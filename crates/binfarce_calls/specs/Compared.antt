@@ -9,7 +9,7 @@ use Rattle.binfarce_rows.specs.Json.{style_of}
 use Rattle.binfarce_sections.specs.Changes.{AreChangesOf}
 use Rattle.binfarce_sections.specs.Sums.{FileSums}
 use Rattle.binfarce_tools.specs.Writing.{AppendsBeginning, Outcome, no_memory, write_failed}
-use Rattle.binfarce_words.specs.declared.words.Limit.{Limit}
+use Rattle.binfarce_words.specs.declared.takes.Limit.{Limit}
 use Rattle.binfarce_jobs.specs.Faults.{failure}
 use Rattle.binfarce_jobs.specs.Files.{Grows, Hinted, Refused, Reports, State, hinted}
 use Rattle.binfarce_jobs.specs.Hints.{IsOrNone, lack_in, words_of}

@@ -9,8 +9,8 @@ use Rattle.binfarce_logs.specs.declared.maps.NoBase.TheVariants as reasons
 use Rattle.binfarce_tables.specs.declared.loading.LoadAddress.{LoadAddress}
 use Rattle.binfarce_tables.specs.declared.loading.CodeSegment.{CodeSegment}
 use Rattle.binfarce_words.specs.Words.{Argument, Arguments, number_in, operand_at, value_given, values_given}
-use Rattle.binfarce_words.specs.declared.words.Flag.{Flag}
-use Rattle.binfarce_words.specs.declared.words.Flag.TheVariants as flags
+use Rattle.binfarce_words.specs.declared.flag.Flag.{Flag}
+use Rattle.binfarce_words.specs.declared.flag.Flag.TheVariants as flags
 use Rattle.binfarce_addresses.specs.declared.counts.Counts.{Counts}
 use Rattle.binfarce_jobs.specs.declared.hint.Hint.{Hint}
 use Rattle.binfarce_jobs.specs.declared.hint.Hint.TheVariants.{Instead, Missed, Unclear, Offsets, NoAddress}

@@ -6,7 +6,7 @@ use Rattle.binfarce_sections.specs.Sums.{FileSums, sums_text}
 use Rattle.binfarce_sections.specs.declared.error.SectionError.{SectionError}
 use Rattle.binfarce_sections.specs.declared.error.SectionError.TheVariants.{Write}
 use Rattle.binfarce_tools.specs.Writing.{AppendsBeginning, no_memory, write_failed}
-use Rattle.binfarce_words.specs.declared.words.Limit.{Limit}
+use Rattle.binfarce_words.specs.declared.takes.Limit.{Limit}
 use Rattle.binfarce_jobs.specs.Faults.{failure}
 use Rattle.binfarce_words.specs.Words.{Argument, no_utf8, utf8}
 use Rattle.binfarce_jobs.specs.Files.{Files, Grows, RefusesArgument, Reports, State, heading, hinted}

@@ -6,8 +6,8 @@ use Rattle.binfarce_jobs.specs.declared.fault.Fault.{Fault}
 use Rattle.binfarce_jobs.specs.declared.limit.Verdict.{Verdict}
 use Rattle.binfarce_jobs.specs.Faults.{is_write}
 use Rattle.binfarce_jobs.specs.declared.fault.Fault.TheVariants.{Missing}
-use Rattle.binfarce_words.specs.declared.words.Wrong.{Wrong}
-use Rattle.binfarce_words.specs.declared.words.Wrong.TheVariants.{OutOfMemory}
+use Rattle.binfarce_words.specs.declared.wrong.Wrong.{Wrong}
+use Rattle.binfarce_words.specs.declared.wrong.Wrong.TheVariants.{OutOfMemory}
 
 -- 2 for a wrong call, and 1 where an allocation failed
 abbrev pub wrong_status : Wrong → ℕ

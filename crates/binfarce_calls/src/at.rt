@@ -21,8 +21,8 @@ use binfarce_tables::ReadError;
 use binfarce_tables::loading::LoadAddress;
 use binfarce_tools::SymbolTable;
 use binfarce_tools::tables::Tables;
-use binfarce_words::words::Arguments;
-use binfarce_words::words::Flag::{Annotate, Offsets};
+use binfarce_words::flag::Flag::{Annotate, Offsets};
+use binfarce_words::given::Arguments;
 use std::alloc::{AllocError, Global};
 use std::io::Read;
 

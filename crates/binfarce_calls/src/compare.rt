@@ -31,7 +31,7 @@ use binfarce_sections::changes::diff_sections;
 use binfarce_sections::sums::SectionSums;
 use binfarce_sections::tables::{Tables as SectionTables, read};
 use binfarce_tools::tables::Tables;
-use binfarce_words::words::Limit;
+use binfarce_words::takes::Limit;
 use std::alloc::Global;
 use std::io::{Read, Write};
 

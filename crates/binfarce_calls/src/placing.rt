@@ -4,7 +4,7 @@ ghost use Rattle.std.specs.Prelude.{◌≡◌, length};
 ghost use Rattle.std.specs.Option.{option_map};
 ghost use Rattle.binfarce_rows.specs.Json.{style_of};
 ghost use Rattle.binfarce_words.specs.WordViews.{given_view};
-ghost use Rattle.binfarce_words.specs.declared.words.Flag.TheVariants.{Offsets, Return};
+ghost use Rattle.binfarce_words.specs.declared.flag.Flag.TheVariants.{Offsets, Return};
 ghost use Rattle.binfarce_calls.specs.Asked.{has, style_asked};
 ghost use Rattle.binfarce_calls.specs.Placing.{base_for, base_given, file_at, files_asked, has_bytes, lacks_bytes, loaded_asked, missed_hint, path_for, span_for, unclear_hint, unfound_hint, value_for};
 
@@ -13,8 +13,9 @@ use binfarce_addresses::{Counts, Lookup, parse_address};
 use binfarce_jobs::hint::{Hint, Loaded};
 use binfarce_logs::maps::{NoBase, base_of};
 use binfarce_tables::loading::{CodeSegment, LoadAddress};
-use binfarce_words::words::Flag::{Annotate, As, Base, Maps, Offsets, Return};
-use binfarce_words::words::{Arguments, Flag};
+use binfarce_words::flag::Flag;
+use binfarce_words::flag::Flag::{Annotate, As, Base, Maps, Offsets, Return};
+use binfarce_words::given::Arguments;
 
 // How many files there are: all operands where a text is annotated, else the first one.
 pub(crate) fn count_of_files(given: &Arguments<'_>) -> usize

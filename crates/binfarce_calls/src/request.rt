@@ -5,20 +5,23 @@ ghost use Rattle.binfarce_bytes.specs.Selection.{section_of};
 ghost use Rattle.binfarce_rows.specs.Json.{style_of};
 ghost use Rattle.binfarce_words.specs.Words.{limit_given};
 ghost use Rattle.binfarce_words.specs.WordViews.{given_view};
-ghost use Rattle.binfarce_words.specs.declared.words.Flag.TheVariants.{Json};
-ghost use Rattle.binfarce_calls.specs.Asked.{figures_asked, has, kind_asked, listing_asked, naming_asked, section_asked, style_asked, table_asked};
+ghost use Rattle.binfarce_words.specs.declared.flag.Flag.TheVariants.{Json};
+ghost use Rattle.binfarce_calls.specs.Asked.{figures_asked, has, key_asked, kind_asked, listing_asked, naming_asked, order_asked, section_asked, style_asked, table_asked};
 
 use binfarce_figures::key::{Grouping, Key};
+use binfarce_figures::order::Order;
 use binfarce_figures::rows::{Naming, Shown};
 use binfarce_figures::sums::Figures;
 use binfarce_jobs::show::{Kind, Request, Symbols};
 use binfarce_rows::json::Form;
 use binfarce_tools::SymbolTable::{Dynsym, Symtab};
 use binfarce_tools::tables::Selection;
-use binfarce_words::words::Flag::{
+use binfarce_words::command::Command;
+use binfarce_words::flag::Flag::{
     All, Dynamic, First, Folded, Full, Json, NoTotal, Percent, Raw, Section, Sort, Std,
 };
-use binfarce_words::words::{Arguments, Command};
+use binfarce_words::given::Arguments;
+use binfarce_words::takes;
 
 /// What `list`, `size` or `map` shows of each file.
 pub fn request_of<'a>(command: Command, given: &Arguments<'a>) -> Request<'a>
@@ -60,11 +63,34 @@ fn listing_of(given: &Arguments<'_>) -> Kind
         return Kind::Listing;
     }
     Kind::Rows(Shown {
-        order: given.order(),
+        order: order_of(given),
         first: given.count(First),
         naming: naming_of(given),
         has_total: !is_cut,
     })
+}
+
+// What lines are sorted by.
+fn order_of(given: &Arguments<'_>) -> Option<Order>
+    ensures { result ≡ order_asked (given_view given.now) }
+{
+    match given.order()? {
+        takes::Order::Address => Some(Order::Address),
+        takes::Order::Size => Some(Order::Size),
+        takes::Order::Name => Some(Order::Name),
+    }
+}
+
+// What sizes are summed by, if anything is named.
+fn key_of(given: &Arguments<'_>) -> Option<Key>
+    ensures { result ≡ key_asked (given_view given.now) }
+{
+    match given.key()? {
+        takes::Key::Crate => Some(Key::Crate),
+        takes::Key::Function => Some(Key::Function),
+        takes::Key::Generic => Some(Key::Generic),
+        takes::Key::Section => Some(Key::Section),
+    }
 }
 
 // What is shown of a name.
@@ -86,7 +112,7 @@ pub fn figures_of(given: &Arguments<'_>) -> Figures
 {
     Figures {
         grouping: Grouping {
-            key: given.key().unwrap_or(Key::Crate),
+            key: key_of(given).unwrap_or(Key::Crate),
             joins_std: given.has(Std),
         },
         first: given.count(First),
@@ -126,7 +152,7 @@ fn selection_of<'a>(given: &Arguments<'a>, are_all: bool) -> Selection<'a>
     }
     match given.value(Section) {
         Some(section) => Selection::Section(section),
-        None if are_all || matches!(given.key(), Some(Key::Section)) => Selection::All,
+        None if are_all || matches!(key_of(given), Some(Key::Section)) => Selection::All,
         None => Selection::Section(".text"),
     }
 }

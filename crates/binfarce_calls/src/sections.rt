@@ -20,7 +20,7 @@ use binfarce_jobs::show::Request;
 use binfarce_rows::json::Form;
 use binfarce_sections::sums::{SectionSums, sum_sections};
 use binfarce_sections::tables::read;
-use binfarce_words::words::Argument;
+use binfarce_words::argument::Argument;
 use std::alloc::Global;
 use std::io::{Read, Write};
 

@@ -7,7 +7,7 @@ ghost use Rattle.binfarce_calls.specs.Status.{fault_status, is_broken_pipe, stat
 
 use binfarce_jobs::fault::Fault;
 use binfarce_jobs::limit::Verdict;
-use binfarce_words::words::Wrong;
+use binfarce_words::wrong::Wrong;
 use std::io::{Error, ErrorKind};
 
 /// The status of a wrong call.

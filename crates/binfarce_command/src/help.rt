@@ -1,6 +1,6 @@
 //! The texts that the program prints about itself.
 
-use binfarce_words::words::Command;
+use binfarce_words::command::Command;
 
 /// The program's version.
 pub const VERSION: &str = "binfarce 0.3.0\n";

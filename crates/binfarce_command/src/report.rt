@@ -9,7 +9,7 @@ use binfarce_calls::status::{status_of, wrong_status};
 use binfarce_jobs::fault::Fault;
 use binfarce_jobs::limit::Verdict;
 use binfarce_jobs::message::{Message, line_of, message_of};
-use binfarce_words::words::Wrong;
+use binfarce_words::wrong::Wrong;
 use std::fmt;
 use std::io::Error;
 

@@ -1,7 +1,7 @@
 -- The addresses of words, word after word.
 use Rattle.std.proofs.Common.{◌≡◌, ◌∙◌, ℕ, ◌+◌, ◌<◌, ◌≤◌, List, [], ◌∷◌, ◌++◌, map, length, drop, get_or, Option, Some, None, Result, Ok, Err, refl, sym, ap, add-one, append-nil, append_assoc, drop-cons, Bor}
 use Rattle.std.proofs.Math.ListN.{drop_of_length-le}
-use Rattle.binfarce_addresses.specs.Address.{address_of}
+use Rattle.binfarce_rows.specs.Address.{address_of}
 use Rattle.binfarce_jobs.specs.At.{addresses_of, and_others, first_and_others}
 use Rattle.binfarce_words.specs.Words.{Wrong, no_address}
 

@@ -9,7 +9,7 @@ use Rattle.std.specs.List.{flat_map, list_all, list_any}
 use Rattle.binfarce_words.specs.Words as words
 use Rattle.binfarce_words.specs.Words.{name_of, no_utf8, utf8}
 use Rattle.binfarce_words.specs.WordViews.{argument_view}
-use Rattle.binfarce_words.specs.declared.words.Argument.{Argument}
+use Rattle.binfarce_words.specs.declared.argument.Argument.{Argument}
 use Rattle.binfarce_jobs.specs.Files.{AreHeld, Fate, Files, Grows, Hinted, IsHeld, MayCome, Refused, Reports, Shows, ShowsAll, ShowsOne, State, asked_files, hinted, is_above, is_shown, reported, said_of, written}
 use Rattle.binfarce_jobs.specs.Limit.{and_then}
 use Rattle.binfarce_jobs.specs.declared.fault.Fault.{Fault}

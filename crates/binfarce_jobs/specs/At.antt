@@ -8,7 +8,7 @@ use Rattle.std.specs.Str.{bytes_eq}
 use Rattle.binfarce.specs.Refusal.{◌>>=◌, Refusal, section_is_missing}
 use Rattle.binfarce.specs.SectionEntries.{SelectedSymbols}
 use Rattle.binfarce.specs.Symbol.{Entry}
-use Rattle.binfarce_addresses.specs.Address.{address_of}
+use Rattle.binfarce_rows.specs.Address.{address_of}
 use Rattle.binfarce_addresses.specs.Lookup.{found_at, places_in}
 use Rattle.binfarce_addresses.specs.PlacesViews.{IsMadeOf}
 use Rattle.binfarce_addresses.specs.Stream.{Streams}

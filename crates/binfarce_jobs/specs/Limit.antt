@@ -3,8 +3,8 @@ use Rattle.std.specs.Prelude.{ℕ, ◌-◌, ◌*◌, ◌&&◌, ◌||◌, nat_lt,
 use Rattle.binfarce_jobs.specs.declared.hint.Hint.{Hint}
 use Rattle.binfarce_jobs.specs.declared.hint.Hint.TheVariants.{Above, Grown}
 use Rattle.binfarce_figures.specs.declared.diff.Growth.{Growth}
-use Rattle.binfarce_words.specs.declared.words.Limit.{Limit}
-use Rattle.binfarce_words.specs.declared.words.Limit.TheVariants.{Bytes, Percent}
+use Rattle.binfarce_words.specs.declared.takes.Limit.{Limit}
+use Rattle.binfarce_words.specs.declared.takes.Limit.TheVariants.{Bytes, Percent}
 use Rattle.binfarce_jobs.specs.declared.limit.Verdict.{Verdict}
 
 -- what work and other work came to: all is done where both are, and a sum exceeds its limit where one does in either

@@ -28,7 +28,7 @@ use Rattle.binfarce_jobs.specs.declared.show.Kind.TheVariants.{Listing, Rows, Fi
 use Rattle.binfarce_jobs.specs.declared.show.Seen.{Seen}
 use Rattle.binfarce_jobs.specs.declared.show.Symbols.{Symbols}
 use Rattle.binfarce_jobs.specs.Limit.{above}
-use Rattle.binfarce_words.specs.declared.words.Limit.{Limit}
+use Rattle.binfarce_words.specs.declared.takes.Limit.{Limit}
 
 -- text shows the answer of the file at a path for a section, or for all sections
 abbrev pub IsTextOf : Kind → (path : List ℕ) → Style → SelectedSymbols → List ℕ → Type 0

@@ -34,7 +34,7 @@ use binfarce_tables::loading::{LoadAddress, read_load_address};
 use binfarce_tools::SymbolTable;
 use binfarce_tools::list::{ListError, Sink};
 use binfarce_tools::tables::Tables;
-use binfarce_words::words::Wrong;
+use binfarce_words::wrong::Wrong;
 use std::alloc::Global;
 use std::io::Read;
 

@@ -17,7 +17,7 @@ use crate::output::Output;
 use crate::show::{Request, Seen, show};
 use binfarce_bytes::source::Source;
 use binfarce_sections::error::SectionError;
-use binfarce_words::words::Argument;
+use binfarce_words::argument::Argument;
 use std::alloc::{AllocError, Global};
 use std::io::{self, Error, Read, Write};
 

@@ -25,7 +25,7 @@ use binfarce_tables::format::read_format;
 use binfarce_tools::SymbolTable;
 use binfarce_tools::list::Out;
 use binfarce_tools::tables::Selection;
-use binfarce_words::words::Limit;
+use binfarce_words::takes::Limit;
 use std::alloc::{AllocError, Global};
 use std::fmt;
 

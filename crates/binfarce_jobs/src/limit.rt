@@ -5,7 +5,7 @@ ghost use Rattle.binfarce_jobs.specs.Limit.{above, and_then, grown, is_above};
 
 use crate::hint::Hint;
 use binfarce_figures::diff::Growth;
-use binfarce_words::words::Limit;
+use binfarce_words::takes::Limit;
 
 /// What work on files came to.
 #[derive(Debug, Clone, Copy, PartialEq)]

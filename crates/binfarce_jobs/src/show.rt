@@ -30,7 +30,7 @@ use binfarce_tables::pe::has_symbols;
 use binfarce_tools::SymbolTable;
 use binfarce_tools::list::{Sink, list_selected};
 use binfarce_tools::tables::{Selection, Tables, read_tables};
-use binfarce_words::words::Limit;
+use binfarce_words::takes::Limit;
 use std::alloc::Global;
 
 /// How function symbols are shown.

@@ -7,7 +7,7 @@ use Rattle.std.proofs.lemmas.Bool.Decides.{nat_tests}
 use Rattle.std.proofs.lemmas.List.{get_or_default, take-append-drop, take_all, take_more}
 use Rattle.std.proofs.lemmas.List.Elements.{filter-append}
 use Rattle.binfarce.specs.Symbol.{Entry}
-use Rattle.binfarce_addresses.specs.Address.{address_of}
+use Rattle.binfarce_rows.specs.Address.{address_of}
 use Rattle.binfarce_logs.specs.Annotated.{File, found_among, found_behind, found_by, found_in_one, longest_name, name_before, named_by}
 use Rattle.binfarce_addresses.specs.Lookup.{at_offset, found_at, found_in}
 use Rattle.binfarce_logs.specs.Module.{ends_with_plus}

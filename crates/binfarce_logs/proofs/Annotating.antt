@@ -7,7 +7,7 @@ use Rattle.std.proofs.lemmas.Bool.{cases_lt}
 use Rattle.std.proofs.lemmas.Grind.{flat_map-append}
 use Rattle.std.proofs.lemmas.List.{drop-append-le, drop-drop, length-take-le, take-append-drop, take-append-le}
 use Rattle.binfarce.specs.Symbol.{Entry}
-use Rattle.binfarce_addresses.specs.Address.{address_of}
+use Rattle.binfarce_rows.specs.Address.{address_of}
 use Rattle.binfarce_logs.specs.Annotated.{ArePiecesAfter, File, IsCounted, IsPieceFor, IsPieceOf, IsPrefixOf, Piece, answers_of, found_by, other, text_of}
 use Rattle.binfarce_logs.specs.Annotated.ArePiecesAfter.{nothing, other_then, address_then}
 use Rattle.binfarce_addresses.specs.Counts.{AreCountsOf, AddsUp}

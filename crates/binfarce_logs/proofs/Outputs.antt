@@ -6,7 +6,7 @@ use Rattle.std.specs.Fmt.{digits}
 use Rattle.binfarce.specs.Symbol.{Entry}
 use Rattle.binfarce_filtering.specs.Laws.{HasAnOutput, HasOneOutput}
 use Rattle.binfarce_filtering.proofs.Suffixed.{has_shown, one_shown}
-use Rattle.binfarce_addresses.specs.Address.{address_of}
+use Rattle.binfarce_rows.specs.Address.{address_of}
 use Rattle.binfarce_logs.specs.Annotated.{ArePiecesAfter, File, IsAddedFor, IsAnnotated, IsPieceFor, IsPieceOf, Piece, found_by, other, reply_for, text_of}
 use Rattle.binfarce_logs.specs.Annotated.ArePiecesAfter.{nothing, other_then, address_then}
 use Rattle.binfarce_addresses.specs.declared.counts.Reply.{Reply}

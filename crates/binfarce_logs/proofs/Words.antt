@@ -8,7 +8,7 @@ use Rattle.std.proofs.Math.ListN.{get_or-append}
 use Rattle.std.proofs.lemmas.Bool.{eqb-true, eqb-false, ltb-true}
 use Rattle.std.proofs.lemmas.Bool.Decides.{nat_tests}
 use Rattle.std.proofs.lemmas.List.Folds.{prefix_len-append}
-use Rattle.binfarce_addresses.specs.Address.{has_prefix}
+use Rattle.binfarce_rows.specs.Address.{has_prefix}
 use Rattle.binfarce_logs.specs.Word.{address_len, bare_len, digits_len, is_word_byte, least_digits, prefixed_len}
 use Rattle.binfarce_logs.specs.machine.Words.{IsDecided, may_begin}
 

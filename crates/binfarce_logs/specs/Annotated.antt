@@ -3,7 +3,7 @@ use Rattle.std.specs.Prelude.{◌≡◌, ◌<◌, ℕ, Bool, ◌&&◌, List, [],
 use Rattle.std.specs.List.{filter}
 use Rattle.std.specs.Option.{option_or}
 use Rattle.binfarce.specs.Symbol.{Entry}
-use Rattle.binfarce_addresses.specs.Address.{address_of}
+use Rattle.binfarce_rows.specs.Address.{address_of}
 use Rattle.binfarce_addresses.specs.Counts.{AreCountsOf}
 use Rattle.binfarce_addresses.specs.Lines.{IsPlaceOf}
 use Rattle.binfarce_addresses.specs.Lookup.{at_offset, found_at, found_in, has_symbol}

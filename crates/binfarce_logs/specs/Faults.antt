@@ -3,7 +3,7 @@
 use Rattle.std.specs.Prelude.{ℕ, ◌-◌, ◌&&◌, true, false, List, [], ◌∷◌, codes, length, drop, nat_eq, nat_le, Option, Some, None, if◌then◌else◌}
 use Rattle.std.specs.List.{after_first, before_first, list_any, starts_with}
 use Rattle.std.specs.Option.{option_and_then, option_map}
-use Rattle.binfarce_addresses.specs.Address.{hexadecimal}
+use Rattle.binfarce_rows.specs.Address.{hexadecimal}
 use Rattle.binfarce_logs.specs.declared.maps.Mapping.{Mapping}
 
 -- the text behind the first place where these bytes are; none where they aren't

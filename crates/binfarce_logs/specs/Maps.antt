@@ -4,7 +4,7 @@ use Rattle.std.specs.Prelude.{◌≡◌, ◌+◌, ◌-◌, ◌^◌, ◌%◌, ◌
 use Rattle.std.proofs.Common.{refl}
 use Rattle.std.specs.List.{after_first, before_first, ends_with, list_all, list_any, position_or_len, slice_split}
 use Rattle.std.specs.Option.{ok_or, option_and_then, option_map, option_or}
-use Rattle.binfarce_addresses.specs.Address.{hexadecimal}
+use Rattle.binfarce_rows.specs.Address.{hexadecimal}
 use Rattle.binfarce_addresses.specs.Stream.{trim_start}
 use Rattle.binfarce_logs.specs.Faults.{fault_in}
 use Rattle.binfarce_logs.specs.Pages.{beginning, largest_page, only_beginning}

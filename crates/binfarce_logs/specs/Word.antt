@@ -4,7 +4,7 @@ use Rattle.std.proofs.Common.{refl}
 use Rattle.std.specs.Char.{is_ascii_alphanumeric, is_ascii_hexdigit}
 use Rattle.std.specs.Int.{is_in_range}
 use Rattle.std.specs.List.{prefix_len}
-use Rattle.binfarce_addresses.specs.Address.{has_prefix}
+use Rattle.binfarce_rows.specs.Address.{has_prefix}
 use Rattle.binfarce_logs.specs.Module.{ends_with_plus}
 
 -- how many hexadecimal digits the text begins with, in upper or lower case

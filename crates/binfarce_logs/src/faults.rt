@@ -5,7 +5,7 @@ ghost use Rattle.std.specs.Option.{option_map};
 ghost use Rattle.binfarce_logs.specs.Faults.{behind_mark, fault_behind, fault_in, in_brackets, in_range, named_fault, placed_by};
 
 use crate::maps::{Mapping, before_blank, behind, len_before};
-use binfarce_addresses::address::hex_number;
+use binfarce_rows::address::hex_number;
 
 // What the line of a fault says: the mapping of the code, and the name of its file.
 pub(crate) fn fault_in(line: &[u8]) -> Option<(Mapping, &[u8])>

@@ -9,8 +9,8 @@ ghost use Rattle.binfarce_logs.specs.machine.Wanted.{value_for};
 
 use crate::faults::fault_in;
 use crate::pages::{beginning, largest_page, only_beginning};
-use binfarce_addresses::address::hex_number;
 use binfarce_elf_memory::segments::{CodeSegment, LoadAddress};
+use binfarce_rows::address::hex_number;
 
 /// Why a text doesn't say where a file is loaded.
 #[derive(Debug, Clone, Copy, PartialEq)]

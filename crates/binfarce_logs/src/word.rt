@@ -5,8 +5,8 @@ ghost use Rattle.binfarce_logs.specs.Word.{address_len, bare_len, digits_len, is
 ghost use Rattle.binfarce_logs.specs.machine.Words.{IsDecided, may_begin};
 
 use crate::module::ends_with_plus;
-use binfarce_addresses::address::has_prefix;
 use binfarce_addresses::stream::LONGEST;
+use binfarce_rows::address::has_prefix;
 
 // The length of the address that the text after `before` begins with, or 0.
 pub(crate) fn address_len(is_bare: bool, before: &[u8], text: &[u8]) -> usize

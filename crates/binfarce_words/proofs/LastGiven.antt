@@ -5,8 +5,8 @@ use Rattle.std.specs.Option.{option_map}
 use Rattle.std.specs.Str.{bytes_eq}
 use Rattle.binfarce_words.specs.Words.{flag_name, value_given}
 use Rattle.binfarce_words.specs.WordViews.{given_view}
-use Rattle.binfarce_words.specs.declared.words.Flag.{Flag}
-use Rattle.binfarce_words.specs.declared.words.Arguments.{Arguments}
+use Rattle.binfarce_words.specs.declared.flag.Flag.{Flag}
+use Rattle.binfarce_words.specs.declared.given.Arguments.{Arguments}
 
 abbrev pub seen : Flag × Bor (List ℕ) → Flag × List ℕ
 seen it = (it.0, it.1.now)

@@ -6,8 +6,8 @@ use Rattle.std.specs.Option.{option_map}
 use Rattle.std.specs.Str.{bytes_eq}
 use Rattle.binfarce_words.specs.Words.{flag_name, values_given}
 use Rattle.binfarce_words.specs.WordViews.{given_view}
-use Rattle.binfarce_words.specs.declared.words.Flag.{Flag}
-use Rattle.binfarce_words.specs.declared.words.Arguments.{Arguments}
+use Rattle.binfarce_words.specs.declared.flag.Flag.{Flag}
+use Rattle.binfarce_words.specs.declared.given.Arguments.{Arguments}
 use Rattle.binfarce_words.proofs.LastGiven.{seen}
 
 abbrev value_of : Flag × Bor (List ℕ) → List ℕ

@@ -1,9 +1,9 @@
 -- What arguments give, argument after argument.
 use Rattle.std.proofs.Common.{◌≡◌, inl, inr, ◌∙◌, ℕ, ◌+◌, ◌<◌, ◌≤◌, List, map, length, drop, get_or, Ok, Err, refl, ap, add-one, drop-cons}
 use Rattle.std.proofs.Math.ListN.{drop_of_length-le}
-use Rattle.binfarce_words.specs.declared.words.Argument.{Argument}
-use Rattle.binfarce_words.specs.declared.words.Command.{Command}
-use Rattle.binfarce_words.specs.declared.words.Wrong as code
+use Rattle.binfarce_words.specs.declared.argument.Argument.{Argument}
+use Rattle.binfarce_words.specs.declared.command.Command.{Command}
+use Rattle.binfarce_words.specs.declared.wrong.Wrong as code
 use Rattle.binfarce_words.specs.WordViews.{IsWrong, argument_view, wrong_view}
 use Rattle.binfarce_words.specs.Words as words
 use Rattle.binfarce_words.specs.Words.{Reading, Wrong, after_argument, finished, given_after, given_of, go_on}

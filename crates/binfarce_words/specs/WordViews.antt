@@ -4,16 +4,16 @@ use Rattle.std.specs.Fmt.{decimal}
 use Rattle.binfarce_words.specs.Named.{IsNearest}
 use Rattle.binfarce_words.specs.Words as words
 use Rattle.binfarce_words.specs.Words.{commands, command_name, flags_of, flag_name}
-use Rattle.binfarce_words.specs.declared.words.Call.{Call}
-use Rattle.binfarce_words.specs.declared.words.Call.TheVariants as calls
-use Rattle.binfarce_words.specs.declared.words.Argument.{Argument}
-use Rattle.binfarce_words.specs.declared.words.Argument.TheVariants as arguments
-use Rattle.binfarce_words.specs.declared.words.Arguments.{Arguments}
-use Rattle.binfarce_words.specs.declared.words.Reading.{Reading}
-use Rattle.binfarce_words.specs.declared.words.Limit.{Limit}
-use Rattle.binfarce_words.specs.declared.words.Limit.TheVariants.{Bytes, Percent}
-use Rattle.binfarce_words.specs.declared.words.Wrong.{Wrong}
-use Rattle.binfarce_words.specs.declared.words.Wrong.TheVariants.{NoCommand, UnknownCommand, UnknownOption, NoValue, Exclusive, Needs, NotEach, NoAddress, NotMaps, BadValue, OnlyFunctions, OnlyGrowth, NoFile, NoSecondFile, TooMany, BytesAsJson, NotUtf8, OutOfMemory}
+use Rattle.binfarce_words.specs.declared.call.Call.{Call}
+use Rattle.binfarce_words.specs.declared.call.Call.TheVariants as calls
+use Rattle.binfarce_words.specs.declared.argument.Argument.{Argument}
+use Rattle.binfarce_words.specs.declared.argument.Argument.TheVariants as arguments
+use Rattle.binfarce_words.specs.declared.given.Arguments.{Arguments}
+use Rattle.binfarce_words.specs.declared.reading.Reading.{Reading}
+use Rattle.binfarce_words.specs.declared.takes.Limit.{Limit}
+use Rattle.binfarce_words.specs.declared.takes.Limit.TheVariants.{Bytes, Percent}
+use Rattle.binfarce_words.specs.declared.wrong.Wrong.{Wrong}
+use Rattle.binfarce_words.specs.declared.wrong.Wrong.TheVariants.{NoCommand, UnknownCommand, UnknownOption, NoValue, Exclusive, Needs, NotEach, NoAddress, NotMaps, BadValue, OnlyFunctions, OnlyGrowth, NoFile, NoSecondFile, TooMany, BytesAsJson, NotUtf8, OutOfMemory}
 
 -- the printed words of a limit
 abbrev pub limit_words : Limit → List ℕ

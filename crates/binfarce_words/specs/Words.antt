@@ -6,19 +6,19 @@ use Rattle.std.specs.Option.{option_map, option_and_then}
 use Rattle.std.specs.List.{filter, filter_map, list_all, starts_with, position_or_len, before_first, after_first}
 use Rattle.std.specs.Str.{byte, bytes_eq}
 use Rattle.std.specs.Str.Parse.{digits_value, without_leading_plus}
-use Rattle.binfarce_addresses.specs.Address.{address_of}
-use Rattle.binfarce_words.specs.declared.words.Command.{Command}
-use Rattle.binfarce_words.specs.declared.words.Command.TheVariants.{List as Listing, Size, Map, Diff, Filter, At, Section}
-use Rattle.binfarce_words.specs.declared.words.Flag.{Flag}
-use Rattle.binfarce_words.specs.declared.words.Flag.TheVariants as flags
-use Rattle.binfarce_words.specs.declared.words.Takes.{Takes}
-use Rattle.binfarce_words.specs.declared.words.Limit.{Limit}
-use Rattle.binfarce_words.specs.declared.words.Limit.TheVariants.{Bytes, Percent}
-use Rattle.binfarce_words.specs.declared.words.Takes.TheVariants.{Nothing, Text, Page, Count, Limit as TakesLimit, Order as TakesOrder, Key as TakesKey}
-use Rattle.binfarce_figures.specs.declared.key.Key.{Key}
-use Rattle.binfarce_figures.specs.declared.key.Key.TheVariants as keys
-use Rattle.binfarce_figures.specs.declared.order.Order.{Order}
-use Rattle.binfarce_figures.specs.declared.order.Order.TheVariants as orders
+use Rattle.binfarce_rows.specs.Address.{address_of}
+use Rattle.binfarce_words.specs.declared.command.Command.{Command}
+use Rattle.binfarce_words.specs.declared.command.Command.TheVariants.{List as Listing, Size, Map, Diff, Filter, At, Section}
+use Rattle.binfarce_words.specs.declared.flag.Flag.{Flag}
+use Rattle.binfarce_words.specs.declared.flag.Flag.TheVariants as flags
+use Rattle.binfarce_words.specs.declared.takes.Takes.{Takes}
+use Rattle.binfarce_words.specs.declared.takes.Limit.{Limit}
+use Rattle.binfarce_words.specs.declared.takes.Limit.TheVariants.{Bytes, Percent}
+use Rattle.binfarce_words.specs.declared.takes.Takes.TheVariants.{Nothing, Text, Page, Count, Limit as TakesLimit, Order as TakesOrder, Key as TakesKey}
+use Rattle.binfarce_words.specs.declared.takes.Key.{Key}
+use Rattle.binfarce_words.specs.declared.takes.Key.TheVariants as keys
+use Rattle.binfarce_words.specs.declared.takes.Order.{Order}
+use Rattle.binfarce_words.specs.declared.takes.Order.TheVariants as orders
 
 -- the commands, and the name of each
 abbrev pub commands : List Command

@@ -1,5 +1,13 @@
 //! The command line of `binfarce`: words to a call.
 #![tactic(auto)]
 
+pub mod argument;
+pub mod call;
+mod checks;
+pub mod command;
+pub mod flag;
+pub mod given;
 pub mod named;
-pub mod words;
+mod reading;
+pub mod takes;
+pub mod wrong;

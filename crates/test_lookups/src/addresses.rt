@@ -2,7 +2,6 @@
 
 use crate::Asking;
 use crate::words::{known, number, push_hex, push_number, push_words};
-use binfarce_addresses::address::{has_prefix, hex_number};
 use binfarce_addresses::at::{Places, at, at_tables};
 use binfarce_addresses::digits::push_offset;
 use binfarce_addresses::names::Names;
@@ -10,6 +9,7 @@ use binfarce_addresses::stream::{StreamError, answer_lines, push_lines as push_l
 use binfarce_addresses::{Counts, Lookup, parse_address};
 use binfarce_logs::Module;
 use binfarce_logs::annotate::{annotate_stream, push_annotated};
+use binfarce_rows::address::{has_prefix, hex_number};
 use binfarce_rows::json::Form;
 use binfarce_tools::SymbolTable;
 use binfarce_tools::list::Out;

@@ -2,7 +2,6 @@
 
 //! Symbolizes addresses in an executable: the function symbol that holds each, and the offset into it.
 
-pub mod address;
 pub mod at;
 pub mod counts;
 pub mod digits;
@@ -12,6 +11,6 @@ pub mod ranges;
 pub(crate) mod slices;
 pub mod stream;
 
-pub use crate::erased::binfarce_addresses::address::parse_address;
 pub use crate::erased::binfarce_addresses::counts::Counts;
 pub use crate::erased::binfarce_addresses::lookup::Lookup;
+pub use crate::erased::binfarce_rows::address::parse_address;

@@ -37,12 +37,12 @@ use crate::erased::binfarce_logs::Module;
 use crate::erased::binfarce_logs::annotate::annotate_stream;
 use crate::erased::binfarce_sections::error::SectionError;
 use crate::erased::binfarce_tools::report::ReportError;
-use crate::erased::binfarce_words::words::Flag::{
-    Annotate, Bare, FailAbove, First, Full, Json, Maps,
-};
-use crate::erased::binfarce_words::words::{
-    Arguments, Call, Command, Wrong, arguments_of, read_call,
-};
+use crate::erased::binfarce_words::argument::arguments_of;
+use crate::erased::binfarce_words::call::{Call, read_call};
+use crate::erased::binfarce_words::command::Command;
+use crate::erased::binfarce_words::flag::Flag::{Annotate, Bare, FailAbove, First, Full, Json, Maps};
+use crate::erased::binfarce_words::given::Arguments;
+use crate::erased::binfarce_words::wrong::Wrong;
 use crate::shim::alloc::{AllocError, Global};
 use crate::shim::env::{Env, FillError};
 use crate::shim::fs::File;

@@ -2,5 +2,13 @@
 
 //! The command line of `binfarce`: words to a call.
 
+pub mod argument;
+pub mod call;
+pub(crate) mod checks;
+pub mod command;
+pub mod flag;
+pub mod given;
 pub mod named;
-pub mod words;
+pub(crate) mod reading;
+pub mod takes;
+pub mod wrong;

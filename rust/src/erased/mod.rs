@@ -23,13 +23,13 @@ pub mod binfarce;
 #[cfg(test)]
 pub mod binfarce_image;
 pub mod binfarce_rows;
+#[cfg(any(test, feature = "programs"))]
+pub mod binfarce_words;
 pub mod binfarce_chart;
 pub mod binfarce_tools;
 pub mod binfarce_figures;
 pub mod binfarce_addresses;
 pub mod binfarce_logs;
-#[cfg(any(test, feature = "programs"))]
-pub mod binfarce_words;
 pub mod binfarce_sections;
 #[cfg(any(test, feature = "programs"))]
 pub mod binfarce_jobs;

@@ -3,11 +3,11 @@
 //! Addresses that come as the lines of a text.
 
 use crate::shim::{TrimAscii, Vec};
-use crate::erased::binfarce_addresses::address::parse_address;
 use crate::erased::binfarce_addresses::at::Places;
 use crate::erased::binfarce_addresses::counts::Counts;
 use crate::erased::binfarce_addresses::lookup::Lookup;
 use crate::erased::binfarce_addresses::names::Names;
+use crate::erased::binfarce_rows::address::parse_address;
 pub use crate::erased::binfarce_text::streams::StreamError;
 use crate::erased::binfarce_text::streams::{Pass, pass_stream};
 use crate::erased::binfarce_tools::list::Sink;

@@ -20,8 +20,8 @@ use crate::erased::binfarce_tables::ReadError;
 use crate::erased::binfarce_tables::loading::LoadAddress;
 use crate::erased::binfarce_tools::SymbolTable;
 use crate::erased::binfarce_tools::tables::Tables;
-use crate::erased::binfarce_words::words::Arguments;
-use crate::erased::binfarce_words::words::Flag::{Annotate, Offsets};
+use crate::erased::binfarce_words::flag::Flag::{Annotate, Offsets};
+use crate::erased::binfarce_words::given::Arguments;
 use crate::shim::alloc::{AllocError, Global};
 use crate::shim::io::Read;
 

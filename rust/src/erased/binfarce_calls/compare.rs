@@ -19,7 +19,7 @@ use crate::erased::binfarce_sections::changes::diff_sections;
 use crate::erased::binfarce_sections::sums::SectionSums;
 use crate::erased::binfarce_sections::tables::{Tables as SectionTables, read};
 use crate::erased::binfarce_tools::tables::Tables;
-use crate::erased::binfarce_words::words::Limit;
+use crate::erased::binfarce_words::takes::Limit;
 use crate::shim::alloc::Global;
 use crate::shim::io::{Read, Write};
 

@@ -7,8 +7,9 @@ use crate::erased::binfarce_addresses::{Counts, Lookup, parse_address};
 use crate::erased::binfarce_jobs::hint::{Hint, Loaded};
 use crate::erased::binfarce_logs::maps::{NoBase, base_of};
 use crate::erased::binfarce_tables::loading::{CodeSegment, LoadAddress};
-use crate::erased::binfarce_words::words::Flag::{Annotate, As, Base, Maps, Offsets, Return};
-use crate::erased::binfarce_words::words::{Arguments, Flag};
+use crate::erased::binfarce_words::flag::Flag;
+use crate::erased::binfarce_words::flag::Flag::{Annotate, As, Base, Maps, Offsets, Return};
+use crate::erased::binfarce_words::given::Arguments;
 
 // How many files there are: all operands where a text is annotated, else the first one.
 pub(crate) fn count_of_files(given: &Arguments<'_>) -> usize {

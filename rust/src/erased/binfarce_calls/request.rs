@@ -3,16 +3,19 @@
 //! What a call asks for, by its options.
 
 use crate::erased::binfarce_figures::key::{Grouping, Key};
+use crate::erased::binfarce_figures::order::Order;
 use crate::erased::binfarce_figures::rows::{Naming, Shown};
 use crate::erased::binfarce_figures::sums::Figures;
 use crate::erased::binfarce_jobs::show::{Kind, Request, Symbols};
 use crate::erased::binfarce_rows::json::Form;
 use crate::erased::binfarce_tools::SymbolTable::{Dynsym, Symtab};
 use crate::erased::binfarce_tools::tables::Selection;
-use crate::erased::binfarce_words::words::Flag::{
+use crate::erased::binfarce_words::command::Command;
+use crate::erased::binfarce_words::flag::Flag::{
     All, Dynamic, First, Folded, Full, Json, NoTotal, Percent, Raw, Section, Sort, Std,
 };
-use crate::erased::binfarce_words::words::{Arguments, Command};
+use crate::erased::binfarce_words::given::Arguments;
+use crate::erased::binfarce_words::takes;
 
 /// What `list`, `size` or `map` shows of each file.
 pub fn request_of<'a>(command: Command, given: &Arguments<'a>) -> Request<'a> {
@@ -44,11 +47,30 @@ fn listing_of(given: &Arguments<'_>) -> Kind {
         return Kind::Listing;
     }
     Kind::Rows(Shown {
-        order: given.order(),
+        order: order_of(given),
         first: given.count(First),
         naming: naming_of(given),
         has_total: !is_cut,
     })
+}
+
+// What lines are sorted by.
+fn order_of(given: &Arguments<'_>) -> Option<Order> {
+    match given.order()? {
+        takes::Order::Address => Some(Order::Address),
+        takes::Order::Size => Some(Order::Size),
+        takes::Order::Name => Some(Order::Name),
+    }
+}
+
+// What sizes are summed by, if anything is named.
+fn key_of(given: &Arguments<'_>) -> Option<Key> {
+    match given.key()? {
+        takes::Key::Crate => Some(Key::Crate),
+        takes::Key::Function => Some(Key::Function),
+        takes::Key::Generic => Some(Key::Generic),
+        takes::Key::Section => Some(Key::Section),
+    }
 }
 
 // What is shown of a name.
@@ -66,7 +88,7 @@ fn naming_of(given: &Arguments<'_>) -> Naming {
 pub fn figures_of(given: &Arguments<'_>) -> Figures {
     Figures {
         grouping: Grouping {
-            key: given.key().unwrap_or(Key::Crate),
+            key: key_of(given).unwrap_or(Key::Crate),
             joins_std: given.has(Std),
         },
         first: given.count(First),
@@ -99,7 +121,7 @@ fn selection_of<'a>(given: &Arguments<'a>, are_all: bool) -> Selection<'a> {
     }
     match given.value(Section) {
         Some(section) => Selection::Section(section),
-        None if are_all || matches!(given.key(), Some(Key::Section)) => Selection::All,
+        None if are_all || matches!(key_of(given), Some(Key::Section)) => Selection::All,
         None => Selection::Section(".text"),
     }
 }

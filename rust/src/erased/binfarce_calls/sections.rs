@@ -15,7 +15,7 @@ use crate::erased::binfarce_jobs::show::Request;
 use crate::erased::binfarce_rows::json::Form;
 use crate::erased::binfarce_sections::sums::{SectionSums, sum_sections};
 use crate::erased::binfarce_sections::tables::read;
-use crate::erased::binfarce_words::words::Argument;
+use crate::erased::binfarce_words::argument::Argument;
 use crate::shim::alloc::Global;
 use crate::shim::io::{Read, Write};
 

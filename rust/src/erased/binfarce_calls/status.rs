@@ -4,7 +4,7 @@
 
 use crate::erased::binfarce_jobs::fault::Fault;
 use crate::erased::binfarce_jobs::limit::Verdict;
-use crate::erased::binfarce_words::words::Wrong;
+use crate::erased::binfarce_words::wrong::Wrong;
 use crate::shim::io::{Error, ErrorKind};
 
 /// The status of a wrong call.

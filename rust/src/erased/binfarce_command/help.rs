@@ -2,7 +2,7 @@
 
 //! The texts that the program prints about itself.
 
-use crate::erased::binfarce_words::words::Command;
+use crate::erased::binfarce_words::command::Command;
 
 /// The program's version.
 pub const VERSION: &str = "binfarce 0.3.0\n";

@@ -7,7 +7,7 @@ use crate::erased::binfarce_calls::status::{status_of, wrong_status};
 use crate::erased::binfarce_jobs::fault::Fault;
 use crate::erased::binfarce_jobs::limit::Verdict;
 use crate::erased::binfarce_jobs::message::{Message, line_of, message_of};
-use crate::erased::binfarce_words::words::Wrong;
+use crate::erased::binfarce_words::wrong::Wrong;
 use core::fmt;
 use crate::shim::io::Error;
 

@@ -17,7 +17,7 @@ use crate::erased::binfarce_tables::loading::{LoadAddress, read_load_address};
 use crate::erased::binfarce_tools::SymbolTable;
 use crate::erased::binfarce_tools::list::{ListError, Sink};
 use crate::erased::binfarce_tools::tables::Tables;
-use crate::erased::binfarce_words::words::Wrong;
+use crate::erased::binfarce_words::wrong::Wrong;
 use crate::shim::alloc::Global;
 use crate::shim::io::Read;
 

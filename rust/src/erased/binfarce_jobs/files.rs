@@ -11,7 +11,7 @@ use crate::erased::binfarce_jobs::output::Output;
 use crate::erased::binfarce_jobs::show::{Request, Seen, show};
 use crate::erased::binfarce_bytes::source::Source;
 use crate::erased::binfarce_sections::error::SectionError;
-use crate::erased::binfarce_words::words::Argument;
+use crate::erased::binfarce_words::argument::Argument;
 use crate::shim::alloc::{AllocError, Global};
 use crate::shim::io::{self, Error, Read, Write};
 

@@ -22,7 +22,7 @@ use crate::erased::binfarce_tables::format::read_format;
 use crate::erased::binfarce_tools::SymbolTable;
 use crate::erased::binfarce_tools::list::Out;
 use crate::erased::binfarce_tools::tables::Selection;
-use crate::erased::binfarce_words::words::Limit;
+use crate::erased::binfarce_words::takes::Limit;
 use crate::shim::alloc::{AllocError, Global};
 use core::fmt;
 

@@ -4,7 +4,7 @@
 
 use crate::erased::binfarce_jobs::hint::Hint;
 use crate::erased::binfarce_figures::diff::Growth;
-use crate::erased::binfarce_words::words::Limit;
+use crate::erased::binfarce_words::takes::Limit;
 
 /// What work on files came to.
 #[derive(Debug, Clone, Copy, PartialEq)]

@@ -21,7 +21,7 @@ use crate::erased::binfarce_tables::pe::has_symbols;
 use crate::erased::binfarce_tools::SymbolTable;
 use crate::erased::binfarce_tools::list::{Sink, list_selected};
 use crate::erased::binfarce_tools::tables::{Selection, Tables, read_tables};
-use crate::erased::binfarce_words::words::Limit;
+use crate::erased::binfarce_words::takes::Limit;
 use crate::shim::alloc::Global;
 
 /// How function symbols are shown.

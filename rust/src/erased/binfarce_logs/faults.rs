@@ -3,7 +3,7 @@
 //! The line by which Linux reports a fault of a program.
 
 use crate::erased::binfarce_logs::maps::{Mapping, before_blank, behind, len_before};
-use crate::erased::binfarce_addresses::address::hex_number;
+use crate::erased::binfarce_rows::address::hex_number;
 
 // What the line of a fault says: the mapping of the code, and the name of its file.
 pub(crate) fn fault_in(line: &[u8]) -> Option<(Mapping, &[u8])> {

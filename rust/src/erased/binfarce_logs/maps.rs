@@ -5,8 +5,8 @@
 use crate::shim::TrimAscii;
 use crate::erased::binfarce_logs::faults::fault_in;
 use crate::erased::binfarce_logs::pages::{beginning, largest_page, only_beginning};
-use crate::erased::binfarce_addresses::address::hex_number;
 use crate::erased::binfarce_elf_memory::segments::{CodeSegment, LoadAddress};
+use crate::erased::binfarce_rows::address::hex_number;
 
 /// Why a text doesn't say where a file is loaded.
 #[derive(Debug, Clone, Copy, PartialEq)]

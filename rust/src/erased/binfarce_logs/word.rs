@@ -3,8 +3,8 @@
 //! Addresses as words of a text.
 
 use crate::erased::binfarce_logs::module::ends_with_plus;
-use crate::erased::binfarce_addresses::address::has_prefix;
 use crate::erased::binfarce_addresses::stream::LONGEST;
+use crate::erased::binfarce_rows::address::has_prefix;
 
 // The length of the address that the text after `before` begins with, or 0.
 pub(crate) fn address_len(is_bare: bool, before: &[u8], text: &[u8]) -> usize {

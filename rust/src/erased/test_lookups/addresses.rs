@@ -5,7 +5,6 @@
 use crate::shim::Vec;
 use crate::erased::test_lookups::Asking;
 use crate::erased::test_lookups::words::{known, number, push_hex, push_number, push_words};
-use crate::erased::binfarce_addresses::address::{has_prefix, hex_number};
 use crate::erased::binfarce_addresses::at::{Places, at, at_tables};
 use crate::erased::binfarce_addresses::digits::push_offset;
 use crate::erased::binfarce_addresses::names::Names;
@@ -15,6 +14,7 @@ use crate::erased::binfarce_addresses::stream::{
 use crate::erased::binfarce_addresses::{Counts, Lookup, parse_address};
 use crate::erased::binfarce_logs::Module;
 use crate::erased::binfarce_logs::annotate::{annotate_stream, push_annotated};
+use crate::erased::binfarce_rows::address::{has_prefix, hex_number};
 use crate::erased::binfarce_rows::json::Form;
 use crate::erased::binfarce_tools::SymbolTable;
 use crate::erased::binfarce_tools::list::Out;

@@ -1,6 +1,6 @@
 use Rattle.std.proofs.Common.{refl, sym, ap, ◌∙◌}
 use Rattle.std.proofs.lemmas.Str.Ascii.{trim_ascii_is}
-use Rattle.binfarce_addresses.specs.Address.{address_of}
+use Rattle.binfarce_rows.specs.Address.{address_of}
 use Rattle.binfarce_addresses.specs.Stream.{trim_start}
 use Rattle.binfarce_addresses.proofs.Streams.{line_read}
 use Rattle.binfarce_addresses.proofs.stream.addresses_of.Goals as goal

@@ -2,8 +2,8 @@ use Rattle.std.proofs.Common.{◌∙◌, ◌+◌, suc, List, [], Err, Ok, length
 use Rattle.std.proofs.lemmas.List.{take_all}
 use Rattle.binfarce_words.specs.Words as words
 use Rattle.binfarce_words.specs.WordViews.{argument_view}
-use Rattle.binfarce_words.specs.declared.words.Argument.{Argument}
-use Rattle.binfarce_words.specs.declared.words.Argument.TheVariants.{Text}
+use Rattle.binfarce_words.specs.declared.argument.Argument.{Argument}
+use Rattle.binfarce_words.specs.declared.argument.Argument.TheVariants.{Text}
 use Rattle.binfarce_jobs.specs.Files.{asked_files}
 use Rattle.binfarce_jobs.specs.Limit.{and_then}
 use Rattle.binfarce_jobs.specs.Output.{state_of}

@@ -9,7 +9,7 @@ use Rattle.binfarce_jobs.specs.declared.hint.Hint.{Hint}
 use Rattle.binfarce_words.specs.Words as words
 use Rattle.binfarce_words.specs.Words.{utf8}
 use Rattle.binfarce_words.specs.WordViews.{argument_view}
-use Rattle.binfarce_words.specs.declared.words.Argument.{Argument}
+use Rattle.binfarce_words.specs.declared.argument.Argument.{Argument}
 use Rattle.binfarce_jobs.proofs.FileFates.{came_to, failed, not_utf8, said_shown, unopened}
 use Rattle.binfarce_jobs.proofs.FileLoop.{grows_unless, nothing_more}
 use Rattle.binfarce_jobs.proofs.files.show_file.Goals as goal

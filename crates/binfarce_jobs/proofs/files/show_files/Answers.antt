@@ -1,8 +1,8 @@
 use Rattle.std.proofs.Common.{◌∙◌, ◌+◌, List, [], Err, Ok, length, ltb, get_or, refl, subst, sym, take}
 use Rattle.std.proofs.lemmas.List.{take_all}
 use Rattle.binfarce_words.specs.WordViews.{argument_view}
-use Rattle.binfarce_words.specs.declared.words.Argument.{Argument}
-use Rattle.binfarce_words.specs.declared.words.Argument.TheVariants.{Text}
+use Rattle.binfarce_words.specs.declared.argument.Argument.{Argument}
+use Rattle.binfarce_words.specs.declared.argument.Argument.TheVariants.{Text}
 use Rattle.binfarce_jobs.specs.Files.{Shows, asked_files}
 use Rattle.binfarce_jobs.specs.Output.{state_of}
 use Rattle.binfarce_jobs.specs.declared.limit.Verdict.{Verdict}

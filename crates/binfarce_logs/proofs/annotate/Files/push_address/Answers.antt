@@ -1,7 +1,7 @@
 use Rattle.std.proofs.Common.{◌∙◌, Bool, Ok, ◌∷◌, [], ap, subst}
 use Rattle.std.specs.Prelude.{is_some}
 use Rattle.std.proofs.lemmas.Result.{on_ok_weaker}
-use Rattle.binfarce_addresses.specs.Address.{address_of}
+use Rattle.binfarce_rows.specs.Address.{address_of}
 use Rattle.binfarce_logs.specs.Annotated.{found_by}
 use Rattle.binfarce_addresses.specs.declared.counts.Reply.TheVariants.{Held}
 use Rattle.binfarce_logs.specs.machine.Annotating.{IsFoundBy}

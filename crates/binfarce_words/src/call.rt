@@ -1,0 +1,142 @@
+//! The call that the arguments mean.
+
+ghost use Rattle.std.specs.Prelude.{◌≡◌, map};
+ghost use Rattle.binfarce_words.specs.Words.{asks_help, asks_version, call_of, call_of_word, call_read, command_named, first_no_utf8, goes_on, help_call};
+ghost use Rattle.binfarce_words.specs.WordViews.{Gives, IsChecked, argument_view, call_view};
+
+use crate::argument::Argument;
+use crate::checks::check;
+use crate::command::{COMMANDS, Command};
+use crate::flag::Flag;
+use crate::given::Arguments;
+use crate::named::{find_named, nearest};
+use crate::reading::read_given;
+use crate::wrong::Wrong;
+use std::alloc::Global;
+
+/// A call.
+#[derive(Debug, Drop)]
+pub enum Call<'a> {
+    /// Help on the program, or on a command.
+    Help(Option<Command>),
+    /// The program's version.
+    Version,
+    /// A command's work.
+    Run(Command, Arguments<'a>),
+}
+
+/// The call that the arguments after the program's own name mean.
+///
+/// # Errors
+///
+/// A `Wrong` that names what is wrong: `NotUtf8` with the position of the first argument that isn't UTF-8, before
+/// anything else, unless the call is one of `list` or `size`, and right, and each such argument is an operand;
+/// `OutOfMemory` where an allocation fails.
+pub fn read_call<'a>(alloc: Global, arguments: &[Argument<'a>]) -> Result<Call<'a>, Wrong<'a>>
+    ensures { Gives call_view (call_of (map argument_view arguments.entry.now)) result }
+{
+    let read = read_arguments(alloc, arguments);
+    match first_not_utf8(arguments) {
+        Some(at) => check_utf8(at, read),
+        None => read,
+    }
+}
+
+// The position of the first of these arguments that isn't UTF-8.
+fn first_not_utf8(arguments: &[Argument<'_>]) -> Option<usize>
+    ensures { result ≡ first_no_utf8 (map argument_view arguments.now) }
+{
+    for argument in arguments {
+        if let Argument::NotUtf8(at) = argument {
+            return Some(*at);
+        }
+    }
+    None
+}
+
+// The call that was read, if it goes on with its other files where the argument at this position isn't UTF-8.
+fn check_utf8<'a>(at: usize, read: Result<Call<'a>, Wrong<'a>>) -> Result<Call<'a>, Wrong<'a>>
+    ensures { IsChecked at read.entry result }
+{
+    let call = match read {
+        Ok(call) => call,
+        Err(Wrong::OutOfMemory) => return Err(Wrong::OutOfMemory),
+        Err(_) => return Err(Wrong::NotUtf8(at)),
+    };
+    if goes_on(&call) {
+        Ok(call)
+    } else {
+        Err(Wrong::NotUtf8(at))
+    }
+}
+
+// Whether the call goes on with its other files where the name of one isn't UTF-8.
+fn goes_on(call: &Call<'_>) -> bool
+    ensures { result ≡ goes_on (call_view call.now) }
+{
+    matches!(call, Call::Run(Command::List | Command::Size, _))
+}
+
+// The call that these arguments mean, if one that isn't UTF-8 may be an operand of any command.
+fn read_arguments<'a>(alloc: Global, arguments: &[Argument<'a>]) -> Result<Call<'a>, Wrong<'a>>
+    ensures { Gives call_view (call_read (map argument_view arguments.entry.now)) result }
+{
+    match arguments {
+        [] => Err(Wrong::NoCommand),
+        [first, others @ ..] => read_words(alloc, first.required()?, others),
+    }
+}
+
+fn read_words<'a>(
+    alloc: Global,
+    word: &'a str,
+    others: &[Argument<'a>],
+) -> Result<Call<'a>, Wrong<'a>>
+    ensures { Gives call_view (call_of_word word.entry.now (map argument_view others.entry.now)) result }
+{
+    if asks_help(word) {
+        return read_help(others);
+    }
+    if asks_version(word) {
+        return Ok(Call::Version);
+    }
+    let command = command_named(word)?;
+    let given = read_given(alloc, command, others)?;
+    if given.has(Flag::Help) {
+        return Ok(Call::Help(Some(command)));
+    }
+    check(command, &given)?;
+    Ok(Call::Run(command, given))
+}
+
+fn asks_help(word: &str) -> bool
+    ensures { result ≡ asks_help word.now }
+{
+    word == "help" || word == "--help" || word == "-h"
+}
+
+fn asks_version(word: &str) -> bool
+    ensures { result ≡ asks_version word.now }
+{
+    word == "--version" || word == "-V"
+}
+
+// `help`, and the command that it is about.
+fn read_help<'a>(others: &[Argument<'a>]) -> Result<Call<'a>, Wrong<'a>>
+    ensures { Gives call_view (help_call (map argument_view others.entry.now)) result }
+{
+    match others {
+        [] => Ok(Call::Help(None)),
+        [topic, ..] => Ok(Call::Help(Some(command_named(topic.required()?)?))),
+    }
+}
+
+// The command of this name.
+fn command_named(word: &str) -> Result<Command, Wrong<'_>>
+    ensures { Gives (λ command. command) (command_named word.entry.now) result }
+{
+    match find_named(&COMMANDS, word) {
+        Some(command) => Ok(command),
+        None => Err(Wrong::UnknownCommand(word, nearest(&COMMANDS, word, 0))),
+    }
+}

@@ -1,0 +1,143 @@
+// From crates/binfarce_words/src/takes.rt, by tools/erase.
+
+//! Values of options.
+
+use crate::erased::binfarce_rows::address::parse_address;
+use core::fmt;
+
+// The size of a page, or a part of it: pages are larger on some machines.
+const PAGE: u64 = 0x1000;
+
+/// The most that is allowed.
+#[derive(Debug, Clone, Copy, PartialEq)]
+pub enum Limit {
+    /// So many bytes.
+    Bytes(usize),
+    /// So many per cent of an old sum.
+    Percent(usize),
+}
+
+impl fmt::Display for Limit {
+    fn fmt(&self, f: &mut fmt::Formatter<'_>) -> fmt::Result {
+        match self {
+            Limit::Bytes(most) => write!(f, "{most}"),
+            Limit::Percent(most) => write!(f, "{most}%"),
+        }
+    }
+}
+
+/// What an option takes.
+#[derive(Debug, Clone, Copy, PartialEq)]
+pub enum Takes {
+    /// No value.
+    Nothing,
+    /// Any text.
+    Text,
+    /// The address of a page.
+    Page,
+    /// A number in decimal digits.
+    Count,
+    /// A limit on sums.
+    Limit,
+    /// What lines are sorted by.
+    Order,
+    /// What sizes are summed by.
+    Key,
+}
+
+/// What lines are sorted by.
+#[derive(Debug, Clone, Copy, PartialEq)]
+pub enum Order {
+    /// By rising address.
+    Address,
+    /// By falling size.
+    Size,
+    /// By name.
+    Name,
+}
+
+/// What sizes are summed by.
+#[derive(Debug, Clone, Copy, PartialEq)]
+pub enum Key {
+    /// By crate.
+    Crate,
+    /// By function.
+    Function,
+    /// By function, without generic arguments.
+    Generic,
+    /// By section: of functions, or of bytes.
+    Section,
+}
+
+// The order of this name.
+pub(crate) fn order_named(name: &str) -> Option<Order> {
+    match name {
+        "address" => Some(Order::Address),
+        "size" => Some(Order::Size),
+        "name" => Some(Order::Name),
+        _ => None,
+    }
+}
+
+// The key of this name.
+pub(crate) fn key_named(name: &str) -> Option<Key> {
+    match name {
+        "crate" => Some(Key::Crate),
+        "function" => Some(Key::Function),
+        "function-section" => Some(Key::Section),
+        "generic" => Some(Key::Generic),
+        "section" => Some(Key::Section),
+        _ => None,
+    }
+}
+
+impl Takes {
+    // The values that it takes, in words.
+    pub(crate) fn values(self) -> &'static str {
+        match self {
+            Takes::Nothing => "no value",
+            Takes::Text => "a text",
+            Takes::Page => "the address of a page, a multiple of 0x1000",
+            Takes::Count => "a number",
+            Takes::Limit => "a number of bytes, or of per cent as 2%",
+            Takes::Order => "address, size or name",
+            Takes::Key => "crate, function, function-section, generic or section",
+        }
+    }
+
+    // Whether it takes this value.
+    pub(crate) fn is_met_by(self, value: &str) -> bool {
+        match self {
+            Takes::Nothing | Takes::Text => true,
+            Takes::Page => is_page(parse_address(value.as_bytes())),
+            Takes::Count => count_in(value).is_some(),
+            Takes::Limit => limit_in(value).is_some(),
+            Takes::Order => order_named(value).is_some(),
+            Takes::Key => key_named(value).is_some(),
+        }
+    }
+}
+
+// Whether this is the address of a page.
+fn is_page(address: Option<u64>) -> bool {
+    matches!(address, Some(address) if address % PAGE == 0)
+}
+
+// The number in decimal digits.
+pub(crate) fn count_in(value: &str) -> Option<usize> {
+    value.parse::<usize>().ok()
+}
+
+// The limit: a number of bytes, or of per cent before `%`.
+pub(crate) fn limit_in(value: &str) -> Option<Limit> {
+    match value.split_once('%') {
+        None => Some(Limit::Bytes(count_in(value)?)),
+        Some((front, "")) => Some(Limit::Percent(count_in(front)?)),
+        Some(_) => None,
+    }
+}
+
+// Whether a limit is a number of per cent.
+pub(crate) fn is_relative(word: &str) -> bool {
+    matches!(limit_in(word), Some(Limit::Percent(_)))
+}

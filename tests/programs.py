@@ -193,6 +193,10 @@ assert is_static or subprocess.run(nothing_taken, capture_output=True).returncod
 version = re.search(r'^version = "(.*)"$', pathlib.Path("rust/Cargo.toml").read_text(), re.M)[1]
 ends(0, f"binfarce {version}\n", "", "binfarce", "--version")
 ends(0, printed(folder / "binfarce", "--help"), "", "binfarce", "help")
+# A terminal of 80 columns shows each line of the help whole.
+for topic in ([], *([it] for it in ("list", "size", "map", "diff", "filter", "at", "section"))):
+    wide = [line for line in printed(folder / "binfarce", "help", *topic).split("\n") if len(line) > 79]
+    assert not wide, wide
 for words in (("--help",), ("list", sample, sample), ("section", sample, ".strtab"), ("list", "--json", missing)):
     ends(1, "", full if words[-1] != missing else f"{lost}\n{full}", "binfarce", *words, to=open("/dev/full", "wb"))
 # Arguments that begin with a control character or U+FFFD are as any; so are an empty one, and more than a hundred.

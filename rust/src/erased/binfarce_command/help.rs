@@ -12,34 +12,36 @@ binfarce reads ELF, Mach-O and PE files, and makes mangled Rust names readable.
 
 usage: binfarce COMMAND [OPTION..] ..
 
-  list [OPTION..] FILE..             function symbols: address, size, name
-  size [OPTION..] FILE..             the sum of their sizes by crate
-  diff [OPTION..] OLD NEW            how these sums differ between two files
-  map [OPTION..] FILE                these sums as a picture (SVG)
-  filter [--full] [NAME..]           standard input, or the names, with readable names
+  list [OPTION..] FILE..         function symbols: address, size, name
+  size [OPTION..] FILE..         the sum of their sizes by crate
+  diff [OPTION..] OLD NEW        how these sums differ between two files
+  map [OPTION..] FILE            these sums as a picture (SVG)
+  filter [--full] [NAME..]       standard input, or the names, made readable
   at [OPTION..] FILE [ADDRESS..]
-                                     the function symbol at each address, and the offset in it
-  at --return --annotate FILE..      standard input, as by RUST_BACKTRACE=full, with symbols
-  section FILE [SECTION]             the bytes of a section, or a line for each section
+                                 the function symbol at each address
+  at --return --annotate FILE..  a backtrace from standard input, with symbols
+  section FILE [SECTION]         the bytes of a section, or all sections
 
-  COMMAND --help                     help on a command
-  --help                             this text
-  --version                          the version
+  COMMAND --help                 help on a command
+  --help                         this text
+  --version                      the version
 
-`--` ends the options, and `-` as a FILE is standard input. Status: 0; 1 if a file
-was refused, a read or a write failed, or memory ran out; 2 for a wrong call, or for
-lines without an address; 3 where a sum or its growth is above --fail-above.
+`--` ends the options, and `-` as a FILE is standard input. Status: 0; 1 if a
+file was refused, a read or a write failed, or memory ran out; 2 for a wrong
+call, or for lines without an address; 3 where a sum or its growth is above
+--fail-above.
 ";
 
 const LIST: &str = "\
 usage: binfarce list [OPTION..] FILE..
 
 Writes a line for each function symbol: its address, its size in bytes, and its
-readable name; last the size of the section. Several files are each listed below
-an empty line and `NAME:`, and with --all each line has its section's name.
+readable name; last the size of the section. Several files are each listed
+below an empty line and `NAME:`, and with --all each line has its section's
+name.
 
-  --sort=KEY       by rising address, falling size or name (address, size, name),
-                   without the last line
+  --sort=KEY       by rising address, falling size or name (address, size,
+                   name), without the last line
   -n N, --first=N  the first N lines, without the last line
   --no-total       without the last line
   --full           names with hashes and disambiguators
@@ -50,19 +52,20 @@ an empty line and `NAME:`, and with --all each line has its section's name.
 const SIZE: &str = "\
 usage: binfarce size [OPTION..] FILE..
 
-Writes a line for each crate: the sum of the sizes of its function symbols, and its
-name, the largest first; last the sum of all, and the size of the section. A byte that
-several function symbols have counts once, for the innermost.
+Writes a line for each crate: the sum of the sizes of its function symbols, and
+its name, the largest first; last the sum of all, and the size of the section.
+A byte that several function symbols have counts once, for the innermost.
 
-  --by=KEY         sums by crate, function, generic (functions that differ by their
-                   generic arguments, with their number), or function-section (of
-                   all sections); or by section: the bytes of each section in the
-                   file and in memory, headers and gaps, and the file's size
+  --by=KEY         sums by crate, function, generic (functions that differ by
+                   their generic arguments, with their number), or
+                   function-section (of all sections); or by section: the bytes
+                   of each section in the file and in memory, headers and gaps,
+                   and the file's size
   --std            the crates of Rust's standard library as one, [std]
-  --percent        each sum's share of the section, or of the sum of all sections
+  --percent        each sum's share of the section, or of all sections' sum
   -n N, --first=N  the N largest sums, and one of all others
-  --fail-above=N   status 3 where the sum of all, by section the size of the file,
-                   is more than N bytes
+  --fail-above=N   status 3 where the sum of all, by section the size of the
+                   file, is more than N bytes
   --json           each sum as a JSON object, and one of the sum of all
 ";
 
@@ -70,17 +73,17 @@ const DIFF: &str = "\
 usage: binfarce diff [OPTION..] OLD NEW
 
 Writes a line for each crate whose sum differs: its size in OLD and in NEW, the
-change, and its name; the largest change first, and last the sums of all. Each byte
-counts once.
+change, and its name; the largest change first, and last the sums of all. Each
+byte counts once.
 
   --by=KEY         sums by crate, function, generic or function-section; or by
-                   section: the bytes of each section in the file, and how those
-                   in the file and in memory changed
+                   section: the bytes of each section in the file, and how
+                   those in the file and in memory changed
   --std            the crates of Rust's standard library as one, [std]
   --percent        each change in per cent of the old sum
   -n N, --first=N  the N largest changes, and one of all others
-  --fail-above=N   status 3 where the sum of all grew by more than N bytes, or by
-                   more than N per cent (2%)
+  --fail-above=N   status 3 where the sum of all grew by more than N bytes, or
+                   by more than N per cent (2%)
   --json           each change as a JSON object
 ";
 
@@ -92,14 +95,15 @@ Draws the sums of `binfarce size` as an SVG picture, the largest first.
   -n N, --first=N  the N largest sums, and one of all others
   --std            the crates of Rust's standard library as one, [std]
   --folded         no picture, but a line for each function symbol: its crate,
-                   modules and name, separated by `;`, and its size, as tools for
-                   flame graphs read it
+                   modules and name, separated by `;`, and its size, as tools
+                   for flame graphs read it
 ";
 
 const FILTER: &str = "\
 usage: binfarce filter [--full] [NAME..]
 
-Writes standard input with its mangled Rust names readable, or each NAME on a line.
+Writes standard input with its mangled Rust names readable, or each NAME on a
+line.
 
   --full           keeps hashes and disambiguators
 ";
@@ -108,30 +112,31 @@ const AT: &str = "\
 usage: binfarce at [OPTION..] FILE [ADDRESS..]
        binfarce at --annotate [OPTION..] FILE..
 
-Writes a line for each address: the function symbol that holds it, and the offset in
-it. Without an ADDRESS the addresses are the lines of standard input.
+Writes a line for each address: the function symbol that holds it, and the
+offset in it. Without an ADDRESS the addresses are the lines of standard input.
 
-  --return         the addresses are return addresses, as RUST_BACKTRACE=full prints:
-                   the call before each is looked up; not for the instruction that
-                   crashed, nor for what a sanitizer prints
-  --annotate       copies standard input, with <name+0x1f> after each address in it,
-                   which is 0x and 4 to 16 digits, or an offset in FILE: FILE+0x1f2e;
-                   of several files the first that has the address names it
+  --return         the addresses are return addresses, as RUST_BACKTRACE=full
+                   prints: the call before each is looked up; not for the
+                   instruction that crashed, nor for what a sanitizer prints
+  --annotate       copies standard input, with <name+0x1f> after each address
+                   in it, which is 0x and 4 to 16 digits, or an offset in FILE:
+                   FILE+0x1f2e; of several files the first that has the address
+                   names it
   --bare           with --annotate: words of 8 to 16 digits without 0x, too
-  --base=ADDRESS   where the file is loaded: where its first mapping begins, a multiple
-                   of 0x1000; without it addresses are the file's own
-  --maps=FILE      takes the base from a copy of /proc/PID/maps, or from Linux's line
-                   on a fault; - is standard input, with --annotate the text itself,
-                   which is then read to its end
-  --offsets        addresses are offsets in the code of FILE, an ELF file, as perf script
-                   writes those of call chains
-  --as=NAME        the file's name or path in the maps and in a text
-                   (of several files --base and --as come once for each, in order)
+  --base=ADDRESS   where the file is loaded: where its first mapping begins, a
+                   multiple of 0x1000; without it addresses are the file's own
+  --maps=FILE      takes the base from a copy of /proc/PID/maps, or from
+                   Linux's line on a fault; - is standard input, with
+                   --annotate the text itself, which is then read to its end
+  --offsets        addresses are offsets in the code of FILE, an ELF file, as
+                   perf script writes those of call chains
+  --as=NAME        the file's name or path in the maps and in a text (of
+                   several files --base and --as come once for each, in order)
   --dynamic        by the dynamic symbol table of an ELF file (.dynsym)
-  --section=NAME   the symbols of a section of an ELF file; of Mach-O and PE files
-                   .text is the code section, and there is no other name
-  --all            the symbols of all sections, as without --section; refused of an
-                   object file, whose sections share addresses
+  --section=NAME   the symbols of a section of an ELF file; of Mach-O and PE
+                   files .text is the code section, and there is no other name
+  --all            the symbols of all sections, as without --section; refused
+                   of an object file, whose sections share addresses
   --json           an object for each address, with its name and offset or null
 ";
 
@@ -146,8 +151,9 @@ section of a Mach-O file is named SECTION or SEGMENT,SECTION.
 
 // The options of all commands that take function symbols of `.text` by default.
 const SYMBOLS: &str = "  --dynamic        by the dynamic symbol table of an ELF file (.dynsym)
-  --section=NAME   the section of an ELF file, by default .text; of Mach-O and PE
-                   files .text is the code section, and there is no other name
+  --section=NAME   the section of an ELF file, by default .text; of Mach-O and
+                   PE files .text is the code section, and there is no other
+                   name
   --all            the symbols of all sections
   --help           this text
 ";

@@ -334,7 +334,7 @@ ends(1, b"0x401005 <foo+0x5> 0x1005\n", lost, *at, "--annotate", "--base=0", "--
 ends(1, b"a+0x1005 b+0x1005 <foo+0x5>\n", lost, *at, "--annotate", "--as=a", "--as=b", missing, sample, given=b"a+0x1005 b+0x1005\n")
 ends(0, b"0x401010 <foo+0x10> 0x7f0000001010 <foo+0x10>\n", "", *several, "--return", "--base=400000", "--base=7f0000000000", given=b"0x401010 0x7f0000001010\n")
 ends(0, b"00401005 <foo+0x5>\n", "", *several, "--bare", "--base=0", "--base=400000", given=b"00401005\n")
-others = "binfarce: standard input: offsets ({}) behind other names than the file's; --as=NAME takes those behind one of these"
+others = "binfarce: standard input: offsets ({}) behind other names than the file's; if the file has one of them, --as=NAME says so"
 ends(0, b"libother.so+0x1005 main+0x1f2e\n", others.format(2), *several, given=b"libother.so+0x1005 main+0x1f2e\n")
 # Behind a name that a function of the file has, too, a word `main+0x12` is an offset into the function, as perf writes it; others are in the file.
 own = (*at, "--annotate", assembled("own", 32, ("main", 0, 16), ("big", 16, 16)), "--as=x/main")
@@ -559,7 +559,7 @@ for command, output in (("list", "text 0\n"), ("size", "sum 0\ntext 0\n")):
 # Of files without a function symbol: an object file, a program by its dynamic symbols, a Mach-O and a PE file without symbols.
 printed("gcc", "-c", "-o", empty := f"{scratch}/empty.o", "-x", "c", "-", given="int x = 3;")
 others = [("no function symbols", empty), ("no function symbols in .dynsym", program, "--dynamic")]
-for name, hint, places in (("macho", "those of a stripped program may be in its .dSYM bundle", [0xc4]), ("pe-image", "those of an MSVC program are in its .pdb file", [0xae, 0xc0])):
+for name, hint, places in (("macho", "those of a stripped program may be in its .dSYM bundle", [0xc4]), ("pe-image", "those of a stripped program may be in a .pdb file", [0xae, 0xc0])):
     image = bytearray(pathlib.Path(f"rust/samples/{name}.bin").read_bytes())
     for place in places:
         image[place] = 0
@@ -586,6 +586,26 @@ pathlib.Path(forged).write_bytes(pathlib.Path(file).read_bytes())
 ends(0, "text 0\n", f"binfarce: {shown}: no function symbols in the section; --all takes 3", "binfarce", "list", forged)
 ends(1, "", f"binfarce: {shown}+: {not_there}", "binfarce", "list", f"{forged}+")
 ends(2, "", "binfarce: not an address: 1\\u001b", "binfarce", "at", forged, "1\x1b")
+# So is a heading.
+for words, text in ((["list"], f"text 0\n"), (["size", "--by=section"], printed(folder / "binfarce", "size", "--by=section", file))):
+    run = subprocess.run([folder / "binfarce", *words, forged, forged], capture_output=True, text=True)
+    assert run.stdout == f"\n{shown}:\n{text}" * 2 and run.returncode == 0, run
+# Each hint that names an option, followed: the option answers what the call without it didn't, and a name that isn't the file's brings none.
+own, kernel = assembled("main.ko", 32, ("main", 0, 16), ("big", 16, 16)), b"RIP: 0010:big+0x2/0x10 [main]\n"
+followed = [(["list", file], b"", "--all takes 3", ["--all"], lines), (["at", file, "2"], b"", "--section=NAME takes one of them", ["--section=.text.g"], f"{2:016x} g+0x2\n"),
+            ([*at[1:], sample, "401005"], b"", "--base or --maps is needed", ["--base=400000"], f"{0x401005:016x} foo+0x5\n"),
+            ([*at[1:], sample, "401005"], b"", "--base or --maps is needed", ["--maps", maps], f"{0x401005:016x} foo+0x5\n"),
+            ([*at[1:], "--annotate", sample], b"00001005\n", "--bare takes those without 0x", ["--bare"], "00001005 <foo+0x5>\n"),
+            ([*at[1:], "--annotate", sample], b"x.so+0x1005\n", "--as=NAME says so", ["--as=x.so"], "x.so+0x1005 <foo+0x5>\n"),
+            ([*at[1:], "--annotate", own], kernel, "--as=NAME says so", ["--as=main"], kernel.decode()),
+            (["at", "rust/samples/pe-image.bin", "140001018"], b"", "--return looks each up", ["--return"], f"{0x140001018:016x} g+0x8\n"),
+            ([*at[1:], f"--maps={maps}", "--as=x", sample, "401005"], b"", "--as=NAME takes another name", [f"--as={os.path.basename(sample)}"], f"{0x401005:016x} foo+0x5\n"),
+            (["size", assembled("c", 8, ("c", 0, 8))], b"", "--by=function shows whose", ["--by=function"], f"{8:10} c\nsum 8\ntext 8\n"),
+            (["list", stripped], b"", f"--dynamic --all takes {len(symbols)}", ["--dynamic", "--all"], printed(folder / "binfarce", "list", "--dynamic", "--all", library))]
+for (command, *words), given, hint, options, answer in followed:
+    run, then = (subprocess.run([folder / "binfarce", command, *words, *it], capture_output=True, input=given) for it in ([], options))
+    assert hint in run.stderr.decode() and run.stdout.decode() != answer or command == "at" and given == kernel, f"{hint}: {run}"
+    assert then.stdout.decode() == answer, f"{hint}: {then}"
 
 # What no reader reads is refused by every command, by its first bytes, also from a pipe that doesn't end, and as a JSON object.
 thumb, wrapped = b"\xc4\1\1" + bytes(17), b"\xde\xc0\x17\x0b"
@@ -722,8 +742,8 @@ for rows, *words in (("0 8 a::i|5 0 b::f::<u16>|4 0 b::f::<u8>|2 0 c|39 36 [tota
     lines = "".join(f"{was:>10} {now:>10} {int(now) - int(was):+11} {name}\n" for was, now, name in (it.split(" ", 2) for it in rows.split("|")))
     ends(0, lines, "", "binfarce", "diff", *words)
 lines = f"{0:10} {9:10} {'+9':>11} b\n{32:10} {26:10} {'-6':>11} [2 others]\n{36:10} {39:10} {'+3':>11} [total]\n"
-for limit, status in (("3", 0), ("2", 3), ("9%", 0), ("8%", 3)):
-    line = f"binfarce: {old}: grew by 3 bytes, and --fail-above allows {limit}" if status else ""
+for limit, status, share in (("3", 0, ""), ("2", 3, ""), ("9%", 0, ""), ("8%", 3, " (8.33%)")):
+    line = f"binfarce: {old}: grew by 3 bytes{share}, and --fail-above allows {limit}" if status else ""
     ends(status, lines, line, "binfarce", "diff", "-n", "1", "--fail-above", limit, new, old)
 # Without function symbols there is no growth, which a line says; and a reader that closes the output leaves the verdict unknown.
 line = f"binfarce: {old}: no function symbols in the section; --all takes 6"
@@ -746,13 +766,13 @@ for *words, limit, hint in (*(("size", it, 38, f"{old}: has 39") for it in ("--j
 ends(1, f"\n{old}:\n" + printed(folder / "binfarce", "size", old), f"{lost}\nbinfarce: {old}: has 39 bytes, and --fail-above allows 38", "binfarce", "size", "--fail-above=38", missing, old)
 # Numbers past 32 bits, and growth past 2^64 hundredths; growth at its limit in per cent, and growth from nothing, which is above each.
 narrow, wide, widest = (assembled(name, 16, ("_RNvC1a1f", 0, size)) for name, size in (("narrow", 16), ("wide", (1 << 32) + 16), ("widest", top + 16)))
-per_cent = 100 * (1 << 22) // 587
+per_cent, hundredths = divmod(10000 * (1 << 22) // 587, 100)
 for *words, limit, hint in (("size", wide, 20, f"{wide}: has {(1 << 32) + 16}"), ("size", wide, (1 << 32) + 16, ""), ("diff", narrow, wide, 20, f"{wide}: grew by {1 << 32}"),
-                            ("diff", narrow, wide, 1 << 32, ""), ("diff", narrow, widest, "1%", f"{widest}: grew by {top}"), ("diff", narrow, half, "25%", ""),
-                            ("diff", narrow, half, "24%", f"{half}: grew by 4"), ("size", "--by=section", sparse, 1000, f"{sparse}: has {8 << 30}"),
+                            ("diff", narrow, wide, 1 << 32, ""), ("diff", narrow, widest, "1%", f"{widest}: grew by {top} bytes ({top // 16 * 100}.00%)"), ("diff", narrow, half, "25%", ""),
+                            ("diff", narrow, half, "24%", f"{half}: grew by 4 bytes (25.00%)"), ("size", "--by=section", sparse, 1000, f"{sparse}: has {8 << 30}"),
                             ("diff", "--by=section", sample, sparse, 1000, f"{sparse}: grew by {(8 << 30) - 587}"),
-                            ("diff", "--by=section", sample, large, f"{per_cent}%", f"{large}: grew by {1 << 22}"), ("diff", "--by=section", sample, large, f"{per_cent + 1}%", "")):
-    line = f"binfarce: {hint} bytes, and --fail-above allows {limit}" if hint else ""
+                            ("diff", "--by=section", sample, large, f"{per_cent}%", f"{large}: grew by {1 << 22} bytes ({per_cent}.{hundredths:02}%)"), ("diff", "--by=section", sample, large, f"{per_cent + 1}%", "")):
+    line = f"binfarce: {hint}{' bytes' * ('bytes' not in hint)}, and --fail-above allows {limit}" if hint else ""
     ends(3 if hint else 0, printed(folder / "binfarce", *words), line, "binfarce", *words, f"--fail-above={limit}")
 line = f"binfarce: {empty}: no function symbols\nbinfarce: {old}: grew by 39 bytes, and --fail-above allows 9000%"
 ends(3, printed(folder / "binfarce", "diff", empty, old), line, "binfarce", "diff", "--fail-above=9000%", empty, old)

@@ -6,6 +6,7 @@ use Rattle.binfarce_tools.specs.Writing.{AppendsBeginning, Outcome, no_memory, w
 use Rattle.binfarce_jobs.specs.Faults.{failure}
 use Rattle.binfarce_foreign.specs.Foreign.{foreign_in}
 use Rattle.binfarce_jobs.specs.Input.{IsForeign, IsUnreadable}
+use Rattle.binfarce_jobs.specs.MessageLine.{escaped}
 use Rattle.binfarce_jobs.specs.Hints.{IsSaidOfRefused, IsSaidOfShown, has_none}
 use Rattle.binfarce_jobs.specs.Show.{HasSumsOf, IsShownText, MayEnd, exceeds}
 use Rattle.binfarce_figures.specs.declared.sums.Sums.{Sums}
@@ -63,9 +64,9 @@ abbrev pub MayComeTo : Request → (path : List ℕ) → (may_fail : Bool) → (
 MayComeTo asked path may_fail file (shown text said above) = IsShownOf asked path file text × IsFoundIn asked file said above
 MayComeTo asked path may_fail file (refused fault said) = MayBeRefused asked may_fail file fault × IsSaidOfRefused fault file said
 
--- what precedes a file's text: of several files a blank line, and a line with its name
+-- what precedes a file's text: of several files a blank line, and a line with its name, which no character in it ends
 abbrev pub heading : (are_several : Bool) → (path : List ℕ) → List ℕ
-heading are_several path = if are_several then codes "\n" ++ (path ++ codes ":\n") else []
+heading are_several path = if are_several then codes "\n" ++ (escaped path ++ codes ":\n") else []
 
 -- what is written, what is reported, and what is said, of a file that came to this
 abbrev pub written : (are_several : Bool) → (path : List ℕ) → Fate → List ℕ

@@ -1,5 +1,5 @@
 -- Hints on files.
-use Rattle.std.specs.Prelude.{◌≡◌, ◌⊎◌, ℕ, zero, suc, ◌*◌, Bool, true, false, ◌&&◌, List, [], ◌∷◌, ◌++◌, drop, length, codes, nat_eq, nat_le, nat_lt, Option, Some, None, Result, Ok, Err, if◌then◌else◌}
+use Rattle.std.specs.Prelude.{◌≡◌, ◌⊎◌, ℕ, zero, suc, ◌*◌, ◌/◌, ◌%◌, Bool, true, false, ◌&&◌, List, [], ◌∷◌, ◌++◌, drop, length, codes, nat_eq, nat_le, nat_lt, Option, Some, None, Result, Ok, Err, if◌then◌else◌}
 use Rattle.std.specs.Char.{is_ascii_graphic}
 use Rattle.std.specs.Fmt.{decimal}
 use Rattle.std.specs.List.{flat_map, list_all}
@@ -47,7 +47,7 @@ loaded_words loads.Offsets = codes "are they offsets in the file?"
 abbrev pub hint_words : Hint → List ℕ
 hint_words hints.None = codes "no function symbols"
 hint_words hints.NoneDynamic = codes "no function symbols in .dynsym"
-hint_words hints.NoneOfPe = codes "no function symbols; those of an MSVC program are in its .pdb file"
+hint_words hints.NoneOfPe = codes "no function symbols; those of a stripped program may be in a .pdb file"
 hint_words hints.NoneOfMacho = codes "no function symbols; those of a stripped program may be in its .dSYM bundle"
 hint_words (hints.Others count) = codes "no function symbols in the section; --all takes " ++ decimal count
 hint_words (hints.Dynamic count) = codes "--dynamic --all takes " ++ (decimal count ++ codes " function symbols")
@@ -57,9 +57,11 @@ hint_words (hints.Missed count loaded) = codes "0 of " ++ (decimal count ++ (cod
 hint_words (hints.Unknown bytes sum) = decimal bytes ++ (codes " of " ++ (decimal sum ++ codes " bytes have no crate, as those of C, C++ and assembly; --by=function shows whose they are"))
 hint_words (hints.Above sum most) = codes "has " ++ (decimal sum ++ (codes " bytes, and --fail-above allows " ++ decimal most))
 hint_words (hints.Grown by limit) = codes "grew by " ++ (decimal by ++ (codes " bytes, and --fail-above allows " ++ limit_words limit))
+hint_words (hints.GrownBy by n limit) =
+    codes "grew by " ++ (decimal by ++ (codes " bytes (" ++ (decimal (n / 100) ++ (codes "." ++ (decimal (n / 10 % 10) ++ (decimal (n % 10) ++ (codes "%), and --fail-above allows " ++ limit_words limit)))))))
 hint_words (hints.NoAddress true) = codes "no address in the text"
 hint_words (hints.NoAddress false) = codes "no address in the text; --bare takes those without 0x, too"
-hint_words (hints.Offsets count) = codes "offsets (" ++ (decimal count ++ codes ") behind other names than the file's; --as=NAME takes those behind one of these")
+hint_words (hints.Offsets count) = codes "offsets (" ++ (decimal count ++ codes ") behind other names than the file's; if the file has one of them, --as=NAME says so")
 hint_words (hints.Unclear count) = codes "offsets (" ++ (decimal count ++ codes ") behind a name that several files have; --as=PATH tells them apart")
 
 -- the hint on sums by crate: at least half of the bytes have none

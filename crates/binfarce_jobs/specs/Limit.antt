@@ -1,8 +1,9 @@
 -- Limits on sums, and what work on files came to.
 use Rattle.std.specs.Prelude.{ℕ, ◌-◌, ◌*◌, ◌&&◌, ◌||◌, nat_lt, Bool, Option, Some, None, if◌then◌else◌}
 use Rattle.binfarce_jobs.specs.declared.hint.Hint.{Hint}
-use Rattle.binfarce_jobs.specs.declared.hint.Hint.TheVariants.{Above, Grown}
+use Rattle.binfarce_jobs.specs.declared.hint.Hint.TheVariants.{Above, Grown, GrownBy}
 use Rattle.binfarce_figures.specs.declared.diff.Growth.{Growth}
+use Rattle.binfarce_rows.specs.Columns.{hundredths}
 use Rattle.binfarce_words.specs.declared.takes.Limit.{Limit}
 use Rattle.binfarce_words.specs.declared.takes.Limit.TheVariants.{Bytes, Percent}
 use Rattle.binfarce_jobs.specs.declared.limit.Verdict.{Verdict}
@@ -21,7 +22,12 @@ abbrev pub is_above : (old by : ℕ) → Limit → Bool
 is_above old by (Bytes most) = nat_lt most by
 is_above old by (Percent most) = nat_lt (most * old) (100 * by)
 
+-- what is said of growth by so many bytes: where the limit is in per cent of an old sum, also by how many hundredths of a per cent
+abbrev pub grown_by : (old by : ℕ) → Limit → Hint
+grown_by old by (Percent most) = if nat_lt 0 old then GrownBy by (hundredths by old) (Percent most) else Grown by (Percent most)
+grown_by old by (Bytes most) = Grown by (Bytes most)
+
 -- a sum grew by more than this limit
 abbrev pub grown : Growth → (limit : Option Limit) → Option Hint
-grown growth (Some limit) = if is_above growth.old (growth.new - growth.old) limit then Some (Grown (growth.new - growth.old) limit) else None
+grown growth (Some limit) = if is_above growth.old (growth.new - growth.old) limit then Some (grown_by growth.old (growth.new - growth.old) limit) else None
 grown growth None = None

@@ -13,6 +13,7 @@ use crate::fault::Fault;
 use crate::hint::{Hint, Hints, hints_on, refusal_hints};
 use crate::input::OpenFile;
 use crate::limit::Verdict;
+use crate::message::push_escaped;
 use crate::output::Output;
 use crate::show::{Request, Seen, show};
 use binfarce_bytes::source::Source;
@@ -148,7 +149,7 @@ fn show_file<F: Read + Source<Log = ()> + Drop, Y: System<F>, W: Write>(
     }
 }
 
-/// What precedes a file's text: of several files, its name in a line.
+/// What precedes a file's text: of several files, its name in a line, with its control characters escaped as in messages.
 ///
 /// # Errors
 ///
@@ -159,7 +160,9 @@ pub fn heading(alloc: Global, path: &str, are_several: bool) -> Result<Vec<u8>, 
     if !are_several {
         return Ok(Vec::new(alloc));
     }
-    let text = format!(in alloc; "\n{path}:\n")?;
+    let mut text = String::from_str(alloc, "\n")?;
+    push_escaped(&mut text, path)?;
+    text.push_str(":\n")?;
     Vec::from_slice(alloc, text.as_bytes())
 }
 

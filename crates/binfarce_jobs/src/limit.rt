@@ -5,6 +5,7 @@ ghost use Rattle.binfarce_jobs.specs.Limit.{above, and_then, grown, is_above};
 
 use crate::hint::Hint;
 use binfarce_figures::diff::Growth;
+use binfarce_rows::columns::hundredths;
 use binfarce_words::takes::Limit;
 
 /// What work on files came to.
@@ -58,13 +59,20 @@ pub fn above(sum: u64, limit: Option<Limit>) -> Option<Hint>
     }
 }
 
-/// The hint on a sum that grew by more than this limit, if there is one.
+/// The hint on a sum that grew by more than this limit, if there is one: where that is in per cent of an old sum, also by
+/// how many per cent it grew.
 pub fn grown(growth: Growth, limit: Option<Limit>) -> Option<Hint>
     ensures { result ≡ grown growth limit }
 {
     let by = growth.new.saturating_sub(growth.old);
     match limit {
-        Some(limit) if is_above(growth.old, by, limit) => Some(Hint::Grown(by, limit)),
+        Some(limit) if is_above(growth.old, by, limit) => match limit {
+            Limit::Percent(_) if growth.old > 0 => {
+                let share = hundredths(by, growth.old);
+                Some(Hint::GrownBy(by, share, limit))
+            }
+            _ => Some(Hint::Grown(by, limit)),
+        },
         _ => None,
     }
 }

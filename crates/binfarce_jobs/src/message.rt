@@ -137,8 +137,8 @@ pub fn line_of(alloc: Global, path: Option<&str>, words: &str) -> Result<String,
     Ok(line)
 }
 
-// Appends a text with its control characters escaped.
-fn push_escaped(line: &mut String, text: &str) -> Result<(), AllocError>
+/// Appends a text with its control characters escaped.
+pub(crate) fn push_escaped(line: &mut String, text: &str) -> Result<(), AllocError>
     ensures { OnOk result (string_bytes line.new ≡ string_bytes line.old ++ escaped text.now) }
 {
     for c in text.chars() {

@@ -7,6 +7,7 @@ use crate::erased::binfarce_jobs::fault::Fault;
 use crate::erased::binfarce_jobs::hint::{Hint, Hints, hints_on, refusal_hints};
 use crate::erased::binfarce_jobs::input::OpenFile;
 use crate::erased::binfarce_jobs::limit::Verdict;
+use crate::erased::binfarce_jobs::message::push_escaped;
 use crate::erased::binfarce_jobs::output::Output;
 use crate::erased::binfarce_jobs::show::{Request, Seen, show};
 use crate::erased::binfarce_bytes::source::Source;
@@ -99,7 +100,7 @@ fn show_file<F: Read + Source<Log = ()>, Y: System<F>, W: Write>(
     }
 }
 
-/// What precedes a file's text: of several files, its name in a line.
+/// What precedes a file's text: of several files, its name in a line, with its control characters escaped as in messages.
 ///
 /// # Errors
 ///
@@ -108,7 +109,9 @@ pub fn heading(alloc: Global, path: &str, are_several: bool) -> Result<Vec<u8>, 
     if !are_several {
         return Ok(Vec::new(alloc));
     }
-    let text = String::formatted(alloc, format_args!("\n{path}:\n"))?;
+    let mut text = String::from_str(alloc, "\n")?;
+    push_escaped(&mut text, path)?;
+    text.push_str(":\n")?;
     Vec::from_slice(alloc, text.as_bytes())
 }
 

@@ -59,6 +59,8 @@ pub enum Hint {
     Above(u64, usize),
     /// It grew by so many bytes, more than is allowed.
     Grown(u64, Limit),
+    /// It grew by so many bytes, which are so many hundredths of a per cent, more than is allowed.
+    GrownBy(u64, u128, Limit),
 }
 
 /// The hints on a file, in the order in which they are given.
@@ -94,7 +96,7 @@ impl fmt::Display for Hint {
             Hint::NoneDynamic => write!(f, "no function symbols in .dynsym"),
             Hint::NoneOfPe => write!(
                 f,
-                "no function symbols; those of an MSVC program are in its .pdb file"
+                "no function symbols; those of a stripped program may be in a .pdb file"
             ),
             Hint::NoneOfMacho => write!(
                 f,
@@ -120,6 +122,15 @@ impl fmt::Display for Hint {
                 f,
                 "grew by {by} bytes, and --fail-above allows {limit}"
             ),
+            Hint::GrownBy(by, share, limit) => {
+                let per_cent = share / 100;
+                write!(
+                    f,
+                    "grew by {by} bytes ({per_cent}.{}{}%), and --fail-above allows {limit}",
+                    share / 10 % 10,
+                    share % 10
+                )
+            }
             Hint::NoAddress(true) => write!(f, "no address in the text"),
             Hint::NoAddress(false) => write!(
                 f,
@@ -127,7 +138,7 @@ impl fmt::Display for Hint {
             ),
             Hint::Offsets(count) => write!(
                 f,
-                "offsets ({count}) behind other names than the file's; --as=NAME takes those behind one of these"
+                "offsets ({count}) behind other names than the file's; if the file has one of them, --as=NAME says so"
             ),
             Hint::Unclear(count) => write!(
                 f,

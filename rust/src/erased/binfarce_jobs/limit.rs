@@ -4,6 +4,7 @@
 
 use crate::erased::binfarce_jobs::hint::Hint;
 use crate::erased::binfarce_figures::diff::Growth;
+use crate::erased::binfarce_rows::columns::hundredths;
 use crate::erased::binfarce_words::takes::Limit;
 
 /// What work on files came to.
@@ -49,11 +50,18 @@ pub fn above(sum: u64, limit: Option<Limit>) -> Option<Hint> {
     }
 }
 
-/// The hint on a sum that grew by more than this limit, if there is one.
+/// The hint on a sum that grew by more than this limit, if there is one: where that is in per cent of an old sum, also by
+/// how many per cent it grew.
 pub fn grown(growth: Growth, limit: Option<Limit>) -> Option<Hint> {
     let by = growth.new.saturating_sub(growth.old);
     match limit {
-        Some(limit) if is_above(growth.old, by, limit) => Some(Hint::Grown(by, limit)),
+        Some(limit) if is_above(growth.old, by, limit) => match limit {
+            Limit::Percent(_) if growth.old > 0 => {
+                let share = hundredths(by, growth.old);
+                Some(Hint::GrownBy(by, share, limit))
+            }
+            _ => Some(Hint::Grown(by, limit)),
+        },
         _ => None,
     }
 }

@@ -113,8 +113,8 @@ pub fn line_of(alloc: Global, path: Option<&str>, words: &str) -> Result<String,
     Ok(line)
 }
 
-// Appends a text with its control characters escaped.
-fn push_escaped(line: &mut String, text: &str) -> Result<(), AllocError> {
+/// Appends a text with its control characters escaped.
+pub(crate) fn push_escaped(line: &mut String, text: &str) -> Result<(), AllocError> {
     for c in text.chars() {
         push_char(line, c)?;
     }

@@ -5,3 +5,4 @@ pub mod Outputs
 pub mod Annotating
 pub mod Mapped
 pub mod Marks
+pub mod Bias

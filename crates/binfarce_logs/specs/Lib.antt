@@ -1,4 +1,5 @@
 pub mod Annotated
+pub mod Bias
 pub mod Faults
 pub mod Maps
 pub mod Module

@@ -12,16 +12,20 @@ TOKEN = re.compile(r"""//.*|"[^"]*"|'(?:[^'\\]|\\[^']+|[\ue00c-\ue00e])'|'?\w+|:
 HIDDEN = str.maketrans(" \n(){}[]<>;,", "\ue000\ue001\ue002\ue003\ue004\ue005\ue006\ue007\ue008\ue009\ue00a\ue00b")
 SHOWN = {value: key for key, value in HIDDEN.items()}
 # Imports of what Rattle has without one, and imports that the prover or a derive needs alone.
-PRELUDE = {f"std::{name}" for name in ("HostRuntime", "String", "Vec", "CollectIn", "ToSigned", "TrimAscii")}
+PRELUDE = {f"std::{name}" for name in ("HostRuntime", "String", "Vec", "CollectIn", "ToSigned", "TrimmedAscii", "to_usize")}
 GHOSTS = {"std::marker::Model", "std::io::Input", "std::os::unix::fs::FileExt", "std::fmt::Write", "thiserror::Error"}
 VALUE = r"(?:& )?\w+(?: \. \w+ \( \))?"
 ITEMS = r"(?:[^()]|\((?:[^()]|\([^()]*\))*\))*"
+# A name, a call or a group with what is behind it, and without an operator but one before it.
+OPERAND = r"(?:[*!-] )?(?:\w+|\((?:[^()]|\([^()]*\))*\))(?: (?:\.|::) \w+| \((?:[^()]|\([^()]*\))*\)| \?)*"
 # What the erased files lack: from what begins so up to the first of these that is in no bracket or closes the first one.
 LACKS = [(r"\bghost (?=\w)", ";,"), (r"\b(?:requires|ensures) (?=(?:\w+ )?\{)", "}"),
          (r"# (?:! )?\[ (?:tactic|cycle|rattlefmt|unsafe)\b", "]")]
 # A law is a function that does nothing.
 EITHER = [(r"(?:pub (?:\( crate \) )?)?fn \w+ (?:< [^{(]*> )?\( [^{]*\) \{ (?:let _ = [^;]*; )*\}", ""),
-          (r"\bpub (?:\( crate \) )?mod (\w+) ;", r"mod \1 ;"), (r", (?=[)\]}>])", "")]
+          (r"\bpub (?:\( crate \) )?mod (\w+) ;", r"mod \1 ;"), (r", (?=[)\]}>])", ""),
+          # A number becomes a `usize` by a cast or by a call.
+          (rf"\busize :: from \( ({OPERAND}) \)", r"\1 as usize"), (r"\( (\w+ as usize) \)", r"\1")]
 SOURCE = [
     (r"\bimpl (?:< [^{;]*> )?Model for [^{]*\{ \}", ""), (r"(?:pub )?mod laws ;|# \[ cfg \( test \) \] mod tests ;", ""),
     (r"\bcrate ::", "OWN ::"),
@@ -35,7 +39,7 @@ SOURCE = [
 ]
 ERASED = [
     (r"# \[ cfg_attr \( not \( debug_assertions \) , inline \( always \) \) \]", "# [ inline ( always ) ]"),
-    (r"\bcollect_in\b", "collect"), (r"\bto_signed\b", "cast_signed"),
+    (r"\bcollect_in\b", "collect"), (r"\bto_signed\b", "cast_signed"), (r"\btrimmed_ascii", "trim_ascii"), (r"\bto_usize \(", "usize :: from ("),
     (r"\bcrate :: erased ::", ""), (r"\bcrate :: shim ::|\bcore ::", "std ::"),
     (r'# \[ cfg \( feature = "std" \) \] (?=pub mod program ;)', ""),
 ]

@@ -131,6 +131,23 @@ FORMS = {
              "f"),
         Line("struct W<X>(X); trait A {} impl<X: Copy> W<X> { const N: u8 = 1; } impl<X> A for W<X> { const N: u8 = 2; }", "N"),
         Line("struct S; trait T { fn map(&self); } impl Iterator for S { fn next(&mut self) {} } impl T for S { fn map(&self) {} }", "T"),
+        Program("""#[derive(Drop)]
+struct S;
+
+impl Iterator for S {
+    type Item = u8;
+
+    fn next(&mut self) -> Option<u8> {
+        None
+    }
+}
+
+impl S {
+    fn count(&self) -> usize {
+        5
+    }
+}
+""", 'let _ = println!(rt; "{}", S.count());', "5", "count"),
         Line("fn f<T: Index<u8>>(w: W<T::Output>) { w.f(); }", "Index"), Line("fn f<T: Deref>(w: W<T::Target>) { w.f(); }", "Deref")],
     "A trait's functions have no body: else another impl may be found in one, since there `Self` may have no size, and Rust passes over "
     "the impls for types that have one.": [
@@ -153,6 +170,15 @@ FORMS = {
                 ".sort_by_key(|x|{calls.set(calls.get().wrapping_add(1));*x})"),
         Program("", MAPPED.replace("{}", ".zip([1u8].iter())", 1) + '\n    let _ = println!(rt; "{n}");', "2", ".zip([1u8].iter())"),
         Program("", 'let n = [1u8, 2].iter().zip([3u8].iter()).count();\n    let _ = println!(rt; "{n}");', "1", None),
+        Program("""fn below(n: &mut u8, x: u8) -> bool {
+    *n = n.wrapping_add(1);
+    x < 4
+}
+""", '''let mut n = 0u8;
+    let at = [1u8, 2, 3, 4, 5].as_slice().partition_point(|x| below(&mut n, *x));
+    let _ = println!(rt; "{at} {n}");''', "3 3", ".partition_point(|x|below(&mut n,*x))"),
+        Line("fn below(n: &mut u8, x: u8) -> bool { true } fn g(n: &mut u8) { a.partition_point(|x| below(n, *x)); }",
+             ".partition_point(|x|below(n,*x))"),
         Line("a.partition_point(|x| { n += 1; *x < 4 });", ".partition_point(|x|{n+=1;*x<4})"), Line("a.map(f).rev();", ".rev()"),
         Line("a.iter().zip(b.map(|x| { n += 1; x }));", ".zip(b.map(|x|{n+=1;x}))"),
         Line("a.sort_by_key::<u8, _>(f);", ".sort_by_key::"), Line("Iterator::zip(a.map(f), b);", "::zip"),
@@ -180,8 +206,33 @@ FORMS = {
     "What fails for want of memory is called by the shim's names alone: else Rust would end the process.": [
         Line("a.map(|x| x.clone());", "clone"), Line("a.to_vec();", "to_vec")],
     "A range without an end is an index: else Rust's overflows at its type's last number, where Rattle's ends.": [
-        Line("(250u8..).take(9);", "250u8.."), Line("for x in a(b).. {}", "(b).."), Line("f([9..]);", "9.."),
+        Line("(250u8..).take(9);", "250u8.."), Line("(x?..).take(9).count();", "?.."), Line("for x in a(b).. {}", "(b).."), Line("f([9..]);", "9.."),
         Line("S { a, b: if c { 2 } else { 1 }, d: 1.. }", "1..")],
+    "What becomes a `usize` has 32 bits at most, in a sum or a product 16, unless it was looked at: else a machine of 32 bits cuts off bits "
+    "that one of 64 keeps.": [
+        Program("", """let n = 1u64.wrapping_shl(32).wrapping_add(1);
+    let _ = println!(rt; "{}", n as usize);""", "4294967297", "u64: Narrow"),
+        Program("", """let (n, m) = (7u32, 3usize);
+    let _ = println!(rt; "{}", m + n as usize);""", "10", "usize: From<u32>"),
+        Program("", """let v = [1u16, 300];
+    let (a, b) = (2 + *v.get(1).unwrap_or(&0) as usize * 2, v[1] as u8 as usize + 1);
+    let mut c = 0usize;
+    c += v[0] as usize;
+    let _ = println!(rt; "{a} {b} {c} {} {}", 9u32.trailing_zeros() as usize % 4 + 1, -(-5i8) as u32 as usize);""", "602 45 1 1 5", None)],
+    "No module has a crate's name, and what one branch of `if let` has borrowed isn't used in another: else paths would lead to the crate, "
+    "and a borrow would last longer, since Rust's edition here is an older one.": [
+        Program("mod core {\n    pub fn f() -> u8 {\n        2\n    }\n}\n", 'let _ = println!(rt; "{}", core::f());', "2", "mod core"),
+        Line("use a::core;", "use a::core;"),
+        Program("use std::cell::{Cell, RefCell};\n", """let (c, n) = (RefCell::new(0u8), Cell::new(1u8));
+    if let Err(_) = c.try_borrow_mut() {
+        n.set(2);
+    } else if c.try_borrow_mut().is_ok() {
+        n.set(3);
+    }
+    let _ = println!(rt; "{}", n.get());""", "3", "if-let-rescope"),
+        Program("use std::cell::{Cell, RefCell};\n", """let (c, n) = (RefCell::new(0u8), Cell::new(1u8));
+    n.set(u8::from(c.try_borrow_mut().is_ok()) + 4);
+    let _ = println!(rt; "{}", n.get());""", "5", None)],
     "What gives a struct its other fields is no item of a list: else Rust reads the item, also where no field is left.": [
         Line("S { a: 1, ..v[i] }", "{a:1,..v[i]}")],
     "A word of clauses is one only where a clause can be, and each bracket is closed: else code would go with the clause.": [
@@ -219,7 +270,7 @@ def by_eraser(top, form):
     erased = subprocess.run([top / "tools/erase"], capture_output=True, text=True)
     if erased.returncode:
         return erased.stderr
-    rustc = ["rustc", "--edition", "2021", "--cfg", 'feature="std"', "-o", top / "a", top / "rust/src/main.rs"]
+    rustc = ["rustc", "--edition", "2021", "-D", "if-let-rescope", "-D", "tail-expr-drop-order", "--cfg", 'feature="std"', "-o", top / "a", top / "rust/src/main.rs"]
     built = subprocess.run(rustc, capture_output=True, text=True)
     return built.stderr if built.returncode else subprocess.run([top / "a"], capture_output=True, text=True).stdout.strip()
 
@@ -240,7 +291,9 @@ def faults(is_kit):
             return
         for rule, form in all_forms:
             said = by_eraser(top, form)
-            is_refused = said and f"`{form.refused}`" in said and said.startswith(f"crates/a/src/{getattr(form, 'file', 'main.rt')}:")
+            # What goes by types, and by how long a value lives, Rust refuses.
+            is_refused = said and (f"`{form.refused}`" in said and said.startswith(f"crates/a/src/{getattr(form, 'file', 'main.rt')}:")
+                                   or said.startswith("error") and str(form.refused) in said)
             if said and not (is_refused if form.refused else said == form.prints):
                 yield f"{rule}\n{source_of(form)}isn't refused by `{form.refused}`: {said}"
 

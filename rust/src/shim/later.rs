@@ -20,31 +20,31 @@ impl ToSigned<i16> for u16 {
     }
 }
 
-/// The methods of byte slices from 1.80 on, which there come before these.
-pub trait TrimAscii {
+/// `trim_ascii` and its likes of byte slices, from 1.80 on.
+pub trait TrimmedAscii {
     /// The bytes without ASCII whitespace at their beginning.
-    fn trim_ascii_start(&self) -> &[u8];
+    fn trimmed_ascii_start(&self) -> &[u8];
 
     /// The bytes without ASCII whitespace at their end.
-    fn trim_ascii_end(&self) -> &[u8];
+    fn trimmed_ascii_end(&self) -> &[u8];
 
     /// The bytes without either.
-    fn trim_ascii(&self) -> &[u8];
+    fn trimmed_ascii(&self) -> &[u8];
 }
 
-impl TrimAscii for [u8] {
-    fn trim_ascii_start(&self) -> &[u8] {
+impl TrimmedAscii for [u8] {
+    fn trimmed_ascii_start(&self) -> &[u8] {
         let start = self.iter().position(|byte| !byte.is_ascii_whitespace());
         &self[start.unwrap_or(self.len())..]
     }
 
-    fn trim_ascii_end(&self) -> &[u8] {
+    fn trimmed_ascii_end(&self) -> &[u8] {
         let last = self.iter().rposition(|byte| !byte.is_ascii_whitespace());
         &self[..last.map_or(0, |last| last + 1)]
     }
 
-    fn trim_ascii(&self) -> &[u8] {
-        TrimAscii::trim_ascii_end(TrimAscii::trim_ascii_start(self))
+    fn trimmed_ascii(&self) -> &[u8] {
+        self.trimmed_ascii_start().trimmed_ascii_end()
     }
 }
 
@@ -57,4 +57,28 @@ pub mod ptr {
     pub fn from_ref<T>(to: &T) -> *const T {
         to
     }
+}
+
+/// A number that every `usize` holds: one has 32 bits or more.
+pub trait Narrow {
+    fn widened(self) -> usize;
+}
+
+macro_rules! narrow {
+    ($($N:ty),*) => {$(
+        impl Narrow for $N {
+            #[inline]
+            fn widened(self) -> usize {
+                self as usize
+            }
+        }
+    )*};
+}
+
+narrow!(bool, char, u8, u16, u32, usize);
+
+/// `as usize` of a number that isn't wider.
+#[inline]
+pub fn to_usize<N: Narrow>(number: N) -> usize {
+    number.widened()
 }

@@ -21,7 +21,7 @@ mod vec;
 #[cfg(not(feature = "std"))]
 mod without_std;
 
-pub use later::{ToSigned, TrimAscii, ptr};
+pub use later::{ToSigned, TrimmedAscii, ptr, to_usize};
 #[cfg(feature = "std")]
 pub use runtime::HostRuntime;
 #[cfg(feature = "std")]

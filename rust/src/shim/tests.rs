@@ -5,7 +5,7 @@ use super::collections::BTreeMap;
 use super::env::{Env, FillError};
 use super::simd::u8x16;
 use super::test::{printed, refusing};
-use super::{CollectIn, HostRuntime, String, TrimAscii, Vec, env, fs, io};
+use super::{CollectIn, HostRuntime, String, TrimmedAscii, Vec, env, fs, io};
 use std::collections;
 use std::io::{Cursor, ErrorKind, Write};
 use std::path::Path;
@@ -203,9 +203,9 @@ fn trimmed_bytes() {
         let text: std::string::String =
             (0..numbers.below(9)).map(|_| [' ', '\n', '\x0B', '\x0C', 'a'][numbers.below(5)]).collect();
         let is_space = |c: char| c.is_ascii_whitespace();
-        assert_eq!(TrimAscii::trim_ascii(text.as_bytes()), text.trim_matches(is_space).as_bytes());
-        assert_eq!(TrimAscii::trim_ascii_start(text.as_bytes()), text.trim_start_matches(is_space).as_bytes());
-        assert_eq!(TrimAscii::trim_ascii_end(text.as_bytes()), text.trim_end_matches(is_space).as_bytes());
+        assert_eq!(text.as_bytes().trimmed_ascii(), text.trim_matches(is_space).as_bytes());
+        assert_eq!(text.as_bytes().trimmed_ascii_start(), text.trim_start_matches(is_space).as_bytes());
+        assert_eq!(text.as_bytes().trimmed_ascii_end(), text.trim_end_matches(is_space).as_bytes());
     }
 }
 

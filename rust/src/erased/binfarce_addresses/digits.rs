@@ -2,7 +2,7 @@
 
 //! Numbers in hexadecimal digits.
 
-use crate::shim::Vec;
+use crate::shim::{Vec, to_usize};
 use crate::erased::binfarce_text::digits::hex_digit;
 use crate::shim::alloc::AllocError;
 
@@ -19,7 +19,7 @@ pub(crate) fn push_address(text: &mut Vec<u8>, address: u64) -> Result<(), Alloc
 /// `AllocError` where an allocation failed: the text is then unspecified.
 #[cfg_attr(not(debug_assertions), inline(always))]
 pub fn push_offset(text: &mut Vec<u8>, offset: u64, end: u8) -> Result<(), AllocError> {
-    let zeros = (offset.leading_zeros() / 4).min(15) as usize;
+    let zeros = to_usize((offset.leading_zeros() / 4).min(15));
     text.extend_from_slice(b"+0x")?;
     text.extend_from_slice(&digits_of(offset)[zeros..])?;
     Ok(text.push(end)?)

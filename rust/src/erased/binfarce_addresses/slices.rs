@@ -2,7 +2,7 @@
 
 //! Hints for the search of an address's span.
 
-use crate::shim::Vec;
+use crate::shim::{Vec, to_usize};
 use crate::erased::binfarce_addresses::ranges::Span;
 use crate::shim::alloc::{AllocError, Global};
 
@@ -39,8 +39,8 @@ impl Slices {
     #[cfg_attr(not(debug_assertions), inline(always))]
     pub(crate) fn near(&self, spans: &[Span], address: u64) -> Option<usize> {
         let slice = self.slice_of(address);
-        let from = *self.before.get(slice)? as usize;
-        let to = *self.before.get(slice.wrapping_add(1))? as usize;
+        let from = to_usize(*self.before.get(slice)?);
+        let to = to_usize(*self.before.get(slice.wrapping_add(1))?);
         let among = spans.get(from..to.wrapping_add(1))?;
         let next = among.partition_point(|span| span.start <= address);
         from.wrapping_add(next).checked_sub(1)

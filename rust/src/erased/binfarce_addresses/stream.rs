@@ -2,7 +2,7 @@
 
 //! Addresses that come as the lines of a text.
 
-use crate::shim::{TrimAscii, Vec};
+use crate::shim::{TrimmedAscii, Vec};
 use crate::erased::binfarce_addresses::at::Places;
 use crate::erased::binfarce_addresses::counts::Counts;
 use crate::erased::binfarce_addresses::lookup::Lookup;
@@ -74,7 +74,7 @@ fn addresses_of(alloc: Global, bytes: &[u8]) -> Result<(Vec<Option<u64>>, usize)
     let mut addresses = Vec::with_capacity(alloc, bytes.len() / 8)?;
     let mut len = 0;
     while let Some(line) = first_line(&bytes[len..]) {
-        addresses.push(parse_address(line.trim_ascii()))?;
+        addresses.push(parse_address(line.trimmed_ascii()))?;
         len += line.len() + 1;
     }
     Ok((addresses, len))
@@ -151,11 +151,11 @@ impl<S: Sink> Pass<S> for Lines<'_, '_> {
 // The text that is kept of the first part of a line: no white space before the address, and at most one byte of it
 // after. A line that is too long for an address is kept as one byte that no address has.
 fn kept_of(alloc: Global, line: &[u8]) -> Result<Vec<u8>, AllocError> {
-    let begun = line.trim_ascii_start();
+    let begun = line.trimmed_ascii_start();
     if begun.is_empty() {
         return Vec::from_slice(alloc, &line[..line.len().min(1)]);
     }
-    let len = begun.trim_ascii_end().len();
+    let len = begun.trimmed_ascii_end().len();
     if len > LONGEST {
         return Vec::from_slice(alloc, b"?");
     }

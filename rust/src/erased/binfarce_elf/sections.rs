@@ -2,6 +2,7 @@
 
 //! The sections of a file of either class: their headers, the walk over these, and the names (gABI, "Sections").
 
+use crate::shim::to_usize;
 use crate::erased::binfarce_elf::class::{Class, Half, Word};
 use crate::erased::binfarce_elf::header::Header;
 use crate::erased::binfarce_bytes::parser::{
@@ -237,7 +238,7 @@ pub fn section_named<C: Class>(
 pub(crate) fn is_named(names: Option<&[u8]>, offset: Word, name: &str) -> bool {
     match names {
         None => false,
-        Some(names) => is_text_at(names, offset as usize, name),
+        Some(names) => is_text_at(names, to_usize(offset), name),
     }
 }
 
@@ -263,7 +264,7 @@ pub(crate) fn section_name<'a, C: Class>(table: Table<'a>, section: Section<C>) 
 
 // The name among the section names at this offset.
 pub(crate) fn name_at(names: Option<&[u8]>, offset: Word) -> Option<&str> {
-    parse_null_string(names?, offset as usize)
+    parse_null_string(names?, to_usize(offset))
 }
 
 /// The bytes of the section of the section names, where the file has them.
@@ -273,7 +274,7 @@ pub fn names_bytes<'a, C: Class>(table: Table<'a>) -> Option<&'a [u8]> {
 
 // The section of the section names, which isn't checked against the count.
 fn names_section<C: Class>(table: Table<'_>) -> Option<Section<C>> {
-    let before = C::SECTION_LENGTH.checked_mul(table.shstrndx as usize)?;
+    let before = C::SECTION_LENGTH.checked_mul(to_usize(table.shstrndx))?;
     let start = table.shoff.checked_add(before)?;
     section_at(table.data, start, table.byte_order, table.shstrndx).ok()
 }

@@ -2,7 +2,7 @@
 
 //! Where the functions of all sections end in memory, and their addresses.
 
-use crate::shim::Vec;
+use crate::shim::{Vec, to_usize};
 use crate::erased::binfarce_bytes::ByteOrder;
 use crate::erased::binfarce_elf::class::{Class, Half, SymbolRow, Width, row_at};
 use crate::erased::binfarce_elf::header::Header;
@@ -63,7 +63,7 @@ pub fn address_of(has_modes: bool, row: SymbolRow) -> u64 {
 
 // Whether a row marks a place within a function: as a mapping symbol, or a label of the assembler.
 fn is_mark(strings: &[u8], row: SymbolRow) -> bool {
-    match strings.get(row.name as usize..) {
+    match strings.get(to_usize(row.name)..) {
         None => false,
         Some(name) => row.info == 0 && (is_mapping(name) || name.starts_with(b".L")),
     }

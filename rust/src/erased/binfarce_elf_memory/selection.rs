@@ -2,7 +2,7 @@
 
 //! The function symbols of a selection: of one section, or of all sections with their addresses and sizes in memory.
 
-use crate::shim::Vec;
+use crate::shim::{Vec, to_usize};
 use crate::erased::binfarce_elf_memory::ends::{
     FileKind, address_of, is_function_kind, keys_of, row_size,
 };
@@ -339,7 +339,7 @@ fn size_in(taken: Taken, row: SymbolRow, size: u64) -> u64 {
 #[cfg_attr(not(debug_assertions), inline(always))]
 fn function_name(strings: &[u8], taken: Taken, row: SymbolRow) -> Option<&str> {
     if is_taken(taken, row) && row.name != 0 {
-        parse_null_string(strings, row.name as usize)
+        parse_null_string(strings, to_usize(row.name))
     } else {
         None
     }

@@ -2,6 +2,7 @@
 
 //! The versions of dynamic symbols, and their names (LSB Core Generic, "Symbol Versioning").
 
+use crate::shim::to_usize;
 use crate::erased::binfarce_bytes::ByteOrder;
 use crate::erased::binfarce_bytes::parser::{number_at, parse_null_string, slice_at};
 use crate::erased::binfarce_elf::class::{Class, Half, Word};
@@ -41,7 +42,7 @@ impl<'a> VersionNames<'a> {
             return None;
         }
         let offset = *self.offsets?.get(&index)?;
-        parse_null_string(self.strings, offset as usize)
+        parse_null_string(self.strings, to_usize(offset))
     }
 }
 

@@ -2,7 +2,7 @@
 
 //! Where files are loaded, by a text in the form of /proc/PID/maps.
 
-use crate::shim::TrimAscii;
+use crate::shim::TrimmedAscii;
 use crate::erased::binfarce_logs::faults::fault_in;
 use crate::erased::binfarce_logs::pages::{beginning, largest_page, only_beginning};
 use crate::erased::binfarce_elf_memory::segments::{CodeSegment, LoadAddress};
@@ -369,7 +369,7 @@ fn are_letters(field: &[u8]) -> bool {
 // The path of a mapping.
 fn path_of(line: &[u8]) -> &[u8] {
     let inode = behind_blank(behind_blank(behind_blank(behind_blank(line))));
-    without_mark(behind_blank(inode).trim_ascii_start())
+    without_mark(behind_blank(inode).trimmed_ascii_start())
 }
 
 // A path without the mark of a file that was deleted.

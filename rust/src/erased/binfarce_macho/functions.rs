@@ -2,7 +2,7 @@
 
 //! The function symbols of the selected sections.
 
-use crate::shim::Vec;
+use crate::shim::{Vec, to_usize};
 use crate::erased::binfarce_macho::header::MachoHeader;
 use crate::erased::binfarce_macho::numbered::{
     MAX_SECT, NumberedSection, SelectedSections, selected_sections,
@@ -164,7 +164,7 @@ fn text_entry<'a>(
         return Ok(None);
     }
     let size = size_up_to(above, text.end, at.address)?;
-    let name = parse_null_string(text.symbols.strings, row.name as usize);
+    let name = parse_null_string(text.symbols.strings, to_usize(row.name));
     Ok(sized_entry(at.address, size, name))
 }
 
@@ -344,7 +344,7 @@ fn function_name<'a>(
     if !lies_in(section, row.value) {
         return None;
     }
-    let name = parse_null_string(strings, row.name as usize)?;
+    let name = parse_null_string(strings, to_usize(row.name))?;
     if is_label(name) { None } else { Some(name) }
 }
 

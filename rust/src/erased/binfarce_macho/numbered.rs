@@ -2,7 +2,7 @@
 
 //! The sections of a file by their numbers, and those that a selection takes.
 
-use crate::shim::{String, Vec};
+use crate::shim::{String, Vec, to_usize};
 use crate::erased::binfarce_macho::commands::{LC_SEGMENT_64, commands};
 use crate::erased::binfarce_macho::header::MachoHeader;
 use crate::erased::binfarce_macho::sections::{SECTION_LENGTH, Section, flags_at, section_at};
@@ -54,7 +54,7 @@ impl SelectedSections {
 }
 
 fn name_of(sections: &[NumberedSection], number: u32) -> Option<&str> {
-    let index = (number as usize).checked_sub(1)?;
+    let index = (to_usize(number)).checked_sub(1)?;
     match &sections.get(index)?.name {
         None => None,
         Some(name) => Some(name.as_str()),
@@ -97,7 +97,7 @@ fn push_sections(starts: &mut Vec<usize>, file: &[u8], body: usize) -> Result<()
     }
     let count: u32 = number_at(file, body + 56, ByteOrder::LittleEndian)?;
     let room = usize::from(MAX_SECT) - starts.len();
-    push_starts(starts, body, room.min(count as usize))?;
+    push_starts(starts, body, room.min(to_usize(count)))?;
     Ok(())
 }
 
@@ -105,7 +105,7 @@ fn push_sections(starts: &mut Vec<usize>, file: &[u8], body: usize) -> Result<()
 fn none_truncated(bytes: &[u8], body: usize) -> bool {
     match number_at::<u32>(bytes, body + 56, ByteOrder::LittleEndian) {
         Err(_) => false,
-        Ok(count) => count as usize
+        Ok(count) => to_usize(count)
             <= (bytes.len() + 28).saturating_sub(body + 64) / SECTION_LENGTH,
     }
 }

@@ -2,6 +2,7 @@
 
 //! The text, and the symbol table (Apple's `<mach-o/nlist.h>`).
 
+use crate::shim::to_usize;
 use crate::erased::binfarce_macho::commands::{Command, LC_SYMTAB, commands};
 use crate::erased::binfarce_macho::header::MachoHeader;
 use crate::erased::binfarce_macho::sections::{Section, section_with_name};
@@ -63,10 +64,10 @@ pub fn symbols_by(
     match table {
         None => Ok(None),
         Some(table) => {
-            let strings_size = table.strings_size as usize;
-            let strings = slice_at(file, table.strings_offset as usize, strings_size)?;
+            let strings_size = to_usize(table.strings_size);
+            let strings = slice_at(file, to_usize(table.strings_offset), strings_size)?;
             let rows_size = SYMBOL_LENGTH as u64 * u64::from(table.row_count);
-            let rows = slice_at(file, table.symbol_offset as usize, to_index(rows_size))?;
+            let rows = slice_at(file, to_usize(table.symbol_offset), to_index(rows_size))?;
             Ok(Some(SymbolBytes { strings, rows }))
         }
     }

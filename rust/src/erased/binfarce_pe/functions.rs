@@ -2,7 +2,7 @@
 
 //! The function symbols of selected sections: of the text, or of all sections at their addresses in memory.
 
-use crate::shim::Vec;
+use crate::shim::{Vec, to_usize};
 use crate::erased::binfarce_pe::header::image_base;
 use crate::erased::binfarce_pe::parts::{SECTION_LENGTH, TableOffsets, Text, text_in};
 use crate::erased::binfarce_pe::sections::{Table, section_at, section_table};
@@ -83,7 +83,7 @@ fn all_sections<'a>(
 // The section headers, of which none is truncated.
 fn whole_sections(sections: Table<'_>) -> Result<Table<'_>, ParseError> {
     let room = (sections.bytes.len() + 16).saturating_sub(sections.offset) / SECTION_LENGTH;
-    if sections.offset < sections.bytes.len() && sections.count as usize <= room {
+    if sections.offset < sections.bytes.len() && to_usize(sections.count) <= room {
         Ok(sections)
     } else {
         Err(ParseError::UnexpectedEof)
@@ -117,7 +117,7 @@ pub fn functions_of<'a>(
     let mut held = rows_by_section(alloc, sections, symbols)?;
     let (first, count) = span_of(sections);
     for at in 0..count {
-        let rows = mem::replace(&mut held[at as usize], no_rows(alloc));
+        let rows = mem::replace(&mut held[to_usize(at)], no_rows(alloc));
         push_functions(alloc, &mut functions, sections, first + at, rows)?;
     }
     Ok(functions)
@@ -296,7 +296,7 @@ fn keeps_some(sections: SelectedSections<'_>, symbols: CoffTable<'_>) -> bool {
     while next < row_count {
         let number = next;
         let row = symbol_of(symbols, number);
-        next = number + 1 + row.number_of_aux_symbols as usize;
+        next = number + 1 + usize::from(row.number_of_aux_symbols);
         match kept_in(sections, symbols, number, row) {
             None => {}
             Some(_) => return true,
@@ -318,10 +318,10 @@ fn rows_by_section<'a>(
     while next < row_count {
         let number = next;
         let row = symbol_of(symbols, number);
-        next += 1 + row.number_of_aux_symbols as usize;
+        next += 1 + usize::from(row.number_of_aux_symbols);
         match ending_of(sections, symbols, number, row) {
             None => {}
-            Some((at, name)) => push_row(&mut held[at as usize], u64::from(row.value), name)?,
+            Some((at, name)) => push_row(&mut held[to_usize(at)], u64::from(row.value), name)?,
         }
     }
     Ok(held)

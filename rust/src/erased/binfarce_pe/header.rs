@@ -2,6 +2,7 @@
 
 //! The file header (Microsoft PE Format, "COFF File Header").
 
+use crate::shim::to_usize;
 use crate::erased::binfarce_pe::parts::{OPTIONAL_HEADER_LENGTH, SIGNATURE_POINTER};
 use crate::erased::binfarce_bytes::ByteOrder;
 use crate::erased::binfarce_bytes::parser::{Stream, UnexpectedEof, number_at};
@@ -25,7 +26,7 @@ pub struct PeHeader {
 /// The signature's offset, and the file header.
 pub fn parse_header(file: &[u8]) -> Result<(u32, PeHeader), UnexpectedEof> {
     let pe_pointer: u32 = number_at(file, SIGNATURE_POINTER, ByteOrder::LittleEndian)?;
-    let header = header_after(file, pe_pointer as usize)?;
+    let header = header_after(file, to_usize(pe_pointer))?;
     Ok((pe_pointer, header))
 }
 

@@ -2,6 +2,7 @@
 
 //! The sections of a file (Microsoft PE Format, "Section Table").
 
+use crate::shim::to_usize;
 use crate::erased::binfarce_pe::parts::{SECTION_LENGTH, TableOffsets};
 use crate::erased::binfarce_bytes::parser::{
     Stream, UnexpectedEof, number_at, range, slice_at, to_index, up_to_nul, utf8_text,
@@ -42,7 +43,7 @@ impl Section<'_> {
 /// The section's bytes, a slice of the file; `UnexpectedEof` where they end past the file.
 pub fn section_data<'a>(file: &'a [u8], section: &Section<'_>) -> Result<&'a [u8], ParseError> {
     let (offset, size) = (section.pointer_to_raw_data, section.size_of_raw_data);
-    Ok(slice_at(file, offset as usize, size as usize)?)
+    Ok(slice_at(file, to_usize(offset), to_usize(size))?)
 }
 
 /// An iterator over the sections of a file, in file order: the result of `Pe::sections`. It borrows the file's bytes.

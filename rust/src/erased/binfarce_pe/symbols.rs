@@ -2,6 +2,7 @@
 
 //! The symbol table ("COFF Symbol Table") and its rows.
 
+use crate::shim::to_usize;
 use crate::erased::binfarce_pe::parts::TableOffsets;
 use crate::erased::binfarce_pe::sections::short_name;
 use crate::erased::binfarce_bytes::parser::{
@@ -55,7 +56,7 @@ pub(crate) fn is_function(row: SymbolRow) -> bool {
 // A row's name: its own 8 bytes, or the text in the string table.
 pub(crate) fn name_of<'a>(table: CoffTable<'a>, number: usize, row: SymbolRow) -> Option<&'a str> {
     if row.zeroes == 0 {
-        parse_null_string(table.strings, row.offset as usize)
+        parse_null_string(table.strings, to_usize(row.offset))
     } else {
         let start = number * SYMBOL_LENGTH;
         short_name(&table.rows[start..start + 8])

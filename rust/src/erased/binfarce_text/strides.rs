@@ -2,6 +2,7 @@
 
 //! Bytes that are compared 16 at once.
 
+use crate::shim::to_usize;
 use crate::shim::simd::prelude::*;
 
 /// How many bytes are compared at once.
@@ -18,6 +19,6 @@ pub fn len_before(bytes: &[u8], a: u8, b: u8, c: u8) -> usize {
     if flags == 0 {
         STRIDE
     } else {
-        flags.trailing_zeros() as usize
+        to_usize(flags.trailing_zeros())
     }
 }

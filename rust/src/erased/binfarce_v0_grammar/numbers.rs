@@ -3,6 +3,7 @@
 //! Numbers of a v0 name (RFC 2603, "Base-62-Numbers"): from a position to the value and the position after it. A number
 //! of 2^64 or more is invalid.
 
+use crate::shim::to_usize;
 use crate::erased::binfarce_text::digits::hex_value;
 use crate::erased::binfarce_text::strides::STRIDE;
 use crate::shim::simd::prelude::*;
@@ -41,7 +42,7 @@ const VALUES: [u8; 256] = [
 // The value of a base-62 digit, by one table lookup: a disambiguator has up to eleven digits.
 #[cfg_attr(not(debug_assertions), inline(always))]
 fn digit_62(c: u8) -> Option<u8> {
-    let value = VALUES[c as usize];
+    let value = VALUES[to_usize(c)];
     if value > 61 {
         return None;
     }
@@ -108,7 +109,7 @@ fn digit_run(bytes: &[u8]) -> usize {
     if others == 0 {
         STRIDE
     } else {
-        others.trailing_zeros() as usize
+        to_usize(others.trailing_zeros())
     }
 }
 

@@ -2,7 +2,7 @@
 
 //! The possible targets of a name's back references.
 
-use crate::shim::Vec;
+use crate::shim::{Vec, to_usize};
 use crate::erased::binfarce_v0_grammar::numbers::back_reference;
 use crate::shim::alloc::{AllocError, Global};
 use crate::shim::simd::prelude::*;
@@ -83,7 +83,7 @@ impl Targets {
             if left == 0 {
                 break;
             }
-            let at = start + left.trailing_zeros() as usize % STRIDE;
+            let at = start + to_usize(left.trailing_zeros()) % STRIDE;
             self.add_target(part, at)?;
             left &= left - 1;
         }

@@ -2,6 +2,7 @@
 
 //! Checks and lengths of an image's parts.
 
+use crate::shim::to_usize;
 use super::tables::Class;
 use super::{Image, Part};
 
@@ -36,7 +37,7 @@ fn claims_table(part: &Part) -> bool {
 
 /// The section names are in a byte section.
 pub(super) fn has_names(image: &Image) -> bool {
-    match image.parts.get(image.names_at as usize) {
+    match image.parts.get(to_usize(image.names_at)) {
         Some(Part::Bytes { .. }) => true,
         _ => false,
     }

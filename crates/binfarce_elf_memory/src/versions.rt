@@ -12,7 +12,7 @@ ghost use Rattle.binfarce_elf_memory.specs.Versions.{bytes_if, definition_at, de
 ghost use Rattle.binfarce_elf_memory.specs.machine.RawSelection.{definition_view};
 
 use binfarce_bytes::ByteOrder;
-use binfarce_bytes::parser::{number_at, parse_null_string, slice_at};
+use binfarce_bytes::parser::{number_at, parse_null_string, slice_at, to_index};
 use binfarce_elf::class::{Class, Half, Word};
 use binfarce_elf::sections::{Section, Table, section_data};
 use binfarce_elf::symbol_table::SymbolTable;
@@ -67,7 +67,7 @@ pub fn name_offsets(
         → get nat_cmp offsets index ≡ name_offset (definitions byte_order section.now) index) }
 {
     let mut offsets = BTreeMap::new(alloc);
-    let mut start = 0;
+    let mut start: u64 = 0;
     for _passed in 0..section.len() {
         let Some(definition) = definition_at(section, start, byte_order) else {
             return Ok(offsets);
@@ -76,7 +76,7 @@ pub fn name_offsets(
         if definition.next == 0 {
             return Ok(offsets);
         }
-        start += definition.next as usize;
+        start += u64::from(definition.next);
     }
     Ok(offsets)
 }
@@ -104,18 +104,19 @@ struct Definition {
 
 // The definition that begins at `start`, where it is whole.
 #[tactic(auto, unfolding(crate::specs::Versions::definition_at))]
-fn definition_at(bytes: &[u8], start: usize, byte_order: ByteOrder) -> Option<Definition>
+fn definition_at(bytes: &[u8], start: u64, byte_order: ByteOrder) -> Option<Definition>
     ensures is { option_map definition_view result ≡ definition_at byte_order bytes.now start }
     ensures inside { IfSome result (λ _. start ≤ length bytes.now) }
 {
-    slice_at(bytes, start, 20).ok()?;
-    let behind: Word = number_at(bytes, start + 12, byte_order).unwrap();
-    let names = start + behind as usize;
+    let place = to_index(start);
+    slice_at(bytes, place, 20).ok()?;
+    let behind: Word = number_at(bytes, place + 12, byte_order).unwrap();
+    let names = to_index(start + u64::from(behind));
     slice_at(bytes, names, 8).ok()?;
     Some(Definition {
-        index: number_at(bytes, start + 4, byte_order).unwrap(),
+        index: number_at(bytes, place + 4, byte_order).unwrap(),
         name: number_at(bytes, names, byte_order).unwrap(),
-        next: number_at(bytes, start + 16, byte_order).unwrap(),
+        next: number_at(bytes, place + 16, byte_order).unwrap(),
     })
 }
 
@@ -129,14 +130,21 @@ pub(crate) fn version_at(versions: &[u8], row: usize, byte_order: ByteOrder) -> 
 }
 
 // The versions of all rows of this symbol table, where the file has them.
-#[tactic(auto, using(binfarce_elf::proofs::Names::contents_read))]
 pub(crate) fn row_versions<'a, C: Class>(table: Table<'a>, which: SymbolTable) -> &'a [u8]
     ensures { result.now ≡ bytes_if table.entry.data.now
         (versions_section which (walk C.table (table_view table.entry))) }
 {
-    match versions_section::<C>(table, which) {
+    bytes_if(table.data, versions_section::<C>(table, which))
+}
+
+// The bytes of a section, where there is one and it lies in the file.
+#[tactic(auto, using(binfarce_elf::proofs::Names::contents_read))]
+pub(crate) fn bytes_if<C: Class>(file: &[u8], section: Option<Section<C>>) -> &[u8]
+    ensures { result.now ≡ bytes_if file.entry.now (option_map (section_view C.number_of) section) }
+{
+    match section {
         None => &[],
-        Some(section) => section_data(table.data, section).ok().unwrap_or(&[]),
+        Some(section) => section_data(file, section).ok().unwrap_or(&[]),
     }
 }
 

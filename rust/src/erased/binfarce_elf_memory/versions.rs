@@ -4,7 +4,7 @@
 
 use crate::shim::to_usize;
 use crate::erased::binfarce_bytes::ByteOrder;
-use crate::erased::binfarce_bytes::parser::{number_at, parse_null_string, slice_at};
+use crate::erased::binfarce_bytes::parser::{number_at, parse_null_string, slice_at, to_index};
 use crate::erased::binfarce_elf::class::{Class, Half, Word};
 use crate::erased::binfarce_elf::sections::{Section, Table, section_data};
 use crate::erased::binfarce_elf::symbol_table::SymbolTable;
@@ -54,7 +54,7 @@ pub fn name_offsets(
     byte_order: ByteOrder,
 ) -> Result<BTreeMap<Half, Word>, AllocError> {
     let mut offsets = BTreeMap::new(alloc);
-    let mut start = 0;
+    let mut start: u64 = 0;
     for _passed in 0..section.len() {
         let Some(definition) = definition_at(section, start, byte_order) else {
             return Ok(offsets);
@@ -63,7 +63,7 @@ pub fn name_offsets(
         if definition.next == 0 {
             return Ok(offsets);
         }
-        start += definition.next as usize;
+        start += u64::from(definition.next);
     }
     Ok(offsets)
 }
@@ -87,15 +87,16 @@ struct Definition {
 }
 
 // The definition that begins at `start`, where it is whole.
-fn definition_at(bytes: &[u8], start: usize, byte_order: ByteOrder) -> Option<Definition> {
-    slice_at(bytes, start, 20).ok()?;
-    let behind: Word = number_at(bytes, start + 12, byte_order).unwrap();
-    let names = start + behind as usize;
+fn definition_at(bytes: &[u8], start: u64, byte_order: ByteOrder) -> Option<Definition> {
+    let place = to_index(start);
+    slice_at(bytes, place, 20).ok()?;
+    let behind: Word = number_at(bytes, place + 12, byte_order).unwrap();
+    let names = to_index(start + u64::from(behind));
     slice_at(bytes, names, 8).ok()?;
     Some(Definition {
-        index: number_at(bytes, start + 4, byte_order).unwrap(),
+        index: number_at(bytes, place + 4, byte_order).unwrap(),
         name: number_at(bytes, names, byte_order).unwrap(),
-        next: number_at(bytes, start + 16, byte_order).unwrap(),
+        next: number_at(bytes, place + 16, byte_order).unwrap(),
     })
 }
 
@@ -107,9 +108,14 @@ pub(crate) fn version_at(versions: &[u8], row: usize, byte_order: ByteOrder) -> 
 
 // The versions of all rows of this symbol table, where the file has them.
 pub(crate) fn row_versions<'a, C: Class>(table: Table<'a>, which: SymbolTable) -> &'a [u8] {
-    match versions_section::<C>(table, which) {
+    bytes_if(table.data, versions_section::<C>(table, which))
+}
+
+// The bytes of a section, where there is one and it lies in the file.
+pub(crate) fn bytes_if<C: Class>(file: &[u8], section: Option<Section<C>>) -> &[u8] {
+    match section {
         None => &[],
-        Some(section) => section_data(table.data, section).ok().unwrap_or(&[]),
+        Some(section) => section_data(file, section).ok().unwrap_or(&[]),
     }
 }
 

@@ -1,4 +1,4 @@
-use Rattle.std.proofs.Common.{◌≡◌, ◌+◌, ◌-◌, ℕ, arith, length, ap, sym, ◌∙◌}
+use Rattle.std.proofs.Common.{◌≡◌, ◌+◌, ◌-◌, ℕ, arith, length, ap, ap₂, sym, ◌∙◌}
 use Rattle.std.specs.BTreeMap.{get}
 use Rattle.std.specs.Ordering.{nat_cmp}
 use Rattle.std.specs.Option.{option_map, option_or}
@@ -27,7 +27,7 @@ loop-passed-preserved c = λ index small.
     let all = name_offset (definitions c.args.byte_order bytes) index in
     let left = length bytes - c.loop-passed._passed in
     let fewer : left - 1 ≡ length bytes - (c.loop-passed._passed + 1) = omega arith in
-    ap (λ (n : ℕ). option_or (get nat_cmp c.define.new.offsets index) (name_offset (definitions_from c.args.byte_order bytes n (c.loop-passed.start + c.in-Some.definition.next)) index)) (sym fewer)
+    ap₂ (λ (n next : ℕ). option_or (get nat_cmp c.define.new.offsets index) (name_offset (definitions_from c.args.byte_order bytes n (c.loop-passed.start + next)) index)) (sym fewer) c.from-start.ensures
     ∙ further c.args.byte_order bytes left c.loop-passed.start index (get nat_cmp c.loop-passed.offsets index) all
     (omega (arith, c.loop-passed-test.true)) (c.loop-passed.invariant index small) (definition_view c.in-Some.definition) (get nat_cmp c.define.new.offsets index)
     (sym c.definition_at.ensures.is ∙ ap (option_map definition_view) c.in-Some.is) (c.in_ok-define.ensures index small) (ne_eqb c.in-Some.definition.next 0 c.if-definition-eq0.false)

@@ -17,6 +17,7 @@ pub use Rattle.binfarce_elf.specs.Classes
 pub use Rattle.binfarce_elf.specs.ElfSymbols
 pub use Rattle.binfarce_elf.specs.SymbolTables
 pub use Rattle.binfarce_elf.specs.ElfViews
+pub use Rattle.binfarce_elf_memory.specs.Descriptors
 pub use Rattle.binfarce_elf_memory.specs.ElfEnds
 pub use Rattle.binfarce_elf_memory.specs.ElfSelection
 pub use Rattle.binfarce_elf_memory.specs.SelectionViews

@@ -192,8 +192,10 @@ impl<'a, C: Class> Elf<'a, C> {
     ///
     /// It keeps rows of type function (`STT_FUNC`, `STT_GNU_IFUNC`) that have a name: none without a section
     /// (`SHN_UNDEF`), and none with a reserved index such as `SHN_ABS`. A function of size 0, such as `_start`, ends at
-    /// the next greater address of a symbol of its section, or with the section. In a file for Arm (`EM_ARM`), bit 0 of a
-    /// function's value is its instruction set, and is cleared.
+    /// the next greater address of a symbol of its section, or with the section. In a file for Arm or MIPS (`EM_ARM`,
+    /// `EM_MIPS`) bit 0 of a function's value is its instruction set, and is cleared. In a file for 64-bit PowerPC of ABI
+    /// version 1 that is no object, a function whose symbol is in `.opd` has the address in its descriptor, in the section
+    /// of code that holds this; one without either is left out.
     ///
     /// # Errors
     ///

@@ -2,6 +2,7 @@ pub mod Defined
 pub mod RowsLeft
 pub mod Steps
 pub mod Numbered
+pub mod Placed
 pub mod Keys
 pub mod Pushed
 pub mod Sized

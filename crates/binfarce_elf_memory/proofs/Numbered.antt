@@ -20,11 +20,11 @@ nth_past f a (suc n) zero past = absurd (omega arith)
 nth_past f a (suc n) (suc i) past = nth_past f (a + 1) n i (omega arith)
 
 -- a section whose header is whole and below the count
-section_is : (class : ElfClass) (table : SectionTable) (i : ℕ) → i < table.shnum → i < whole_headers class table → slice_get (walk class table).items i ≡ Some (section_of class table i)
+pub section_is : (class : ElfClass) (table : SectionTable) (i : ℕ) → i < table.shnum → i < whole_headers class table → slice_get (walk class table).items i ≡ Some (section_of class table i)
 unfolding walk
 section_is class table i lt whole = nth_numbered (section_of class table) 0 (min table.shnum (whole_headers class table)) i (omega arith) ∙ ap (λ (k : ℕ). Some (section_of class table k)) (omega arith)
 
-no_section : (class : ElfClass) (table : SectionTable) (i : ℕ) → min table.shnum (whole_headers class table) ≤ i → slice_get (walk class table).items i ≡ None
+pub no_section : (class : ElfClass) (table : SectionTable) (i : ℕ) → min table.shnum (whole_headers class table) ≤ i → slice_get (walk class table).items i ≡ None
 unfolding walk
 no_section class table i past = nth_past (section_of class table) 0 (min table.shnum (whole_headers class table)) i past
 

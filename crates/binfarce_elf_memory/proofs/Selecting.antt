@@ -1,5 +1,5 @@
 -- The answer for a selection, where its steps were taken.
-use Rattle.std.proofs.Common.{◌≡◌, ℕ, Bool, true, List, Option, Some, Result, Ok, Err, ap, sym, ◌∙◌}
+use Rattle.std.proofs.Common.{◌≡◌, ℕ, Bool, true, List, Option, Some, Result, Ok, Err, refl, ap, sym, ◌∙◌}
 use Rattle.std.specs.Prelude.{is_some}
 use Rattle.std.specs.List.{range_with_len, filter_map}
 use Rattle.binfarce_bytes.specs.Refusal.{◌>>=◌, Refusal, symbols_section_is_missing}
@@ -9,18 +9,33 @@ use Rattle.binfarce_bytes.specs.declared.ByteOrder.{ByteOrder}
 use Rattle.binfarce_elf.specs.Elf.{ElfClass, SectionTable, Section, walk, names_bytes, name_among}
 use Rattle.binfarce_elf_memory.specs.ElfEnds.{FileKind, ends_of, has_modes, kind_of}
 use Rattle.binfarce_elf.specs.SymbolTables.{TableSections, TableRows, table_sections, rows_at}
-use Rattle.binfarce_elf_memory.specs.ElfSelection.{Taken, NeededSections, one_section as of_one, size_taken, entry_sized, taken, taken_from, needed, selected_from, elf_selected, has_indirect}
+use Rattle.binfarce_elf_memory.specs.ElfSelection.{Taken, NeededSections, one_section as of_one, all_sections, size_taken, placed, rows_taken, entry_sized, taken, taken_from, needed, selected_from, elf_selected, has_indirect}
 use Rattle.binfarce_elf.specs.ElfSymbols.{is_named, row_count, row_of, sought}
 use Rattle.binfarce_elf_memory.specs.Versions.{bytes_if, version_of, versions_section}
 use Rattle.binfarce_elf.specs.declared.symbol_table.SymbolTable.{SymbolTable}
 
+-- a selection's rows of a file
+abbrev pub placed_in : ElfClass → SectionTable → Taken → TableRows → TableRows
+placed_in class table selected found = placed class table.order (walk class table) (names_bytes class table) (kind_of class table) table.file selected found
+
+abbrev rows_in : ElfClass → SectionTable → NeededSections → Result TableRows Refusal
+rows_in class table needs = rows_taken class table.order (walk class table) (names_bytes class table) (kind_of class table) table.file needs
+
+-- of one section as the file stores them
+pub as_stored : (class : ElfClass) (table : SectionTable) (selected : Taken) (found : TableRows) → is_some (size_taken selected) ≡ true → placed_in class table selected found ≡ found
+as_stored class table (of_one index size indirect) found one = refl
+as_stored class table (all_sections count) found one = absurd cc
+
 pub selected_is : (which : SymbolTable) (class : ElfClass) (table : SectionTable) (section : Option (List ℕ)) (n : NeededSections) (found : TableRows)
     → needed which (walk class table) (names_bytes class table) table.shnum section ≡ Ok n → rows_at class table.file n.table ≡ Ok found
-    → elf_selected which class table section ≡ Ok (selected_from class table.order (walk class table) (kind_of class table) n.taken found (bytes_if table.file (versions_section which (walk class table))))
-unfolding elf_selected
+    → elf_selected which class table section
+    ≡ Ok (selected_from class table.order (walk class table) (kind_of class table) n.taken (placed_in class table n.taken found) (bytes_if table.file (versions_section which (walk class table))))
+unfolding elf_selected rows_taken
 selected_is which class table section n found is also =
-    ap (λ (a : Result NeededSections Refusal). a >>= λ needs. rows_at class table.file needs.table >>= λ f. Ok (selected_from class table.order (walk class table) (kind_of class table) needs.taken f (bytes_if table.file (versions_section which (walk class table))))) is
-    ∙ ap (λ (a : Result TableRows Refusal). a >>= λ f. Ok (selected_from class table.order (walk class table) (kind_of class table) n.taken f (bytes_if table.file (versions_section which (walk class table))))) also
+    ap (λ (a : Result NeededSections Refusal). a >>= λ needs. rows_in class table needs >>= λ f. Ok (selected_from class table.order (walk class table) (kind_of class table) needs.taken f (bytes_if table.file (versions_section which (walk class table))))) is
+    ∙ ap
+    (λ (a : Result TableRows Refusal). (a >>= λ f. Ok (placed_in class table n.taken f)) >>= λ f. Ok (selected_from class table.order (walk class table) (kind_of class table) n.taken f (bytes_if table.file (versions_section which (walk class table)))))
+    also
 
 -- what a name selects has a size
 pub one_section : (which : SymbolTable) (sections : Walk Section) (names : Option (List ℕ)) (count : ℕ) (name : List ℕ) (n : NeededSections)

@@ -3,9 +3,9 @@ use Rattle.std.proofs.Common.{◌≡◌, ℕ, eqb, List, Result, Ok, Err, refl, 
 use Rattle.std.proofs.Math.Path.{fun_ext}
 use Rattle.binfarce_bytes.specs.Refusal.{◌>>=◌, Refusal, symbols_section_is_missing, section_is_missing}
 use Rattle.binfarce_bytes.specs.Entries.{Listed}
-use Rattle.binfarce_elf.specs.Elf.{ElfClass, SectionTable, Section, walk, name_of}
+use Rattle.binfarce_elf.specs.Elf.{ElfClass, SectionTable, Section, walk, name_of, names_bytes}
 use Rattle.binfarce_elf.specs.SymbolTables.{TableSections, TableRows, table_sections, rows_at, section_type, table_name, strings_name}
-use Rattle.binfarce_elf_memory.specs.ElfSelection.{Taken, NeededSections, Selected, one_section, taken, needed, selected_from, elf_selected, listed_of, has_indirect, section_answer}
+use Rattle.binfarce_elf_memory.specs.ElfSelection.{Taken, NeededSections, Selected, one_section, placed, rows_taken, taken, needed, selected_from, elf_selected, listed_of, has_indirect, section_answer}
 use Rattle.binfarce_elf.specs.ElfSymbols.{sought, is_named, section_data, string_table_kind, whole_rows}
 use Rattle.binfarce_elf_memory.specs.ElfEnds.{kind_of}
 use Rattle.binfarce_elf_memory.specs.Versions.{bytes_if, versions_section}
@@ -68,15 +68,21 @@ module _ (which : SymbolTable) (class : ElfClass) (table : SectionTable) where
   abbrev selected_of : Taken → TableRows → Selected
   selected_of selected found = selected_from class table.order (walk class table) (kind_of class table) selected found (bytes_if table.file (versions_section which (walk class table)))
 
+  abbrev of_file : Taken → TableRows → TableRows
+  of_file selected found = placed class table.order (walk class table) (names_bytes class table) (kind_of class table) table.file selected found
+
+  abbrev taken_rows : NeededSections → Result TableRows Refusal
+  taken_rows sections = rows_taken class table.order (walk class table) (names_bytes class table) (kind_of class table) table.file sections
+
   abbrev of_needed : NeededSections → Result Selected Refusal
-  of_needed sections = rows_at class table.file sections.table >>= λ found. Ok (selected_of sections.taken found)
+  of_needed sections = taken_rows sections >>= λ found. Ok (selected_of sections.taken found)
 
   -- the list of a section's functions among these rows
   abbrev pub listed : Section → TableRows → Result Listed Refusal
   listed section found = Ok (listed_of (selected_of (by_section section) found))
 
   abbrev then_listed : NeededSections → Result Listed Refusal
-  then_listed sections = rows_at class table.file sections.table >>= λ found. Ok (listed_of (selected_of sections.taken found))
+  then_listed sections = rows_at class table.file sections.table >>= λ found. Ok (listed_of (selected_of sections.taken (of_file sections.taken found)))
 
   abbrev section_step : List ℕ → Result Section Refusal
   section_step name = sought symbols_section_is_missing (λ s. is_named name (name_of class table s)) (walk class table)
@@ -90,11 +96,12 @@ module _ (which : SymbolTable) (class : ElfClass) (table : SectionTable) where
       section_step name >>= λ section. symbols_step >>= λ symbols. linked_step symbols >>= λ linked. string_table_kind linked >>= λ strings. bytes_then (next section) (record { symbols = symbols; strings = strings })
 
   pub answer_steps : (name : List ℕ) → section_answer which class table name ≡ answer_by listed name
-  unfolding section_answer elf_selected needed taken name_of
+  unfolding section_answer elf_selected needed taken rows_taken name_of
   answer_steps name =
       assoc (all_needed name) of_needed (λ selected. Ok (listed_of selected))
       ∙ ap (λ (k : NeededSections → Result Listed Refusal). all_needed name >>= k) (fun_ext (λ sections.
-      assoc (rows_at class table.file sections.table) (λ found. Ok (selected_of sections.taken found)) (λ selected. Ok (listed_of selected))))
+      assoc (taken_rows sections) (λ found. Ok (selected_of sections.taken found)) (λ selected. Ok (listed_of selected))
+      ∙ assoc (rows_at class table.file sections.table) (λ found. Ok (of_file sections.taken found)) (λ found. Ok (listed_of (selected_of sections.taken found)))))
       ∙ ap (λ (r : Result NeededSections Refusal). r >>= then_listed) (assoc (section_step name) (λ section. Ok (by_section section)) with_table)
       ∙ assoc (section_step name) (λ section. with_table (by_section section)) then_listed
       ∙ ap (λ (k : Section → Result Listed Refusal). section_step name >>= k) (fun_ext (λ section.

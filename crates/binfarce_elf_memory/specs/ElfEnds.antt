@@ -9,13 +9,14 @@ use Rattle.binfarce_elf.specs.Elf.{ElfClass, Header, SectionTable, Section, Symb
 use Rattle.binfarce_elf.specs.ElfSymbols.{is_function, row_count, row_of}
 use Rattle.binfarce_elf.specs.SymbolTables.{TableRows}
 
--- what the file header says of addresses: the file's type and its machine
+-- what the file header says of addresses: the file's type, its machine and that machine's flags
 pub record FileKind : Type 0 where
   pub elf_type : ℕ
   pub machine : ℕ
+  pub flags : ℕ
 
 abbrev pub file_kind : Header ℕ → FileKind
-file_kind header = record { elf_type = header.elf_type; machine = header.machine }
+file_kind header = record { elf_type = header.elf_type; machine = header.machine; flags = header.flags }
 
 abbrev pub kind_of : ElfClass → SectionTable → FileKind
 kind_of class table = file_kind (header_of class table.order table.file)

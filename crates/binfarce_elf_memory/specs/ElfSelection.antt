@@ -14,6 +14,7 @@ use Rattle.binfarce_elf.specs.ElfSymbols.{elf_answer, is_named, row_count, row_o
 use Rattle.binfarce_elf.specs.SymbolTables.{TableRows, TableSections, rows_at, table_sections}
 use Rattle.binfarce_elf.specs.declared.symbol_table.SymbolTable.{SymbolTable}
 use Rattle.binfarce_elf.specs.declared.symbol_table.SymbolTable.TheVariants.{Symtab, Dynsym}
+use Rattle.binfarce_elf_memory.specs.Descriptors.{descriptors_section, rows_by}
 use Rattle.binfarce_elf_memory.specs.ElfEnds.{End, FileKind, address_of, ends_of, has_modes, is_function_kind, kind_of, size_of}
 use Rattle.binfarce_elf_memory.specs.Versions.{bytes_if, definitions_section, version_name, version_of, versions_section}
 
@@ -102,11 +103,29 @@ abbrev pub selected_from : ElfClass → ByteOrder → Walk Section → FileKind 
 selected_from class order sections kind taken found versions =
     record { entries = taken_from class order sections kind taken found versions; taken = taken; strings = found.strings }
 
+-- the section of the descriptors that a selection needs: none for one section, whose functions are as the file stores them
+abbrev pub needed_descriptors : ElfClass → Walk Section → (names : Option (List ℕ)) → FileKind → Taken → Option Section
+needed_descriptors class sections names kind (one_section index size indirect) = None
+needed_descriptors class sections names kind (all_sections count) = descriptors_section class kind sections names
+
+-- the rows of a selection: those that the file stores, with the functions that have descriptors where their code is
+abbrev pub placed_rows : ElfClass → ByteOrder → Walk Section → (names : Option (List ℕ)) → FileKind → (file : List ℕ) → Taken → (rows : List ℕ) → List ℕ
+placed_rows class order sections names kind file taken rows = rows_by order sections file (needed_descriptors class sections names kind taken) rows
+
+abbrev pub placed : ElfClass → ByteOrder → Walk Section → (names : Option (List ℕ)) → FileKind → (file : List ℕ) → Taken → TableRows → TableRows
+placed class order sections names kind file taken found = record { strings = found.strings; rows = placed_rows class order sections names kind file taken found.rows }
+
+-- these rows, or the refusal of the symbol table's bytes
+unfoldable pub rows_taken : ElfClass → ByteOrder → Walk Section → (names : Option (List ℕ)) → FileKind → (file : List ℕ) → NeededSections → Result TableRows Refusal
+rows_taken class order sections names kind file needs = do
+  found ← rows_at class file needs.table
+  Ok (placed class order sections names kind file needs.taken found)
+
 -- the answer for a selection by this symbol table: the refusals in order, else the entries
 unfoldable pub elf_selected : SymbolTable → ElfClass → SectionTable → Option (List ℕ) → Result Selected Refusal
 elf_selected which class table section = do
   sections ← needed which (walk class table) (names_bytes class table) table.shnum section
-  found ← rows_at class table.file sections.table
+  found ← rows_taken class table.order (walk class table) (names_bytes class table) (kind_of class table) table.file sections
   Ok (selected_from class table.order (walk class table) (kind_of class table) sections.taken found (bytes_if table.file (versions_section which (walk class table))))
 
 -- the entries of a section, and its size

@@ -1,5 +1,6 @@
 pub mod ElfEnds
 pub mod Versions
+pub mod Descriptors
 pub mod ElfSelection
 pub mod SelectionViews
 pub mod ElfParts

@@ -35,7 +35,7 @@ needed_view n = record { taken = taken_view n.taken; table = table_sections_view
 
 -- a `FileKind`
 abbrev pub kind_view : code_kind.FileKind → FileKind
-kind_view k = record { elf_type = k.elf_type; machine = k.machine }
+kind_view k = record { elf_type = k.elf_type; machine = k.machine; flags = k.flags }
 
 -- the entries that a selection takes of the rows numbered from k on, where these are the versions and the sizes in memory of all rows
 abbrev pub sized_from : ElfClass → ByteOrder → Taken → (has_modes : Bool) → TableRows → (versions sizes : List ℕ) → ℕ → List SectionEntry

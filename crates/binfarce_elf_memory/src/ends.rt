@@ -9,33 +9,39 @@ ghost use Rattle.binfarce_elf.specs.Elf.{walk};
 ghost use Rattle.binfarce_elf.specs.ElfSymbols.{row_count, row_of};
 ghost use Rattle.binfarce_elf.specs.ElfViews.{header_view, section_view};
 ghost use Rattle.binfarce_elf.specs.machine.RawElf.{rows_view, symbol_view, table_view};
+ghost use Rattle.binfarce_elf_memory.specs.Descriptors.{has_descriptors};
 ghost use Rattle.binfarce_elf_memory.specs.ElfEnds.{End, has_modes, address_of, addresses_in, ends_of, file_kind, is_function_kind, is_mapping, is_mark, section_end, size_of, symbol_ends};
 ghost use Rattle.binfarce_elf_memory.specs.SelectionViews.{kind_view};
 ghost use Rattle.binfarce_elf_memory.specs.machine.RawSelection.{AreKeysOf, key_of};
 
 use binfarce_bytes::ByteOrder;
-use binfarce_elf::class::{Class, Half, SymbolRow, Width, row_at};
+use binfarce_elf::class::{Class, Half, SymbolRow, Width, Word, row_at};
 use binfarce_elf::header::Header;
 use binfarce_elf::sections::{Section, Table, section_at};
 use binfarce_elf::symbols::Rows;
 use std::alloc::{AllocError, Global};
 
-/// What the file header says of addresses: the file's type and its machine.
+/// What the file header says of addresses: the file's type, its machine and that machine's flags.
 #[derive(Clone, Copy)]
 pub struct FileKind {
     pub elf_type: Half,
     pub machine: Half,
+    pub flags: Word,
 }
 
-/// The type and the machine that a file header states.
+/// The type, the machine and the flags that a file header states.
 pub fn kind_of<C: Class>(header: &Header<C>) -> FileKind
     ensures { kind_view result ≡ file_kind (header_view C.number_of header.now) }
 {
     FileKind {
         elf_type: header.elf_type,
         machine: header.machine,
+        flags: header.flags,
     }
 }
+
+// The type of an object file.
+const ET_REL: Half = 1;
 
 // A section's keys are from its index times this on, one for each address.
 const ADDRESSES: u128 = 1 << 64;
@@ -48,6 +54,14 @@ impl FileKind {
         const EM_ARM: Half = 40;
         const EM_MIPS: Half = 8;
         self.machine == EM_ARM || self.machine == EM_MIPS
+    }
+
+    // Whether the values of functions are addresses of descriptors, in a file of 64 bits.
+    pub(crate) fn has_descriptors(self) -> bool
+        ensures { result ≡ has_descriptors (kind_view self) }
+    {
+        const EM_PPC64: Half = 21;
+        self.machine == EM_PPC64 && self.flags % 4 < 2 && self.elf_type != ET_REL
     }
 }
 
@@ -105,7 +119,6 @@ fn is_mapping(name: &[u8]) -> bool
 fn end_of<C: Class>(kind: FileKind, section: Section<C>) -> u64
     ensures { result ≡ (section_end (kind_view kind) (section_view C.number_of section)).address }
 {
-    const ET_REL: Half = 1;
     let size = section.size().widened();
     if kind.elf_type == ET_REL {
         size
@@ -181,7 +194,7 @@ fn push_rows(
     Ok(())
 }
 
-fn put_in_order(keys: &mut Vec<u128>)
+pub(crate) fn put_in_order(keys: &mut Vec<u128>)
     ensures same { IsPermutation keys.old.items keys.new.items }
     ensures rises { IsNonDecreasingBy (λ k. k) keys.new.items }
 {
@@ -221,7 +234,7 @@ fn end_above(keys: &[u128], section: Half, address: u64) -> Option<u64>
 }
 
 // The least key above this one, by a binary search.
-fn key_above(keys: &[u128], key: u128) -> Option<u128>
+pub(crate) fn key_above(keys: &[u128], key: u128) -> Option<u128>
     requires { IsNonDecreasingBy (λ k. k) keys.now }
     ensures is { result ≡ least_above keys.now key }
     ensures above { IfSome result (λ next. key < next) }

@@ -24,7 +24,7 @@ pub fn section_is_answered<C: Class>(table: Table<'_>, name: &str)
 #[tactic(auto, unfolding(binfarce_elf::specs::Elf::elf32, binfarce_elf::specs::Elf::elf64, binfarce_elf::specs::ElfSymbols::symbol_at, crate::specs::ElfEnds::size_of, crate::specs::ElfSelection::function_name, crate::specs::Versions::version_of, binfarce_bytes::proofs::Computing::computing))]
 fn worked_rows()
     ensures of_64_bits { taken_from elf64 LittleEndian (record { items = []; refusal = None })
-        (record { elf_type = 3; machine = 62 }) (one_section 1 0x20 true)
+        (record { elf_type = 3; machine = 62; flags = 0 }) (one_section 1 0x20 true)
         (record {
           strings = 0 ∷ 0x66 ∷ 0 ∷ [];
           rows = 1 ∷ 0 ∷ 0 ∷ 0 ∷ 0x12 ∷ 0 ∷ 1 ∷ 0 ∷ 1 ∷ 0x10 ∷ 0 ∷ 0 ∷ 0 ∷ 0 ∷ 0 ∷ 0
@@ -37,7 +37,7 @@ fn worked_rows()
           entry = record { name = 0x66 ∷ []; address = 0x1001; size = 16 };
         } ∷ [] }
     ensures indirect { taken_from elf32 BigEndian (record { items = []; refusal = None })
-        (record { elf_type = 3; machine = 40 }) (one_section 1 0x20 true)
+        (record { elf_type = 3; machine = 40; flags = 0 }) (one_section 1 0x20 true)
         (record {
           strings = 0 ∷ 0x66 ∷ 0 ∷ [];
           rows = 0 ∷ 0 ∷ 0 ∷ 1 ∷ 0 ∷ 0 ∷ 0x10 ∷ 1 ∷ 0 ∷ 0 ∷ 0 ∷ 16 ∷ 0x1A ∷ 0 ∷ 0 ∷ 1
@@ -50,14 +50,14 @@ fn worked_rows()
           entry = record { name = 0x66 ∷ []; address = 0x1001; size = 16 };
         } ∷ [] }
     ensures left_out { taken_from elf32 BigEndian (record { items = []; refusal = None })
-        (record { elf_type = 3; machine = 40 }) (one_section 1 0x20 false)
+        (record { elf_type = 3; machine = 40; flags = 0 }) (one_section 1 0x20 false)
         (record {
           strings = 0 ∷ 0x66 ∷ 0 ∷ [];
           rows = 0 ∷ 0 ∷ 0 ∷ 1 ∷ 0 ∷ 0 ∷ 0x10 ∷ 1 ∷ 0 ∷ 0 ∷ 0 ∷ 16 ∷ 0x1A ∷ 0 ∷ 0 ∷ 1
               ∷ [];
         }) [] ≡ [] }
     ensures in_memory { taken_from elf32 BigEndian (record { items = []; refusal = None })
-        (record { elf_type = 3; machine = 40 }) (all_sections 2)
+        (record { elf_type = 3; machine = 40; flags = 0 }) (all_sections 2)
         (record {
           strings = 0 ∷ 0x66 ∷ 0 ∷ [];
           rows = 0 ∷ 0 ∷ 0 ∷ 1 ∷ 0 ∷ 0 ∷ 0x10 ∷ 1 ∷ 0 ∷ 0 ∷ 0 ∷ 16 ∷ 0x12 ∷ 0 ∷ 0 ∷ 1

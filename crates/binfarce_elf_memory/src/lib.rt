@@ -2,6 +2,7 @@
 //! and their versions, and where a file is loaded.
 #![tactic(auto)]
 
+pub mod descriptors;
 pub mod ends;
 mod laws;
 pub mod parts;

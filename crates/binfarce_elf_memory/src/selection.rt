@@ -15,11 +15,12 @@ ghost use Rattle.binfarce_elf.specs.Elf.{walk};
 ghost use Rattle.binfarce_elf.specs.ElfSymbols.{row_count, row_of};
 ghost use Rattle.binfarce_elf.specs.machine.RawElf.{symbol_view, table_view};
 ghost use Rattle.binfarce_elf_memory.specs.ElfEnds.{End, kind_of};
-ghost use Rattle.binfarce_elf_memory.specs.ElfSelection.{address_taken, elf_selected, entry_sized, entry_taken, function_name, has_indirect, is_of_section, is_taken, needed, size_in, size_taken, taken};
+ghost use Rattle.binfarce_elf_memory.specs.ElfSelection.{address_taken, elf_selected, entry_sized, entry_taken, function_name, has_indirect, is_of_section, is_taken, needed, size_in, size_taken, taken, taken_from};
 ghost use Rattle.binfarce_elf_memory.specs.SelectionViews.{HoldsAllFunctions, functions_left, kind_view, needed_view, selected_view, sized_from, taken_view};
-ghost use Rattle.binfarce_elf_memory.specs.Versions.{version_of};
-ghost use Rattle.binfarce_elf_memory.specs.machine.RawSelection.{AreKeysOf};
+ghost use Rattle.binfarce_elf_memory.specs.Versions.{bytes_if, version_of, versions_section};
+ghost use Rattle.binfarce_elf_memory.specs.machine.RawSelection.{AreKeysOf, rows_or};
 
+use crate::descriptors::placed_rows;
 use crate::ends::{FileKind, address_of, is_function_kind, keys_of, row_size};
 use crate::versions::{row_versions, version_at};
 use binfarce_bytes::functions::{FunctionSymbol, SectionFunction, Selection, found_with};
@@ -72,7 +73,7 @@ pub struct Needed {
 }
 
 /// The function symbols of the section with this name, by this symbol table. Nothing is allocated.
-#[tactic(auto, unfolding(crate::specs::ElfSelection::elf_selected))]
+#[tactic(auto, unfolding(crate::specs::ElfSelection::elf_selected, crate::specs::ElfSelection::rows_taken))]
 pub fn section_functions<'a, C: Class>(
     table: Table<'a>,
     which: SymbolTable,
@@ -98,7 +99,7 @@ pub fn section_functions<'a, C: Class>(
 
 /// The function symbols of all sections of a file of this kind, by this symbol table: a list in table order. Every
 /// refusal comes before the first allocation.
-#[tactic(auto, unfolding(crate::specs::ElfSelection::elf_selected))]
+#[tactic(auto, unfolding(crate::specs::ElfSelection::elf_selected, crate::specs::ElfSelection::rows_taken))]
 pub fn all_functions<'a, C: Class>(
     alloc: Global,
     table: Table<'a>,
@@ -108,19 +109,67 @@ pub fn all_functions<'a, C: Class>(
     requires { kind_view kind ≡ kind_of C.table (table_view table) }
     ensures { Answers HoldsAllFunctions IsOk (elf_selected which C.table (table_view table.entry) None) result }
 {
-    let needed = needed_of::<C>(table, names_bytes::<C>(table), which, Selection::All)?;
+    let names = names_bytes::<C>(table);
+    let needed = needed_of::<C>(table, names, which, Selection::All)?;
     let found = rows_at(table.data, C::width(), needed.table)?;
+    let placed = placed_rows(
+        alloc,
+        table,
+        names,
+        C::width(),
+        kind,
+        needed.taken,
+        found.rows,
+    )?;
+    let rows = rows_or(found.rows, &placed);
+    let functions = functions_of::<C>(
+        alloc,
+        table,
+        kind,
+        which,
+        needed.taken,
+        found.strings,
+        rows,
+    )?;
+    Ok(functions)
+}
+
+// These rows, unless there are others.
+fn rows_or<'a>(rows: &'a [u8], others: &'a Option<Vec<u8>>) -> &'a [u8]
+    ensures { result.now ≡ rows_or rows.entry.now others.entry.now }
+{
+    match others {
+        None => rows,
+        Some(others) => others.as_slice(),
+    }
+}
+
+// The function symbols that a selection takes of these rows.
+fn functions_of<'a, C: Class>(
+    alloc: Global,
+    table: Table<'_>,
+    kind: FileKind,
+    which: SymbolTable,
+    taken: Taken,
+    strings: &'a [u8],
+    rows: &[u8],
+) -> Result<Vec<SectionFunction<'a>>, AllocError>
+    ensures { let sections = walk C.table (table_view table.entry) in IfOk result
+        (λ v. map section_function_view v.items ≡ taken_from C.table table.entry.byte_order sections (kind_view kind)
+        (taken_view taken) (record { strings = strings.entry.now; rows = rows.now })
+        (bytes_if table.entry.data.now (versions_section which sections))) }
+{
     let has_modes = kind.has_modes();
-    let keys = keys_of::<C>(alloc, table, kind, found)?;
-    let width = C::width();
+    let keys = keys_of::<C>(alloc, table, kind, Rows { strings, rows })?;
     let functions = list_in(
         alloc,
         &keys,
-        width,
+        C::width(),
         table.byte_order,
         has_modes,
-        needed.taken,
-        found,
+        taken,
+        strings,
+        rows,
         row_versions::<C>(table, which),
     )?;
     Ok(functions)
@@ -135,23 +184,24 @@ fn list_in<'a>(
     byte_order: ByteOrder,
     has_modes: bool,
     taken: Taken,
-    found: Rows<'a>,
+    strings: &'a [u8],
+    rows: &[u8],
     versions: &[u8],
 ) -> Result<Vec<SectionFunction<'a>>, AllocError>
     requires { IsNonDecreasingBy (λ k. k) keys.now }
-    ensures { (ends : List End) → AreKeysOf ends keys.now → let rows = found.entry.rows.now in IfOk result
+    ensures { (ends : List End) → AreKeysOf ends keys.now → IfOk result
         (λ v. map section_function_view v.items ≡ filter_map
-        (λ k. entry_sized found.entry.strings.now (taken_view taken) has_modes ends
-        (row_of (class_of width) byte_order rows k) (version_of byte_order versions.now k))
-        (range_with_len 0 (row_count (class_of width) rows))) }
+        (λ k. entry_sized strings.entry.now (taken_view taken) has_modes ends
+        (row_of (class_of width) byte_order rows.now k) (version_of byte_order versions.now k))
+        (range_with_len 0 (row_count (class_of width) rows.now))) }
 {
     let length = width.symbol_length();
     let mut functions = Vec::new(alloc);
-    for k in 0..found.rows.len() / length {
-        let row = row_at(width, found.rows, k * length, byte_order).unwrap();
+    for k in 0..rows.len() / length {
+        let row = row_at(width, rows, k * length, byte_order).unwrap();
         let version = version_at(versions, k, byte_order);
         let size = row_size(keys, has_modes, row);
-        match function_of(found.strings, taken, has_modes, row, version, size) {
+        match function_of(strings, taken, has_modes, row, version, size) {
             None => {}
             Some(function) => functions.push(function)?,
         }
@@ -346,7 +396,7 @@ impl<'a> Functions<'a> {
 impl<'a> Iterator for Functions<'a> {
     ghost use Rattle.std.specs.Iterator.{YieldsFirstBy, item_count};
     ghost use Rattle.binfarce_bytes.specs.SymbolViews.{section_function_view};
-    ghost use Rattle.binfarce_elf_memory.specs.Versions.{version_of};
+    ghost use Rattle.binfarce_elf_memory.specs.Versions.{bytes_if, version_of, versions_section};
     ghost use Rattle.binfarce_elf_memory.specs.SelectionViews.{functions_left};
 
     type Item = SectionFunction<'a>;

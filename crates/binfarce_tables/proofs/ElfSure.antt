@@ -2,20 +2,21 @@
 use Rattle.std.proofs.Common.{◌≡◌, ℕ, ◌+◌, ◌*◌, ◌<◌, Bool, true, false, cond, ltb, eqb, List, ◌++◌, length, Option, Some, Result, Ok, Err, ap, subst, sym, arith}
 use Rattle.std.specs.Prelude.{All}
 use Rattle.std.proofs.lemmas.Bool.{lt-ltb, ne_eqb, eq-eqb}
-use Rattle.std.proofs.lemmas.List.Elements.{All-head, All-tail}
+use Rattle.std.proofs.lemmas.List.Elements.{All-nil, All-head, All-tail}
 use Rattle.binfarce_bytes.specs.declared.ByteOrder.{ByteOrder}
 use Rattle.binfarce_bytes.specs.Part.{Part, part, parts_if, whole_part}
 use Rattle.binfarce_bytes.specs.Refusal.{◌>>=◌, Refusal, unexpected_eof}
 use Rattle.binfarce_bytes.specs.Walk.{Walk}
 use Rattle.binfarce_elf.specs.Classes.{class_of}
-use Rattle.binfarce_elf.specs.Elf.{ElfClass, SectionTable, Section, header_of, walk, whole_headers, names_section}
+use Rattle.binfarce_elf.specs.Elf.{ElfClass, SectionTable, Section, header_of, walk, whole_headers, names_bytes, names_section}
 use Rattle.binfarce_elf_memory.specs.ElfSegments.{program_length, programs_size}
 use Rattle.binfarce_elf.specs.SymbolTables.{TableSections, table_sections}
-use Rattle.binfarce_elf_memory.specs.ElfSelection.{Taken, NeededSections, taken, needed}
+use Rattle.binfarce_elf_memory.specs.ElfSelection.{Taken, NeededSections, one_section, all_sections, taken, needed, needed_descriptors}
+use Rattle.binfarce_elf_memory.specs.ElfEnds.{file_kind}
 use Rattle.binfarce_elf_memory.specs.Versions.{definitions_section, versions_section}
 use Rattle.binfarce_elf.specs.declared.class.Width.{Width}
 use Rattle.binfarce_elf.specs.declared.symbol_table.SymbolTable.{SymbolTable}
-use Rattle.binfarce_tables.specs.ElfReads.{table_of, section_parts, names_header, names_parts, headers_size, headers_parts, table_parts, rows_parts, found_parts, version_parts, elf_section_parts, elf_parts, elf_load_parts}
+use Rattle.binfarce_tables.specs.ElfReads.{table_of, section_parts, names_header, names_parts, headers_size, headers_parts, table_parts, rows_parts, found_parts, descriptor_parts, file_descriptors, version_parts, elf_section_parts, elf_parts, elf_load_parts}
 use Rattle.binfarce_tables.specs.machine.Places.{table_step}
 use Rattle.binfarce_tables.proofs.Sure.{front, back, only, of_some}
 
@@ -72,7 +73,10 @@ module _ (P : Part → Type 0) (class : ElfClass) (order : ByteOrder) (file : Li
   sections = walk class (table_of class order file)
 
   abbrev after_parts : SymbolTable → List Part
-  after_parts which = found_parts file (table_sections which sections) ++ version_parts which file sections
+  after_parts which = found_parts file (table_sections which sections) ++ (descriptor_parts file (file_descriptors class order file) ++ version_parts which file sections)
+
+  abbrev behind_rows : SymbolTable → List Part
+  behind_rows which = descriptor_parts file (file_descriptors class order file) ++ version_parts which file sections
 
   -- of the parts of its sections, and of those of the symbol table
   pub of_sections : (which : SymbolTable) → All P (elf_parts which class order file) → All P (elf_section_parts class order file)
@@ -84,12 +88,21 @@ module _ (P : Part → Type 0) (class : ElfClass) (order : ByteOrder) (file : Li
   of_after which all = back P (elf_section_parts class order file) (after_parts which) all
 
   pub of_symbols : (which : SymbolTable) → All P (elf_parts which class order file) → All P (found_parts file (table_sections which sections))
-  of_symbols which all = front P (found_parts file (table_sections which sections)) (version_parts which file sections) (of_after which all)
+  of_symbols which all = front P (found_parts file (table_sections which sections)) (behind_rows which) (of_after which all)
+
+  of_behind : (which : SymbolTable) → All P (elf_parts which class order file) → All P (behind_rows which)
+  of_behind which all = back P (found_parts file (table_sections which sections)) (behind_rows which) (of_after which all)
+
+  -- of the descriptors that a selection needs
+  pub of_needed_descriptors : (which : SymbolTable) (selected : Taken) → All P (elf_parts which class order file)
+      → All P (descriptor_parts file (needed_descriptors class sections (names_bytes class (table_of class order file)) (file_kind (header_of class order file)) selected))
+  of_needed_descriptors which (one_section index size indirect) all = All-nil P
+  of_needed_descriptors which (all_sections count) all = front P (descriptor_parts file (file_descriptors class order file)) (version_parts which file sections) (of_behind which all)
 
   -- of the versions and their definitions
   pub of_versions : (which : SymbolTable) (walked : Walk Section) → sections ≡ walked → All P (elf_parts which class order file) → All P (version_parts which file walked)
   of_versions which walked is all =
-      subst (λ (w : Walk Section). All P (version_parts which file w)) is (back P (found_parts file (table_sections which sections)) (version_parts which file sections) (of_after which all))
+      subst (λ (w : Walk Section). All P (version_parts which file w)) is (back P (descriptor_parts file (file_descriptors class order file)) (version_parts which file sections) (of_behind which all))
 
   -- of the strings and the rows of its symbol table
   pub of_rows : (which : SymbolTable) (sections : TableSections) → table_sections which (walk class (table_of class order file)) ≡ Ok sections → All P (elf_parts which class order file) → All P (rows_parts file sections)

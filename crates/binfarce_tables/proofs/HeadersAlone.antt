@@ -45,6 +45,7 @@ Within len f = f.offset + f.width ≤ len
 pub record HasWithin (class : ElfClass) : Type 0 where
   pub elf_type : Within class.header_length class.header.elf_type
   pub machine : Within class.header_length class.header.machine
+  pub machine_flags : Within class.header_length class.header.flags
   pub phoff : Within class.header_length class.header.phoff
   pub phnum : Within class.header_length class.header.phnum
   pub shoff : Within class.header_length class.header.shoff
@@ -63,6 +64,7 @@ within_class : (class : ElfClass) (w : ℕ) → class.header ≡ fields_of_heade
 within_class class w header_fields header_len fields len = record {
   elf_type = rw (header_fields, header_len) (omega arith);
   machine = rw (header_fields, header_len) (omega arith);
+  machine_flags = rw (header_fields, header_len) (omega arith);
   phoff = rw (header_fields, header_len) (omega arith);
   phnum = rw (header_fields, header_len) (omega arith);
   shoff = rw (header_fields, header_len) (omega arith);
@@ -117,12 +119,17 @@ place_is class order file size header within is same = cc (
   value_in order file 0 size 0 class.header.shstrndx (omega (arith, is, within.shstrndx)),
 )
 
--- the file's type and machine, as the file header alone states them
+-- the file's type, its machine and that machine's flags, as the file header alone states them
 pub kind_is : (class : ElfClass) (order : ByteOrder) (file : List ℕ) (size : ℕ) (header : Header ℕ) → HasWithin class → size ≡ class.header_length
     → header ≡ header_of class order (bytes_at file 0 size) → file_kind header ≡ file_kind (header_of class order file)
 unfolding header_of
 kind_is class order file size header within is same =
-    cc (same, value_in order file 0 size 0 class.header.elf_type (omega (arith, is, within.elf_type)), value_in order file 0 size 0 class.header.machine (omega (arith, is, within.machine)))
+    cc (
+      same,
+      value_in order file 0 size 0 class.header.elf_type (omega (arith, is, within.elf_type)),
+      value_in order file 0 size 0 class.header.machine (omega (arith, is, within.machine)),
+      value_in order file 0 size 0 class.header.flags (omega (arith, is, within.machine_flags)),
+    )
 
 -- where the program headers are, as the file header alone states it
 pub programs_are : (class : ElfClass) (order : ByteOrder) (file : List ℕ) (size : ℕ) → HasWithin class → size ≡ class.header_length

@@ -1,5 +1,8 @@
 -- The answer for a selection, by the parts that were read of a file.
-use Rattle.std.proofs.Common.{◌≡◌, ℕ, ◌-◌, ◌/◌, ◌%◌, ◌<◌, ◌≤◌, Bool, true, false, cond, ltb, eqb, List, length, min, Option, None, Some, Result, Ok, Err, refl, sym, ap, ◌∙◌, arith}
+use Rattle.std.proofs.Common.{◌≡◌, ℕ, ◌-◌, ◌/◌, ◌%◌, ◌<◌, ◌≤◌, Bool, true, false, cond, ltb, eqb, List, length, min, Option, None, Some, Result, Ok, Err, refl, sym, ap, subst, ◌∙◌, arith}
+use Rattle.std.specs.Prelude.{All}
+use Rattle.std.proofs.lemmas.List.Elements.{All-append}
+use Rattle.binfarce_bytes.specs.Part.{Part}
 use Rattle.std.proofs.Math.Nat.{zero-div}
 use Rattle.std.proofs.Math.Path.{fun_ext}
 use Rattle.std.proofs.lemmas.Bool.{le-ltb, lt-ltb, le-leb}
@@ -9,16 +12,17 @@ use Rattle.binfarce_bytes.specs.SectionEntries.{SelectedSymbols}
 use Rattle.binfarce_bytes.specs.Walk.{ended}
 use Rattle.binfarce_elf.specs.Elf.{ElfClass, SectionTable, header_of, section_table, walk, whole_headers, names_bytes}
 use Rattle.binfarce_elf.specs.SymbolTables.{TableSections, TableRows, table_sections, rows_at}
-use Rattle.binfarce_elf_memory.specs.ElfSelection.{NeededSections, Selected, needed, selected_from, elf_selected, symbols_of, selected_file_answer}
+use Rattle.binfarce_elf_memory.specs.ElfSelection.{NeededSections, Selected, Taken, needed, needed_descriptors, selected_from, elf_selected, symbols_of, selected_file_answer}
 use Rattle.binfarce_elf.specs.ElfSymbols.{section_data, whole_rows}
 use Rattle.binfarce_elf_memory.specs.ElfEnds.{file_kind}
 use Rattle.binfarce_elf_memory.specs.Versions.{bytes_if, definitions_section, version_name, versions_section}
 use Rattle.binfarce_elf.specs.declared.symbol_table.SymbolTable.{SymbolTable}
 use Rattle.binfarce_elf_memory.proofs.Steps.{assoc}
 use Rattle.binfarce_tables.specs.ElfReading.{symbols_in}
-use Rattle.binfarce_tables.specs.ElfReads.{table_of}
+use Rattle.binfarce_tables.specs.ElfReads.{table_of, descriptor_parts, elf_parts, rows_parts}
 use Rattle.binfarce_tables.specs.SectionReading.{FileSections, file_sections}
-use Rattle.binfarce_tables.proofs.ElfSure.{needed_table}
+use Rattle.binfarce_tables.specs.machine.Places.{placed_parts, rows_in_file}
+use Rattle.binfarce_tables.proofs.ElfSure.{needed_table, of_needed_descriptors, of_rows}
 
 -- nothing is found after the file's end
 pub walk_outside : (class : ElfClass) (table : SectionTable) → length table.file ≤ table.shoff → walk class table ≡ ended (Some unexpected_eof)
@@ -74,7 +78,7 @@ after_found which file seen needs found =
     symbols_in seen needs.taken found (bytes_if file (versions_section which seen.sections)) (version_name seen.order found.strings (bytes_if file (definitions_section which seen.sections)))
 
 abbrev pub after_needed : SymbolTable → List ℕ → FileSections → NeededSections → Result SelectedSymbols Refusal
-after_needed which file seen needs = rows_at seen.class file needs.table >>= λ found. Ok (after_found which file seen needs found)
+after_needed which file seen needs = rows_in_file file seen needs >>= λ found. Ok (after_found which file seen needs found)
 
 -- what is needed of them
 abbrev pub needed_of : SymbolTable → Option (List ℕ) → FileSections → Result NeededSections Refusal
@@ -117,8 +121,8 @@ module _ (which : SymbolTable) (class : ElfClass) (order : ByteOrder) (file : Li
 
       steps : (elf_selected which class table section >>= shown) ≡ after_sections which section file seen
       steps =
-          assoc (needed_of which section seen) (λ needs. rows_at class file needs.table >>= selected needs) shown
-          ∙ ap (λ (k : NeededSections → Result SelectedSymbols Refusal). needed_of which section seen >>= k) (fun_ext (λ needs. assoc (rows_at class file needs.table) (selected needs) shown))
+          assoc (needed_of which section seen) (λ needs. rows_in_file file seen needs >>= selected needs) shown
+          ∙ ap (λ (k : NeededSections → Result SelectedSymbols Refusal). needed_of which section seen >>= k) (fun_ext (λ needs. assoc (rows_in_file file seen needs) (selected needs) shown))
 
       by_test : (short : Bool) → cond short (Err unexpected_eof) (elf_selected which class table section >>= shown) ≡ (cond short (Err unexpected_eof) (Ok seen) >>= after_sections which section file)
       by_test true = refl
@@ -130,6 +134,18 @@ module _ (which : SymbolTable) (class : ElfClass) (order : ByteOrder) (file : Li
 
     pub from_needed : (needs : NeededSections) → needed_of which section seen ≡ Ok needs → selected_file_answer which class order file section ≡ after_needed which file seen needs
     from_needed needs is = from_seen ∙ ap (λ (a : Result NeededSections Refusal). a >>= after_needed which file seen) is
+
+    -- of the descriptors that are needed of it
+    pub of_descriptors : (P : Part → Type 0) (selected : Taken) → All P (elf_parts which class order file) → All P (descriptor_parts file (needed_descriptors seen.class seen.sections seen.names seen.kind selected))
+    of_descriptors P selected all =
+        subst (λ (s : FileSections). All P (descriptor_parts file (needed_descriptors s.class s.sections s.names s.kind selected))) (sections_are class order file seen given) (of_needed_descriptors P class order file which selected all)
+
+    -- and of the rows with them
+    pub of_placed : (P : Part → Type 0) (needs : NeededSections) → table_sections which (walk class (table_of class order file)) ≡ Ok needs.table → All P (elf_parts which class order file)
+        → All P (placed_parts file seen needs)
+    of_placed P needs found all =
+        All-append P (rows_parts file needs.table) (descriptor_parts file (needed_descriptors seen.class seen.sections seen.names seen.kind needs.taken))
+        (of_rows P class order file which needs.table found all) (of_descriptors P needs.taken all)
 
     -- its sections, its length, and the sections of its symbol table
     pub walk_is : walk class (table_of class order file) ≡ seen.sections

@@ -1,11 +1,13 @@
 -- The parts of an ELF file that are read.
-use Rattle.std.specs.Prelude.{ℕ, ◌+◌, ◌*◌, List, [], ◌∷◌, ◌++◌, length, min, Result, Ok, Err, nat_eq, nat_lt, if◌then◌else◌}
+use Rattle.std.specs.Prelude.{ℕ, ◌+◌, ◌*◌, List, [], ◌∷◌, ◌++◌, length, min, Option, Some, None, Result, Ok, Err, nat_eq, nat_lt, if◌then◌else◌}
 use Rattle.binfarce_bytes.specs.declared.ByteOrder.{ByteOrder}
 use Rattle.binfarce_bytes.specs.Part.{Part, part, whole_part, parts_if}
 use Rattle.binfarce_bytes.specs.Refusal.{Refusal}
 use Rattle.binfarce_bytes.specs.Walk.{Walk}
 use Rattle.binfarce_elf.specs.Classes.{class_of}
-use Rattle.binfarce_elf.specs.Elf.{ElfClass, SectionTable, Section, header_of, section_table, walk, whole_headers, names_section}
+use Rattle.binfarce_elf.specs.Elf.{ElfClass, SectionTable, Section, header_of, section_table, walk, whole_headers, names_bytes, names_section}
+use Rattle.binfarce_elf_memory.specs.Descriptors.{descriptors_section, stored}
+use Rattle.binfarce_elf_memory.specs.ElfEnds.{file_kind}
 use Rattle.binfarce_elf_memory.specs.ElfSegments.{programs_size}
 use Rattle.binfarce_elf.specs.SymbolTables.{TableSections, table_sections}
 use Rattle.binfarce_elf_memory.specs.Versions.{definitions_section, versions_section}
@@ -55,6 +57,17 @@ unfoldable pub found_parts : List ℕ → Result TableSections Refusal → List 
 found_parts file (Ok sections) = rows_parts file sections
 found_parts file (Err refusal) = []
 
+-- a section of descriptors, where it has bytes in the file and they lie there
+abbrev pub descriptor_parts : List ℕ → Option Section → List Part
+descriptor_parts file None = []
+descriptor_parts file (Some section) = parts_if (stored section) (section_parts file)
+
+-- the section of descriptors that a file's functions have
+abbrev pub file_descriptors : ElfClass → ByteOrder → List ℕ → Option Section
+file_descriptors class order file =
+    let table = table_of class order file in
+    descriptors_section class (file_kind (header_of class order file)) (walk class table) (names_bytes class table)
+
 -- the versions of a symbol table's rows, and their definitions, if they lie in the file
 abbrev pub version_parts : SymbolTable → List ℕ → Walk Section → List Part
 version_parts which file sections = parts_if (versions_section which sections) (section_parts file) ++ parts_if (definitions_section which sections) (section_parts file)
@@ -63,11 +76,13 @@ version_parts which file sections = parts_if (versions_section which sections) (
 unfoldable pub elf_section_parts : ElfClass → ByteOrder → List ℕ → List Part
 elf_section_parts class order file = part 0 class.header_length ∷ table_parts class (table_of class order file)
 
--- what a reading of the function symbols reads: that, and the strings, the rows and the versions of this symbol table
+-- what a reading of the function symbols reads: that, and the strings, the rows and the versions of this symbol table; and where functions have them their
+-- descriptors
 unfoldable pub elf_parts : SymbolTable → ElfClass → ByteOrder → List ℕ → List Part
 elf_parts which class order file =
     let sections = walk class (table_of class order file) in
-    elf_section_parts class order file ++ (found_parts file (table_sections which sections) ++ version_parts which file sections)
+    elf_section_parts class order file
+    ++ (found_parts file (table_sections which sections) ++ (descriptor_parts file (file_descriptors class order file) ++ version_parts which file sections))
 
 -- what a reading of the load address reads: the file header, and the program headers, if they lie in the file
 unfoldable pub elf_load_parts : Width → ByteOrder → List ℕ → List Part

@@ -22,7 +22,7 @@ ghost use Rattle.binfarce_tables.specs.ElfReads.{elf_parts, headers_size, names_
 ghost use Rattle.binfarce_tables.specs.Reading.{Reads, Known};
 ghost use Rattle.binfarce_tables.specs.SectionReading.{sections_view};
 ghost use Rattle.binfarce_tables.specs.declared.error.ReadError.TheVariants.{Unreadable};
-ghost use Rattle.binfarce_tables.specs.machine.Places.{table_at, table_step, headers_of, rows_view};
+ghost use Rattle.binfarce_tables.specs.machine.Places.{table_at, table_step, headers_of, placed_parts, rows_in_file, rows_view};
 
 use crate::error::ReadError;
 use crate::opened::{Opened, open};
@@ -35,6 +35,7 @@ use binfarce_elf::class::{Half, Width, Word};
 use binfarce_elf::sections::Section;
 use binfarce_elf::symbol_table::SymbolTable;
 use binfarce_elf::symbols::{TableSections, whole_rows};
+use binfarce_elf_memory::descriptors::stored;
 use binfarce_elf_memory::parts::{self, HeaderTable, needed_in, place_in, section_at, sizes_in};
 use binfarce_elf_memory::selection::{Functions, Needed, Taken, functions_in};
 use binfarce_elf_memory::versions::{VersionNames, name_offsets};
@@ -105,7 +106,8 @@ impl Parts {
 /// Reads the parts of a file of this class that a selection's function symbols need by this symbol table, and the
 /// section names, numbers in the given order. These are the file header of 52 or 64 bytes, the header of the section
 /// names' own section, the section names, all section headers, the symbol table and its strings; for the dynamic symbol
-/// table also its versions and their definitions. Each is read once, into memory of its size, which is never more than
+/// table also its versions and their definitions; and for all sections of a 64-bit PowerPC file of ABI version 1 the
+/// descriptors of its functions (`.opd`). Each is read once, into memory of its size, which is never more than
 /// the file has of it; of the definitions the offsets of names are kept. No other byte is read, except
 /// the first byte of a section header table without headers. The magic number isn't checked.
 ///
@@ -133,7 +135,7 @@ pub fn read<S: Source>(
     let opened = open(alloc, source)?;
     let sections = sections_of(&opened, log, width, byte_order)?;
     let needed = needed_of(&sections, which, selection)?;
-    let table = read_rows(&opened, log, sections.width, needed.table)?;
+    let table = read_placed(&opened, log, &sections, needed)?;
     let versions = read_versions(&opened, log, &sections, which)?;
     let sizes = sizes_of(alloc, &sections, needed.taken, &table)?;
     Ok(Parts {
@@ -293,6 +295,49 @@ fn read_rows<S: Source>(
     let rows = read_section(opened, log, sections.symbols)?;
     let _ = whole_rows(width, &rows)?;
     Ok(TableParts { strings, rows })
+}
+
+// The strings and the rows of a selection: the functions that have descriptors where their code is.
+fn read_placed<S: Source>(
+    opened: &Opened<'_, S>,
+    log: &mut S::Log,
+    sections: &SectionParts,
+    needed: Needed,
+) -> Result<TableParts, ReadError>
+    ensures answer { (file : List ℕ) → Known (S.bytes opened.now.source.now) opened.now.len file
+        → Reads (S.may_fail opened.now.source.now) rows_view
+        (rows_in_file file (sections_view sections.now) (needed_view needed)) result }
+    ensures only { (file : List ℕ) → Known (S.bytes opened.now.source.now) opened.now.len file
+        → ReadsOnly (S.is_sure opened.now.source.now) (S.logs_only log.old) (S.logs_only log.new)
+        (placed_parts file (sections_view sections.now) (needed_view needed)) (IfErr result (λ e. e ≢ Unreadable)) }
+{
+    let table = read_rows(opened, log, sections.width, needed.table)?;
+    let headers = &sections.headers;
+    let (width, place) = (sections.width, sections.place);
+    let found = parts::descriptors_in(
+        headers,
+        width,
+        place,
+        slice_of(&sections.names),
+        needed.taken,
+    );
+    let Some(section) = found else {
+        return Ok(table);
+    };
+    let descriptors = read_if(opened, log, stored(section))?;
+    let rows = parts::rows_in(
+        opened.alloc,
+        headers,
+        width,
+        place,
+        section,
+        &descriptors,
+        &table.rows,
+    )?;
+    Ok(TableParts {
+        strings: table.strings,
+        rows,
+    })
 }
 
 // The versions of the rows of a symbol table, and the offsets of their names.

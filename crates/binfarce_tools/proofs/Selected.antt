@@ -16,7 +16,7 @@ use Rattle.binfarce.specs.Symbol.{Entry, Listed}
 use Rattle.binfarce.specs.Elf.{ElfClass, SectionTable, Section, elf32, elf64, header_of, section_table, walk, names_bytes, name_among}
 use Rattle.binfarce.specs.ElfEnds.{kind_of}
 use Rattle.binfarce.specs.ElfSelection as elf
-use Rattle.binfarce.specs.SymbolTables.{TableSections, TableRows, table_sections, rows_at}
+use Rattle.binfarce.specs.SymbolTables.{TableSections, TableRows, table_sections}
 use Rattle.binfarce.specs.ElfSelection.{NeededSections, Taken, one_section, all_sections, size_taken, taken, needed, elf_selected, has_indirect, section_answer, section_file_answer}
 use Rattle.binfarce.specs.ElfSymbols.{sought, is_named, elf_file_answer}
 use Rattle.binfarce.specs.Text.{text_at}
@@ -72,11 +72,14 @@ module _ (which : SymbolTable) (class : ElfClass) (order : ByteOrder) (file : Li
   with_rows : Taken → TableRows → Result elf.Selected Refusal
   with_rows t found = Ok (elf.selected_from class table.order (walk class table) (kind_of class table) t found (bytes_if table.file (versions_section which (walk class table))))
 
+  rows_of : NeededSections → Result TableRows Refusal
+  rows_of sections = elf.rows_taken class table.order (walk class table) (names_bytes class table) (kind_of class table) table.file sections
+
   of_needed : NeededSections → Result elf.Selected Refusal
-  of_needed sections = rows_at class table.file sections.table >>= with_rows sections.taken
+  of_needed sections = rows_of sections >>= with_rows sections.taken
 
   elf_size : (section : Option (List ℕ)) (s : elf.Selected) → elf_selected which class table section ≡ Ok s → is_some (size_taken s.taken) ≡ is_some section
-  unfolding elf_selected needed with_table with_rows of_needed
+  unfolding elf_selected needed with_table with_rows rows_of of_needed
   elf_size section s is = by_taken (sections_of section) refl is
     where
       by_rows : (t : Taken) (r : Result TableRows Refusal) → (r >>= with_rows t) ≡ Ok s → size_taken s.taken ≡ size_taken t
@@ -85,7 +88,7 @@ module _ (which : SymbolTable) (class : ElfClass) (order : ByteOrder) (file : Li
 
       by_table : (t : Taken) (r : Result TableSections Refusal) → ((r >>= with_table t) >>= of_needed) ≡ Ok s → size_taken s.taken ≡ size_taken t
       by_table t (Err why) e = absurd cc
-      by_table t (Ok sections) e = by_rows t (rows_at class table.file sections) e
+      by_table t (Ok sections) e = by_rows t (rows_of (record { taken = t; table = sections })) e
 
       by_taken : (r : Result Taken Refusal) → sections_of section ≡ r → ((r >>= λ t. table_sections which (walk class table) >>= with_table t) >>= of_needed) ≡ Ok s → is_some (size_taken s.taken) ≡ is_some section
       by_taken (Err why) at e = absurd cc

@@ -3,6 +3,7 @@
 //! What ELF files say beyond the function symbols of a section: the functions of all sections in memory, dynamic symbols
 //! and their versions, and where a file is loaded.
 
+pub mod descriptors;
 pub mod ends;
 pub mod parts;
 pub mod segments;

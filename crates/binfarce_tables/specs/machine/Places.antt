@@ -1,11 +1,14 @@
 -- Views of a reading of a file's parts, for private clauses.
-use Rattle.std.specs.Prelude.{ℕ, List, Result, Ok}
+use Rattle.std.specs.Prelude.{ℕ, List, ◌++◌, Result, Ok}
 use Rattle.binfarce_bytes.specs.declared.ByteOrder.{ByteOrder}
 use Rattle.binfarce_bytes.specs.Number.{bytes_at}
 use Rattle.binfarce_bytes.specs.Refusal.{Refusal, if_as_long_as}
 use Rattle.binfarce_elf.specs.Elf.{ElfClass, SectionTable}
 use Rattle.binfarce_elf.specs.SymbolTables.{TableRows}
-use Rattle.binfarce_tables.specs.ElfReads.{table_of, headers_size}
+use Rattle.binfarce_bytes.specs.Part.{Part}
+use Rattle.binfarce_elf_memory.specs.ElfSelection.{NeededSections, needed_descriptors, rows_taken}
+use Rattle.binfarce_tables.specs.ElfReads.{table_of, headers_size, rows_parts, descriptor_parts}
+use Rattle.binfarce_tables.specs.SectionReading.{FileSections}
 use Rattle.binfarce_tables.specs.declared.elf.TableParts.{TableParts}
 use Rattle.binfarce_elf_memory.specs.declared.parts.HeaderTable.{HeaderTable}
 
@@ -20,6 +23,13 @@ table_step class order file = if_as_long_as class.header_length file (Ok (table_
 -- the section headers that are whole and below the count
 abbrev pub headers_of : ElfClass → SectionTable → List ℕ
 headers_of class table = bytes_at table.file table.shoff (headers_size class table)
+
+-- the strings and the rows of a selection of a file with these sections, and the parts that have them
+abbrev pub rows_in_file : List ℕ → FileSections → NeededSections → Result TableRows Refusal
+rows_in_file file seen needs = rows_taken seen.class seen.order seen.sections seen.names seen.kind file needs
+
+abbrev pub placed_parts : List ℕ → FileSections → NeededSections → List Part
+placed_parts file seen needs = rows_parts file needs.table ++ descriptor_parts file (needed_descriptors seen.class seen.sections seen.names seen.kind needs.taken)
 
 -- a `TableParts`
 abbrev pub rows_view : TableParts → TableRows

@@ -4,26 +4,31 @@
 
 use crate::shim::{Vec, to_usize};
 use crate::erased::binfarce_bytes::ByteOrder;
-use crate::erased::binfarce_elf::class::{Class, Half, SymbolRow, Width, row_at};
+use crate::erased::binfarce_elf::class::{Class, Half, SymbolRow, Width, Word, row_at};
 use crate::erased::binfarce_elf::header::Header;
 use crate::erased::binfarce_elf::sections::{Section, Table, section_at};
 use crate::erased::binfarce_elf::symbols::Rows;
 use crate::shim::alloc::{AllocError, Global};
 
-/// What the file header says of addresses: the file's type and its machine.
+/// What the file header says of addresses: the file's type, its machine and that machine's flags.
 #[derive(Clone, Copy)]
 pub struct FileKind {
     pub elf_type: Half,
     pub machine: Half,
+    pub flags: Word,
 }
 
-/// The type and the machine that a file header states.
+/// The type, the machine and the flags that a file header states.
 pub fn kind_of<C: Class>(header: &Header<C>) -> FileKind {
     FileKind {
         elf_type: header.elf_type,
         machine: header.machine,
+        flags: header.flags,
     }
 }
+
+// The type of an object file.
+const ET_REL: Half = 1;
 
 // A section's keys are from its index times this on, one for each address.
 const ADDRESSES: u128 = 1 << 64;
@@ -34,6 +39,12 @@ impl FileKind {
         const EM_ARM: Half = 40;
         const EM_MIPS: Half = 8;
         self.machine == EM_ARM || self.machine == EM_MIPS
+    }
+
+    // Whether the values of functions are addresses of descriptors, in a file of 64 bits.
+    pub(crate) fn has_descriptors(self) -> bool {
+        const EM_PPC64: Half = 21;
+        self.machine == EM_PPC64 && self.flags % 4 < 2 && self.elf_type != ET_REL
     }
 }
 
@@ -79,7 +90,6 @@ fn is_mapping(name: &[u8]) -> bool {
 
 // The address where a section ends, at most the greatest one.
 fn end_of<C: Class>(kind: FileKind, section: Section<C>) -> u64 {
-    const ET_REL: Half = 1;
     let size = section.size().widened();
     if kind.elf_type == ET_REL {
         size
@@ -144,7 +154,7 @@ fn push_rows(
     Ok(())
 }
 
-fn put_in_order(keys: &mut Vec<u128>) {
+pub(crate) fn put_in_order(keys: &mut Vec<u128>) {
     keys.sort_unstable();
 }
 
@@ -172,7 +182,7 @@ fn end_above(keys: &[u128], section: Half, address: u64) -> Option<u64> {
 }
 
 // The least key above this one, by a binary search.
-fn key_above(keys: &[u128], key: u128) -> Option<u128> {
+pub(crate) fn key_above(keys: &[u128], key: u128) -> Option<u128> {
     let place = keys.partition_point(|other| *other <= key);
     if place < keys.len() {
         Some(keys[place])

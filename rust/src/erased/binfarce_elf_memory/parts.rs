@@ -3,6 +3,7 @@
 //! The section header table of a file of either class, and the sections found in it alone.
 
 use crate::shim::Vec;
+use crate::erased::binfarce_elf_memory::descriptors::{needed_descriptors, rows_in_code};
 use crate::erased::binfarce_elf_memory::ends::{FileKind, keys_of, kind_of, sizes_of};
 use crate::erased::binfarce_elf_memory::selection::{Needed, Taken, needed_of};
 use crate::erased::binfarce_elf_memory::versions::{definitions_section, versions_section};
@@ -115,6 +116,34 @@ pub fn version_sections(
 
 fn widened(section: Option<Section<u32>>) -> Option<Section<u64>> {
     Some(section?.widened())
+}
+
+/// The section of the descriptors that the functions of a selection need, found in these section headers, whose names
+/// are in `names`: in 64-bit PowerPC files of ABI version 1, for all sections. Its bytes are needed where it is `stored`.
+pub fn descriptors_in(
+    headers: &[u8],
+    width: Width,
+    place: HeaderTable,
+    names: Option<&[u8]>,
+    taken: Taken,
+) -> Option<Section<u64>> {
+    let table = headers_alone(headers, place.byte_order, place.shnum);
+    needed_descriptors(table, names, width, place.kind, taken)
+}
+
+/// These rows, with the functions whose descriptors are in this section, of these bytes, where their code is. The only
+/// error is a failed allocation.
+pub fn rows_in(
+    alloc: Global,
+    headers: &[u8],
+    width: Width,
+    place: HeaderTable,
+    section: Section<u64>,
+    descriptors: &[u8],
+    rows: &[u8],
+) -> Result<Vec<u8>, AllocError> {
+    let table = headers_alone(headers, place.byte_order, place.shnum);
+    rows_in_code(alloc, table, width, section, descriptors, rows)
 }
 
 /// The sizes in memory of all rows of a symbol table, for a selection of all sections: for one section none. The rows'

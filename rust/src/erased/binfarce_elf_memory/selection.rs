@@ -3,6 +3,7 @@
 //! The function symbols of a selection: of one section, or of all sections with their addresses and sizes in memory.
 
 use crate::shim::{Vec, to_usize};
+use crate::erased::binfarce_elf_memory::descriptors::placed_rows;
 use crate::erased::binfarce_elf_memory::ends::{
     FileKind, address_of, is_function_kind, keys_of, row_size,
 };
@@ -87,19 +88,60 @@ pub fn all_functions<'a, C: Class>(
     kind: FileKind,
     which: SymbolTable,
 ) -> Result<Vec<SectionFunction<'a>>, ParseError> {
-    let needed = needed_of::<C>(table, names_bytes::<C>(table), which, Selection::All)?;
+    let names = names_bytes::<C>(table);
+    let needed = needed_of::<C>(table, names, which, Selection::All)?;
     let found = rows_at(table.data, C::width(), needed.table)?;
+    let placed = placed_rows(
+        alloc,
+        table,
+        names,
+        C::width(),
+        kind,
+        needed.taken,
+        found.rows,
+    )?;
+    let rows = rows_or(found.rows, &placed);
+    let functions = functions_of::<C>(
+        alloc,
+        table,
+        kind,
+        which,
+        needed.taken,
+        found.strings,
+        rows,
+    )?;
+    Ok(functions)
+}
+
+// These rows, unless there are others.
+fn rows_or<'a>(rows: &'a [u8], others: &'a Option<Vec<u8>>) -> &'a [u8] {
+    match others {
+        None => rows,
+        Some(others) => others.as_slice(),
+    }
+}
+
+// The function symbols that a selection takes of these rows.
+fn functions_of<'a, C: Class>(
+    alloc: Global,
+    table: Table<'_>,
+    kind: FileKind,
+    which: SymbolTable,
+    taken: Taken,
+    strings: &'a [u8],
+    rows: &[u8],
+) -> Result<Vec<SectionFunction<'a>>, AllocError> {
     let has_modes = kind.has_modes();
-    let keys = keys_of::<C>(alloc, table, kind, found)?;
-    let width = C::width();
+    let keys = keys_of::<C>(alloc, table, kind, Rows { strings, rows })?;
     let functions = list_in(
         alloc,
         &keys,
-        width,
+        C::width(),
         table.byte_order,
         has_modes,
-        needed.taken,
-        found,
+        taken,
+        strings,
+        rows,
         row_versions::<C>(table, which),
     )?;
     Ok(functions)
@@ -114,16 +156,17 @@ fn list_in<'a>(
     byte_order: ByteOrder,
     has_modes: bool,
     taken: Taken,
-    found: Rows<'a>,
+    strings: &'a [u8],
+    rows: &[u8],
     versions: &[u8],
 ) -> Result<Vec<SectionFunction<'a>>, AllocError> {
     let length = width.symbol_length();
     let mut functions = Vec::new(alloc);
-    for k in 0..found.rows.len() / length {
-        let row = row_at(width, found.rows, k * length, byte_order).unwrap();
+    for k in 0..rows.len() / length {
+        let row = row_at(width, rows, k * length, byte_order).unwrap();
         let version = version_at(versions, k, byte_order);
         let size = row_size(keys, has_modes, row);
-        match function_of(found.strings, taken, has_modes, row, version, size) {
+        match function_of(strings, taken, has_modes, row, version, size) {
             None => {}
             Some(function) => functions.push(function)?,
         }

@@ -14,6 +14,7 @@ use crate::erased::binfarce_elf::class::{Half, Width, Word};
 use crate::erased::binfarce_elf::sections::Section;
 use crate::erased::binfarce_elf::symbol_table::SymbolTable;
 use crate::erased::binfarce_elf::symbols::{TableSections, whole_rows};
+use crate::erased::binfarce_elf_memory::descriptors::stored;
 use crate::erased::binfarce_elf_memory::parts::{
     self, HeaderTable, needed_in, place_in, section_at, sizes_in,
 };
@@ -76,7 +77,8 @@ impl Parts {
 /// Reads the parts of a file of this class that a selection's function symbols need by this symbol table, and the
 /// section names, numbers in the given order. These are the file header of 52 or 64 bytes, the header of the section
 /// names' own section, the section names, all section headers, the symbol table and its strings; for the dynamic symbol
-/// table also its versions and their definitions. Each is read once, into memory of its size, which is never more than
+/// table also its versions and their definitions; and for all sections of a 64-bit PowerPC file of ABI version 1 the
+/// descriptors of its functions (`.opd`). Each is read once, into memory of its size, which is never more than
 /// the file has of it; of the definitions the offsets of names are kept. No other byte is read, except
 /// the first byte of a section header table without headers. The magic number isn't checked.
 ///
@@ -97,7 +99,7 @@ pub fn read<S: Source>(
     let opened = open(alloc, source)?;
     let sections = sections_of(&opened, log, width, byte_order)?;
     let needed = needed_of(&sections, which, selection)?;
-    let table = read_rows(&opened, log, sections.width, needed.table)?;
+    let table = read_placed(&opened, log, &sections, needed)?;
     let versions = read_versions(&opened, log, &sections, which)?;
     let sizes = sizes_of(alloc, &sections, needed.taken, &table)?;
     Ok(Parts {
@@ -212,6 +214,42 @@ fn read_rows<S: Source>(
     let rows = read_section(opened, log, sections.symbols)?;
     let _ = whole_rows(width, &rows)?;
     Ok(TableParts { strings, rows })
+}
+
+// The strings and the rows of a selection: the functions that have descriptors where their code is.
+fn read_placed<S: Source>(
+    opened: &Opened<'_, S>,
+    log: &mut S::Log,
+    sections: &SectionParts,
+    needed: Needed,
+) -> Result<TableParts, ReadError> {
+    let table = read_rows(opened, log, sections.width, needed.table)?;
+    let headers = &sections.headers;
+    let (width, place) = (sections.width, sections.place);
+    let found = parts::descriptors_in(
+        headers,
+        width,
+        place,
+        slice_of(&sections.names),
+        needed.taken,
+    );
+    let Some(section) = found else {
+        return Ok(table);
+    };
+    let descriptors = read_if(opened, log, stored(section))?;
+    let rows = parts::rows_in(
+        opened.alloc,
+        headers,
+        width,
+        place,
+        section,
+        &descriptors,
+        &table.rows,
+    )?;
+    Ok(TableParts {
+        strings: table.strings,
+        rows,
+    })
 }
 
 // The versions of the rows of a symbol table, and the offsets of their names.

@@ -19,8 +19,8 @@ use Rattle.binfarce_elf_memory.proofs.selection.list_in.Goals.{in-None, in-Some+
 pub loop-k-preserved : goal.loop-k-preserved
 loop-k-preserved c = λ ends are.
     let class = class_of c.args.width in
-    let rows = c.args.found.rows.now in
-    let strings = c.args.found.strings.now in
+    let rows = c.args.rows.now in
+    let strings = c.args.strings.now in
     let taken = taken_view c.args.taken in
     let modes = c.args.has_modes in
     let row = symbol_view c.unwrap-row.result in

@@ -13,4 +13,4 @@ use Rattle.binfarce_elf_memory.proofs.selection.list_in.Given as goal
 -- the functions of the rows so far
 abbrev pub invariant-loop-k : goal.invariant-loop-k
 invariant-loop-k l = (ends : List End) → AreKeysOf ends l.keys
-    → map section_function_view l.functions.items ≡ filter_map (λ k. entry_sized l.found.strings.now (taken_view l.taken) l.has_modes ends (row_of (class_of l.width) l.byte_order l.found.rows.now k) (version_of l.byte_order l.versions k)) (range_with_len 0 l.k)
+    → map section_function_view l.functions.items ≡ filter_map (λ k. entry_sized l.strings (taken_view l.taken) l.has_modes ends (row_of (class_of l.width) l.byte_order l.rows k) (version_of l.byte_order l.versions k)) (range_with_len 0 l.k)

@@ -4,9 +4,10 @@ use Rattle.binfarce_elf.specs.Elf.{ElfClass, walk, names_bytes}
 use Rattle.binfarce_elf_memory.specs.SelectionViews.{needed_view, functions_left, sized_from}
 use Rattle.binfarce_elf_memory.specs.ElfEnds.{kind_of}
 use Rattle.binfarce_elf_memory.specs.ElfSelection.{Taken, needed, selected_from}
-use Rattle.binfarce_elf.specs.SymbolTables.{rows_at}
+use Rattle.binfarce_elf.specs.SymbolTables.{TableRows, rows_at}
+use Rattle.binfarce_elf_memory.specs.Versions.{bytes_if, versions_section}
 use Rattle.binfarce_elf.specs.machine.RawElf.{table_view, rows_view}
-use Rattle.binfarce_elf_memory.proofs.Selecting.{selected_is, one_section}
+use Rattle.binfarce_elf_memory.proofs.Selecting.{selected_is, one_section, as_stored}
 use Rattle.binfarce_elf_memory.proofs.Sized.{one_taken}
 use Rattle.binfarce_elf_memory.proofs.selection.section_functions.Goals as goal
 
@@ -22,6 +23,7 @@ returns g c =
     let versions = c.row_versions.result.now in
     let of_class = ap (λ (k : ElfClass). sized_from k t.order n.taken false found versions [] 0) c.width-2.ensures in
     selected_is c.args.which class t (Some c.args.name.now) n found is also
+    ∙ ap (λ (rows : TableRows). Ok (selected_from class t.order (walk class t) (kind_of class t) n.taken rows (bytes_if t.file (versions_section c.args.which (walk class t))))) (as_stored class t n.taken found one)
     ∙ ap (λ (versions : List ℕ). Ok (selected_from class t.order (walk class t) (kind_of class t) n.taken found versions)) (sym c.row_versions.ensures)
     ∙ ap (λ (entries : List SectionEntry). Ok (record { entries = entries; taken = n.taken; strings = found.strings })) (sym (one_taken class t.order (walk class t) (kind_of class t) n.taken found versions [] false one) ∙ sym of_class ∙ sym c.functions_in.ensures.entries)
     ∙ ap₂ (λ (taken : Taken) (strings : List ℕ). Ok (record { entries = functions_left c.functions_in.result; taken = taken; strings = strings })) (sym c.functions_in.ensures.taken) (sym c.functions_in.ensures.strings)

@@ -6,16 +6,16 @@ use Rattle.binfarce_bytes.specs.Selection.{section_of}
 use Rattle.binfarce_elf.specs.Classes.{class_of}
 use Rattle.binfarce_elf_memory.specs.SelectionViews.{needed_view}
 use Rattle.binfarce_elf_memory.specs.ElfSelection.{NeededSections, selected_file_answer}
-use Rattle.binfarce_elf.specs.SymbolTables.{TableRows, rows_at}
+use Rattle.binfarce_elf.specs.SymbolTables.{TableRows}
 use Rattle.binfarce_elf_memory.specs.Versions.{bytes_if, name_by, versions_section}
 use Rattle.binfarce_tables.specs.ElfReading.{parts_view}
 use Rattle.binfarce_tables.specs.Reading.{Reads}
 use Rattle.binfarce_tables.specs.declared.error.ReadError.TheVariants.{OutOfMemory}
 use Rattle.binfarce_tables.specs.declared.elf.VersionParts.{VersionParts}
 use Rattle.binfarce_tables.specs.SectionReading.{file_sections, sections_view}
-use Rattle.binfarce_tables.specs.machine.Places.{rows_view}
-use Rattle.binfarce_tables.proofs.ElfSure.{of_file_header, of_sections, of_rows, of_versions}
-use Rattle.binfarce_tables.proofs.Located.{after_found, after_needed, after_sections, from_file, from_seen, from_needed, table_found, walk_is}
+use Rattle.binfarce_tables.specs.machine.Places.{rows_in_file, rows_view}
+use Rattle.binfarce_tables.proofs.ElfSure.{of_file_header, of_sections, of_versions}
+use Rattle.binfarce_tables.proofs.Located.{after_found, after_needed, after_sections, from_file, from_seen, from_needed, of_placed, table_found, walk_is}
 use Rattle.binfarce_tables.proofs.Readings.{after_err, instead, converted, err_is, passed, taken}
 use Rattle.binfarce_tables.proofs.VersionsRead.{versions_read}
 use Rattle.binfarce_tables.proofs.Sure.{unmeasured, within, next, ending, passed_only, converted_surely, out_surely}
@@ -55,7 +55,7 @@ returns-in_err-table-clause-answer g c = λ file known.
     let e = c.in_err-table.field-0.0 in
     rw c.in_ok-opened.ensures.source at (passed fails parts_view answer e c.from_residual-in_err-table.result c.from_residual-in_err-table.ensures
     (instead fails parts_view answer (after_needed c.args.which file seen n) (Err e) (from_needed c.args.which class c.args.byte_order file section seen given n c.in_ok-needed.ensures)
-    (after_err fails rows_view parts_view (rows_at seen.class file n.table) (λ found. Ok (after_found c.args.which file seen n found)) e (c.in_err-table.ensures.answer file is_known))))
+    (after_err fails rows_view parts_view (rows_in_file file seen n) (λ found. Ok (after_found c.args.which file seen n found)) e (c.in_err-table.ensures.answer file is_known))))
 
 pub returns-in_err-versions-clause-answer : goal.returns-in_err-versions-clause-answer
 returns-in_err-versions-clause-answer g c = λ file known.
@@ -111,7 +111,7 @@ returns-in_err-table-clause-only g c = λ file known.
     let n = needed_view c.in_ok-needed.needed in
     let found = table_found c.args.which class c.args.byte_order file section seen given n c.in_ok-needed.ensures in
     rw c.in_ok-opened.ensures.source at (passed_only _ (next (within (λ P. of_sections P class c.args.byte_order file c.args.which) (c.in_ok-sections.ensures.only file is_known))
-    (within (λ P. of_rows P class c.args.byte_order file c.args.which n.table found) (c.in_err-table.ensures.only file is_known))) c.from_residual-in_err-table.ensures)
+    (within (λ P. of_placed c.args.which class c.args.byte_order file section seen given P n found) (c.in_err-table.ensures.only file is_known))) c.from_residual-in_err-table.ensures)
 
 pub returns-in_err-versions-clause-only : goal.returns-in_err-versions-clause-only
 returns-in_err-versions-clause-only g c = λ file known.
@@ -123,7 +123,7 @@ returns-in_err-versions-clause-only g c = λ file known.
     let n = needed_view c.in_ok-needed.needed in
     let found = table_found c.args.which class c.args.byte_order file section seen given n c.in_ok-needed.ensures in
     rw c.in_ok-opened.ensures.source at (passed_only _ (next (within (λ P. of_sections P class c.args.byte_order file c.args.which) (c.in_ok-sections.ensures.only file is_known))
-    (next (within (λ P. of_rows P class c.args.byte_order file c.args.which n.table found) (c.in_ok-table.ensures.only file is_known))
+    (next (within (λ P. of_placed c.args.which class c.args.byte_order file section seen given P n found) (c.in_ok-table.ensures.only file is_known))
     (within (λ P. of_versions P class c.args.byte_order file c.args.which seen.sections (walk_is c.args.which class c.args.byte_order file section seen given)) (c.in_err-versions.ensures.only file is_known))))
     c.from_residual-in_err-versions.ensures)
 
@@ -137,7 +137,7 @@ returns-clause-only g c = λ file known.
     let n = needed_view c.in_ok-needed.needed in
     let found = table_found c.args.which class c.args.byte_order file section seen given n c.in_ok-needed.ensures in
     rw c.in_ok-opened.ensures.source at (next (within (λ P. of_sections P class c.args.byte_order file c.args.which) (c.in_ok-sections.ensures.only file is_known))
-    (next (within (λ P. of_rows P class c.args.byte_order file c.args.which n.table found) (c.in_ok-table.ensures.only file is_known))
+    (next (within (λ P. of_placed c.args.which class c.args.byte_order file section seen given P n found) (c.in_ok-table.ensures.only file is_known))
     (within (λ P. of_versions P class c.args.byte_order file c.args.which seen.sections (walk_is c.args.which class c.args.byte_order file section seen given)) (c.in_ok-versions.ensures.only file is_known))))
 
 pub returns-in_err-sizes-clause-answer : goal.returns-in_err-sizes-clause-answer
@@ -156,7 +156,7 @@ returns-in_err-sizes-clause-only g c = λ file known.
     let n = needed_view c.in_ok-needed.needed in
     let found = table_found c.args.which class c.args.byte_order file section seen given n c.in_ok-needed.ensures in
     rw c.in_ok-opened.ensures.source at (ending (next (within (λ P. of_sections P class c.args.byte_order file c.args.which) (c.in_ok-sections.ensures.only file is_known))
-    (next (within (λ P. of_rows P class c.args.byte_order file c.args.which n.table found) (c.in_ok-table.ensures.only file is_known))
+    (next (within (λ P. of_placed c.args.which class c.args.byte_order file section seen given P n found) (c.in_ok-table.ensures.only file is_known))
     (within (λ P. of_versions P class c.args.byte_order file c.args.which seen.sections (walk_is c.args.which class c.args.byte_order file section seen given)) (c.in_ok-versions.ensures.only file is_known))))
     (out_surely c.from_residual-in_err-sizes.result c.from_residual-in_err-sizes.ensures))
 

@@ -136,7 +136,8 @@ impl<'a> Iterator for Functions<'a> {
 pub struct Section<'a> {
     /// In a Mach-O file the name of its segment (`segname`), as `__TEXT`; elsewhere `None`.
     pub segment: Option<&'a str>,
-    /// Its name as it is stored; `None` for an ELF section without one.
+    /// Its name; `None` for an ELF section without one. In a PE file one of more than 8 bytes is in the string table; where it
+    /// isn't there, this is the name in its header, as `/4`.
     pub name: Option<&'a str>,
     /// The address of its first byte in memory (`sh_addr`, `addr`); in a PE file counted from the image base
     /// (`VirtualAddress`).
@@ -302,8 +303,8 @@ impl<I: Iterator> Iterator for Bounded<I> {
 /// Returns the bytes of the first section with this name, a part of the file.
 ///
 /// In a Mach-O file the name is `SEGMENT,SECTION`, such as `__TEXT,__text`, or the name of a section in any segment. A PE
-/// section with a name of more than 8 bytes has its stored name here, such as `/4`: the string table isn't read. The bytes of
-/// a PE section end at its size in memory.
+/// section has its full name here, which the string table has if it is longer than 8 bytes. The bytes of a PE section end at its
+/// size in memory.
 ///
 /// # Errors
 ///

@@ -1,4 +1,5 @@
 pub mod Walks
+pub mod Strings
 pub mod Rows
 pub mod Strictly
 pub mod Listing

@@ -11,6 +11,7 @@ use Rattle.binfarce_bytes.specs.SectionEntries.{SectionEntry, SelectedSymbols, i
 use Rattle.binfarce_pe.specs.declared.functions.SelectedSections as code
 use Rattle.binfarce_pe.specs.declared.functions.SelectedSections.TheVariants.{Text, All}
 use Rattle.binfarce_pe.specs.Pe.{header_of, image_base, least_length, section_fields, section_length}
+use Rattle.binfarce_pe.specs.PeNames.{full_name, string_table}
 use Rattle.binfarce_pe.specs.PeParts.{TablePlaces, TextPlace, SectionTable, headers_view, places_of, section_table, section_in, table_walk, text_place, text_view, whole_in}
 use Rattle.binfarce_pe.specs.PeSymbols.{SymbolRow, CoffTable, symbol_table, is_function}
 use Rattle.binfarce_pe.specs.PeRules.{SectionRules, text_rules, entries_under}
@@ -116,7 +117,7 @@ section_entries rules symbols index =
 abbrev pub entries_by : Rules → CoffTable → List SectionEntry
 entries_by rules symbols = flat_map (section_entries rules symbols) (range_with_len rules.first rules.count)
 
--- the name of the section of this number, where there is one and its name is UTF-8
+-- the stored name of the section of this number, where there is one and its name is UTF-8
 abbrev pub name_of : SectionTable → ℕ → Option (List ℕ)
 name_of sections number =
     if nat_eq number 0 then None
@@ -128,10 +129,10 @@ abbrev pub section_size : SelectedSections → Option ℕ
 section_size (the_text text) = Some text.size
 section_size (all_sections base sections) = None
 
--- of all sections their names
-abbrev pub section_name : SelectedSections → ℕ → Option (List ℕ)
-section_name (the_text text) = λ number. None
-section_name (all_sections base sections) = name_of sections
+-- of all sections their names, of which long ones are in the string table, behind the records
+abbrev pub section_name : SelectedSections → CoffTable → ℕ → Option (List ℕ)
+section_name (the_text text) symbols = λ number. None
+section_name (all_sections base sections) symbols = λ number. option_map (full_name (string_table symbols.strings)) (name_of sections number)
 
 -- sections without an image base share addresses
 abbrev pub shares_addresses : SelectedSections → Bool
@@ -141,7 +142,7 @@ shares_addresses (all_sections base sections) = is_none base
 -- the function symbols of chosen sections
 abbrev pub symbols_of : SelectedSections → CoffTable → SelectedSymbols
 symbols_of chosen symbols =
-    record { entries = entries_by (rules_of chosen) symbols; section_size = section_size chosen; section_name = section_name chosen; shares_addresses = shares_addresses chosen; version_name = λ version. None }
+    record { entries = entries_by (rules_of chosen) symbols; section_size = section_size chosen; section_name = section_name chosen symbols; shares_addresses = shares_addresses chosen; version_name = λ version. None }
 
 -- the section headers, of which none is truncated: else refused as the walk over the sections is
 abbrev pub whole_sections : SectionTable → Result SectionTable Refusal

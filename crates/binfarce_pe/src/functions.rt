@@ -11,6 +11,7 @@ ghost use Rattle.binfarce_bytes.specs.Selection.{section_of};
 ghost use Rattle.binfarce_bytes.specs.Sizes.{addresses_of, least_above, least_of};
 ghost use Rattle.binfarce_bytes.specs.SymbolViews.{section_function_view, HoldsSized};
 ghost use Rattle.binfarce_pe.specs.Pe.{section_at};
+ghost use Rattle.binfarce_pe.specs.PeNames.{full_name, string_table};
 ghost use Rattle.binfarce_pe.specs.PeParts.{places_of, places_view, headers_view, section_table, table_view, whole_in};
 ghost use Rattle.binfarce_pe.specs.PeRules.{accepted_name, ends_at};
 ghost use Rattle.binfarce_pe.specs.PeSelection.{is_external_or_static, is_inner, is_routine, memory_size, memory_address, rules_of, name_of, section_entries, entries_by, section_size, whole_sections, sections_in, selected_answer, sections_view, IsWhole};
@@ -19,6 +20,7 @@ ghost use Rattle.binfarce_pe.specs.PeSymbols.{record_count};
 ghost use Rattle.binfarce_pe.specs.machine.RawPe.{symbol_view, bound_of, ending_name, function_in, names_view, HoldsRows, HoldsSections};
 
 use crate::header::image_base;
+use crate::names::{full_name, string_table};
 use crate::parts::{SECTION_LENGTH, TableOffsets, Text, text_in};
 use crate::sections::{Table, section_at, section_table};
 use crate::symbols::{
@@ -123,10 +125,12 @@ fn whole_sections(sections: Table<'_>) -> Result<Table<'_>, ParseError>
     }
 }
 
-/// The name of the section of this number, where there is one and its name is UTF-8; a part of the headers.
-pub fn section_name<'a>(sections: Table<'a>, number: u32) -> Option<&'a str>
+/// The name of the section of this number, where there is one and its stored name is UTF-8: a part of the headers, or
+/// of the strings, which are the bytes from the string table's beginning on.
+pub fn section_name<'a>(sections: Table<'a>, strings: &'a [u8], number: u32) -> Option<&'a str>
     requires { sections.count ≤ whole_in (headers_view sections) }
-    ensures { option_map (λ t. t.now) result ≡ name_of (headers_view sections.entry) number }
+    ensures { option_map (λ t. t.now) result
+        ≡ option_map (full_name (string_table strings.now)) (name_of (headers_view sections.entry) number) }
 {
     let index = number.checked_sub(1)?;
     if index >= u32::from(sections.count) {
@@ -135,7 +139,7 @@ pub fn section_name<'a>(sections: Table<'a>, number: u32) -> Option<&'a str>
     let start = sections.offset + index as usize * SECTION_LENGTH;
     match section_at(sections.bytes, start, index as u16).unwrap() {
         None => None,
-        Some(section) => Some(section.name),
+        Some(section) => Some(full_name(string_table(strings), section.name)),
     }
 }
 

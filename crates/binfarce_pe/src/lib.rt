@@ -5,6 +5,7 @@ mod accessors;
 pub mod functions;
 pub mod header;
 mod laws;
+pub mod names;
 pub mod parts;
 pub mod sections;
 pub mod symbols;

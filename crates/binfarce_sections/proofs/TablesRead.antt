@@ -1,5 +1,6 @@
 -- What was read of a file has its sections.
-use Rattle.std.proofs.Common.{◌≡◌, ℕ, Bool, true, false, cond, ltb, List, length, Option, Some, None, Result, Ok, Err, refl, sym, ap, subst, ◌∙◌}
+use Rattle.std.proofs.Common.{◌≡◌, ℕ, Bool, true, false, cond, ltb, List, [], ◌∷◌, map, length, Option, Some, None, Result, Ok, Err, refl, sym, ap, ap₂, subst, ◌∙◌}
+use Rattle.std.specs.Prelude.{find, is_some}
 use Rattle.std.specs.Result.{IsErr, IsErrAnd}
 use Rattle.binfarce.specs.declared.ByteOrder.{ByteOrder}
 use Rattle.binfarce.specs.declared.Format.{Format}
@@ -9,15 +10,17 @@ use Rattle.binfarce.specs.ElfEnds.{file_kind}
 use Rattle.binfarce.specs.Format.{format_of}
 use Rattle.binfarce.specs.Macho as macho
 use Rattle.binfarce.specs.Pe as pe
+use Rattle.binfarce_pe.specs.PeNames.{full_name, has_long_names, offset_in, strings_of}
 use Rattle.binfarce.specs.Refusal.{Refusal, refusal_of, unexpected_eof}
 use Rattle.binfarce.specs.Walk.{Walk, ended}
 use Rattle.binfarce_tables.specs.BeginningReading as beginning
 use Rattle.binfarce_tables.specs.BeginningReading.{ReadsBeginning}
+use Rattle.binfarce_tables.specs.PeReading.{needed_strings}
 use Rattle.binfarce_tables.specs.Reading.{Reads}
 use Rattle.binfarce_tables.specs.SectionReading.{FileSections, file_sections}
 use Rattle.binfarce_tables.specs.declared.error.ReadError.{ReadError}
 use Rattle.binfarce_tables.specs.declared.error.ReadError.TheVariants.{Refused, Unreadable, OutOfMemory}
-use Rattle.binfarce_sections.specs.Section.{Section, elf_named, macho_section, pe_section, mapped, sections_of, elf_sections, macho_sections, pe_sections}
+use Rattle.binfarce_sections.specs.Section.{Section, elf_named, macho_section, pe_named, pe_section, mapped, sections_of, elf_sections, macho_sections, pe_sections, pe_sections_by}
 use Rattle.binfarce_sections.specs.Views.{named_by, Opens}
 use Rattle.binfarce_sections.specs.declared.error.SectionError.TheVariants as errors
 use Rattle.binfarce_sections.specs.declared.sections.Sections.{Sections}
@@ -68,8 +71,8 @@ elf_is class order file = by_length (ltb (length file) class.header_length) elf_
 pub macho_is : (file : List ℕ) → macho_sections file ≡ walk_of (mapped macho_section) (beginning.macho_sections file)
 macho_is file = by_length (ltb (length file) macho.least_length) (mapped macho_section) (macho.walk file)
 
-pub pe_is : (file : List ℕ) → pe_sections file ≡ walk_of (mapped pe_section) (beginning.pe_sections file)
-pe_is file = by_length (ltb (length file) (pe.least_length file)) (mapped pe_section) (pe.walk file)
+pub pe_is : (strings file : List ℕ) → pe_sections_by strings file ≡ walk_of (mapped (pe_section strings)) (beginning.pe_sections file)
+pe_is strings file = by_length (ltb (length file) (pe.least_length file)) (mapped (pe_section strings)) (pe.walk file)
 
 -- the length that a reading gives is the file's
 pub elf_long : (class : elf.ElfClass) (order : ByteOrder) (file : List ℕ) (seen : FileSections) → file_sections class order file ≡ Ok seen → seen.file_length ≡ length file
@@ -88,8 +91,34 @@ elf_has class order file seen of_class is = (of_class ∙ ap Some (elf_is class 
 pub macho_has : (file bytes : List ℕ) → Has file (macho_sections file) → beginning.macho_sections bytes ≡ beginning.macho_sections file → Has file (macho_sections bytes)
 macho_has file bytes of_format same = of_format ∙ ap Some (macho_is file ∙ ap (walk_of (mapped macho_section)) (sym same) ∙ sym (macho_is bytes))
 
-pub pe_has : (file bytes : List ℕ) → Has file (pe_sections file) → beginning.pe_sections bytes ≡ beginning.pe_sections file → Has file (pe_sections bytes)
-pe_has file bytes of_format same = of_format ∙ ap Some (pe_is file ∙ ap (walk_of (mapped pe_section)) (sym same) ∙ sym (pe_is bytes))
+-- a name that isn't in a string table is the stored one
+short_name : (strings stored : List ℕ) → offset_in stored ≡ None → full_name strings stored ≡ stored
+unfolding full_name
+short_name strings stored is = rw is refl
+
+-- such names are the same by any table
+short_names : (one other : List ℕ) (items : List pe.Section) → find (λ s. is_some (offset_in s.name)) items ≡ None → map (pe_section one) items ≡ map (pe_section other) items
+short_names one other [] none = refl
+short_names one other (s ∷ items) none = by_offset (λ rest. short_names one other items rest) (offset_in s.name) refl none
+  where
+    by_offset : (find (λ s. is_some (offset_in s.name)) items ≡ None → map (pe_section one) items ≡ map (pe_section other) items) → (o : Option ℕ) → offset_in s.name ≡ o → cond (is_some o) (Some s) (find (λ s. is_some (offset_in s.name)) items) ≡ None → map (pe_section one) (s ∷ items) ≡ map (pe_section other) (s ∷ items)
+    by_offset others None is none =
+        ap₂ (λ (name : List ℕ) (rest : List Section). pe_named name s ∷ rest) (short_name one s.name is ∙ sym (short_name other s.name is)) (others none)
+    by_offset others (Some offset) is none = absurd cc
+
+-- and what was read of a string table has the names
+needed : (file : List ℕ) → pe_sections_by (needed_strings file) file ≡ pe_sections file
+unfolding needed_strings has_long_names
+needed file = by_found (find (λ s. is_some (offset_in s.name)) (pe.walk file).items) refl
+  where
+    by_found : (o : Option pe.Section) → find (λ s. is_some (offset_in s.name)) (pe.walk file).items ≡ o → pe_sections_by (cond (is_some o) (strings_of file) []) file ≡ pe_sections file
+    by_found (Some s) is = refl
+    by_found None is = ap (λ (items : List Section). cond (ltb (length file) (pe.least_length file)) (ended (Some unexpected_eof)) (record { items = items; refusal = (pe.walk file).refusal })) (short_names [] (strings_of file) (pe.walk file).items is)
+
+pub pe_has : (file bytes strings : List ℕ) → Has file (pe_sections file) → beginning.pe_sections bytes ≡ beginning.pe_sections file → strings ≡ needed_strings file → Has file (pe_sections_by strings bytes)
+pe_has file bytes strings of_format same are =
+    of_format ∙ ap Some (sym (needed file) ∙ ap (λ (s : List ℕ). pe_sections_by s file) (sym are)
+    ∙ pe_is strings file ∙ ap (walk_of (mapped (pe_section strings))) (sym same) ∙ sym (pe_is strings bytes))
 
 -- why nothing was read, as `?` passes it on
 not_read : {S X : Type 0} (may_fail : Bool) (view : X → S) (seen : S → Walk Section) (answer : Result S Refusal) (file : List ℕ) (e : ReadError)
@@ -126,7 +155,7 @@ unbegun may_fail seen answer file e r has reads err = err_is (ReadsTables may_fa
 pub length_is : (file : List ℕ) (tables : Tables) (n : ℕ) (sections : Sections) → AreTablesOf file tables → HasLength tables n → Opens (sections_of (format_of file) file) (Ok sections) → n ≡ length file
 length_is file (Elf parts) n sections are has opened = has ∙ are.1
 length_is file (Macho begun) n sections are has opened = has ∙ are.1
-length_is file (Pe begun) n sections are has opened = has ∙ are.1
+length_is file (Pe parts) n sections are has opened = has ∙ are.1
 length_is file Unknown n sections are has opened = absurd (subst (λ (w : Option (Walk Section)). Opens w (Ok sections)) (of_unknown file are) opened)
 
 -- a file of an unknown format

@@ -1,5 +1,5 @@
 -- How the bytes of the sections of two files differ.
-use Rattle.std.specs.Prelude.{◌≡◌, ℕ, zero, suc, ◌+◌, ◌-◌, ◌*◌, ◌/◌, ◌%◌, Bool, true, false, not, ◌&&◌, List, [], ◌∷◌, ◌++◌, codes, length, map, filter, take, drop, nat_eq, nat_lt, Option, Some, if◌then◌else◌}
+use Rattle.std.specs.Prelude.{◌≡◌, ℕ, zero, suc, ◌+◌, ◌-◌, ◌*◌, ◌/◌, ◌%◌, Bool, true, false, not, ◌&&◌, List, [], ◌∷◌, ◌++◌, codes, length, map, filter, take, drop, nat_eq, nat_lt, Option, Some, None, if◌then◌else◌}
 use Rattle.std.specs.Cmp.Lexicographic.{slice_cmp}
 use Rattle.std.specs.Fmt.{decimal}
 use Rattle.std.specs.List.{concat, flat_map, list_any, sum_by}
@@ -89,9 +89,13 @@ change_line has_percent r = concat (
     ∷ growth_column has_percent r.old r.new ∷ r.name ∷ codes "\n" ∷ []
     )
 
+-- a name as a member of an object; sections without one have none
+abbrev pub name_given : List ℕ → Option (List ℕ)
+name_given name = if nat_eq (length name) 0 then None else Some name
+
 abbrev pub change_object : (has_percent : Bool) → (file : List ℕ) → Row → List ℕ
 change_object has_percent file r = concat (
-    object_start file ∷ text_member (codes "section") (Some r.name)
+    object_start file ∷ text_member (codes "section") (name_given r.name)
     ∷ number_member (codes "old") r.old ∷ number_member (codes "new") r.new ∷ signed_member (codes "change") r.old r.new
     ∷ number_member (codes "old_memory") r.old_memory ∷ number_member (codes "new_memory") r.new_memory ∷ signed_member (codes "memory_change") r.old_memory r.new_memory
     ∷ growth_member has_percent r.old r.new ∷ codes "}\n" ∷ []

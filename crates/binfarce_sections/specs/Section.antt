@@ -9,6 +9,7 @@ use Rattle.binfarce.specs.Elf as elf
 use Rattle.binfarce.specs.Elf.{elf32, elf64}
 use Rattle.binfarce.specs.Macho as macho
 use Rattle.binfarce.specs.Pe as pe
+use Rattle.binfarce_pe.specs.PeNames.{full_name, strings_of}
 use Rattle.binfarce_sections.specs.declared.kinds.SectionType.{SectionType}
 use Rattle.binfarce_sections.specs.declared.kinds.SectionType.TheVariants as types
 
@@ -64,11 +65,12 @@ macho_section s = record {
 abbrev pub pe_size : ℕ → ℕ → ℕ
 pe_size virtual raw = if nat_eq virtual 0 then raw else if nat_eq raw 0 then virtual else min virtual raw
 
--- a PE section: one without raw data has no bytes in the file (PE Format, "Section Table"). In the file it has all of its raw data, also what is rounded up
-abbrev pub pe_section : pe.Section → Section
-pe_section s = record {
+-- a PE section with this name: one without raw data has no bytes in the file (PE Format, "Section Table"). In the file it has all of its raw data, also what
+-- is rounded up
+abbrev pub pe_named : (name : List ℕ) → pe.Section → Section
+pe_named name s = record {
   segment = None;
-  name = Some s.name;
+  name = Some name;
   address = s.virtual_address;
   offset = s.pointer_to_raw_data;
   size = pe_size s.virtual_size s.size_of_raw_data;
@@ -78,6 +80,10 @@ pe_section s = record {
   file_size = pe.file_size s;
   memory_size = pe.memory_size s;
 }
+
+-- with its own name: one of more than 8 bytes is in this string table
+abbrev pub pe_section : (strings : List ℕ) → pe.Section → Section
+pe_section strings s = pe_named (full_name strings s.name) s
 
 -- a walk with each item converted
 abbrev pub mapped : {S T : Type 0} → (S → T) → Walk S → Walk T
@@ -92,8 +98,11 @@ elf_sections class order file =
 abbrev pub macho_sections : List ℕ → Walk Section
 macho_sections file = if nat_lt (length file) macho.least_length then ended (Some unexpected_eof) else mapped macho_section (macho.walk file)
 
+abbrev pub pe_sections_by : (strings : List ℕ) → List ℕ → Walk Section
+pe_sections_by strings file = if nat_lt (length file) (pe.least_length file) then ended (Some unexpected_eof) else mapped (pe_section strings) (pe.walk file)
+
 abbrev pub pe_sections : List ℕ → Walk Section
-pe_sections file = if nat_lt (length file) (pe.least_length file) then ended (Some unexpected_eof) else mapped pe_section (pe.walk file)
+pe_sections file = pe_sections_by (strings_of file) file
 
 -- the sections of a file of this format, in file order; none for an unknown format
 unfoldable pub sections_of : Format → List ℕ → Option (Walk Section)

@@ -8,7 +8,7 @@ use Rattle.binfarce_tables.specs.BeginningReading.{bytes_of, file_length_of}
 use Rattle.binfarce_tables.specs.SectionReading.{sections_view}
 use Rattle.binfarce_tables.specs.declared.error.ReadError.{ReadError}
 use Rattle.binfarce_tables.specs.declared.error.ReadError.TheVariants.{Refused, Unreadable, OutOfMemory}
-use Rattle.binfarce_sections.specs.Section.{Section, elf_named, mapped, sections_of, macho_sections, pe_sections}
+use Rattle.binfarce_sections.specs.Section.{Section, elf_named, mapped, sections_of, macho_sections, pe_sections_by}
 use Rattle.binfarce_sections.specs.Views.{named_by}
 use Rattle.binfarce_sections.specs.declared.tables.Tables.{Tables}
 use Rattle.binfarce_sections.specs.declared.tables.Tables.TheVariants.{Elf, Macho, Pe, Unknown}
@@ -21,14 +21,14 @@ Has file walk = sections_of (format_of file) file ≡ Some walk
 abbrev pub AreTablesOf : List ℕ → Tables → Type 0
 AreTablesOf file (Elf parts) = let seen = sections_view parts in Has file (mapped (elf_named (named_by seen.names)) seen.sections) × (seen.file_length ≡ length file)
 AreTablesOf file (Macho beginning) = Has file (macho_sections (bytes_of beginning)) × (file_length_of beginning ≡ length file)
-AreTablesOf file (Pe beginning) = Has file (pe_sections (bytes_of beginning)) × (file_length_of beginning ≡ length file)
+AreTablesOf file (Pe parts) = Has file (pe_sections_by parts.strings.items (bytes_of parts.beginning)) × (file_length_of parts.beginning ≡ length file)
 AreTablesOf file Unknown = format_of file ≡ formats.Unknown
 
 -- such a length
 abbrev pub HasLength : Tables → ℕ → Type 0
 HasLength (Elf parts) n = n ≡ (sections_view parts).file_length
 HasLength (Macho beginning) n = n ≡ file_length_of beginning
-HasLength (Pe beginning) n = n ≡ file_length_of beginning
+HasLength (Pe parts) n = n ≡ file_length_of parts.beginning
 HasLength Unknown n = n ≡ 0
 
 -- the result of a reading of this file: its tables, or the refusal that comes before any section; or a source that may fail is unreadable, or an

@@ -9,6 +9,7 @@ use Rattle.binfarce.specs.Elf.{name_among}
 use Rattle.binfarce_elf_memory.specs.ElfParts as elf_parts
 use Rattle.binfarce_sections.specs.declared.sections.Section as code
 use Rattle.binfarce_sections.specs.declared.sections.ElfSections.{ElfSections}
+use Rattle.binfarce_sections.specs.declared.sections.PeSections.{PeSections}
 use Rattle.binfarce_sections.specs.declared.sections.Sections.{Sections}
 use Rattle.binfarce_sections.specs.declared.sections.Sections.TheVariants as variants
 use Rattle.binfarce_sections.specs.declared.sums.Share as code_share
@@ -33,11 +34,15 @@ named_by names s = name_among names s.name_offset
 abbrev pub elf_left : ElfSections → Walk Section
 elf_left s = mapped (elf_named (named_by (option_map (λ b. b.now) s.names))) (elf_parts.sections_left s.left)
 
+-- the sections that a PE file has left
+abbrev pub pe_left : PeSections → Walk Section
+pe_left s = mapped (pe_section s.strings.now) s.left
+
 -- the sections that an iterator has left
 abbrev pub sections_left : Sections → Walk Section
 sections_left (variants.Elf sections) = elf_left sections
 sections_left (variants.Macho left) = mapped macho_section left
-sections_left (variants.Pe left) = mapped pe_section left
+sections_left (variants.Pe sections) = pe_left sections
 
 -- the result of a call that gives the sections of a file: all of them, or the refusal that comes before any
 abbrev pub Opens : Option (Walk Section) → Result Sections SectionError → Type 0

@@ -29,7 +29,7 @@ use std::alloc::Global;
 ///
 /// The format is the one that the file's first bytes name. In a Mach-O file the name is `SEGMENT,SECTION`, as
 /// `__TEXT,__text`, or a section's name alone: the first of that name in any segment. In a PE file a name of more than
-/// 8 bytes is in the string table, and the section's own name is as `/4`.
+/// 8 bytes is the one in the string table, where it is there, and else the one in the section's header, as `/4`.
 ///
 /// # Errors
 ///

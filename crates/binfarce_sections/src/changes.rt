@@ -2,10 +2,11 @@
 
 ghost use Rattle.std.specs.Prelude.{◌≡◌, ◌+◌, ◌<◌, ◌^◌, ◌++◌, ◌∷◌, [], ℕ, List, codes, filter, map, Some, IfOk, OnOk};
 ghost use Rattle.std.specs.List.{flat_map};
+ghost use Rattle.std.specs.Option.{option_map};
 ghost use Rattle.std.specs.String.{string_bytes};
 ghost use Rattle.binfarce_rows.specs.Json.{style_of};
 ghost use Rattle.binfarce_rows.specs.Columns.{difference};
-ghost use Rattle.binfarce_sections.specs.Changes.{AreChangesFrom, AreChangesOf, change_line, change_object, change_row, change_rows, differs, new_row, old_row, others_row, parts_of, row_view, shown_row};
+ghost use Rattle.binfarce_sections.specs.Changes.{AreChangesFrom, AreChangesOf, change_line, change_object, change_row, change_rows, differs, name_given, new_row, old_row, others_row, parts_of, row_view, shown_row};
 ghost use Rattle.binfarce_sections.specs.Results.{TakesText, Fails};
 ghost use Rattle.binfarce_sections.specs.machine.Changed.{Fit, added, joined};
 
@@ -47,9 +48,9 @@ pub struct Change<'a> {
 /// has, if that is wanted, the change of the bytes in the file in per cent of the old number, with two decimals and to
 /// the right of 10 columns, as `+12.50%`: rounded toward zero, and `new` where the old number is 0. `[N others]` is the
 /// name of the line that sums up those past the first; the last line, `[total]`, has the lengths of the files, and the
-/// memory of all sections. An object has the members `file`, which is the new one's name, `section`, `old`, `new`,
-/// `change`, `old_memory`, `new_memory`, `memory_change` and, if that is wanted, `percent`, which is `null` where the
-/// old number is 0.
+/// memory of all sections. An object has the members `file`, which is the new one's name, `section`, which is `null`
+/// without a name, `old`, `new`, `change`, `old_memory`, `new_memory`, `memory_change` and, if that is wanted, `percent`,
+/// which is `null` where the old number is 0.
 ///
 /// # Errors
 ///
@@ -319,7 +320,7 @@ impl Layout<'_> {
             ++ change_object self.now.has_percent file.now (row_view change.entry)) }
     {
         push_start(text, file)?;
-        push_text_member(text, "section", Some(change.name))?;
+        push_text_member(text, "section", name_given(change.name))?;
         push_number_member(text, "old", change.old)?;
         push_number_member(text, "new", change.new)?;
         push_signed_member(
@@ -335,4 +336,11 @@ impl Layout<'_> {
         text.push_str("}\n")?;
         Ok(())
     }
+}
+
+// A name as a member of an object; sections without one have none.
+fn name_given(name: &str) -> Option<&str>
+    ensures { option_map (λ t. t.now) result ≡ name_given name.now }
+{
+    if name.is_empty() { None } else { Some(name) }
 }

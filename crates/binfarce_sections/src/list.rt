@@ -32,7 +32,7 @@ use std::fmt::Write;
 ///
 /// The format is the one that the file's first bytes name. A line is `{address:016x} {offset:>10} {size:>10} {name}`,
 /// with the offset in the file and the size in bytes; in a Mach-O file the name is `SEGMENT,SECTION`. Names are written
-/// as they are stored, whatever characters they hold. All lines are made before the first byte is written.
+/// as they are, whatever characters they hold. All lines are made before the first byte is written.
 ///
 /// # Errors
 ///

@@ -12,8 +12,8 @@ ghost use Rattle.binfarce.specs.Walk.{YieldsNext, first};
 ghost use Rattle.binfarce_elf.specs.Classes.{class_of};
 ghost use Rattle.binfarce_tables.specs.SectionReading.{sections_view};
 ghost use Rattle.binfarce_sections.specs.Named.{is_named};
-ghost use Rattle.binfarce_sections.specs.Section.{elf_named, macho_section, pe_section, pe_size, mapped, least_length, sections_of, elf_sections, macho_sections, pe_sections};
-ghost use Rattle.binfarce_sections.specs.Views.{section_view, sections_left, elf_left, named_by, Opens};
+ghost use Rattle.binfarce_sections.specs.Section.{elf_named, macho_section, pe_section, pe_size, mapped, least_length, sections_of, elf_sections, macho_sections, pe_sections, pe_sections_by};
+ghost use Rattle.binfarce_sections.specs.Views.{section_view, sections_left, elf_left, pe_left, named_by, Opens};
 ghost use Rattle.binfarce_sections.specs.declared.error.SectionError.TheVariants.{Unknown};
 ghost use Rattle.binfarce_sections.specs.machine.Opened.{OpensWalk};
 
@@ -22,6 +22,9 @@ use crate::kinds::SectionType;
 use binfarce::{ByteOrder, Format, ParseError, detect_format, macho, pe};
 use binfarce_elf::sections::{self as elf_sections, is_named_in, name_in};
 use binfarce_elf_memory::parts::{AnySections, sections_of_file};
+use binfarce_pe::header::parse_header;
+use binfarce_pe::names::{full_name, strings_of};
+use binfarce_pe::parts::places_after;
 use binfarce_tables::Width;
 use binfarce_tables::elf::SectionParts;
 
@@ -30,7 +33,8 @@ use binfarce_tables::elf::SectionParts;
 pub struct Section<'a> {
     /// In a Mach-O file the name of its segment (`segname`), as `__TEXT`; elsewhere `None`.
     pub segment: Option<&'a str>,
-    /// Its name as it is stored; `None` for an ELF section without one.
+    /// Its name; `None` for an ELF section without one. In a PE file one of more than 8 bytes is in the string table; where
+    /// it isn't there, this is the name in its header, as `/4`.
     pub name: Option<&'a str>,
     /// The address of its first byte in memory (`sh_addr`, `addr`); in a PE file counted from the image base
     /// (`VirtualAddress`).
@@ -63,7 +67,7 @@ pub struct Section<'a> {
 pub enum Sections<'a> {
     Elf(ElfSections<'a>),
     Macho(macho::Sections<'a>),
-    Pe(pe::Sections<'a>),
+    Pe(PeSections<'a>),
 }
 
 /// The sections of an ELF file that are left, and the bytes of the section names, where the file has them.
@@ -71,6 +75,13 @@ pub enum Sections<'a> {
 pub struct ElfSections<'a> {
     names: Option<&'a [u8]>,
     left: AnySections<'a>,
+}
+
+/// The sections of a PE file that are left, and the string table, where long names are.
+#[derive(Clone, Drop)]
+pub struct PeSections<'a> {
+    strings: &'a [u8],
+    left: pe::Sections<'a>,
 }
 
 impl<'a> Iterator for Sections<'a> {
@@ -89,7 +100,7 @@ impl<'a> Iterator for Sections<'a> {
         match self {
             Sections::Elf(sections) => sections.next(),
             Sections::Macho(left) => next_macho(left),
-            Sections::Pe(left) => next_pe(left),
+            Sections::Pe(sections) => sections.next(),
         }
     }
 }
@@ -110,7 +121,7 @@ pub fn sections_of(file: &[u8]) -> Result<Sections<'_>, SectionError>
         Format::Elf32 { byte_order } => Ok(open_elf(file, Width::Bits32, byte_order)?),
         Format::Elf64 { byte_order } => Ok(open_elf(file, Width::Bits64, byte_order)?),
         Format::Macho => Ok(open_macho(file)?),
-        Format::PE => Ok(open_pe(file)?),
+        Format::PE => Ok(open_pe_file(file)?),
         Format::Unknown => Err(SectionError::Unknown),
     }
 }
@@ -144,13 +155,25 @@ pub(crate) fn open_macho(bytes: &[u8]) -> Result<Sections<'_>, ParseError>
     Ok(Sections::Macho(macho::parse(bytes)?.sections()))
 }
 
-pub(crate) fn open_pe(bytes: &[u8]) -> Result<Sections<'_>, ParseError>
+fn open_pe_file(bytes: &[u8]) -> Result<Sections<'_>, ParseError>
     ensures opens { OpensWalk (pe_sections bytes.entry.now) result }
     ensures header { let least = least_length PE bytes.entry.now in MatchResult result
         (λ _. least ≤ length bytes.entry.now)
         (λ _. length bytes.entry.now < least) }
 {
-    Ok(Sections::Pe(pe::parse(bytes)?.sections()))
+    let (signature, header) = parse_header(bytes)?;
+    open_pe(bytes, strings_of(bytes, places_after(signature, header)))
+}
+
+// The sections of a file that begins with these bytes, with long names from this string table.
+pub(crate) fn open_pe<'a>(bytes: &'a [u8], strings: &'a [u8]) -> Result<Sections<'a>, ParseError>
+    ensures opens { OpensWalk (pe_sections_by strings.entry.now bytes.entry.now) result }
+    ensures header { let least = least_length PE bytes.entry.now in MatchResult result
+        (λ _. least ≤ length bytes.entry.now)
+        (λ _. length bytes.entry.now < least) }
+{
+    let left = pe::parse(bytes)?.sections();
+    Ok(Sections::Pe(PeSections { strings, left }))
 }
 
 impl<'a> ElfSections<'a> {
@@ -188,10 +211,16 @@ fn next_macho<'a>(left: &mut macho::Sections<'a>) -> Option<Result<Section<'a>, 
     Some(left.next()?.map(macho_section))
 }
 
-fn next_pe<'a>(left: &mut pe::Sections<'a>) -> Option<Result<Section<'a>, ParseError>>
-    ensures { YieldsNext refusal_of section_view (mapped pe_section left.old) result (mapped pe_section left.new) }
-{
-    Some(left.next()?.map(pe_section))
+impl<'a> PeSections<'a> {
+    // The first section that is left, or why it can't be read.
+    fn next(&mut self) -> Option<Result<Section<'a>, ParseError>>
+        ensures { YieldsNext refusal_of section_view (pe_left self.old) result (pe_left self.new) }
+    {
+        match self.left.next()? {
+            Ok(section) => Some(Ok(pe_section(self.strings, section))),
+            Err(e) => Some(Err(e)),
+        }
+    }
 }
 
 fn elf_section<'a>(names: Option<&'a [u8]>, section: elf_sections::Section<u64>) -> Section<'a>
@@ -237,12 +266,12 @@ fn macho_section(section: macho::Section<'_>) -> Section<'_>
     }
 }
 
-fn pe_section(section: pe::Section<'_>) -> Section<'_>
-    ensures { section_view result ≡ pe_section (pe_views.section_view section.entry) }
+fn pe_section<'a>(strings: &'a [u8], section: pe::Section<'a>) -> Section<'a>
+    ensures { section_view result ≡ pe_section strings.entry.now (pe_views.section_view section.entry) }
 {
     Section {
         segment: None,
-        name: Some(section.name()),
+        name: Some(full_name(strings, section.name())),
         address: u64::from(section.address()),
         offset: u64::from(section.offset()),
         size: u64::from(pe_size(section.virtual_size(), section.size())),

@@ -13,5 +13,6 @@ mod MachoLocated
 mod SectionsRead
 mod VersionsRead
 mod PeBeginning
+mod PeStrings
 mod PeSure
 mod PeWhole

@@ -1,5 +1,5 @@
 -- The sections of a PE file, by the bytes that it begins with.
-use Rattle.std.proofs.Common.{◌≡◌, ℕ, ◌+◌, ◌*◌, ◌-◌, ◌<◌, ◌≤◌, Bool, true, false, cond, ltb, List, length, drop, min, max, Result, Ok, Err, refl, ap, ap₂, ◌∙◌, arith, inl, inr}
+use Rattle.std.proofs.Common.{◌≡◌, ℕ, ◌+◌, ◌*◌, ◌-◌, ◌<◌, ◌≤◌, Bool, true, false, cond, ltb, List, length, drop, min, max, Result, Ok, Err, refl, sym, ap, ap₂, ◌∙◌, arith, inl, inr}
 use Rattle.std.proofs.lemmas.Bool.{cases_lt, ltb-false, lt-ltb, le-ltb, le-leb}
 use Rattle.std.proofs.lemmas.List.{take_all}
 use Rattle.std.proofs.lemmas.Nat.{le-div}
@@ -9,9 +9,9 @@ use Rattle.binfarce_bytes.specs.Field.{Field, field, number_in}
 use Rattle.binfarce_bytes.specs.Number.{bytes_at, number}
 use Rattle.binfarce_bytes.specs.Refusal.{Refusal, unexpected_eof}
 use Rattle.binfarce_pe.specs.Pe.{Header, header_after, header_of, header_fields, least_length, signature_offset, sections_offset, section_at, section_of, section_fields, characteristics_at, whole_headers, walk}
-use Rattle.binfarce_pe.specs.PeParts.{TablePlaces, places_of}
+use Rattle.binfarce_pe.specs.PeParts.{TablePlaces, places_of, table_walk}
 use Rattle.binfarce_tables.specs.BeginningReading.{pe_sections}
-use Rattle.binfarce_tables.specs.machine.PePlaces.{places_step}
+use Rattle.binfarce_tables.specs.machine.PePlaces.{headers_at, places_step}
 use Rattle.binfarce_tables.proofs.MachoPrefix.{prefix_long, prefix_same}
 use Rattle.binfarce_tables.proofs.PeAlone.{filter_map_same}
 
@@ -89,6 +89,11 @@ module _ (file : List ℕ) (n : ℕ) (inside : n ≤ length file) where
             le-leb count (whole_headers file) theirs,
           ) refl
 
+      -- so they are the headers of the table at its place
+      pub table_same : table_walk (record { bytes = first; offset = sections_offset file; count = count }) ≡ walk file
+      unfolding walk table_walk
+      table_same = ap₂ (λ (o n : ℕ). table_walk (record { bytes = first; offset = o; count = n })) (sym offset_same) (sym count_same) ∙ walk_same
+
       pub sections_same : pe_sections first ≡ pe_sections file
       sections_same = rw (
         le-ltb (length first) (least_length first) (omega (arith, long, stub, headers, signature_same)),
@@ -115,3 +120,18 @@ sections_held file places end step is = elim (cases_lt end (length file)) [
       sections_same file end (omega (arith, cut)) (omega (arith, is, cut)) (omega (arith, least, sections)) (omega (arith, least, sections)) (omega (arith, least, sections, count))
   | inr all ↦ ap pe_sections (take_all end (drop 0 file) all)
 ]
+
+-- their table at its place
+pub table_held : (file : List ℕ) (places : TablePlaces) (end : ℕ) → places_step file ≡ Ok places
+    → end ≡ min (max (places.sections + max (places.section_count * 40) 1) 64) (length file) → table_walk (headers_at (bytes_at file 0 end) places) ≡ walk file
+unfolding walk table_walk
+table_held file places end step is =
+    let said = places_read file places step in
+    let sections : places.sections ≡ sections_offset file = ap (λ (p : TablePlaces). p.sections) said.0 in
+    let count : places.section_count ≡ (header_of file).number_of_sections = ap (λ (p : TablePlaces). p.section_count) said.0 in
+    ap₂ (λ (o n : ℕ). table_walk (record { bytes = bytes_at file 0 end; offset = o; count = n })) sections count ∙ elim (cases_lt end (length file)) [
+      | inl cut ↦
+          let least : places.sections + max (places.section_count * 40) 1 ≤ end = omega (arith, is, cut) in
+          table_same file end (omega (arith, cut)) (omega (arith, is, cut)) (omega (arith, least, sections)) (omega (arith, least, sections)) (omega (arith, least, sections, count))
+      | inr all ↦ ap (λ (bytes : List ℕ). table_walk (record { bytes = bytes; offset = sections_offset file; count = (header_of file).number_of_sections })) (take_all end (drop 0 file) all)
+    ]

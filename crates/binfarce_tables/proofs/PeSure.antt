@@ -5,7 +5,7 @@ use Rattle.std.proofs.lemmas.List.Elements.{All-head, All-tail, All-take}
 use Rattle.std.specs.Prelude.{All}
 use Rattle.binfarce_bytes.specs.Part.{Part, part, whole_part}
 use Rattle.binfarce_pe.specs.PeParts.{TablePlaces, places_of}
-use Rattle.binfarce_tables.specs.PeReads.{pointer_part, header_part, places_parts, optional_header_part, table_parts, beginning_part, pe_section_parts, selected_parts, pe_parts, pe_load_parts}
+use Rattle.binfarce_tables.specs.PeReads.{pointer_part, header_part, places_parts, optional_header_part, table_parts, beginning_part, strings_parts, pe_section_parts, selected_parts, pe_parts, pe_load_parts}
 use Rattle.binfarce_tables.specs.machine.PePlaces.{signature_step, places_step}
 use Rattle.binfarce_tables.proofs.PeBeginning.{places_read}
 use Rattle.binfarce_tables.proofs.PeSteps.{signature_known}
@@ -42,22 +42,31 @@ module _ (P : Part → Type 0) (file : List ℕ) where
 
   -- those of the sections
   module _ (are : All P (pe_section_parts file)) where
-    section_each : All P (pointer_part ∷ header_part file ∷ beginning_part file (places_of file) ∷ [])
+    abbrev after : List Part
+    after = beginning_part file (places_of file) ∷ strings_parts file (places_of file)
+
+    section_each : All P (pointer_part ∷ header_part file ∷ after)
     unfolding pe_section_parts
     section_each = are
 
+    after_sure : All P after
+    after_sure = All-tail P (header_part file) after (All-tail P pointer_part (header_part file ∷ after) section_each)
+
     pub section_pointer_sure : P pointer_part
-    section_pointer_sure = All-head P pointer_part (header_part file ∷ beginning_part file (places_of file) ∷ []) section_each
+    section_pointer_sure = All-head P pointer_part (header_part file ∷ after) section_each
 
     pub section_places_sure : All P (places_parts file)
-    section_places_sure = All-take P 2 (pointer_part ∷ header_part file ∷ beginning_part file (places_of file) ∷ []) section_each
+    section_places_sure = All-take P 2 (pointer_part ∷ header_part file ∷ after) section_each
 
-    pub beginning_sure : (places : TablePlaces) → places_step file ≡ Ok places → P (beginning_part file places)
+    pub beginning_sure : (places : TablePlaces) → places_step file ≡ Ok places → All P (beginning_part file places ∷ [])
     beginning_sure places step =
         let is = places_read file places step in
-        let beginning = beginning_part file (places_of file) in
-        subst (λ (p : TablePlaces). P (beginning_part file p)) (sym is.0)
-        (All-head P beginning [] (All-tail P (header_part file) (beginning ∷ []) (All-tail P pointer_part (header_part file ∷ beginning ∷ []) section_each)))
+        subst (λ (p : TablePlaces). All P (beginning_part file p ∷ [])) (sym is.0) (All-take P 1 after after_sure)
+
+    pub strings_parts_sure : (places : TablePlaces) → places_step file ≡ Ok places → All P (strings_parts file places)
+    strings_parts_sure places step =
+        let is = places_read file places step in
+        subst (λ (p : TablePlaces). All P (strings_parts file p)) (sym is.0) (All-tail P (beginning_part file (places_of file)) (strings_parts file (places_of file)) after_sure)
 
   -- the optional header's first bytes, at the place that was read
   pub base_sure : (places : TablePlaces) → places_step file ≡ Ok places → All P (pe_load_parts file) → All P (optional_header_part places ∷ [])

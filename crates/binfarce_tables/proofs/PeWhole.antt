@@ -12,6 +12,7 @@ use Rattle.binfarce_bytes.specs.Number.{bytes_at}
 use Rattle.binfarce_bytes.specs.Refusal.{unexpected_eof}
 use Rattle.binfarce_bytes.specs.SectionEntries.{SectionEntry, in_section}
 use Rattle.binfarce_pe.specs.Pe.{Section, section_fields}
+use Rattle.binfarce_pe.specs.PeNames.{full_name, string_table}
 use Rattle.binfarce_pe.specs.PeParts.{TablePlaces, SectionTable, headers_alone, whole_in, table_walk}
 use Rattle.binfarce_pe.specs.PeSelection.{all_sections, is_external_or_static, ends_sizes, number_of, memory_size, memory_address, moved, size_within, rules_of, section_entries, entries_by, name_of, symbols_of}
 use Rattle.binfarce_pe.specs.PeSymbols.{CoffTable, is_function}
@@ -93,8 +94,11 @@ module _ (file : List ℕ) (places : TablePlaces) where
       ]
     ]
 
+    full_same : (strings : List ℕ) (number : ℕ) → option_map (full_name (string_table strings)) (name_of alone number) ≡ option_map (full_name (string_table strings)) (name_of table number)
+    full_same strings number = ap (option_map (full_name (string_table strings))) (name_same number)
+
     pub view_same : (base : Option ℕ) (symbols : CoffTable) → symbols_of (all_sections base alone) symbols ≡ symbols_of (all_sections base table) symbols
-    view_same base symbols = ap₂ (λ (es : List SectionEntry) (names : ℕ → Option (List ℕ)). record { entries = es; section_size = None; section_name = names; shares_addresses = is_none base; version_name = λ version. None }) (entries_same base symbols) (fun_ext name_same)
+    view_same base symbols = ap₂ (λ (es : List SectionEntry) (names : ℕ → Option (List ℕ)). record { entries = es; section_size = None; section_name = names; shares_addresses = is_none base; version_name = λ version. None }) (entries_same base symbols) (fun_ext (full_same symbols.strings))
 
   -- where nothing is refused, none is truncated
   pub held : (table_walk table).refusal ≡ None → (places.sections < length file) × (places.section_count ≤ whole_in table)

@@ -75,6 +75,10 @@ none_past known file items offset size is part long past =
     let held : IsPart (Some file) offset items = subst (λ (o : Option (List ℕ)). IsPart o offset items) is part in
     omega (arith, held.0, long, past)
 
+-- what a source says of its length is the file's
+pub length_known : (known : Option (List ℕ)) (file : List ℕ) (len : ℕ) → known ≡ Some file → IfSome known (λ all. len ≡ length all) → len ≡ length file
+length_known known file len is is_known = subst (λ (o : Option (List ℕ)). IfSome o (λ all. len ≡ length all)) is is_known
+
 -- what was read is there
 pub taken : {Y : Type 0} {a b : Y} → Path (Result Y Refusal) (Ok a) (Ok b) → b ≡ a
 taken step = cc

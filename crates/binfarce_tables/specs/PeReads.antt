@@ -1,8 +1,9 @@
 -- The parts of a PE file that are read.
-use Rattle.std.specs.Prelude.{ℕ, ◌+◌, ◌-◌, ◌*◌, List, [], ◌∷◌, ◌++◌, length, Option, Some, None, min, max, nat_le, if◌then◌else◌}
-use Rattle.binfarce_bytes.specs.Field.{field}
-use Rattle.binfarce_bytes.specs.Part.{Part, field_part, part}
-use Rattle.binfarce_pe.specs.Pe.{headers_length, signature_offset, section_length}
+use Rattle.std.specs.Prelude.{ℕ, ◌+◌, ◌-◌, ◌*◌, List, [], ◌∷◌, ◌++◌, length, Option, Some, None, min, max, nat_eq, nat_le, if◌then◌else◌}
+use Rattle.binfarce_bytes.specs.Field.{field, number_in}
+use Rattle.binfarce_bytes.specs.Part.{Part, field_part, part, parts_if}
+use Rattle.binfarce_pe.specs.Pe.{headers_length, signature_offset, section_length, walk}
+use Rattle.binfarce_pe.specs.PeNames.{has_long_names}
 use Rattle.binfarce_pe.specs.PeParts.{TablePlaces, places_of}
 
 -- the signature's offset, in the MS-DOS stub
@@ -36,9 +37,23 @@ table_parts file places =
 abbrev pub beginning_part : List ℕ → TablePlaces → Part
 beginning_part file places = part 0 (min (max (places.sections + max (places.section_count * section_length) 1) 64) (length file))
 
+-- where the string table begins in a file of this length: behind the records, but not at 0, and with room for its length
+abbrev pub strings_at : ℕ → TablePlaces → Option ℕ
+strings_at len places =
+    let offset = places.symbols + places.symbols_size in
+    if nat_eq offset 0 then None else if nat_le (offset + 4) len then Some offset else None
+
+-- the string table that begins at an offset: its length, and as many bytes as that states, or as the file has
+abbrev pub table_strings_parts : List ℕ → ℕ → List Part
+table_strings_parts file offset = part offset 4 ∷ part offset (min (number_in file offset (field 0 4)) (length file - offset)) ∷ []
+
+-- the string table, where the name of a section is in it
+abbrev pub strings_parts : List ℕ → TablePlaces → List Part
+strings_parts file places = if has_long_names (walk file) then parts_if (strings_at (length file) places) (table_strings_parts file) else []
+
 -- what a reading of the sections reads
 unfoldable pub pe_section_parts : List ℕ → List Part
-pe_section_parts file = pointer_part ∷ header_part file ∷ beginning_part file (places_of file) ∷ []
+pe_section_parts file = pointer_part ∷ header_part file ∷ beginning_part file (places_of file) ∷ strings_parts file (places_of file)
 
 -- what a selection needs: of the text the section headers, and of all sections the beginning of the optional header too
 abbrev pub selected_parts : Option (List ℕ) → List ℕ → TablePlaces → List Part

@@ -1,29 +1,33 @@
 //! PE files, of which only the tables are read (Microsoft PE Format).
 
-ghost use Rattle.std.specs.Prelude.{◌∷◌, [], ◌≡◌, ◌≢◌, ◌<◌, ◌≤◌, List, ℕ, true, Ok, Some, None, IfOk, IfErr};
+ghost use Rattle.std.specs.Prelude.{◌∷◌, [], ◌≡◌, ◌≢◌, ◌<◌, ◌≤◌, ◌+◌, List, ℕ, true, Ok, drop, length, Some, None, IfOk, IfErr};
 ghost use Rattle.std.specs.Option.{option_map};
 ghost use Rattle.binfarce_bytes.specs.Entries.{Answers};
 ghost use Rattle.binfarce_bytes.specs.Source.{ReadsOnly};
 ghost use Rattle.binfarce_bytes.specs.SectionEntries.{SelectsSome};
 ghost use Rattle.binfarce_bytes.specs.Selection.{section_of};
 ghost use Rattle.binfarce_bytes.specs.SymbolViews.{HoldsSelected};
-ghost use Rattle.binfarce_pe.specs.PeParts.{headers_alone, places_view, text_view, whole_in};
+ghost use Rattle.binfarce_pe.specs.Pe.{walk};
+ghost use Rattle.binfarce_pe.specs.PeNames.{string_table};
+ghost use Rattle.binfarce_pe.specs.PeParts.{headers_alone, places_view, table_walk, text_view, whole_in};
 ghost use Rattle.binfarce_pe.specs.PeSelection.{sections_view, selected_file_answer, load_address_at, file_load_address, IsWhole};
-ghost use Rattle.binfarce_tables.specs.BeginningReading.{ReadsBeginning, pe_sections};
-ghost use Rattle.binfarce_tables.specs.PeReading.{file_has_symbols, selected_view};
-ghost use Rattle.binfarce_tables.specs.PeReads.{pointer_part, places_parts, optional_header_part, headers_part, selected_parts, table_parts, pe_section_parts, pe_parts, pe_load_parts};
+ghost use Rattle.binfarce_tables.specs.BeginningReading.{ReadsBeginning, bytes_of, pe_sections};
+ghost use Rattle.binfarce_tables.specs.PeReading.{file_has_symbols, needed_strings, selected_view, ReadsSections};
+ghost use Rattle.binfarce_tables.specs.PeReads.{pointer_part, places_parts, optional_header_part, headers_part, selected_parts, table_parts, beginning_part, strings_at, strings_parts, table_strings_parts, pe_section_parts, pe_parts, pe_load_parts};
 ghost use Rattle.binfarce_tables.specs.Reading.{Reads, Known};
 ghost use Rattle.binfarce_tables.specs.declared.error.ReadError.TheVariants.{Unreadable};
-ghost use Rattle.binfarce_tables.specs.machine.PePlaces.{signature_step, places_step, text_at, whole_at, chosen_at, table_at, read_view, records_view};
+ghost use Rattle.binfarce_tables.specs.machine.PePlaces.{headers_at, signature_step, places_step, text_at, whole_at, chosen_at, table_at, read_view, records_view};
 
 use crate::beginning::Beginning;
 use crate::error::ReadError;
-use crate::opened::{Opened, open};
-use binfarce_bytes::ParseError;
+use crate::opened::{Opened, open, part};
 use binfarce_bytes::functions::{SectionFunction, Selection};
+use binfarce_bytes::parser::{number_at, to_index};
 use binfarce_bytes::source::Source;
+use binfarce_bytes::{ByteOrder, ParseError};
 use binfarce_pe::functions::{SelectedSections, functions_of, section_name};
 use binfarce_pe::header::image_base;
+use binfarce_pe::names::has_long_names;
 use binfarce_pe::parts::{
     HEADERS_LENGTH, SECTION_LENGTH, SIGNATURE_POINTER, TableOffsets, Text, places_in, signature_in,
     text_in,
@@ -38,6 +42,9 @@ const STUB_LENGTH: u64 = 64;
 
 // How many bytes at the end of the last section header may be missing.
 const SECTION_UNREAD: u64 = 16;
+
+// How many bytes at the string table's beginning state its length.
+const STRINGS_LENGTH: u64 = 4;
 
 /// The parts of a file that have the function symbols of a selection, in memory.
 #[derive(Drop)]
@@ -89,15 +96,17 @@ impl Parts {
         self.sections.chosen().section_size()
     }
 
-    /// The name of the section of this number, which is one more than its index, as its header has it: as `/4` for a
-    /// name of more than 8 bytes, which is in the string table. It is a slice of the parts; nothing is copied. `None`
-    /// where there is no such section, where its name isn't UTF-8, and where not all sections are selected.
+    /// The name of the section of this number, which is one more than its index; one of more than 8 bytes is taken from
+    /// the string table, where it is there. It is a slice of the parts; nothing is copied. `None` where there is no such
+    /// section, where its stored name isn't UTF-8, and where not all sections are selected.
     pub fn section_name(&self, number: u32) -> Option<&str>
         ensures { option_map (λ t. t.now) result ≡ (selected_view self.entry.now).section_name number }
     {
         match self.sections.chosen() {
             SelectedSections::Text(_) => None,
-            SelectedSections::All(_, headers) => section_name(headers, number),
+            SelectedSections::All(_, headers) => {
+                section_name(headers, &self.records.strings, number)
+            }
         }
     }
 
@@ -205,9 +214,19 @@ fn read_all_sections<S: Source>(
     Ok(Sections::All(image_base(&header), headers, places.section_count))
 }
 
-/// Reads the prefix of a file that has its sections: up to the end of the section headers, or where there are none up
-/// to the end of the first byte after the file header. It takes no more memory than the file has bytes. The signature
-/// isn't checked.
+/// The parts of a file that have its sections, and their names.
+#[derive(Drop)]
+pub struct SectionParts {
+    /// The file's first bytes, up to the end of the section headers.
+    pub beginning: Beginning,
+    /// The string table, if the name of a section is in it; else nothing.
+    pub strings: Vec<u8>,
+}
+
+/// Reads the parts of a file that have its sections: the prefix up to the end of the section headers, or where there are
+/// none up to the end of the first byte after the file header; and if the name of a section is in the string table,
+/// this table, after its length, which is 4 bytes. Each takes no more memory than the file has of it. The signature isn't
+/// checked.
 ///
 /// # Errors
 ///
@@ -218,25 +237,112 @@ pub fn read_sections<S: Source>(
     alloc: Global,
     source: &S,
     log: &mut S::Log,
-) -> Result<Beginning, ReadError>
+) -> Result<SectionParts, ReadError>
     ensures answer { (file : List ℕ) → S.bytes source.now ≡ Some file
-        → ReadsBeginning (S.may_fail source.now) pe_sections file result }
+        → ReadsSections (S.may_fail source.now) file result }
     ensures only { (file : List ℕ) → S.bytes source.now ≡ Some file
         → ReadsOnly (S.is_sure source.now) (S.logs_only log.old) (S.logs_only log.new)
         (pe_section_parts file) (IfErr result (λ e. e ≢ Unreadable)) }
 {
-    let opened = open(alloc, source)?;
+    let len = source.length()?;
+    let opened = Opened { alloc, source, len };
     let places = read_places(&opened, log)?;
+    let beginning = read_beginning(alloc, source, log, len, places)?;
+    let strings = read_strings(alloc, source, log, len, places, beginning.bytes())?;
+    Ok(SectionParts { beginning, strings })
+}
+
+// The beginning of a file whose tables are at these places, up to the end of the section headers.
+fn read_beginning<S: Source>(
+    alloc: Global,
+    source: &S,
+    log: &mut S::Log,
+    file_length: u64,
+    places: TableOffsets,
+) -> Result<Beginning, ReadError>
+    ensures answer { (file : List ℕ) → Known (S.bytes source.now) file_length file
+        → places_step file ≡ Ok (places_view places)
+        → ReadsBeginning (S.may_fail source.now) pe_sections file result }
+    ensures walk { (file : List ℕ) → Known (S.bytes source.now) file_length file
+        → places_step file ≡ Ok (places_view places)
+        → IfOk result (λ b. table_walk (headers_at (bytes_of b) (places_view places)) ≡ walk file) }
+    ensures only { (file : List ℕ) → Known (S.bytes source.now) file_length file
+        → places_step file ≡ Ok (places_view places)
+        → ReadsOnly (S.is_sure source.now) (S.logs_only log.old) (S.logs_only log.new)
+        (beginning_part file (places_view places) ∷ []) (IfErr result (λ e. e ≢ Unreadable)) }
+{
     let headers = places.section_count as u64 * SECTION_LENGTH as u64;
     let end = places
         .sections
         .saturating_add(headers.max(1))
         .max(STUB_LENGTH);
-    let bytes = opened.part(log, 0, end.min(opened.len))?;
-    Ok(Beginning {
-        bytes,
-        file_length: opened.len,
-    })
+    let bytes = part(alloc, source, log, 0, end.min(file_length))?;
+    Ok(Beginning { bytes, file_length })
+}
+
+// The string table of a file that begins with these bytes, if the name of a section is in it; else nothing.
+fn read_strings<S: Source>(
+    alloc: Global,
+    source: &S,
+    log: &mut S::Log,
+    len: u64,
+    places: TableOffsets,
+    beginning: &[u8],
+) -> Result<Vec<u8>, ReadError>
+    ensures answer { (file : List ℕ) → Known (S.bytes source.now) len file
+        → places_step file ≡ Ok (places_view places)
+        → table_walk (headers_at beginning.now (places_view places)) ≡ walk file
+        → Reads (S.may_fail source.now) (λ v. v.items) (Ok (needed_strings file)) result }
+    ensures only { (file : List ℕ) → Known (S.bytes source.now) len file
+        → places_step file ≡ Ok (places_view places)
+        → table_walk (headers_at beginning.now (places_view places)) ≡ walk file
+        → ReadsOnly (S.is_sure source.now) (S.logs_only log.old) (S.logs_only log.new)
+        (strings_parts file (places_view places)) (IfErr result (λ e. e ≢ Unreadable)) }
+{
+    let table = Table {
+        bytes: beginning,
+        offset: to_index(places.sections),
+        count: places.section_count,
+    };
+    if !has_long_names(table) {
+        return Ok(Vec::new(alloc));
+    }
+    match strings_at(len, places) {
+        None => Ok(Vec::new(alloc)),
+        Some(offset) => read_string_table(alloc, source, log, len, offset),
+    }
+}
+
+// Where the string table begins in a file of this length, if it has one.
+fn strings_at(len: u64, places: TableOffsets) -> Option<u64>
+    ensures { result ≡ strings_at len (places_view places) }
+{
+    let offset = places.symbols.saturating_add(places.symbols_size);
+    if offset > 0 && len >= STRINGS_LENGTH && offset <= len - STRINGS_LENGTH {
+        Some(offset)
+    } else {
+        None
+    }
+}
+
+// The string table that begins at this offset: as many bytes as its first 4 state, or up to the file's end.
+fn read_string_table<S: Source>(
+    alloc: Global,
+    source: &S,
+    log: &mut S::Log,
+    len: u64,
+    offset: u64,
+) -> Result<Vec<u8>, ReadError>
+    ensures answer { (file : List ℕ) → Known (S.bytes source.now) len file → offset + 4 ≤ length file
+        → Reads (S.may_fail source.now) (λ v. v.items) (Ok (string_table (drop offset file))) result }
+    ensures only { (file : List ℕ) → Known (S.bytes source.now) len file → offset + 4 ≤ length file
+        → ReadsOnly (S.is_sure source.now) (S.logs_only log.old) (S.logs_only log.new)
+        (table_strings_parts file offset) (IfErr result (λ e. e ≢ Unreadable)) }
+{
+    let head = part(alloc, source, log, offset, STRINGS_LENGTH)?;
+    let size: u32 = number_at(&head, 0, ByteOrder::LittleEndian).unwrap();
+    let rest = len.saturating_sub(offset);
+    part(alloc, source, log, offset, u64::from(size).min(rest))
 }
 
 /// Where the file is loaded unless the loader chooses another address: its image base (`ImageBase`). `None` without one,

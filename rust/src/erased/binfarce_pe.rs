@@ -5,6 +5,7 @@
 pub(crate) mod accessors;
 pub mod functions;
 pub mod header;
+pub mod names;
 pub mod parts;
 pub mod sections;
 pub mod symbols;

@@ -4,6 +4,7 @@
 
 use crate::shim::{Vec, to_usize};
 use crate::erased::binfarce_pe::header::image_base;
+use crate::erased::binfarce_pe::names::{full_name, string_table};
 use crate::erased::binfarce_pe::parts::{SECTION_LENGTH, TableOffsets, Text, text_in};
 use crate::erased::binfarce_pe::sections::{Table, section_at, section_table};
 use crate::erased::binfarce_pe::symbols::{
@@ -90,8 +91,9 @@ fn whole_sections(sections: Table<'_>) -> Result<Table<'_>, ParseError> {
     }
 }
 
-/// The name of the section of this number, where there is one and its name is UTF-8; a part of the headers.
-pub fn section_name<'a>(sections: Table<'a>, number: u32) -> Option<&'a str> {
+/// The name of the section of this number, where there is one and its stored name is UTF-8: a part of the headers, or
+/// of the strings, which are the bytes from the string table's beginning on.
+pub fn section_name<'a>(sections: Table<'a>, strings: &'a [u8], number: u32) -> Option<&'a str> {
     let index = number.checked_sub(1)?;
     if index >= u32::from(sections.count) {
         return None;
@@ -99,7 +101,7 @@ pub fn section_name<'a>(sections: Table<'a>, number: u32) -> Option<&'a str> {
     let start = sections.offset + index as usize * SECTION_LENGTH;
     match section_at(sections.bytes, start, index as u16).unwrap() {
         None => None,
-        Some(section) => Some(section.name),
+        Some(section) => Some(full_name(string_table(strings), section.name)),
     }
 }
 

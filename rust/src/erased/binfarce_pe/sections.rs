@@ -133,7 +133,7 @@ pub fn first_of_file<'a, F: Fn(Section<'a>) -> bool>(
 }
 
 // The first section of the table that the callback accepts.
-fn first_section<'a, F: Fn(Section<'a>) -> bool>(
+pub(crate) fn first_section<'a, F: Fn(Section<'a>) -> bool>(
     table: Table<'a>,
     callback: F,
 ) -> Result<Option<Section<'a>>, UnexpectedEof> {

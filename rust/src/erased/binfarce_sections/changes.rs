@@ -40,9 +40,9 @@ pub struct Change<'a> {
 /// has, if that is wanted, the change of the bytes in the file in per cent of the old number, with two decimals and to
 /// the right of 10 columns, as `+12.50%`: rounded toward zero, and `new` where the old number is 0. `[N others]` is the
 /// name of the line that sums up those past the first; the last line, `[total]`, has the lengths of the files, and the
-/// memory of all sections. An object has the members `file`, which is the new one's name, `section`, `old`, `new`,
-/// `change`, `old_memory`, `new_memory`, `memory_change` and, if that is wanted, `percent`, which is `null` where the
-/// old number is 0.
+/// memory of all sections. An object has the members `file`, which is the new one's name, `section`, which is `null`
+/// without a name, `old`, `new`, `change`, `old_memory`, `new_memory`, `memory_change` and, if that is wanted, `percent`,
+/// which is `null` where the old number is 0.
 ///
 /// # Errors
 ///
@@ -260,7 +260,7 @@ impl Layout<'_> {
         change: Change<'_>,
     ) -> Result<(), AllocError> {
         push_start(text, file)?;
-        push_text_member(text, "section", Some(change.name))?;
+        push_text_member(text, "section", name_given(change.name))?;
         push_number_member(text, "old", change.old)?;
         push_number_member(text, "new", change.new)?;
         push_signed_member(
@@ -276,4 +276,9 @@ impl Layout<'_> {
         text.push_str("}\n")?;
         Ok(())
     }
+}
+
+// A name as a member of an object; sections without one have none.
+fn name_given(name: &str) -> Option<&str> {
+    if name.is_empty() { None } else { Some(name) }
 }

@@ -7,6 +7,9 @@ use crate::erased::binfarce_sections::kinds::SectionType;
 use crate::erased::binfarce::{ByteOrder, Format, ParseError, detect_format, macho, pe};
 use crate::erased::binfarce_elf::sections::{self as elf_sections, is_named_in, name_in};
 use crate::erased::binfarce_elf_memory::parts::{AnySections, sections_of_file};
+use crate::erased::binfarce_pe::header::parse_header;
+use crate::erased::binfarce_pe::names::{full_name, strings_of};
+use crate::erased::binfarce_pe::parts::places_after;
 use crate::erased::binfarce_tables::Width;
 use crate::erased::binfarce_tables::elf::SectionParts;
 
@@ -15,7 +18,8 @@ use crate::erased::binfarce_tables::elf::SectionParts;
 pub struct Section<'a> {
     /// In a Mach-O file the name of its segment (`segname`), as `__TEXT`; elsewhere `None`.
     pub segment: Option<&'a str>,
-    /// Its name as it is stored; `None` for an ELF section without one.
+    /// Its name; `None` for an ELF section without one. In a PE file one of more than 8 bytes is in the string table; where
+    /// it isn't there, this is the name in its header, as `/4`.
     pub name: Option<&'a str>,
     /// The address of its first byte in memory (`sh_addr`, `addr`); in a PE file counted from the image base
     /// (`VirtualAddress`).
@@ -48,7 +52,7 @@ pub struct Section<'a> {
 pub enum Sections<'a> {
     Elf(ElfSections<'a>),
     Macho(macho::Sections<'a>),
-    Pe(pe::Sections<'a>),
+    Pe(PeSections<'a>),
 }
 
 /// The sections of an ELF file that are left, and the bytes of the section names, where the file has them.
@@ -58,6 +62,13 @@ pub struct ElfSections<'a> {
     left: AnySections<'a>,
 }
 
+/// The sections of a PE file that are left, and the string table, where long names are.
+#[derive(Clone)]
+pub struct PeSections<'a> {
+    strings: &'a [u8],
+    left: pe::Sections<'a>,
+}
+
 impl<'a> Iterator for Sections<'a> {
     type Item = Result<Section<'a>, ParseError>;
 
@@ -65,7 +76,7 @@ impl<'a> Iterator for Sections<'a> {
         match self {
             Sections::Elf(sections) => sections.next(),
             Sections::Macho(left) => next_macho(left),
-            Sections::Pe(left) => next_pe(left),
+            Sections::Pe(sections) => sections.next(),
         }
     }
 }
@@ -80,7 +91,7 @@ pub fn sections_of(file: &[u8]) -> Result<Sections<'_>, SectionError> {
         Format::Elf32 { byte_order } => Ok(open_elf(file, Width::Bits32, byte_order)?),
         Format::Elf64 { byte_order } => Ok(open_elf(file, Width::Bits64, byte_order)?),
         Format::Macho => Ok(open_macho(file)?),
-        Format::PE => Ok(open_pe(file)?),
+        Format::PE => Ok(open_pe_file(file)?),
         Format::Unknown => Err(SectionError::Unknown),
     }
 }
@@ -101,8 +112,15 @@ pub(crate) fn open_macho(bytes: &[u8]) -> Result<Sections<'_>, ParseError> {
     Ok(Sections::Macho(macho::parse(bytes)?.sections()))
 }
 
-pub(crate) fn open_pe(bytes: &[u8]) -> Result<Sections<'_>, ParseError> {
-    Ok(Sections::Pe(pe::parse(bytes)?.sections()))
+fn open_pe_file(bytes: &[u8]) -> Result<Sections<'_>, ParseError> {
+    let (signature, header) = parse_header(bytes)?;
+    open_pe(bytes, strings_of(bytes, places_after(signature, header)))
+}
+
+// The sections of a file that begins with these bytes, with long names from this string table.
+pub(crate) fn open_pe<'a>(bytes: &'a [u8], strings: &'a [u8]) -> Result<Sections<'a>, ParseError> {
+    let left = pe::parse(bytes)?.sections();
+    Ok(Sections::Pe(PeSections { strings, left }))
 }
 
 impl<'a> ElfSections<'a> {
@@ -132,8 +150,14 @@ fn next_macho<'a>(left: &mut macho::Sections<'a>) -> Option<Result<Section<'a>, 
     Some(left.next()?.map(macho_section))
 }
 
-fn next_pe<'a>(left: &mut pe::Sections<'a>) -> Option<Result<Section<'a>, ParseError>> {
-    Some(left.next()?.map(pe_section))
+impl<'a> PeSections<'a> {
+    // The first section that is left, or why it can't be read.
+    fn next(&mut self) -> Option<Result<Section<'a>, ParseError>> {
+        match self.left.next()? {
+            Ok(section) => Some(Ok(pe_section(self.strings, section))),
+            Err(e) => Some(Err(e)),
+        }
+    }
 }
 
 fn elf_section<'a>(names: Option<&'a [u8]>, section: elf_sections::Section<u64>) -> Section<'a> {
@@ -170,10 +194,10 @@ fn macho_section(section: macho::Section<'_>) -> Section<'_> {
     }
 }
 
-fn pe_section(section: pe::Section<'_>) -> Section<'_> {
+fn pe_section<'a>(strings: &'a [u8], section: pe::Section<'a>) -> Section<'a> {
     Section {
         segment: None,
-        name: Some(section.name()),
+        name: Some(full_name(strings, section.name())),
         address: u64::from(section.address()),
         offset: u64::from(section.offset()),
         size: u64::from(pe_size(section.virtual_size(), section.size())),

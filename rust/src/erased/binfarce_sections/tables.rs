@@ -18,7 +18,7 @@ use crate::shim::alloc::Global;
 pub enum Tables {
     Elf(elf::SectionParts),
     Macho(Beginning),
-    Pe(Beginning),
+    Pe(pe::SectionParts),
     /// Those of a file whose format isn't supported.
     Unknown,
 }
@@ -29,7 +29,7 @@ impl Tables {
         match self {
             Tables::Elf(parts) => Ok(elf_sections_of(parts)),
             Tables::Macho(beginning) => Ok(open_macho(beginning.bytes())?),
-            Tables::Pe(beginning) => Ok(open_pe(beginning.bytes())?),
+            Tables::Pe(parts) => Ok(open_pe(parts.beginning.bytes(), &parts.strings)?),
             Tables::Unknown => Err(SectionError::Unknown),
         }
     }
@@ -39,7 +39,7 @@ impl Tables {
         match self {
             Tables::Elf(parts) => parts.file_length(),
             Tables::Macho(beginning) => beginning.file_length(),
-            Tables::Pe(beginning) => beginning.file_length(),
+            Tables::Pe(parts) => parts.beginning.file_length(),
             Tables::Unknown => 0,
         }
     }

@@ -5,12 +5,14 @@
 use crate::shim::Vec;
 use crate::erased::binfarce_tables::beginning::Beginning;
 use crate::erased::binfarce_tables::error::ReadError;
-use crate::erased::binfarce_tables::opened::{Opened, open};
-use crate::erased::binfarce_bytes::ParseError;
+use crate::erased::binfarce_tables::opened::{Opened, open, part};
 use crate::erased::binfarce_bytes::functions::{SectionFunction, Selection};
+use crate::erased::binfarce_bytes::parser::{number_at, to_index};
 use crate::erased::binfarce_bytes::source::Source;
+use crate::erased::binfarce_bytes::{ByteOrder, ParseError};
 use crate::erased::binfarce_pe::functions::{SelectedSections, functions_of, section_name};
 use crate::erased::binfarce_pe::header::image_base;
+use crate::erased::binfarce_pe::names::has_long_names;
 use crate::erased::binfarce_pe::parts::{
     HEADERS_LENGTH, SECTION_LENGTH, SIGNATURE_POINTER, TableOffsets, Text, places_in, signature_in,
     text_in,
@@ -24,6 +26,9 @@ const STUB_LENGTH: u64 = 64;
 
 // How many bytes at the end of the last section header may be missing.
 const SECTION_UNREAD: u64 = 16;
+
+// How many bytes at the string table's beginning state its length.
+const STRINGS_LENGTH: u64 = 4;
 
 /// The parts of a file that have the function symbols of a selection, in memory.
 pub struct Parts {
@@ -57,13 +62,15 @@ impl Parts {
         self.sections.chosen().section_size()
     }
 
-    /// The name of the section of this number, which is one more than its index, as its header has it: as `/4` for a
-    /// name of more than 8 bytes, which is in the string table. It is a slice of the parts; nothing is copied. `None`
-    /// where there is no such section, where its name isn't UTF-8, and where not all sections are selected.
+    /// The name of the section of this number, which is one more than its index; one of more than 8 bytes is taken from
+    /// the string table, where it is there. It is a slice of the parts; nothing is copied. `None` where there is no such
+    /// section, where its stored name isn't UTF-8, and where not all sections are selected.
     pub fn section_name(&self, number: u32) -> Option<&str> {
         match self.sections.chosen() {
             SelectedSections::Text(_) => None,
-            SelectedSections::All(_, headers) => section_name(headers, number),
+            SelectedSections::All(_, headers) => {
+                section_name(headers, &self.records.strings, number)
+            }
         }
     }
 
@@ -142,9 +149,18 @@ fn read_all_sections<S: Source>(
     Ok(Sections::All(image_base(&header), headers, places.section_count))
 }
 
-/// Reads the prefix of a file that has its sections: up to the end of the section headers, or where there are none up
-/// to the end of the first byte after the file header. It takes no more memory than the file has bytes. The signature
-/// isn't checked.
+/// The parts of a file that have its sections, and their names.
+pub struct SectionParts {
+    /// The file's first bytes, up to the end of the section headers.
+    pub beginning: Beginning,
+    /// The string table, if the name of a section is in it; else nothing.
+    pub strings: Vec<u8>,
+}
+
+/// Reads the parts of a file that have its sections: the prefix up to the end of the section headers, or where there are
+/// none up to the end of the first byte after the file header; and if the name of a section is in the string table,
+/// this table, after its length, which is 4 bytes. Each takes no more memory than the file has of it. The signature isn't
+/// checked.
 ///
 /// # Errors
 ///
@@ -155,19 +171,77 @@ pub fn read_sections<S: Source>(
     alloc: Global,
     source: &S,
     log: &mut S::Log,
-) -> Result<Beginning, ReadError> {
-    let opened = open(alloc, source)?;
+) -> Result<SectionParts, ReadError> {
+    let len = source.length()?;
+    let opened = Opened { alloc, source, len };
     let places = read_places(&opened, log)?;
+    let beginning = read_beginning(alloc, source, log, len, places)?;
+    let strings = read_strings(alloc, source, log, len, places, beginning.bytes())?;
+    Ok(SectionParts { beginning, strings })
+}
+
+// The beginning of a file whose tables are at these places, up to the end of the section headers.
+fn read_beginning<S: Source>(
+    alloc: Global,
+    source: &S,
+    log: &mut S::Log,
+    file_length: u64,
+    places: TableOffsets,
+) -> Result<Beginning, ReadError> {
     let headers = places.section_count as u64 * SECTION_LENGTH as u64;
     let end = places
         .sections
         .saturating_add(headers.max(1))
         .max(STUB_LENGTH);
-    let bytes = opened.part(log, 0, end.min(opened.len))?;
-    Ok(Beginning {
-        bytes,
-        file_length: opened.len,
-    })
+    let bytes = part(alloc, source, log, 0, end.min(file_length))?;
+    Ok(Beginning { bytes, file_length })
+}
+
+// The string table of a file that begins with these bytes, if the name of a section is in it; else nothing.
+fn read_strings<S: Source>(
+    alloc: Global,
+    source: &S,
+    log: &mut S::Log,
+    len: u64,
+    places: TableOffsets,
+    beginning: &[u8],
+) -> Result<Vec<u8>, ReadError> {
+    let table = Table {
+        bytes: beginning,
+        offset: to_index(places.sections),
+        count: places.section_count,
+    };
+    if !has_long_names(table) {
+        return Ok(Vec::new(alloc));
+    }
+    match strings_at(len, places) {
+        None => Ok(Vec::new(alloc)),
+        Some(offset) => read_string_table(alloc, source, log, len, offset),
+    }
+}
+
+// Where the string table begins in a file of this length, if it has one.
+fn strings_at(len: u64, places: TableOffsets) -> Option<u64> {
+    let offset = places.symbols.saturating_add(places.symbols_size);
+    if offset > 0 && len >= STRINGS_LENGTH && offset <= len - STRINGS_LENGTH {
+        Some(offset)
+    } else {
+        None
+    }
+}
+
+// The string table that begins at this offset: as many bytes as its first 4 state, or up to the file's end.
+fn read_string_table<S: Source>(
+    alloc: Global,
+    source: &S,
+    log: &mut S::Log,
+    len: u64,
+    offset: u64,
+) -> Result<Vec<u8>, ReadError> {
+    let head = part(alloc, source, log, offset, STRINGS_LENGTH)?;
+    let size: u32 = number_at(&head, 0, ByteOrder::LittleEndian).unwrap();
+    let rest = len.saturating_sub(offset);
+    part(alloc, source, log, offset, u64::from(size).min(rest))
 }
 
 /// Where the file is loaded unless the loader chooses another address: its image base (`ImageBase`). `None` without one,

@@ -2,6 +2,7 @@ use Rattle.std.proofs.Common.{◌≡◌, ℕ, Bool, List, Some, sym, ap, subst, 
 use Rattle.binfarce_bytes.specs.Part.{Part}
 use Rattle.binfarce.specs.declared.Format.{Format}
 use Rattle.binfarce.specs.Elf.{elf32, elf64}
+use Rattle.binfarce_pe.specs.PeNames.{strings_of}
 use Rattle.binfarce_tables.specs.BeginningReading as beginning
 use Rattle.binfarce_tables.specs.SectionReading.{file_sections, sections_view}
 use Rattle.binfarce_sections.specs.Parts.{format_parts}
@@ -48,7 +49,7 @@ pub returns-in_ok-read_sections-in-PE-clause-reads : goal.returns-in_ok-read_sec
 unfolding sections_of
 returns-in_ok-read_sections-in-PE-clause-reads g c = λ file known format_is.
     let read = c.in_ok-read_sections-in-PE.ensures.answer file known in
-    (pe_has file c.in_ok-read_sections-in-PE.field-0.bytes.items (of_format file _ (sym format_is ∙ c.in-PE.is)) read.1, read.2)
+    (pe_has file c.in_ok-read_sections-in-PE.field-0.beginning.bytes.items c.in_ok-read_sections-in-PE.field-0.strings.items (of_format file _ (sym format_is ∙ c.in-PE.is)) read.0.1 read.1, read.0.2)
 
 pub returns-in_err-read_sections-in-Macho-clause-reads : goal.returns-in_err-read_sections-in-Macho-clause-reads
 unfolding sections_of
@@ -59,8 +60,8 @@ returns-in_err-read_sections-in-Macho-clause-reads g c = λ file known format_is
 pub returns-in_err-read_sections-in-PE-clause-reads : goal.returns-in_err-read_sections-in-PE-clause-reads
 unfolding sections_of
 returns-in_err-read_sections-in-PE-clause-reads g c = λ file known format_is.
-    unbegun (g.S.Source.may_fail c.args.source.now) (mapped pe_section) beginning.pe_sections file _ _
-    (of_format file _ (sym format_is ∙ c.in-PE.is) ∙ ap Some (pe_is file)) (c.in_err-read_sections-in-PE.ensures.answer file known) c.from_residual-in_err-read_sections-in-PE.ensures
+    unbegun (g.S.Source.may_fail c.args.source.now) (mapped (pe_section (strings_of file))) beginning.pe_sections file _ _
+    (of_format file _ (sym format_is ∙ c.in-PE.is) ∙ ap Some (pe_is (strings_of file) file)) (c.in_err-read_sections-in-PE.ensures.answer file known) c.from_residual-in_err-read_sections-in-PE.ensures
 
 pub returns-in_err-parts-in-Elf32-clause-only : goal.returns-in_err-parts-in-Elf32-clause-only
 unfolding format_parts

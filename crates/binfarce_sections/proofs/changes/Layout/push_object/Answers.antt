@@ -1,8 +1,9 @@
-use Rattle.std.proofs.Common.{Some, [], ◌∷◌, ◌++◌, ◌∙◌, codes}
+use Rattle.std.proofs.Common.{[], ◌∷◌, ◌++◌, ◌∙◌, codes}
 use Rattle.std.specs.String.{string_bytes}
 use Rattle.binfarce_rows.specs.Json.{number_member, object_start, text_member}
 use Rattle.binfarce_rows.proofs.Objects.{one, more}
 use Rattle.binfarce_rows.specs.Columns.{growth_member, signed_member}
+use Rattle.binfarce_sections.specs.Changes.{name_given}
 use Rattle.binfarce_sections.proofs.changes.Layout.push_object.Goals as goal
 
 pub returns : goal.returns
@@ -10,7 +11,7 @@ returns c =
     let old = string_bytes c.args.text.now in
     let change = c.args.change in
     let start = object_start c.args.file.now in
-    let name = text_member (codes "section") (Some change.name.now) in
+    let name = text_member (codes "section") (name_given change.name.now) in
     let before = number_member (codes "old") change.old in
     let after = number_member (codes "new") change.new in
     let bytes = signed_member (codes "change") change.old change.new in
@@ -20,7 +21,7 @@ returns c =
     let growth = growth_member c.args.self.now.has_percent change.old change.new in
     let end = codes "}\n" in
     let t1 = one old (string_bytes c.push_start.new.text) start (c.in_ok-push_start.ensures) in
-    let t2 = more old (string_bytes c.push_start.new.text) (string_bytes c.push_text_member.new.text) (start ∷ []) name t1 (c.in_ok-push_text_member.ensures) in
+    let t2 = more old (string_bytes c.push_start.new.text) (string_bytes c.push_text_member.new.text) (start ∷ []) name t1 (c.in_ok-push_text_member.ensures ∙ (λ i. string_bytes c.push_start.new.text ++ text_member (codes "section") (c.name_given.ensures i))) in
     let t3 = more old (string_bytes c.push_text_member.new.text) (string_bytes c.push_number_member.new.text) (start ∷ name ∷ []) before t2 (c.in_ok-push_number_member.ensures) in
     let t4 = more old (string_bytes c.push_number_member.new.text) (string_bytes c.push_number_member-2.new.text) (start ∷ name ∷ before ∷ []) after t3 (c.in_ok-push_number_member-2.ensures) in
     let t5 = more old (string_bytes c.push_number_member-2.new.text) (string_bytes c.push_signed_member.new.text) (start ∷ name ∷ before ∷ after ∷ []) bytes t4 (c.in_ok-push_signed_member.ensures ∙ (λ i. string_bytes c.push_number_member-2.new.text ++ signed_member (codes "change") (c.from.ensures i) (c.from-2.ensures i))) in

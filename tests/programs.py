@@ -879,6 +879,43 @@ ends(0, f"{1:016x} f+0x1\n", "", "binfarce", "at", "--section=.text", f"{scratch
 image = "rust/samples/pe-image.bin"
 ends(0, f"{0x140001000:016x}         16 .text f\n{0x140001010:016x}          8 .text g\n", "", "binfarce", "list", "--all", image)
 ends(0, f"{0x140001017:016x} g+0x7\n", "", "binfarce", "at", "--all", image, "140001017")
+# Long names of PE's sections are in the string table, which begins with its length: by these sections are found, summed, compared and
+# listed, and not by their offsets there, which differ. One of 8 bytes is in the header.
+def long_named(path, *sections):
+    """A PE image of these sections, and a function in each."""
+    strings, headers, rows = b"", b"", b""
+    for at, (name, size) in enumerate(sections, 1):
+        stored = f"/{4 + len(strings)}" if len(name) > 8 else name
+        headers += struct.pack("<8s4I16x", stored.encode(), size, 0x1000 * at, size, 0x200 * at)
+        rows += struct.pack("<8sI2H2B", f"f{at}".encode(), 0, at, 0x20, 2, 0)
+        strings += name.encode() + b"\0" if len(name) > 8 else b""
+    count = len(sections)
+    file = b"MZ".ljust(60, b"\0") + struct.pack("<I4s2H3I2H", 64, b"PE", 0x8664, count, 0, 0x200 * (count + 1), count, 32, 2)
+    file = (file + struct.pack("<H22xQ", 0x20B, 1 << 32) + headers).ljust(0x200, b"\0")
+    body = b"".join(bytes([64 + at]) * size + bytes(0x200 - size) for at, (_, size) in enumerate(sections, 1))
+    pathlib.Path(path).write_bytes(file + body + rows + struct.pack("<I", 4 + len(strings)) + strings)
+    return path, len(file + body + rows) + 4 + len(strings)
+was, length = long_named(f"{scratch}/was.exe", (".exactly", 8), (".debug_loclists", 16), (".debug_line_str", 24))
+now, longer = long_named(f"{scratch}/now.exe", (".exactly", 8), (".debug_line_str", 28), (".debug_loclists", 16), (".gnu_debuglink", 4))
+ends(0, "B" * 28, "", "binfarce", "section", now, ".debug_line_str")
+ends(1, "", f"binfarce: {now}: no section of this name", "binfarce", "section", now, "/4")
+lines = "".join(f"{0x1000 * at:016x} {0x200 * at:10} {size:10} {name}\n" for at, (name, size) in enumerate(((".exactly", 8), (".debug_loclists", 16), (".debug_line_str", 24)), 1))
+ends(0, lines, "", "binfarce", "section", was)
+lines = "".join(f"{(1 << 32) + 0x1000 * at:016x} {size:10} {name} f{at}\n" for at, (name, size) in enumerate(((".exactly", 8), (".debug_loclists", 16), (".debug_line_str", 24)), 1))
+ends(0, lines, "", "binfarce", "list", "--all", was)
+assert {it["section"] for it in objects("list", "--all", was)} == {".exactly", ".debug_loclists", ".debug_line_str"}
+rest = longer - length - 8
+rows = ("[headers and gaps]", length - 48, 0, length - 48 + rest, 0), (".debug_line_str", 24, 24, 28, 28), (".gnu_debuglink", 0, 0, 4, 4), ("[total]", length, 48, longer, 56)
+ends(0, changed(rows), "", "binfarce", "diff", "--by=section", was, now)
+# A section without a name has none in JSON: section 0 of this file, whose header isn't inactive, and which the other file lacks.
+data = bytearray(pathlib.Path(sample).read_bytes())
+table = int.from_bytes(data[40:48], "little")
+data[table + 4] = 1
+pathlib.Path(nameless := f"{scratch}/nameless.o").write_bytes(data)
+data[table + 32] = 3
+pathlib.Path(other := f"{scratch}/nameless3.o").write_bytes(data)
+assert objects("diff", "--by=section", nameless, other)[0]["section"] is None
+assert {it["section"] for it in objects("size", "--by=section", other)[:-1]} == {None, *(it["section"] for it in objects("size", "--by=section", sample)[:-1])}
 # Of several files each has its heading, also where nothing is below it; and none in JSON.
 lines = f"\n{empty}:\n\n{image}:\n{0x140001000:016x}         16 .text f\n{0x140001010:016x}          8 .text g\n"
 ends(0, lines, f"binfarce: {empty}: no function symbols", "binfarce", "list", "--all", empty, image)

@@ -167,18 +167,24 @@ int main(int argc, char **argv) {
             memcpy(at, intact, length);
             for (size_t changes = k == 0 ? 0 : next() % 4 + 1; changes > 0 && length > 0; changes--)
                 at[next() % length] = next() % 2 ? (uint8_t)next() : (uint8_t)("\0\1\2\377\200"[next() % 5]);
-            struct binfarce_function found[2] = {{0}};
-            struct binfarce_elf_header header = {0};
+            struct binfarce_function found[2];
+            struct binfarce_functions given;
+            struct binfarce_section sections[2];
+            struct binfarce_sections all;
+            struct binfarce_bytes bytes;
+            struct binfarce_elf_header header;
             lengths(LIST, at, length, out, kept, k % 16 == 0 ? 1 : 211);
             lengths(REPORT, at, length, out, kept, k % 16 == 0 ? 1 : 211);
-            for (int big = 0; big < 2; big++) {
-                binfarce_elf32_header(at, length, big, &header);
-                binfarce_elf64_header(at, length, big, &header);
-                binfarce_elf32_functions(at, length, big, (const uint8_t *)".text", 5, found, 1);
-                binfarce_elf64_functions(at, length, big, (const uint8_t *)".text", 5, found, 2);
-            }
-            binfarce_macho_functions(at, length, found, 1);
-            binfarce_pe_functions(at, length, found, 0);
+            binfarce_elf_header(at, length, &header);
+            given = binfarce_functions(at, length, (const uint8_t *)".text", 5, found, 2);
+            if (given.count > 0 && binfarce_function_at(found, 1, found[0].address) != 0)
+                fail("a function doesn't hold its address");
+            for (uint32_t table = BINFARCE_SYMTAB; table <= BINFARCE_DYNSYM; table++)
+                if (binfarce_all_functions(at, length, table, found, 2).status == BINFARCE_OK && binfarce_foreign(at, length) != BINFARCE_OK)
+                    fail("a file that isn't read has functions");
+            all = binfarce_sections(at, length, sections, 2);
+            for (size_t i = 0; i < all.count && i < 2; i++)
+                binfarce_section_bytes(at, length, sections[i].name, sections[i].name_length, &bytes);
         }
     }
     if (argc > 3)

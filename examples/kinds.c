@@ -7,7 +7,7 @@
 int main(void) {
     static char line[1 << 16];
     while (fgets(line, sizeof line, stdin)) {
-        struct binfarce_mangling mangling = {0};
+        struct binfarce_mangling mangling;
         if (binfarce_mangling((const uint8_t *)line, strcspn(line, "\n"), &mangling) != BINFARCE_OK)
             printf("not UTF-8\n");
         else

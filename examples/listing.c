@@ -3,7 +3,7 @@
 
 int main(int argc, char **argv) {
     size_t length, room = 1 << 16;
-    uint8_t *file, *text = calloc(room, 1);
+    uint8_t *file, *text = malloc(room);
     const char *section = argc > 2 ? argv[2] : ".text";
     if (argc < 2 || argc > 3 || !text || !(file = read_file(argv[1], &length)))
         return fprintf(stderr, "usage: listing FILE [SECTION]\n"), 2;
@@ -11,7 +11,7 @@ int main(int argc, char **argv) {
     struct binfarce_text listing = binfarce_list(file, length, name, strlen(section), text, room);
     if (listing.length > room) {
         free(text);
-        if (!(text = calloc(room = listing.length, 1)))
+        if (!(text = malloc(room = listing.length)))
             return refuse(BINFARCE_OUT_OF_MEMORY, 0);
         listing = binfarce_list(file, length, name, strlen(section), text, room);
     }

@@ -7,6 +7,7 @@
 #include "read.h"
 
 #include <elf.h>
+#include <stdbool.h>
 
 static size_t compared;
 
@@ -26,9 +27,9 @@ static Elf64_Shdr header(const uint8_t *file, const Elf64_Ehdr *elf, size_t numb
 }
 
 static bool section_names(const uint8_t *file, size_t length, const Elf64_Ehdr *elf) {
-    struct binfarce_section *all = calloc(elf->e_shnum + 1u, sizeof *all);
+    struct binfarce_section *all = malloc((elf->e_shnum + 1u) * sizeof *all);
     Elf64_Shdr names = header(file, elf, elf->e_shstrndx);
-    bool right = all && binfarce_elf64_sections(file, length, false, all, elf->e_shnum).count == elf->e_shnum;
+    bool right = all && binfarce_sections(file, length, all, elf->e_shnum).count == elf->e_shnum;
     for (size_t i = 0; right && i < elf->e_shnum; i++) {
         const char *text = (const char *)file + names.sh_offset + header(file, elf, i).sh_name;
         right = *text == 0 ? all[i].name == NULL : goes_to(file, (size_t)(text - (const char *)file), all[i].name, "a section's name");
@@ -52,8 +53,8 @@ static bool function_names(const uint8_t *file, size_t length, const Elf64_Ehdr 
             number = i;
     }
     strings = header(file, elf, rows.sh_link);
-    all = calloc(rows.sh_size / sizeof(Elf64_Sym) + 1, sizeof *all);
-    given = binfarce_elf64_functions(file, length, false, (const uint8_t *)section, strlen(section), all, rows.sh_size / sizeof(Elf64_Sym));
+    all = malloc((rows.sh_size / sizeof(Elf64_Sym) + 1) * sizeof *all);
+    given = binfarce_functions(file, length, (const uint8_t *)section, strlen(section), all, rows.sh_size / sizeof(Elf64_Sym));
     right = all && given.status == BINFARCE_OK;
     for (size_t at = 0; right && at + sizeof(Elf64_Sym) <= rows.sh_size; at += sizeof(Elf64_Sym)) {
         Elf64_Sym row;
@@ -73,7 +74,7 @@ static bool kept_parts(void) {
     } names[] = {{"_ZN3foo3barE", 3}, {"_RNvC6_123foo3bar", 2}, {"main", 0}};
     for (size_t i = 0; i < sizeof names / sizeof *names; i++) {
         const uint8_t *name = (const uint8_t *)names[i].name;
-        struct binfarce_mangling mangling = {0};
+        struct binfarce_mangling mangling;
         if (binfarce_mangling(name, strlen(names[i].name), &mangling) != BINFARCE_OK || !goes_to(name, names[i].prefix, mangling.part, names[i].name))
             return false;
     }
@@ -90,9 +91,10 @@ static bool takes_null(const uint8_t *file, size_t length) {
     uint8_t out[1] = {0};
     struct binfarce_name name = binfarce_demangle(NULL, 0, NULL, 0, NULL, 0, NULL, 0);
     struct binfarce_mangling part = {bytes, 1, 7};
-    struct binfarce_section section = {0}, other = {0};
-    struct binfarce_functions functions = binfarce_elf64_functions(file, length, false, NULL, 0, NULL, 0);
-    size_t count = binfarce_elf64_functions(file, length, false, (const uint8_t *)".text", 5, NULL, 0).count;
+    struct binfarce_bytes found = {bytes, 1};
+    struct binfarce_elf_header header = {.machine = 1};
+    struct binfarce_functions functions = binfarce_functions(file, length, NULL, 0, NULL, 0);
+    size_t count = binfarce_functions(file, length, (const uint8_t *)".text", 5, NULL, 0).count;
     bool right = name.status == BINFARCE_OK && name.kind == BINFARCE_KIND_UNKNOWN && name.complete_length == 0 && name.trimmed_length == 0;
     right = right && is_same(binfarce_trimmed(NULL, 0, NULL, 0), binfarce_trimmed(bytes, 0, out, 0));
     right = right && is_same(binfarce_crate_of(NULL, 0, NULL, 0), binfarce_crate_of(bytes, 0, out, 0));
@@ -101,15 +103,13 @@ static bool takes_null(const uint8_t *file, size_t length) {
     right = right && is_same(binfarce_list(file, length, NULL, 0, NULL, 0), binfarce_list(file, length, bytes, 0, out, 0));
     right = right && binfarce_mangling(NULL, 0, &part) == BINFARCE_OK && part.part == NULL && part.part_length == 0 && part.kind == 0;
     right = right && binfarce_detect_format(NULL, 0) == BINFARCE_FORMAT_UNKNOWN && binfarce_status_text(BINFARCE_OK, NULL, 0) == 2;
-    right = right && binfarce_macho_header(NULL, 0) == BINFARCE_UNEXPECTED_EOF && binfarce_pe_header(NULL, 0) == BINFARCE_UNEXPECTED_EOF;
-    right = right && binfarce_macho_functions(NULL, 0, NULL, 0).status == BINFARCE_UNEXPECTED_EOF;
-    right = right && binfarce_pe_functions(NULL, 0, NULL, 0).status == BINFARCE_UNEXPECTED_EOF;
+    right = right && binfarce_foreign(NULL, 0) == BINFARCE_EMPTY && binfarce_function_at(NULL, 0, 1) == 0;
+    right = right && binfarce_elf_header(NULL, 0, &header) == BINFARCE_UNKNOWN_FORMAT && header.machine == 0;
     right = right && functions.status == BINFARCE_SYMBOLS_SECTION_IS_MISSING && count > 0;
-    right = right && binfarce_elf64_section(file, length, false, NULL, 0, &section) == binfarce_elf64_section(file, length, false, bytes, 0, &other);
-    right = right && binfarce_macho_section(NULL, 0, NULL, 0, NULL, 0, &section) == BINFARCE_UNEXPECTED_EOF;
-    right = right && binfarce_pe_section_at(NULL, 0, 0, &section) == BINFARCE_UNEXPECTED_EOF;
-    right = right && binfarce_elf32_sections(NULL, 0, false, NULL, 0).status == BINFARCE_UNEXPECTED_EOF;
-    right = right && binfarce_elf64_sections(file, length, false, NULL, 0).count > 0;
+    right = right && binfarce_functions(NULL, 0, NULL, 0, NULL, 0).status == BINFARCE_EMPTY;
+    right = right && binfarce_all_functions(file, length, BINFARCE_SYMTAB, NULL, 0).count >= count;
+    right = right && binfarce_sections(NULL, 0, NULL, 0).status == BINFARCE_EMPTY && binfarce_sections(file, length, NULL, 0).count > 0;
+    right = right && binfarce_section_bytes(file, length, NULL, 0, &found) == BINFARCE_NONE && found.start == NULL && found.length == 0;
     return right && binfarce_terminate(NULL, 0, 5) == 0;
 }
 

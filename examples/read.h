@@ -1,4 +1,4 @@
-/* What the clients in C share: a whole file in memory, and a refusal in the words of the programs. */
+/* What the clients in C share: a whole file in memory, its function symbols, and a refusal in the words of the programs. */
 #include "binfarce.h"
 
 #include <stdio.h>
@@ -20,13 +20,16 @@ static uint8_t *read_file(const char *path, size_t *length) {
     return bytes;
 }
 
+/* The status of a client whose file is one that isn't read, as an archive. */
+enum { FOREIGN = 3 };
+
 /* Prints why a file was refused, and gives the status of the program. */
 static int refuse(uint32_t status, uint32_t detail) {
-    uint8_t words[64] = {0};
+    uint8_t words[64];
     size_t length = binfarce_status_text(status, words, sizeof words);
     if (status == BINFARCE_UNEXPECTED_SECTION_TYPE)
         fprintf(stderr, "expected section type 3 but found %u\n", detail);
     else
         fprintf(stderr, "%.*s\n", (int)length, words);
-    return 1;
+    return status >= BINFARCE_UNIVERSAL ? FOREIGN : 1;
 }

@@ -34,7 +34,8 @@ static uint32_t ask(int call, const uint8_t *file, size_t length) {
     case 2: return binfarce_demangle(name, sizeof NAME - 1, out, 1024, out + 1024, 1024, out + 2048, 1024).status;
     case 3: return binfarce_list(file, length, TEXT, 5, out, sizeof out).status;
     case 4: return binfarce_report(file, length, TEXT, 5, out, sizeof out).status;
-    default: return binfarce_elf64_functions(file, length, false, TEXT, 5, found, 16).status;
+    case 5: return binfarce_functions(file, length, TEXT, 5, found, 16).status;
+    default: return binfarce_all_functions(file, length, BINFARCE_SYMTAB, found, 16).status;
     }
 }
 
@@ -44,7 +45,7 @@ int main(int argc, char **argv) {
     if (argc != 2 || !(file = read_file(argv[1], &length)))
         return fprintf(stderr, "usage: refused FILE\n"), 2;
     memset(blank, 0xA5, sizeof blank);
-    for (int call = 0; call < 6; call++) {
+    for (int call = 0; call < 7; call++) {
         int failed = 1, count = 0;
         memset(out, 0xA5, sizeof out);
         uint32_t answer = ask(call, file, length);

@@ -1,5 +1,5 @@
 #!/bin/sh
-# examples/run.sh [ARCHIVE]: builds and runs the clients of the library, in C, in C++ and in Rust, and compares what they print with
+# examples/run.sh [ARCHIVE]: builds and runs the clients of the library, in C, C++, Python and Rust, and compares what they print with
 # what the program prints. Those in C and C++ also run under valgrind and with the address and undefined behaviour sanitizers.
 # ARCHIVE is the library, such as bindings/archive.sh makes; without it, it is the one of `cargo build --release`. Last come the
 # scripts of examples/fleet.
@@ -30,10 +30,14 @@ flags="-O2 -g -Wall -Wextra -pedantic -Werror -Iinclude"
 sample=crates/binfarce_list/data/e-elf64-little.bin
 
 rust/c/generate --check || fail "the wrappers aren't those of the header"
-gcc -std=c99 $flags -x c -c include/binfarce.h -o "$work/header.o" || fail "the header is no C99"
-g++ -std=c++98 $flags -x c++ -c include/binfarce.h -o "$work/header.o" || fail "the header is no C++"
+for std in c89 c99 c11 c2x; do
+    gcc -std=$std $flags -x c -c include/binfarce.h -o "$work/header.o" || fail "the header is no $std"
+done
+for std in c++98 c++11 c++20; do
+    g++ -std=$std $flags -x c++ -c include/binfarce.h -o "$work/header.o" || fail "the header is no $std"
+done
 for checks in "" "-fsanitize=address,undefined -fno-sanitize-recover"; do
-    for name in symbols listing hostile sections kinds pointers; do
+    for name in symbols symbolize listing hostile sections kinds pointers; do
         gcc -std=c11 $flags $checks "examples/$name.c" "$archive" -o "$work/$name${checks:+-checked}"
     done
     g++ -std=c++17 $flags $checks examples/names.cpp "$archive" -o "$work/names"
@@ -45,12 +49,30 @@ grep -oE '^[a-z].* binfarce_[a-z0-9_]+\(' include/binfarce.h | sed 's/.* //; s/(
 nm -D --defined-only "$built/libbinfarce.so" | awk '{ print $3 }' | sort | cmp "$work/wanted" - ||
     fail "the shared library exports other names than the header declares"
 
-# `listing` asks the library for the whole listing, `symbols` for the function symbols.
-compare "$work/symbols $work/listing $work/symbols-checked $work/listing-checked $built/examples/symbols" \
-    "$sample" "$work/symbols" README.md
+# `listing` asks the library for the whole listing, `symbols` for the function symbols, which names a file that isn't read.
+compare "$work/symbols $work/listing $work/symbols-checked $work/listing-checked $built/examples/symbols" "$sample" "$work/symbols"
+compare "$work/listing $built/examples/symbols" README.md
 examples/hostile_files.py "$work/hostile-files" 2000
-compare "$work/symbols $work/listing $built/examples/symbols" "$work/hostile-files"/*
+compare "$work/listing $built/examples/symbols" "$work/hostile-files"/*
+mkdir "$work/foreign"
+for file in "$work/hostile-files"/*; do
+    "$work/symbols" "$file" >/dev/null 2>&1 || [ "$?" -ne 3 ] || mv "$file" "$work/foreign"
+done
+compare "$work/symbols" "$work/hostile-files"/*
 compare "$work/symbols-checked" "$work/hostile-files/names"
+printf '!<arch>\n' >"$work/foreign/archive"
+printf '\312\376\272\276\0\0\0\002' >"$work/foreign/universal"
+printf '\316\372\355\376\007\0\0\0' >"$work/foreign/macho32"
+printf '\037\213\010\0' >"$work/foreign/gzip"
+cp README.md "$work/foreign/text"
+for file in "$work/foreign"/*; do
+    # The command says what it is in the same words, and then what helps.
+    words=$("$built/binfarce" list "$file" 2>&1 | sed -n 's/^binfarce: [^:]*: \([^;]*\).*/\1/p')
+    for client in symbols "symbolize 0" sections-checked; do
+        given=$("$work/${client% *}" "$file" ${client#"${client% *}"} 2>&1) && fail "$client takes $file" || [ "$?" -eq 3 ] || fail "$client: $given"
+        [ "$given" = "$words" ] || fail "$client names $file '$given', and the command '$words'"
+    done
+done
 
 kinds=$("$work/kinds-checked" <examples/names.txt | cut -d' ' -f1 | tr -d '\n')
 [ "$kinds" = 2221100 ] || fail "a name's kind differs from the one in names.txt"
@@ -72,6 +94,19 @@ done
 for file in "$sample" "$work/symbols"; do
     "$work/pointers-checked" "$file" || fail "a pointer goes elsewhere than to the name in $file"
 done
+# The first and the last byte of each function, the bytes beside it, and an address that no function has; of a stripped file also.
+strip -o "$work/stripped" "$built/libbinfarce.so"
+for file in "$work/symbols" "$built/libbinfarce.so" "$work/stripped"; do
+    options=
+    [ "$file" != "$work/stripped" ] || options=--dynamic
+    addresses="1 $("$built/binfarce" list --all $options "$file" |
+        awk 'NR % 7 == 1 && $2 > 0 { print $1, $2 }' | head -n 1500 | while read -r start size; do
+            printf '%x %x %x %x ' $((0x$start)) $((0x$start + size - 1)) $((0x$start - 1)) $((0x$start + size))
+        done)"
+    "$built/binfarce" at $options "$file" $addresses >"$work/wanted"
+    "$work/symbolize-checked" "$file" $addresses | cmp - "$work/wanted" || fail "symbolize and \`binfarce at\` differ for $file"
+    examples/symbolize.py "$built/libbinfarce.so" "$file" $addresses | cmp - "$work/wanted" || fail "symbolize.py and \`binfarce at\` differ for $file"
+done
 "$work/hostile" 100000 10000 "$sample" || fail "a call depends on its buffer"
 "$work/hostile-checked" 2000 500 "$sample" || fail "a call depends on its buffer, under the sanitizers"
 "$work/refused" "$sample" || fail "a failed allocation isn't reported"
@@ -86,7 +121,8 @@ printf %s '__attribute__((section(".dep-v0"), used)) static const char list[] = 
 "$built/examples/audit" "$work/recorded" >/dev/null || fail "audit doesn't find the list of dependencies"
 "$built/examples/audit" --extract "$work/recorded" | tail -c 10 | tr -d '\0' >"$work/given"
 [ "$(cat "$work/given")" = " packages" ] || fail "audit doesn't read the list of dependencies"
-for run in "symbols $work/symbols" "listing $work/symbols" "refused $sample" "sections $work/symbols" "hostile 500 100 $sample"; do
+for run in "symbols $work/symbols" "symbolize $work/symbols 1 401000" "listing $work/symbols" "refused $sample" "sections $work/symbols" \
+    "pointers $sample" "hostile 500 100 $sample"; do
     valgrind --quiet --error-exitcode=9 --leak-check=full "$work"/$run >"$work/given" || fail "valgrind reports something of $run"
 done
 PATH="$(cd "$built" && pwd):$PATH" examples/fleet/test.sh || fail "the scripts for many files"

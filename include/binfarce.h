@@ -6,28 +6,29 @@
  * and every file a call returns what the written definitions say, or that an allocation failed. Both assume, without a
  * check, that the caller keeps these rules:
  *
- * - Pointers. Each pointer points to as many bytes as the length after it says, for the whole call. They are readable, and
- *   writable where the pointer isn't const. Where the length is 0, it may be NULL; a pointer without a length may not. No
- *   length is above PTRDIFF_MAX. Memory that a call may write to is initialised before, as by calloc, `= {0}` or in C++ `{}`,
- *   also on the stack: Rust takes it as values, and may read them.
+ * - Pointers. Each pointer points to as many bytes, or structs, as the length after it says, for the whole call. They are
+ *   readable, and writable where the pointer isn't const. Where the length is 0, it may be NULL; a pointer without a length may
+ *   not. No length is above PTRDIFF_MAX. What a call writes to needs no initialisation.
  * - Overlap. A buffer that a call writes to overlaps no other argument.
  * - Alignment. A pointer to a struct is aligned as C aligns it; bytes need no alignment.
  * - Stack. A call nests as deep as a name does, at most 500 levels. 512 KiB were enough for the deepest names that were tried;
  *   no proof bounds it.
  *
  * Ownership. The library keeps no memory and no pointer after a call, so nothing has to be freed. It writes only to the
- * caller's buffers. A `struct binfarce_function` and a `struct binfarce_section` point into the caller's file, and a
- * `struct binfarce_mangling` into the caller's name.
+ * caller's buffers. A `struct binfarce_function`, a `struct binfarce_section` and a `struct binfarce_bytes` point into the
+ * caller's file, which has to stay as long as they are used, and a `struct binfarce_mangling` into the caller's name.
  *
  * Texts are UTF-8, without a NUL at the end: their length is returned, and binfarce_terminate puts a NUL there. A name may contain
  * any character, even a line feed. They are bytes, so a `char *` is cast: `(const uint8_t *)s`, and in C++
- * `reinterpret_cast<const uint8_t *>(s.data())`.
+ * `reinterpret_cast<const uint8_t *>(s.data())`. In C++ a struct that is named as a function, as `struct binfarce_sections`, is
+ * written with `struct`, since the function hides it.
  *
- * Lengths. A call that gives a text writes as much of it as the buffer has room for, and leaves the rest of the buffer
- * unchanged. It always returns the whole length: if that exceeds the buffer's, the caller grows the buffer and calls again. A
- * text may be cut within a character. A call that gives no text (status isn't BINFARCE_OK) leaves the buffer unchanged, and its
- * lengths are 0. A refused call for functions leaves its array unchanged too. Calls that give all sections give those before a
- * refusal.
+ * Lengths. A call that gives a text or an array writes as much of it as the buffer has room for, and leaves the rest of the
+ * buffer unchanged. It always returns the whole length or count: if that exceeds the buffer's, the caller grows the buffer and
+ * calls again, and the file is read again. So a buffer that has room at once saves half of the work. A text may be cut within a
+ * character. A call that is refused (status isn't BINFARCE_OK) leaves its buffers unchanged, and its lengths are 0; but
+ * binfarce_sections gives the sections before a refusal. A pointer to one struct gets all of its fields in each call: where the
+ * call is refused, they are 0.
  *
  * Memory. The calls that say so allocate by malloc and realloc while they run (on Windows by HeapAlloc), and free all of it
  * before they return. If an allocation fails, they return BINFARCE_OUT_OF_MEMORY. A name of 80 kB can have a text of 400 MB, and a
@@ -41,21 +42,21 @@
  * Example. It prints `foo::bar`:
  *
  *     const char *name = "_ZN3foo3bar17h05af221e174051e9E";
- *     uint8_t text[256] = {0};
+ *     uint8_t text[256];
  *     struct binfarce_text made = binfarce_trimmed((const uint8_t *)name, strlen(name), text, sizeof text);
  *     if (made.status == BINFARCE_OK && binfarce_terminate(text, sizeof text, made.length) == made.length)
  *         puts((const char *)text);
  *
- * In the sources `examples/symbols.c` lists the function symbols of a file.
+ * In the sources `examples/symbols.c` lists the function symbols of a file, and `examples/symbolize.py` calls the library from
+ * Python.
  *
- * Versions. Within libbinfarce.so.0 functions may be added; signatures, structs and the numbers of enums stay: another change
- * makes libbinfarce.so.1. The words of a status may change, and how much stack and memory a call takes. Of a version's number n
- * the parts are n >> 16, n >> 8 & 255 and n & 255; where binfarce_version() is BINFARCE_VERSION_NUMBER or greater, the library has
- * each function of this header.
+ * Versions. Within libbinfarce.so.1 functions, and numbers of a status, may be added; signatures, structs and the numbers of
+ * enums stay: another change makes libbinfarce.so.2. The words of a status may change, and how much stack and memory a call
+ * takes. Of a version's number n the parts are n >> 16, n >> 8 & 255 and n & 255; where binfarce_version() is
+ * BINFARCE_VERSION_NUMBER or greater, the library has each function of this header.
  *
- * Missing: the header fields of Mach-O and PE files, dynamic symbols, symbols of all sections, the function at an address, what
- * sections have beside addresses and ranges (the flags of an ELF section are at shoff + 64 * index + 8, with 32 bits at
- * shoff + 40 * index + 8), and what the command has beside listings and reports: filter, diff, map, JSON.
+ * Missing: the header fields of Mach-O and PE files, where a file is loaded, and what the command has beside listings and
+ * reports: filter, diff, map, JSON.
  *
  * Machines. cargo's libraries are for every target of Rust of 32 or 64 bits; the kit's archive is for x86-64-v2 with the
  * System V calling convention. After ./install `pkg-config --cflags --libs binfarce` prints how to link the library.
@@ -63,7 +64,6 @@
 #ifndef BINFARCE_H
 #define BINFARCE_H
 
-#include <stdbool.h>
 #include <stddef.h>
 #include <stdint.h>
 
@@ -92,7 +92,34 @@ enum binfarce_status {
     BINFARCE_STRTAB_IS_MISSING = 8,          /* its symbol table links to no section */
     BINFARCE_UNEXPECTED_SECTION_TYPE = 9,    /* that section's type isn't 3 (SHT_STRTAB): `detail` has it */
     BINFARCE_MALFORMED_INPUT = 10,           /* a number in the file is invalid */
-    BINFARCE_UNEXPECTED_EOF = 11             /* the file is truncated */
+    BINFARCE_UNEXPECTED_EOF = 11,            /* the file is truncated */
+    BINFARCE_DYNSYM_IS_MISSING = 12,         /* the file has no dynamic symbol table; no Mach-O or PE file has one */
+    BINFARCE_DYNSTR_IS_MISSING = 13,         /* its dynamic symbol table links to no section */
+    /* Why a section's bytes aren't given. */
+    BINFARCE_NO_BYTES = 14, /* the section has none in the file, as .bss */
+    BINFARCE_PAST_END = 15, /* they end past the file */
+    /* What a file is that isn't read: binfarce_foreign, and each call for a file but binfarce_list and binfarce_report. */
+    BINFARCE_UNIVERSAL = 32, /* a universal Mach-O file: the program reads its part */
+    BINFARCE_JAVA_CLASS = 33,
+    BINFARCE_MACHO32 = 34,
+    BINFARCE_MACHO_BIG_ENDIAN = 35,
+    BINFARCE_ARCHIVE = 36, /* of ar: the program reads its members */
+    BINFARCE_THIN_ARCHIVE = 37,
+    BINFARCE_COFF = 38, /* a COFF object file */
+    BINFARCE_PDB = 39,
+    BINFARCE_WASM = 40,
+    BINFARCE_BITCODE = 41, /* of LLVM */
+    BINFARCE_SCRIPT = 42,
+    BINFARCE_TEXT = 43,
+    BINFARCE_EMPTY = 44,
+    BINFARCE_MANY_SECTIONS = 45, /* an ELF file of 65,280 sections or more */
+    BINFARCE_CORE = 46,          /* an ELF core file without sections */
+    BINFARCE_DOS = 47,
+    BINFARCE_NE = 48, /* a program of 16-bit Windows or OS/2 */
+    BINFARCE_LE = 49, /* a program of OS/2, or a driver of Windows 9x */
+    BINFARCE_GZIP = 50,
+    BINFARCE_XZ = 51,
+    BINFARCE_ZSTD = 52
 };
 
 /* How a name is mangled. */
@@ -115,8 +142,8 @@ struct binfarce_name {
     uint32_t kind;          /* enum binfarce_kind */
     size_t complete_length; /* the whole lengths of the texts in bytes */
     size_t trimmed_length;
-    size_t crate_length; /* 0 where has_crate is false; a crate's name may be empty too */
-    bool has_crate; /* false for a legacy name, whose crate binfarce_crate_of gives */
+    size_t crate_length; /* 0 where has_crate is 0; a crate's name may be empty too */
+    uint32_t has_crate; /* 1, or 0 as for a legacy name, whose crate binfarce_crate_of gives */
 };
 
 /* The BINFARCE_VERSION_NUMBER of the library that runs. Does not allocate. */
@@ -132,8 +159,8 @@ size_t binfarce_terminate(uint8_t *out, size_t out_length, size_t length);
 /*
  * The words of a status, as binfarce-list and binfarce-size print them, but without the number of
  * BINFARCE_UNEXPECTED_SECTION_TYPE: its words are "unexpected section type", and the call that was refused has the number in
- * `detail`. Of a number that is no status they are "unknown status". 64 bytes have room for the words of this version. Returns
- * their length. Does not allocate.
+ * `detail`. From 32 on they are what a file is, as "an archive", of which the command adds what helps. Of a number that is no
+ * status they are "unknown status". 64 bytes have room for the words of this version. Returns their length. Does not allocate.
  */
 size_t binfarce_status_text(uint32_t status, uint8_t *out, size_t out_length);
 
@@ -158,7 +185,7 @@ struct binfarce_text binfarce_trimmed(const uint8_t *name, size_t name_length, u
  */
 struct binfarce_text binfarce_crate_of(const uint8_t *name, size_t name_length, uint8_t *out, size_t out_length);
 
-/* How a name is mangled, and the part of it that is kept. In C++ its type is `struct binfarce_mangling`: the function hides it. */
+/* How a name is mangled, and the part of it that is kept. */
 struct binfarce_mangling {
     const uint8_t *part; /* the part after the mangling's prefix, in the caller's name, without the `.llvm.` suffix; all of a
                             name that isn't mangled. NULL if it is empty */
@@ -168,8 +195,7 @@ struct binfarce_mangling {
 
 /*
  * How a name is mangled, without printing it: a v0 name whose text would exceed the limits may be BINFARCE_KIND_V0 here, and is
- * BINFARCE_KIND_UNKNOWN in binfarce_demangle. Returns BINFARCE_OK, or BINFARCE_NOT_UTF8 with `out` unchanged.
- * Does not allocate.
+ * BINFARCE_KIND_UNKNOWN in binfarce_demangle. Returns BINFARCE_OK or BINFARCE_NOT_UTF8. Does not allocate.
  */
 uint32_t binfarce_mangling(const uint8_t *name, size_t name_length, struct binfarce_mangling *out);
 
@@ -206,6 +232,13 @@ enum binfarce_format {
 /* Names the format of a file: enum binfarce_format. The readers below don't check magic numbers. Does not allocate. */
 uint32_t binfarce_detect_format(const uint8_t *file, size_t file_length);
 
+/*
+ * What a file is that isn't read, by its first 512 bytes: a status from BINFARCE_UNIVERSAL on, and BINFARCE_OK of any other file,
+ * also of an unknown one. binfarce_list and binfarce_report, as binfarce-list and binfarce-size, don't ask this: some such files
+ * begin as others that they read. Does not allocate.
+ */
+uint32_t binfarce_foreign(const uint8_t *file, size_t file_length);
+
 /* The file header of an ELF file of either class, without its identification (System V gABI, "ELF Header"). */
 struct binfarce_elf_header {
     uint16_t elf_type;
@@ -224,27 +257,21 @@ struct binfarce_elf_header {
 };
 
 /*
- * Reads the file header in the given byte order. Returns BINFARCE_OK, or BINFARCE_UNEXPECTED_EOF for fewer than 52 or 64
- * bytes, with `out` unchanged. Does not allocate.
+ * Reads the file header of an ELF file. Returns BINFARCE_OK, BINFARCE_UNKNOWN_FORMAT for a file of another format, or
+ * BINFARCE_UNEXPECTED_EOF for fewer than 52 or 64 bytes. Does not allocate.
  */
-uint32_t binfarce_elf32_header(const uint8_t *file, size_t file_length, bool big_endian, struct binfarce_elf_header *out);
-uint32_t binfarce_elf64_header(const uint8_t *file, size_t file_length, bool big_endian, struct binfarce_elf_header *out);
-
-/* Whether the file has its header: BINFARCE_OK or BINFARCE_UNEXPECTED_EOF. Does not allocate. */
-uint32_t binfarce_macho_header(const uint8_t *file, size_t file_length);
-uint32_t binfarce_pe_header(const uint8_t *file, size_t file_length);
+uint32_t binfarce_elf_header(const uint8_t *file, size_t file_length, struct binfarce_elf_header *out);
 
 /*
- * A function symbol: in an ELF file of the type STT_FUNC, with a name and a size that isn't 0; in a Mach-O file with a value that
- * isn't 0; in a PE file an external one (docs/FORMATS.md of the sources). It holds an address if address <= a < address + size.
- * Functions may overlap: of several that hold an address the command takes the one of greatest address. In a file for Arm bit 0 of
- * a Thumb function's address is its instruction set.
+ * A function symbol: in an ELF file of the type STT_FUNC, with a name; in a Mach-O or PE file by docs/FORMATS.md of the sources. In
+ * the listing of a section of an ELF file, in which the functions of size 0 are left out, a Thumb function's address has bit 0,
+ * its instruction set.
  */
 struct binfarce_function {
     const uint8_t *name; /* the name as it is stored, in the caller's file: its offset there is `name - file`. NULL if it is
                             empty */
     size_t name_length;  /* in bytes; the name is UTF-8, and what follows is no part of it */
-    uint64_t address;    /* as the file stores it; in a PE file the offset in the section */
+    uint64_t address;    /* in memory, as the file states it; in the `.text` of a PE file the offset there */
     uint64_t size;       /* in bytes */
 };
 
@@ -253,86 +280,87 @@ struct binfarce_functions {
     uint32_t status;       /* enum binfarce_status */
     uint32_t detail;       /* of BINFARCE_UNEXPECTED_SECTION_TYPE the type that was found, and else 0 */
     size_t count;          /* how many there are, however many of them the array has room for */
-    uint64_t section_size; /* the size of their section in bytes */
+    uint64_t section_size; /* the size of their section in bytes; 0 where they are those of all sections */
 };
 
 /*
  * The function symbols of a file in the order of its listing, in the caller's array: of an ELF file those of the section
- * with this name, in the order of the symbol table; of a Mach-O or PE file those of the text, by address. Refused as the file's
- * reader refuses, and with BINFARCE_NOT_UTF8 for the section's name or BINFARCE_OUT_OF_MEMORY. They allocate, more for more symbols.
+ * with this name, in the order of the symbol table; of a Mach-O or PE file those of the text, by address. BINFARCE_NOT_UTF8 for the
+ * section's name, what a file is that isn't read, BINFARCE_UNKNOWN_FORMAT, a reader's refusal, or BINFARCE_OUT_OF_MEMORY.
+ * Allocates, more for more symbols.
  */
-struct binfarce_functions binfarce_elf32_functions(const uint8_t *file, size_t file_length, bool big_endian,
-                                                   const uint8_t *section, size_t section_length,
-                                                   struct binfarce_function *out, size_t out_length);
-struct binfarce_functions binfarce_elf64_functions(const uint8_t *file, size_t file_length, bool big_endian,
-                                                   const uint8_t *section, size_t section_length,
-                                                   struct binfarce_function *out, size_t out_length);
-struct binfarce_functions binfarce_macho_functions(const uint8_t *file, size_t file_length,
-                                                   struct binfarce_function *out, size_t out_length);
-struct binfarce_functions binfarce_pe_functions(const uint8_t *file, size_t file_length,
-                                                struct binfarce_function *out, size_t out_length);
+struct binfarce_functions binfarce_functions(const uint8_t *file, size_t file_length,
+                                             const uint8_t *section, size_t section_length,
+                                             struct binfarce_function *out, size_t out_length);
 
-/* A section of a file. */
-struct binfarce_section {
-    const uint8_t *name;    /* its name, in the caller's file. NULL if has_name is false or the name is empty */
-    size_t name_length;     /* in bytes; the name is UTF-8, and what follows is no part of it */
-    const uint8_t *segment; /* in a Mach-O file the name of its segment, there too; in other formats NULL */
-    size_t segment_length;
-    uint64_t address;      /* of its first byte in memory; in a PE file counted from the image base. Sections that aren't in memory
-                              have one too, mostly 0 */
-    uint32_t kind;         /* in ELF its type (sh_type), in other formats 0 */
-    uint32_t range_status; /* BINFARCE_OK; BINFARCE_MALFORMED_INPUT where its end passes a size_t: start and end are 0 then */
-    size_t start;          /* where its bytes begin in the file; they may lie past its end. An ELF section of kind 8
-                              (SHT_NOBITS) has none: from start to end are bytes of others, as many as it has in memory */
-    size_t end;            /* the offset after the last one */
-    uint64_t entries;      /* in ELF how many entries of its entry size it has, 0 where that is 0; in other formats 0 */
-    bool has_name;         /* false for an ELF section whose name isn't in the file, or isn't UTF-8; a name may be empty too */
+/* Which symbol table of a file. */
+enum binfarce_symbol_table {
+    BINFARCE_SYMTAB = 0, /* the symbol table, which a stripped ELF file lacks: BINFARCE_SYMTAB_IS_MISSING */
+    BINFARCE_DYNSYM = 1  /* in ELF, the dynamic symbol table: what a library exports */
 };
 
 /*
- * The first section with this name, in a Mach-O file also with this segment. Returns BINFARCE_OK, or with `out` unchanged
- * BINFARCE_NONE if there is none, a reader's refusal, or BINFARCE_NOT_UTF8 for a name. Does not allocate.
+ * The function symbols of all sections of a file, in the caller's array: of an ELF file in the order of this symbol table (a number
+ * above 1 is taken as BINFARCE_DYNSYM), also indirect ones (STT_GNU_IFUNC); one of size 0 ends at the next symbol or with its
+ * section. Addresses are those in memory that the file states, of a PE file virtual ones; in an object file all sections of ELF
+ * and PE begin at 0. Refused as binfarce_functions refuses. Allocates, more for more symbols.
  */
-uint32_t binfarce_elf32_section(const uint8_t *file, size_t file_length, bool big_endian,
-                                const uint8_t *name, size_t name_length, struct binfarce_section *out);
-uint32_t binfarce_elf64_section(const uint8_t *file, size_t file_length, bool big_endian,
-                                const uint8_t *name, size_t name_length, struct binfarce_section *out);
-uint32_t binfarce_macho_section(const uint8_t *file, size_t file_length,
-                                const uint8_t *segment, size_t segment_length,
-                                const uint8_t *name, size_t name_length, struct binfarce_section *out);
-uint32_t binfarce_pe_section(const uint8_t *file, size_t file_length,
-                             const uint8_t *name, size_t name_length, struct binfarce_section *out);
+struct binfarce_functions binfarce_all_functions(const uint8_t *file, size_t file_length, uint32_t table,
+                                                 struct binfarce_function *out, size_t out_length);
 
 /*
- * The section with this number, counted from 0 in file order; in a Mach-O or PE file only sections with a valid name count.
- * Returns BINFARCE_OK, or with `out` unchanged BINFARCE_NONE past the last one, or a reader's refusal in place of the first
- * that can't be read. Each call reads the headers before it: for all sections use the calls below. Does not allocate.
+ * The function at an address: the index of the one in this array that holds it, and `functions_length` if none does. It is held
+ * from a function's address on, for its size, which counts at least 1. Of several that hold it it is the one of greatest
+ * address, and of these the first. The address is one that the file states: of a running program less what the loader added.
+ * All of the array is searched, and the file isn't read. Does not allocate.
  */
-uint32_t binfarce_elf32_section_at(const uint8_t *file, size_t file_length, bool big_endian, size_t index,
-                                   struct binfarce_section *out);
-uint32_t binfarce_elf64_section_at(const uint8_t *file, size_t file_length, bool big_endian, size_t index,
-                                   struct binfarce_section *out);
-uint32_t binfarce_macho_section_at(const uint8_t *file, size_t file_length, size_t index, struct binfarce_section *out);
-uint32_t binfarce_pe_section_at(const uint8_t *file, size_t file_length, size_t index, struct binfarce_section *out);
+size_t binfarce_function_at(const struct binfarce_function *functions, size_t functions_length, uint64_t address);
+
+/* A section of a file. */
+struct binfarce_section {
+    const uint8_t *name;    /* its name, in the caller's file. NULL if has_name is 0 or the name is empty */
+    size_t name_length;     /* in bytes; the name is UTF-8, and what follows is no part of it */
+    const uint8_t *segment; /* in a Mach-O file the name of its segment, there too; in other formats NULL */
+    size_t segment_length;
+    uint64_t address;     /* of its first byte in memory; in a PE file counted from the image base. Sections that aren't in memory
+                             have one too, mostly 0 */
+    uint64_t offset;      /* where its bytes begin in the file, as the file states it */
+    uint64_t size;        /* in bytes; in a PE file the smaller one of VirtualSize and SizeOfRawData, or the one that isn't 0 */
+    uint64_t file_size;   /* how many bytes it has in the file: 0 where has_bytes is 0, in a PE file SizeOfRawData */
+    uint64_t memory_size; /* how many it has in memory */
+    uint64_t flags;       /* sh_flags, flags or Characteristics */
+    uint32_t kind;        /* in ELF its type (sh_type), in a Mach-O file the low byte of its flags, in a PE file 0 */
+    uint32_t has_name;    /* 1, or 0 for an ELF section whose name isn't in the file, or isn't UTF-8; a name may be empty too */
+    uint32_t has_bytes;   /* 1, or 0 for a section that has none in the file, as .bss */
+};
 
 /* What a call that gives all sections returns. */
 struct binfarce_sections {
-    uint32_t status; /* BINFARCE_OK, or the refusal that ends the walk after the last of them */
+    uint32_t status; /* BINFARCE_OK, or why the section after the last of them can't be read */
     size_t count;    /* how many there are, however many of them the array has room for */
 };
 
 /*
- * All sections of a file in file order, in the caller's array, by one walk: those that the calls above give by number. If one
- * can't be read, the sections before it are given, and its refusal. These calls don't allocate.
+ * All sections of a file in file order, in the caller's array; of a Mach-O or PE file those with a valid name. If one can't be
+ * read, the sections before it are given, and its refusal. What a file is that isn't read, and BINFARCE_UNKNOWN_FORMAT, come
+ * without sections. Does not allocate.
  */
-struct binfarce_sections binfarce_elf32_sections(const uint8_t *file, size_t file_length, bool big_endian,
-                                                 struct binfarce_section *out, size_t out_length);
-struct binfarce_sections binfarce_elf64_sections(const uint8_t *file, size_t file_length, bool big_endian,
-                                                 struct binfarce_section *out, size_t out_length);
-struct binfarce_sections binfarce_macho_sections(const uint8_t *file, size_t file_length,
-                                                 struct binfarce_section *out, size_t out_length);
-struct binfarce_sections binfarce_pe_sections(const uint8_t *file, size_t file_length,
-                                              struct binfarce_section *out, size_t out_length);
+struct binfarce_sections binfarce_sections(const uint8_t *file, size_t file_length,
+                                           struct binfarce_section *out, size_t out_length);
+
+/* Bytes in the caller's file. */
+struct binfarce_bytes {
+    const uint8_t *start; /* NULL if there are none */
+    size_t length;
+};
+
+/*
+ * The bytes of the first section with this name; in a Mach-O file the name is `SEGMENT,SECTION`, or a section's alone. Returns
+ * BINFARCE_OK, or BINFARCE_NONE if no section has the name, BINFARCE_NO_BYTES, BINFARCE_PAST_END, BINFARCE_NOT_UTF8 for the
+ * name, what a file is that isn't read, BINFARCE_UNKNOWN_FORMAT, or the refusal of a section before it. Does not allocate.
+ */
+uint32_t binfarce_section_bytes(const uint8_t *file, size_t file_length,
+                                const uint8_t *name, size_t name_length, struct binfarce_bytes *out);
 
 #ifdef __cplusplus
 }

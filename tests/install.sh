@@ -23,20 +23,20 @@ what="what cargo builds, by a link, from another folder, below a prefix with a s
 prefix="$scratch/an empty prefix"
 ln -s "$PWD/install" "$scratch/link"
 (cd / && "$scratch/link" "$prefix")
-library="include/binfarce.h lib/libbinfarce.a lib/libbinfarce.so lib/libbinfarce.so.0 lib/pkgconfig/binfarce.pc"
+library="include/binfarce.h lib/libbinfarce.a lib/libbinfarce.so lib/libbinfarce.so.1 lib/pkgconfig/binfarce.pc"
 pages=$(ls rust/src/bin | sed 's|\(.*\)\.rs$|bin/\1 share/man/man1/\1.1|')
 completions="share/bash-completion/completions/binfarce share/fish/vendor_completions.d/binfarce.fish share/zsh/site-functions/_binfarce"
 installed=$(printf '%s\n' $library $pages $completions | LC_ALL=C sort)
 holds "$prefix" "$installed"
 sample=crates/binfarce_list/data/e-elf64-little.bin
 "$prefix/bin/binfarce-list" "$sample" | cmp - crates/binfarce_list/stdout || fail "another listing"
-[ "$(readlink "$prefix/lib/libbinfarce.so")" = libbinfarce.so.0 ] || fail "another link"
+[ "$(readlink "$prefix/lib/libbinfarce.so")" = libbinfarce.so.1 ] || fail "another link"
 export PKG_CONFIG_PATH="$prefix/lib/pkgconfig" LD_LIBRARY_PATH="$prefix/lib"
 pkg-config --validate binfarce
 # As a shell reads what pkg-config prints.
 eval "gcc examples/symbols.c -o '$scratch/client' $(pkg-config --cflags --libs binfarce)"
 "$scratch/client" "$sample" | cmp - crates/binfarce_list/stdout || fail "another listing by a client"
-readelf -d "$scratch/client" | grep -q 'NEEDED.*\[libbinfarce\.so\.0\]' || fail "the client asks for another library"
+readelf -d "$scratch/client" | grep -q 'NEEDED.*\[libbinfarce\.so\.1\]' || fail "the client asks for another library"
 
 # completed SHELL LINE: what the shell, with what is installed, has for the last word: `--sort=size` as `size`, `--sort=` as `--sort`.
 completed() {

@@ -185,7 +185,7 @@ pub mod programs {
 #[doc(hidden)]
 pub mod exports {
     pub use crate::erased::binfarce_c::{
-        all_sections::*, buffer::*, functions::*, headers::*, names::*, sections::*, status::*, texts::*,
+        buffer::*, functions::*, headers::*, names::*, sections::*, status::*, texts::*,
     };
     pub use crate::shim::alloc::Global;
 }

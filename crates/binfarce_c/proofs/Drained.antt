@@ -25,13 +25,13 @@ unfolding elf64
 of_64_bits = refl
 
 -- the function of one more function symbol
-pub one_more : (given : List FunctionSymbol) (all : List Function) (symbol : FunctionSymbol) (function : Function)
-    → AreFunctionsOf (map function_view given) all → IsFunctionOf (function_view symbol) function
-    → AreFunctionsOf (map function_view (given ++ symbol ∷ [])) (all ++ function ∷ [])
-one_more [] [] symbol function are is = (is, tt)
-one_more [] (f ∷ all) symbol function are is = absurd are
-one_more (g ∷ given) [] symbol function are is = absurd are
-one_more (g ∷ given) (f ∷ all) symbol function are is = (are.0, one_more given all symbol function are.1 is)
+pub one_more : {A : Type 0} (view : A → Entry) (given : List A) (all : List Function) (symbol : A) (function : Function)
+    → AreFunctionsOf (map view given) all → IsFunctionOf (view symbol) function
+    → AreFunctionsOf (map view (given ++ symbol ∷ [])) (all ++ function ∷ [])
+one_more view [] [] symbol function are is = (is, tt)
+one_more view [] (f ∷ all) symbol function are is = absurd are
+one_more view (g ∷ given) [] symbol function are is = absurd are
+one_more view (g ∷ given) (f ∷ all) symbol function are is = (are.0, one_more view given all symbol function are.1 is)
 
 -- what an iterator gave, of which a list is left, is that list
 drained : {S A B : Type 0} (view : A → B) (rest : S → List B) (s : S) (given : List A) → Drains (YieldsFirstBy view rest) s given → map view given ≡ rest s

@@ -1,20 +1,20 @@
 -- Sections that are put into an array, one after the other.
-use Rattle.std.proofs.Common.{◌≡◌, ℕ, suc, ◌+◌, ◌-◌, ◌^◌, ◌<◌, ◌≤◌, min, List, [], ◌∷◌, ◌++◌, length, length-append, append_assoc, map, Option, Some, Result, Ok, Bool, true, false, inl, inr, nat_lt, refl, sym, ap, subst, ◌∙◌, arith}
+use Rattle.std.proofs.Common.{◌≡◌, ℕ, suc, ◌+◌, ◌-◌, ◌^◌, ◌<◌, ◌≤◌, min, List, [], ◌∷◌, ◌++◌, length, length-append, append_assoc, Option, Some, None, Result, Ok, Err, refl, sym, ap, subst, ◌∙◌, arith}
 use Rattle.std.specs.List.{AllZip, slice_set}
 use Rattle.std.proofs.lemmas.List.{append-nil, set_past}
 use Rattle.std.proofs.Math.Seq.{take-nil, drop-nil}
-use Rattle.std.specs.Bool.{if◌then◌else◌}
-use Rattle.std.proofs.lemmas.Bool.Decides.{nat_tests}
-use Rattle.binfarce.specs.declared.ParseError.{ParseError}
-use Rattle.binfarce.specs.Refusal.{Refusal, refusal_of, unexpected_eof}
-use Rattle.binfarce.specs.Walk.{Walk, YieldsNext, ended}
-use Rattle.binfarce_c.specs.declared.all_sections.Sections.{Sections}
+use Rattle.binfarce.specs.Refusal.{Refusal, refusal_of}
+use Rattle.binfarce.specs.Walk.{Walk, ahead_of, ended}
+use Rattle.binfarce_sections.specs.Section as seen
+use Rattle.binfarce_sections.specs.Views.{Opens, sections_left}
+use Rattle.binfarce_sections.specs.declared.error.SectionError.{SectionError}
+use Rattle.binfarce_sections.specs.declared.sections.Sections as code
 use Rattle.binfarce_c.specs.declared.sections.Section.{Section}
-use Rattle.binfarce_c.specs.AllSections.{GivesWalk, walk_of, end_status, count_of}
+use Rattle.binfarce_c.specs.declared.sections.Sections.{Sections}
 use Rattle.binfarce_c.specs.Buffer.{put}
-use Rattle.binfarce_c.specs.Sections.{Details, IsSection}
-use Rattle.binfarce_c.specs.Status.{status_of}
-use Rattle.binfarce_c.specs.machine.Filled.{IsFilled, OneMore, Shows, Fills}
+use Rattle.binfarce_c.specs.Sections.{GivesSections, GivesWalk, IsSection, count_of, end_status}
+use Rattle.binfarce_c.specs.machine.Filled.{IsFilled, OneMore}
+use Rattle.binfarce_c.specs.machine.SectionErrors.{error_status}
 
 -- one more has its place behind those before it, where there is one
 put-append : {X : Type 0} (was given : List X) (x : X) → put was (given ++ x ∷ []) ≡ slice_set (put was given) (length given) x
@@ -46,75 +46,64 @@ module _ (was sections old new : List Section) (section : Section) (count next :
 put_none : (xs : List Section) → xs ≡ put xs []
 put_none xs = sym (ap (λ (ys : List Section). ys ++ xs) (take-nil (length xs)))
 
--- what was put into the array so far of what an iterator gives, of which this is left
-pub record HasFilled {T I : Type 0} (gives : I → Option (Result T ParseError) → I → Type 0) (shown : T → Section → Type 0) (whole left : I) (was now : List Section) (count : ℕ) : Type 0 where
+-- the sections that were put so far, and those that are left of a walk
+pub record HasFilled (whole left : Walk seen.Section) (was now : List Section) (count : ℕ) : Type 0 where
+  pub before : List seen.Section
   pub sections : List Section
+  pub are : AllZip IsSection before sections
+  pub whole_is : whole ≡ record { items = before ++ left.items; refusal = left.refusal }
   pub filled : IsFilled was sections now count
-  pub goes_on : (more : List Section) (status : ℕ) → Shows gives shown left more status → Shows gives shown whole (sections ++ more) status
 
--- nothing was put yet
-pub starts : {T I : Type 0} (gives : I → Option (Result T ParseError) → I → Type 0) (shown : T → Section → Type 0) (whole left : I) (was : List Section) → left ≡ whole → HasFilled gives shown whole left was was 0
-starts gives shown whole left was same = record {
-  sections = [];
-  filled = (put_none was, refl);
-  goes_on = λ more status shows. subst (λ (iterator : _). Shows gives shown iterator more status) same shows;
-}
+-- none was put yet
+pub starts : (whole left : Walk seen.Section) (was : List Section) → whole ≡ left → HasFilled whole left was was 0
+starts whole left was same = record { before = []; sections = []; are = tt; whole_is = same; filled = (put_none was, refl) }
+
+push : (before : List seen.Section) (sections : List Section) (item : seen.Section) (section : Section) → AllZip IsSection before sections → IsSection item section → AllZip IsSection (before ++ item ∷ []) (sections ++ section ∷ [])
+push [] [] item section are is = (is, tt)
+push [] (s ∷ sections) item section are is = absurd are
+push (b ∷ before) [] item section are is = absurd are
+push (b ∷ before) (s ∷ sections) item section are is = (are.0, push before sections item section are.1 is)
 
 -- one section more was put
-pub goes : {T I : Type 0} (gives : I → Option (Result T ParseError) → I → Type 0) (shown : T → Section → Type 0) (whole left after : I) (was now new : List Section) (count next : ℕ) (item : T) (section : Section)
-    → HasFilled gives shown whole left was now count → gives left (Some (Ok item)) after → shown item section → OneMore section count now new next → HasFilled gives shown whole after was new next
-goes gives shown whole left after was now new count next item section so step is more = record {
+pub goes : (whole left after : Walk seen.Section) (was now new : List Section) (count next : ℕ) (item : seen.Section) (section : Section)
+    → HasFilled whole left was now count → left ≡ ahead_of item after → IsSection item section → OneMore section count now new next → HasFilled whole after was new next
+goes whole left after was now new count next item section so step is more = record {
+  before = so.before ++ item ∷ [];
   sections = so.sections ++ section ∷ [];
+  are = push so.before so.sections item section so.are is;
+  whole_is = so.whole_is ∙ ap (λ (w : Walk seen.Section). record { items = so.before ++ w.items; refusal = w.refusal }) step
+      ∙ ap (λ (items : List seen.Section). record { items = items; refusal = after.refusal }) (sym (append_assoc so.before (item ∷ []) after.items));
   filled = more was so.sections so.filled;
-  goes_on = λ rest status shows. subst (λ (sections : List Section). Shows gives shown whole sections status) (sym (append_assoc so.sections (section ∷ []) rest)) (so.goes_on (section ∷ rest) status (item, after, step, is, shows));
 }
 
 -- and no more comes
-pub ends : {T I : Type 0} (gives : I → Option (Result T ParseError) → I → Type 0) (shown : T → Section → Type 0) (whole left : I) (was now : List Section) (count : ℕ) (given : Sections)
-    → HasFilled gives shown whole left was now count → Shows gives shown left [] given.status → given.count ≡ count → Fills gives shown whole was now given
-ends gives shown whole left was now count given so shows same =
-    (so.sections, subst (λ (sections : List Section). Shows gives shown whole sections given.status) (append-nil so.sections) (so.goes_on [] given.status shows), (so.filled.0, same ∙ so.filled.1))
+pub finished : (whole left : Walk seen.Section) (was now : List Section) (count : ℕ) (end : Option Refusal) (given : Sections)
+    → HasFilled whole left was now count → left ≡ ended end → given ≡ record { status = end_status end; count = count } → GivesWalk whole was now given
+finished whole left was now count end given so is given_is =
+    let walk : whole ≡ record { items = so.before; refusal = end } =
+    so.whole_is ∙ ap (λ (w : Walk seen.Section). record { items = so.before ++ w.items; refusal = w.refusal }) is
+    ∙ ap (λ (items : List seen.Section). record { items = items; refusal = end }) (append-nil so.before) in
+    subst (λ (w : Walk seen.Section). GivesWalk w was now given) (sym walk) (record {
+      sections = so.sections;
+      are = so.are;
+      given_is = given_is ∙ ap (λ (n : ℕ). record { status = end_status end; count = n }) so.filled.1;
+      new_is = so.filled.0;
+    })
 
--- what an iterator over a walk gave is the walk
-module _ {S T I : Type 0} (section_details : S → Details) (seen : T → S) (walk_left : I → Walk S) (shown : T → Section → Type 0)
-    (is_shown : (item : T) (section : Section) → shown item section → IsSection (section_details (seen item)) section) where
-  abbrev pub gives : I → Option (Result T ParseError) → I → Type 0
-  gives before item after = YieldsNext refusal_of seen (walk_left before) item (walk_left after)
+-- the sections of a file that was opened
+pub opened : (answer : Option (Walk seen.Section)) (sections : code.Sections) (old new : List Section) (given : Sections)
+    → Opens answer (Ok sections) → GivesWalk (sections_left sections) old new given → GivesSections None answer old new given
+opened (Some walk) sections old new given is gives = subst (λ (w : Walk seen.Section). GivesWalk w old new given) is gives
+opened None sections old new given is gives = absurd is
 
-  abbrev pub Walked : Walk S → List Section → ℕ → Type 0
-  Walked walk sections status = AllZip IsSection (map section_details walk.items) sections × (status ≡ end_status walk.refusal)
-
-  all_of : (iterator : I) (sections : List Section) (status : ℕ) → Shows gives shown iterator sections status → Walked (walk_left iterator) sections status
-  all_of iterator [] status (left, inl end) = subst (λ (walk : Walk S). Walked walk [] status) (sym end.0.0) (tt, end.1)
-  all_of iterator [] status (left, inr end) = subst (λ (walk : Walk S). Walked walk [] status) (sym end.1.0) (tt, end.2)
-  all_of iterator (section ∷ sections) status shows =
-      let rest = all_of shows.1 sections status shows.4 in
-      subst (λ (walk : Walk S). Walked walk (section ∷ sections) status) (sym shows.2) ((is_shown shows.0 section shows.3, rest.0), rest.1)
-
-  -- and of a file that has its header it is the walk over its sections
-  pub whole : (walk : Walk S) (iterator : I) (file : List ℕ) (least : ℕ) (old new : List Section) (given : Sections)
-      → least ≤ length file → walk_left iterator ≡ walk → Fills gives shown iterator old new given → GivesWalk section_details (walk_of least file walk) old new given
-  whole walk iterator file least old new given long same filled =
-      let all = all_of iterator filled.0 given.status filled.1 in
-      let is_long : nat_lt (length file) least ≡ false = grind (arith, nat_tests) in
-      subst (λ (w : Walk S). GivesWalk section_details w old new given)
-      (same ∙ sym (ap (λ (b : Bool). if b then ended (Some unexpected_eof) else walk) is_long))
-      (record {
-        sections = filled.0;
-        are = all.0;
-        given_is = ap (λ (s : ℕ). record { status = s; count = given.count }) all.1 ∙ ap (λ (n : ℕ). record { status = end_status (walk_left iterator).refusal; count = n }) filled.2.1;
-        new_is = filled.2.0;
-      })
-
--- a file without its header
-pub refused : {S : Type 0} (section_details : S → Details) (walk : Walk S) (file : List ℕ) (least : ℕ) (old : List Section) (refusal : Refusal) (given : Sections)
-    → length file < least → refusal ≡ unexpected_eof → given ≡ record { status = status_of refusal; count = 0 } → GivesWalk section_details (walk_of least file walk) old old given
-refused {S} section_details walk file least old refusal given short why is =
-    let P : Bool → Type 0 = λ b. GivesWalk section_details (if b then ended (Some unexpected_eof) else walk) old old given in
-    let is_short : nat_lt (length file) least ≡ true = grind (arith, nat_tests) in
-    subst P (sym is_short) (record {
+-- and of one that wasn't
+pub refused : (answer : Option (Walk seen.Section)) (e : SectionError) (old : List Section) (given : Sections)
+    → Opens answer (Err e) → given ≡ record { status = error_status e; count = 0 } → GivesSections None answer old old given
+refused (Some walk) e old given (p, is, e_is) given_is =
+    subst (λ (w : Walk seen.Section). GivesWalk w old old given) (sym is) (record {
       sections = [];
       are = tt;
-      given_is = is ∙ ap (λ (r : Refusal). record { status = status_of r; count = 0 }) why;
+      given_is = given_is ∙ ap (λ (why : SectionError). record { status = error_status why; count = 0 }) e_is;
       new_is = put_none old;
     })
+refused None e old given is given_is = (given_is ∙ ap (λ (why : SectionError). record { status = error_status why; count = 0 }) is, refl)

@@ -1,3 +1,6 @@
 mod Drained
-mod Sought
+mod Listed
+mod FunctionAt
 mod Filled
+mod SectionBytes
+mod Foreign

@@ -4,6 +4,6 @@ pub mod Names
 pub mod Texts
 pub mod Headers
 pub mod Functions
+pub mod FunctionAt
 pub mod Sections
-pub mod AllSections
 pub mod machine

@@ -1,5 +1,6 @@
 -- The results of the exports for names.
 use Rattle.std.specs.Prelude.{◌≡◌, ◌⊎◌, ℕ, List, [], Option, Some, None, Bool, true, false, length}
+use Rattle.std.specs.Ptr.{null_ptr}
 use Rattle.std.specs.Str.{IsUtf8}
 use Rattle.binfarce.specs.Crates.{crate_of}
 use Rattle.binfarce.specs.Name.{Name, Mangled}
@@ -10,7 +11,7 @@ use Rattle.binfarce_c.specs.declared.buffer.Text.{Text}
 use Rattle.binfarce_c.specs.declared.names.Mangling.{Mangling}
 use Rattle.binfarce_c.specs.declared.names.SymbolName.{SymbolName}
 use Rattle.binfarce_c.specs.Buffer.{put, PointsTo}
-use Rattle.binfarce_c.specs.Status.{ok, none, not_utf8, no_memory}
+use Rattle.binfarce_c.specs.Status.{ok, none, not_utf8, no_memory, number_of}
 
 -- no text, for this reason
 abbrev pub no_text : (status : ℕ) → Text
@@ -66,7 +67,7 @@ pub record HoldsName (complete : List ℕ) (complete' : List ℕ) (trimmed : Lis
     complete_length = length answer.complete;
     trimmed_length = length answer.trimmed;
     crate_length = length (text_or_none answer.crate_name);
-    has_crate = is_there answer.crate_name;
+    has_crate = number_of (is_there answer.crate_name);
   }
   pub complete_is : complete' ≡ put complete answer.complete
   pub trimmed_is : trimmed' ≡ put trimmed answer.trimmed
@@ -74,7 +75,7 @@ pub record HoldsName (complete : List ℕ) (complete' : List ℕ) (trimmed : Lis
 
 -- no name, for this reason
 abbrev pub no_name : (status : ℕ) → SymbolName
-no_name status = record { status = status; kind = 0; complete_length = 0; trimmed_length = 0; crate_length = 0; has_crate = false }
+no_name status = record { status = status; kind = 0; complete_length = 0; trimmed_length = 0; crate_length = 0; has_crate = 0 }
 
 -- no name was given, and the buffers are unchanged
 pub record HoldsNoName (complete : List ℕ) (complete' : List ℕ) (trimmed : List ℕ) (trimmed' : List ℕ) (crate_name : List ℕ) (crate_name' : List ℕ) (given : SymbolName) (status : ℕ) : Type 0 where
@@ -94,8 +95,12 @@ pub record HoldsMangling (answer : Mangled) (mangling : Mangling) : Type 0 where
   pub part_length : mangling.part_length ≡ length answer.part
   pub kind : mangling.kind ≡ kind_number answer.kind
 
+-- no mangling: all of its fields are 0
+abbrev pub no_mangling : Mangling
+no_mangling = record { part = null_ptr; part_length = 0; kind = 0 }
+
 -- `binfarce_mangling`: a name that isn't UTF-8 is refused
-unfoldable pub GivesMangling : (name : List ℕ) (old : Mangling) (new : Mangling) (status : ℕ) → Type 0
-GivesMangling name old new status =
-    ((¬ (IsUtf8 name)) × (status ≡ not_utf8) × (new ≡ old))
+unfoldable pub GivesMangling : (name : List ℕ) (new : Mangling) (status : ℕ) → Type 0
+GivesMangling name new status =
+    ((¬ (IsUtf8 name)) × (status ≡ not_utf8) × (new ≡ no_mangling))
     ⊎ (IsUtf8 name × (status ≡ ok) × ((answer : Mangled) × IsMangled name answer × HoldsMangling answer new))

@@ -1,133 +1,84 @@
--- The results of the exports for one section of a file: by its name, and by its number.
-use Rattle.std.specs.Prelude.{◌≡◌, ◌⊎◌, ◌+◌, ◌≤◌, ◌^◌, ◌++◌, ℕ, List, [], ◌∷◌, Option, Some, None, Result, Ok, Err, length, map}
-use Rattle.std.specs.List.{slice_get}
+-- The results of the exports for the sections of a file.
+use Rattle.std.specs.Prelude.{◌≡◌, ◌⊎◌, ◌-◌, ◌^◌, ℕ, List, Option, Some, None, Result, Ok, Err, length, map, min, unwrap_or}
+use Rattle.std.specs.List.{AllZip}
+use Rattle.std.specs.Ptr.{null_ptr}
 use Rattle.std.specs.Str.{IsUtf8}
-use Rattle.binfarce.specs.declared.ByteOrder.{ByteOrder}
-use Rattle.binfarce.specs.Elf as elf
-use Rattle.binfarce.specs.ElfSymbols as elf_symbols
-use Rattle.binfarce.specs.Macho as macho
-use Rattle.binfarce.specs.Pe as pe
-use Rattle.binfarce.specs.Refusal.{Refusal, if_as_long_as, malformed_input}
-use Rattle.binfarce.specs.Walk.{Walk, first}
+use Rattle.binfarce.specs.Refusal.{Refusal}
+use Rattle.binfarce.specs.Walk.{Walk}
+use Rattle.binfarce_foreign.specs.declared.Foreign.{Foreign}
+use Rattle.binfarce_sections.specs.Kinds.{type_number}
+use Rattle.binfarce_sections.specs.Named as named
+use Rattle.binfarce_sections.specs.Named.{Lack}
+use Rattle.binfarce_sections.specs.Section as seen
+use Rattle.binfarce_c.specs.declared.sections.Bytes.{Bytes}
 use Rattle.binfarce_c.specs.declared.sections.Section.{Section}
-use Rattle.binfarce_c.specs.Buffer.{PointsTo}
+use Rattle.binfarce_c.specs.declared.sections.Sections.{Sections}
+use Rattle.binfarce_c.specs.Buffer.{put, PointsTo}
 use Rattle.binfarce_c.specs.Names.{text_or_none, is_there}
-use Rattle.binfarce_c.specs.Status.{ok, none, not_utf8, status_of}
+use Rattle.binfarce_c.specs.Status.{ok, none, not_utf8, unknown_format, no_bytes, past_end, status_of, foreign_status, number_of}
 
--- the details of a section of any format
-pub record Details : Type 0 where
-  pub name : Option (List ℕ)
-  pub segment : List ℕ
-  pub address : ℕ
-  pub kind : ℕ
-  pub offset : ℕ
-  pub size : ℕ
-  pub entries : ℕ
+-- `struct binfarce_section` holds the section: its names, and its numbers
+pub record IsSection (it : seen.Section) (section : Section) : Type 0 where
+  pub name : PointsTo (text_or_none it.name) section.name
+  pub name_length : section.name_length ≡ length (text_or_none it.name)
+  pub has_name : section.has_name ≡ number_of (is_there it.name)
+  pub segment : PointsTo (text_or_none it.segment) section.segment
+  pub segment_length : section.segment_length ≡ length (text_or_none it.segment)
+  pub address : section.address ≡ it.address
+  pub offset : section.offset ≡ it.offset
+  pub size : section.size ≡ it.size
+  pub file_size : section.file_size ≡ it.file_size
+  pub memory_size : section.memory_size ≡ it.memory_size
+  pub flags : section.flags ≡ it.flags
+  pub kind : section.kind ≡ unwrap_or (type_number it.kind) 0
+  pub has_bytes : section.has_bytes ≡ number_of it.has_bytes
 
--- a section's range in the file; refused where its end exceeds 2^64 - 1
-abbrev pub IsRange : (offset : ℕ) (size : ℕ) (section : Section) → Type 0
-IsRange offset size section =
-    ((section.range_status ≡ ok) × (section.start ≡ offset) × (section.end ≡ offset + size))
-    ⊎ ((2 ^ 64 ≤ offset + size) × (section.range_status ≡ status_of malformed_input) × (section.start ≡ 0) × (section.end ≡ 0))
+-- BINFARCE_OK, or why a walk ends
+abbrev pub end_status : Option Refusal → ℕ
+end_status None = ok
+end_status (Some refusal) = status_of refusal
 
--- the name in the struct: whether there is one, the pointer to it, and its length
-abbrev pub HasName : (name : Option (List ℕ)) (section : Section) → Type 0
-HasName name section = (section.has_name ≡ is_there name) × PointsTo (text_or_none name) section.name × (section.name_length ≡ length (text_or_none name))
+-- their number, in 64 bits
+abbrev pub count_of : List Section → ℕ
+count_of sections = min (length sections) (2 ^ 64 - 1)
 
--- `struct binfarce_section` holds these details
-pub record IsSection (section_details : Details) (section : Section) : Type 0 where
-  pub name : HasName section_details.name section
-  pub segment : PointsTo section_details.segment section.segment
-  pub segment_length : section.segment_length ≡ length section_details.segment
-  pub address : section.address ≡ section_details.address
-  pub kind : section.kind ≡ section_details.kind
-  pub range : IsRange section_details.offset section_details.size section
-  pub entries : section.entries ≡ section_details.entries
+-- all sections of the walk were given: their number, the end of the walk, and as many of them as the array has room for
+pub record GivesWalk (walk : Walk seen.Section) (old new : List Section) (given : Sections) : Type 0 where
+  pub sections : List Section
+  pub are : AllZip IsSection walk.items sections
+  pub given_is : given ≡ record { status = end_status walk.refusal; count = count_of sections }
+  pub new_is : new ≡ put old sections
 
--- the section that was found, BINFARCE_NONE, or the refusal
-abbrev pub GivesSection : (answer : Result (Option Details) Refusal) (old : Section) (new : Section) (status : ℕ) → Type 0
-GivesSection (Ok (Some section_details)) old new status = (status ≡ ok) × IsSection section_details new
-GivesSection (Ok None) old new status = (status ≡ none) × (new ≡ old)
-GivesSection (Err refusal) old new status = (status ≡ status_of refusal) × (new ≡ old)
+-- no section was given
+abbrev pub GivesNone : (status : ℕ) (old new : List Section) (given : Sections) → Type 0
+GivesNone status old new given = (given ≡ record { status = status; count = 0 }) × (new ≡ old)
 
--- a name that isn't UTF-8 is refused
-abbrev pub OfUtf8 : (name : List ℕ) (Gives : Type 0) (old : Section) (new : Section) (status : ℕ) → Type 0
-OfUtf8 name Gives old new status = ((¬ (IsUtf8 name)) × (status ≡ not_utf8) × (new ≡ old)) ⊎ (IsUtf8 name × Gives)
+-- `binfarce_sections`: a file that no reader reads is refused by what it is; of any other these are the sections, if its format is known
+abbrev pub GivesSections : (foreign : Option Foreign) (answer : Option (Walk seen.Section)) (old new : List Section) (given : Sections) → Type 0
+GivesSections (Some foreign) answer old new given = GivesNone (foreign_status foreign) old new given
+GivesSections None None old new given = GivesNone unknown_format old new given
+GivesSections None (Some walk) old new given = GivesWalk walk old new given
 
--- the items of a walk, one after the other: its sections, and last its refusal, if any
-abbrev pub refusals : {S : Type 0} → Option Refusal → List (Result S Refusal)
-refusals None = []
-refusals (Some refusal) = Err refusal ∷ []
+-- why there are no bytes
+abbrev pub lack_status : Lack → ℕ
+lack_status named.unknown_format = unknown_format
+lack_status (named.refused refusal) = status_of refusal
+lack_status named.no_section = none
+lack_status named.no_bytes = no_bytes
+lack_status named.past_end = past_end
 
-abbrev pub results : {S : Type 0} → Walk S → List (Result S Refusal)
-results walk = map (λ s. Ok s) walk.items ++ refusals walk.refusal
+-- the bytes, or the status: a file that no reader reads is refused by what it is
+abbrev pub bytes_or_status : (foreign : Option Foreign) → Result (List ℕ) Lack → Result (List ℕ) ℕ
+bytes_or_status (Some foreign) answer = Err (foreign_status foreign)
+bytes_or_status None (Ok bytes) = Ok bytes
+bytes_or_status None (Err lack) = Err (lack_status lack)
 
--- the item with number `index`, counted from 0
-abbrev pub found_of : {S : Type 0} → Option (Result S Refusal) → Result (Option S) Refusal
-found_of None = Ok None
-found_of (Some (Ok section)) = Ok (Some section)
-found_of (Some (Err refusal)) = Err refusal
+-- the bytes were given; or none, with this status: the pointer is null, and the length 0
+abbrev pub HoldsBytes : Result (List ℕ) ℕ → (new : Bytes) (status : ℕ) → Type 0
+HoldsBytes (Ok bytes) new status = (status ≡ ok) × PointsTo bytes new.start × (new.length ≡ length bytes)
+HoldsBytes (Err reason) new status = (status ≡ reason) × (new ≡ record { start = null_ptr; length = 0 })
 
-abbrev pub numbered : {S : Type 0} → (index : ℕ) → Walk S → Result (Option S) Refusal
-numbered index walk = found_of (slice_get (results walk) index)
-
--- the details of the section that was found
-abbrev pub details_found : {S : Type 0} → (S → Details) → Result (Option S) Refusal → Result (Option Details) Refusal
-details_found section_details (Ok (Some section)) = Ok (Some (section_details section))
-details_found section_details (Ok None) = Ok None
-details_found section_details (Err refusal) = Err refusal
-
--- the details of an ELF section, with its type (`sh_type`) and its number of entries
-abbrev pub elf_details : (class : elf.ElfClass) (table : elf.SectionTable) → elf.Section → Details
-elf_details class table s = record {
-  name = elf.name_of class table s;
-  segment = [];
-  address = s.address;
-  kind = s.kind;
-  offset = s.offset;
-  size = s.size;
-  entries = elf.entry_count s.size s.entry_size;
-}
-
-abbrev pub macho_details : macho.Section → Details
-macho_details s = record { name = Some s.section_name; segment = s.segment_name; address = s.address; kind = 0; offset = s.offset; size = s.size; entries = 0 }
-
--- the details of a PE section; its size is that in the file
-abbrev pub pe_details : pe.Section → Details
-pe_details s = record { name = Some s.name; segment = []; address = s.virtual_address; kind = 0; offset = s.pointer_to_raw_data; size = s.size_of_raw_data; entries = 0 }
-
--- the first section with this name among those of a table, and the one with this number
-abbrev pub elf_table_section : (class : elf.ElfClass) (table : elf.SectionTable) (name : List ℕ) → Result (Option Details) Refusal
-elf_table_section class table name = details_found (elf_details class table) (first (λ s. elf_symbols.is_named name (elf.name_of class table s)) (elf.walk class table))
-
-abbrev pub elf_table_numbered : (class : elf.ElfClass) (table : elf.SectionTable) (index : ℕ) → Result (Option Details) Refusal
-elf_table_numbered class table index = details_found (elf_details class table) (numbered index (elf.walk class table))
-
-abbrev pub elf_table : (class : elf.ElfClass) (order : ByteOrder) (file : List ℕ) → elf.SectionTable
-elf_table class order file = elf.section_table class (record { order = order; bytes = file })
-
--- the first section of an ELF file with this name, where the file has a header
-abbrev pub elf_section : (class : elf.ElfClass) (order : ByteOrder) (file : List ℕ) (name : List ℕ) → Result (Option Details) Refusal
-elf_section class order file name =
-    if_as_long_as class.header_length file (elf_table_section class (elf_table class order file) name)
-
--- the section of an ELF file with this number
-abbrev pub elf_numbered : (class : elf.ElfClass) (order : ByteOrder) (file : List ℕ) (index : ℕ) → Result (Option Details) Refusal
-elf_numbered class order file index =
-    if_as_long_as class.header_length file (elf_table_numbered class (elf_table class order file) index)
-
-abbrev pub macho_section : (file : List ℕ) (segment : List ℕ) (name : List ℕ) → Result (Option Details) Refusal
-macho_section file segment name =
-    if_as_long_as macho.least_length file (details_found macho_details (first (λ s. macho.is_named segment name s) (macho.walk file)))
-
-abbrev pub macho_numbered : (file : List ℕ) (index : ℕ) → Result (Option Details) Refusal
-macho_numbered file index =
-    if_as_long_as macho.least_length file (details_found macho_details (numbered index (macho.walk file)))
-
-abbrev pub pe_section : (file : List ℕ) (name : List ℕ) → Result (Option Details) Refusal
-pe_section file name =
-    if_as_long_as (pe.least_length file) file (details_found pe_details (first (λ s. pe.is_named name s) (pe.walk file)))
-
-abbrev pub pe_numbered : (file : List ℕ) (index : ℕ) → Result (Option Details) Refusal
-pe_numbered file index =
-    if_as_long_as (pe.least_length file) file (details_found pe_details (numbered index (pe.walk file)))
+-- `binfarce_section_bytes`: a name that isn't UTF-8 is refused first
+abbrev pub GivesBytes : (name : List ℕ) (foreign : Option Foreign) (answer : Result (List ℕ) Lack) (new : Bytes) (status : ℕ) → Type 0
+GivesBytes name foreign answer new status =
+    ((¬ (IsUtf8 name)) × HoldsBytes (Err not_utf8) new status) ⊎ (IsUtf8 name × HoldsBytes (bytes_or_status foreign answer) new status)

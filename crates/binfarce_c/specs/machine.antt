@@ -1,4 +1,4 @@
 -- Definitions that only private contracts cite.
 pub mod Found
-pub mod Sought
 pub mod Filled
+pub mod SectionErrors

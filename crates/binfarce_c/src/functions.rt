@@ -1,26 +1,37 @@
 //! The function symbols of a file as they are stored, in a caller's array.
 
-ghost use Rattle.std.specs.Prelude.{◌≡◌, List, map, IfOk};
+ghost use Rattle.std.specs.Prelude.{◌≡◌, List, [], ◌∷◌, ◌++◌, Err, IfOk, length, map};
+ghost use Rattle.std.specs.Result.{IsOk};
 ghost use Rattle.std.specs.Iterator.{IsFinite, Drains};
-ghost use Rattle.binfarce.specs.Elf.{elf32, elf64};
 ghost use Rattle.binfarce.specs.ElfFunctions.{functions_view};
-ghost use Rattle.binfarce.specs.MachoSymbols.{macho_file_answer, HasAddress};
-ghost use Rattle.binfarce.specs.Refusal.{Gives, refusal_of};
-ghost use Rattle.binfarce.specs.Symbol.{Answers};
-ghost use Rattle.binfarce.specs.SymbolViews.{function_view};
-ghost use Rattle.binfarce.specs.declared.FunctionSymbol.{FunctionSymbol};
 ghost use Rattle.binfarce.specs.ElfSymbols.{elf_file_answer};
+ghost use Rattle.binfarce.specs.Format.{format_of};
+ghost use Rattle.binfarce.specs.MachoSections as macho;
+ghost use Rattle.binfarce.specs.MachoSymbols.{macho_file_answer, HasAddress};
+ghost use Rattle.binfarce.specs.PeSelection as pe;
 ghost use Rattle.binfarce.specs.PeSymbols.{pe_file_answer};
+ghost use Rattle.binfarce.specs.Refusal.{Gives, refusal_of};
+ghost use Rattle.binfarce.specs.SectionEntries.{AnswersAll};
+ghost use Rattle.binfarce.specs.SelectionViews.{HoldsAllFunctions};
+ghost use Rattle.binfarce.specs.Symbol.{Answers};
+ghost use Rattle.binfarce.specs.SymbolViews.{HoldsSectionFunctions, function_view};
+ghost use Rattle.binfarce.specs.declared.FunctionSymbol.{FunctionSymbol};
 ghost use Rattle.binfarce_elf.specs.Classes.{class_of};
+ghost use Rattle.binfarce_tools.specs.Answer.{by_symbol_table};
+ghost use Rattle.binfarce_tools.specs.SectionAnswer.{NeedsMemory, readers_answer};
 ghost use Rattle.binfarce_c.specs.Buffer.{PointsTo};
-ghost use Rattle.binfarce_c.specs.Functions.{AreFunctionsOf, GivesAnswer, GivesFunctions, IsFunctionOf};
-ghost use Rattle.binfarce_c.specs.Headers.{order_of};
-ghost use Rattle.binfarce_c.specs.machine.Found.{Ends, HoldsFound, Lists, ListsOr};
+ghost use Rattle.binfarce_c.specs.FunctionAt.{IsFound, SymbolizesTo, holds};
+ghost use Rattle.binfarce_c.specs.Functions.{AllNeedMemory, AreFunctionsOf, GivesAllFunctions, GivesAnswer, GivesFunctions, IsFunctionOf, all_answer, elf_all, elf_selected_in, macho_all, macho_entries, pe_all, pe_entries, table_of};
+ghost use Rattle.binfarce_c.specs.machine.Found.{Collects, Ends, HoldsFound, ListsOr};
 
 use crate::buffer::put;
-use crate::headers::order_of;
-use crate::status::{NOT_UTF8, OK, detail_of, status_of};
-use binfarce::{ByteOrder, FunctionSymbol, ParseError, elf32, elf64, macho, pe};
+use crate::status::{
+    NOT_UTF8, OK, UNKNOWN_FORMAT, detail_of, foreign_in, foreign_status, status_of,
+};
+use binfarce::{
+    ByteOrder, Format, FunctionSymbol, ParseError, SectionFunction, SymbolTable, detect_format,
+    elf32, elf64, macho, pe,
+};
 use binfarce_elf::class::Width;
 use std::alloc::{AllocError, Global};
 use std::{ptr, str};
@@ -56,71 +67,140 @@ pub struct Functions {
     pub section_size: u64,
 }
 
-/// The function symbols of a section of a 32-bit ELF file. See `binfarce.h`.
+/// The function symbols of a file of any format in the order of its listing. See `binfarce.h`.
 #[unsafe(no_mangle)]
-pub extern "C" fn binfarce_elf32_functions(
+#[tactic(auto, unfolding(crate::specs::Functions::GivesFunctions))]
+pub extern "C" fn binfarce_functions(
     alloc: Global,
     file: &[u8],
-    big_endian: bool,
     section: &[u8],
     out: &mut [Function],
 ) -> Functions
-    ensures { GivesFunctions section.now (elf_file_answer elf32 (order_of big_endian) file.now section.now)
-        out.old out.new result }
+    ensures { GivesFunctions file.now section.now out.old out.new result }
 {
-    match str::from_utf8(section) {
-        Ok(section) => give(of_elf(alloc, file, Width::Bits32, big_endian, section), out),
-        Err(_) => nothing(NOT_UTF8, 0),
+    let Ok(section) = str::from_utf8(section) else {
+        return nothing(NOT_UTF8, 0);
+    };
+    match foreign_in(file) {
+        None => of_section(alloc, file, section, out),
+        Some(foreign) => nothing(foreign_status(foreign), 0),
     }
 }
 
-/// The function symbols of a section of a 64-bit ELF file. See `binfarce.h`.
-#[unsafe(no_mangle)]
-pub extern "C" fn binfarce_elf64_functions(
-    alloc: Global,
-    file: &[u8],
-    big_endian: bool,
-    section: &[u8],
-    out: &mut [Function],
-) -> Functions
-    ensures { GivesFunctions section.now (elf_file_answer elf64 (order_of big_endian) file.now section.now)
-        out.old out.new result }
+// Those of a file that isn't foreign.
+#[tactic(auto, unfolding(binfarce_tools::specs::SectionAnswer::format_answer, binfarce_tools::specs::SectionAnswer::ReaderNeedsMemory), using(crate::proofs::Listed::given))]
+fn of_section(alloc: Global, file: &[u8], section: &str, out: &mut [Function]) -> Functions
+    ensures { GivesAnswer (λ refusal. NeedsMemory file.now (Err refusal)) (readers_answer file.now section.now) out.old
+        out.new result }
 {
-    match str::from_utf8(section) {
-        Ok(section) => give(of_elf(alloc, file, Width::Bits64, big_endian, section), out),
-        Err(_) => nothing(NOT_UTF8, 0),
+    match detect_format(file) {
+        Format::Elf32 { byte_order } => {
+            give(of_elf(alloc, file, Width::Bits32, byte_order, section), out)
+        }
+        Format::Elf64 { byte_order } => {
+            give(of_elf(alloc, file, Width::Bits64, byte_order, section), out)
+        }
+        Format::Macho => give(of_macho(alloc, file), out),
+        Format::PE => give(of_pe(alloc, file), out),
+        Format::Unknown => nothing(UNKNOWN_FORMAT, 0),
     }
 }
 
-/// The function symbols of a Mach-O file. See `binfarce.h`.
+/// The function symbols of all sections of a file of any format. See `binfarce.h`.
 #[unsafe(no_mangle)]
-pub extern "C" fn binfarce_macho_functions(
+#[tactic(auto, unfolding(crate::specs::Functions::GivesAllFunctions))]
+pub extern "C" fn binfarce_all_functions(
     alloc: Global,
     file: &[u8],
+    table: u32,
     out: &mut [Function],
 ) -> Functions
-    ensures { GivesAnswer (λ _. HasAddress file.now) (macho_file_answer file.now) out.old out.new result }
+    ensures { GivesAllFunctions (table_of table) file.now out.old out.new result }
 {
-    give(of_macho(alloc, file), out)
+    match foreign_in(file) {
+        None => of_all(alloc, file, table_of(table), out),
+        Some(foreign) => nothing(foreign_status(foreign), 0),
+    }
 }
 
-/// The function symbols of a PE file. See `binfarce.h`.
+// Those of a file that isn't foreign, by this symbol table.
+#[tactic(auto, unfolding(crate::specs::Functions::all_answer, crate::specs::Functions::AllNeedMemory), using(crate::proofs::Listed::given))]
+fn of_all(alloc: Global, file: &[u8], which: SymbolTable, out: &mut [Function]) -> Functions
+    ensures { GivesAnswer (λ _. AllNeedMemory (format_of file.now) file.now)
+        (all_answer (format_of file.now) which file.now) out.old out.new result }
+{
+    match detect_format(file) {
+        Format::Elf32 { byte_order } => {
+            give(
+                all_of_elf(alloc, file, Width::Bits32, byte_order, which),
+                out,
+            )
+        }
+        Format::Elf64 { byte_order } => {
+            give(
+                all_of_elf(alloc, file, Width::Bits64, byte_order, which),
+                out,
+            )
+        }
+        Format::Macho => give(all_of_macho(alloc, file, which), out),
+        Format::PE => give(all_of_pe(alloc, file, which), out),
+        Format::Unknown => nothing(UNKNOWN_FORMAT, 0),
+    }
+}
+
+/// The function that an address symbolizes to, in an array of functions: its index, or the array's length where none
+/// holds it. See `binfarce.h`.
 #[unsafe(no_mangle)]
-pub extern "C" fn binfarce_pe_functions(
-    alloc: Global,
-    file: &[u8],
-    out: &mut [Function],
-) -> Functions
-    ensures { GivesAnswer (λ _. ⊥) (pe_file_answer file.now) out.old out.new result }
+#[tactic(auto, using(crate::proofs::FunctionAt::none_yet, crate::proofs::FunctionAt::found_at_end))]
+pub extern "C" fn binfarce_function_at(functions: &[Function], address: u64) -> usize
+    ensures { SymbolizesTo address functions.now result }
 {
-    give(of_pe(alloc, file), out)
+    let mut found = None;
+    for index in 0..functions.len() {
+        found = found_with(found, functions[index], index, address);
+    }
+    match found {
+        Some((index, _)) => index,
+        None => functions.len(),
+    }
 }
 
-fn of_elf(alloc: Global, file: &[u8], width: Width, big_endian: bool, section: &str) -> Found
-    ensures { Answers HoldsFound Lists
-        (elf_file_answer (class_of width) (order_of big_endian) file.now section.now) result }
+// The index and the address of the function that was found before this one, or those of this one.
+fn found_with(
+    found: Option<(usize, u64)>,
+    function: Function,
+    index: usize,
+    address: u64,
+) -> Option<(usize, u64)>
+    ensures { (before : List Function) → index ≡ length before → IsFound address before found
+        → IsFound address (before ++ function ∷ []) result }
 {
-    let (functions, size) = stored_in_elf(file, width, order_of(big_endian), section)?;
+    if !holds(function, address) {
+        return found;
+    }
+    match found {
+        None => Some((index, function.address)),
+        Some((first, highest)) => {
+            if function.address <= highest {
+                Some((first, highest))
+            } else {
+                Some((index, function.address))
+            }
+        }
+    }
+}
+
+// Whether its range holds the address. The end of the range may lie past 64 bits.
+fn holds(function: Function, address: u64) -> bool
+    ensures { result ≡ holds address function }
+{
+    function.address <= address && address - function.address < function.size.max(1)
+}
+
+fn of_elf(alloc: Global, file: &[u8], width: Width, byte_order: ByteOrder, section: &str) -> Found
+    ensures { Answers HoldsFound (ListsOr ⊥) (elf_file_answer (class_of width) byte_order file.now section.now) result }
+{
+    let (functions, size) = stored_in_elf(file, width, byte_order, section)?;
     Ok((all_of(alloc, functions)?, size))
 }
 
@@ -146,19 +226,127 @@ fn of_macho(alloc: Global, file: &[u8]) -> Found
     ensures { Answers HoldsFound (ListsOr (HasAddress file.now)) (macho_file_answer file.now) result }
 {
     let (functions, size) = macho::parse(file)?.functions(alloc)?;
-    Ok((all_listed(alloc, functions)?, size))
+    Ok((all_stored(alloc, functions)?, size))
 }
 
 #[tactic(auto, using(crate::proofs::Drained::held))]
 fn of_pe(alloc: Global, file: &[u8]) -> Found
-    ensures { Answers HoldsFound Lists (pe_file_answer file.now) result }
+    ensures { Answers HoldsFound (ListsOr ⊥) (pe_file_answer file.now) result }
 {
     let (functions, size) = pe::parse(file)?.functions(alloc)?;
-    Ok((all_listed(alloc, functions)?, size))
+    Ok((all_stored(alloc, functions)?, size))
+}
+
+// The function symbols of all sections of an ELF file, by this symbol table.
+#[tactic(auto, using(crate::proofs::Listed::elf_found))]
+fn all_of_elf(
+    alloc: Global,
+    file: &[u8],
+    width: Width,
+    byte_order: ByteOrder,
+    which: SymbolTable,
+) -> Found
+    ensures { Answers HoldsFound (ListsOr ⊥) (elf_all (class_of width) byte_order which file.now) result }
+{
+    all_listed(alloc, listed_in_elf(alloc, file, width, byte_order, which))
+}
+
+#[tactic(auto, using(crate::proofs::Drained::of_32_bits, crate::proofs::Drained::of_64_bits))]
+fn listed_in_elf<'a>(
+    alloc: Global,
+    file: &'a [u8],
+    width: Width,
+    byte_order: ByteOrder,
+    which: SymbolTable,
+) -> Result<Vec<SectionFunction<'a>>, ParseError>
+    ensures { Answers HoldsAllFunctions IsOk (elf_selected_in (class_of width) byte_order which file.entry.now) result }
+{
+    match width {
+        Width::Bits32 => elf32::parse(file, byte_order)?.all_functions(alloc, which),
+        Width::Bits64 => elf64::parse(file, byte_order)?.all_functions(alloc, which),
+    }
+}
+
+// Those of a Mach-O file, which has no dynamic symbol table.
+fn all_of_macho(alloc: Global, file: &[u8], which: SymbolTable) -> Found
+    ensures { Answers HoldsFound (ListsOr (macho.HasSection file.now)) (by_symbol_table which (macho_all file.now))
+        result }
+{
+    match which {
+        SymbolTable::Symtab => symtab_of_macho(alloc, file),
+        SymbolTable::Dynsym => Err(ParseError::SectionIsMissing(which.name())),
+    }
+}
+
+#[tactic(auto, using(crate::proofs::Listed::all_found))]
+fn symtab_of_macho(alloc: Global, file: &[u8]) -> Found
+    ensures { Answers HoldsFound (ListsOr (macho.HasSection file.now)) (macho_all file.now) result }
+{
+    all_listed(alloc, listed_in_macho(alloc, file))
+}
+
+fn listed_in_macho(alloc: Global, file: &[u8]) -> Result<Vec<SectionFunction<'_>>, ParseError>
+    ensures { AnswersAll HoldsSectionFunctions (macho.HasSection file.entry.now) (macho_entries file.entry.now) result }
+{
+    macho::parse(file)?.all_functions(alloc)
+}
+
+// Those of a PE file, which has none either.
+fn all_of_pe(alloc: Global, file: &[u8], which: SymbolTable) -> Found
+    ensures { Answers HoldsFound (ListsOr (pe.HasSection file.now)) (by_symbol_table which (pe_all file.now)) result }
+{
+    match which {
+        SymbolTable::Symtab => symtab_of_pe(alloc, file),
+        SymbolTable::Dynsym => Err(ParseError::SectionIsMissing(which.name())),
+    }
+}
+
+#[tactic(auto, using(crate::proofs::Listed::all_found))]
+fn symtab_of_pe(alloc: Global, file: &[u8]) -> Found
+    ensures { Answers HoldsFound (ListsOr (pe.HasSection file.now)) (pe_all file.now) result }
+{
+    all_listed(alloc, listed_in_pe(alloc, file))
+}
+
+fn listed_in_pe(alloc: Global, file: &[u8]) -> Result<Vec<SectionFunction<'_>>, ParseError>
+    ensures { AnswersAll HoldsSectionFunctions (pe.HasSection file.entry.now) (pe_entries file.entry.now) result }
+{
+    pe::parse(file)?.all_functions(alloc)
+}
+
+// The symbol table that a caller names.
+fn table_of(table: u32) -> SymbolTable
+    ensures { result ≡ table_of table }
+{
+    match table {
+        0 => SymbolTable::Symtab,
+        _ => SymbolTable::Dynsym,
+    }
+}
+
+// Each function symbol of a list with sections, or its refusal.
+fn all_listed(alloc: Global, listed: Result<Vec<SectionFunction<'_>>, ParseError>) -> Found
+    ensures { Collects listed.entry result }
+{
+    match listed {
+        Ok(functions) => Ok((each_of(alloc, functions)?, 0)),
+        Err(e) => Err(e),
+    }
+}
+
+fn each_of(alloc: Global, list: Vec<SectionFunction<'_>>) -> Result<Vec<Function>, AllocError>
+    ensures { IfOk result
+        (λ v. AreFunctionsOf (map (λ f. function_view f.function) list.entry.items) v.items) }
+{
+    let mut all = Vec::new(alloc);
+    for listed in list {
+        all.push(function_of(listed.function))?;
+    }
+    Ok(all)
 }
 
 // Each function symbol of a list.
-fn all_listed(alloc: Global, list: Vec<FunctionSymbol<'_>>) -> Result<Vec<Function>, AllocError>
+fn all_stored(alloc: Global, list: Vec<FunctionSymbol<'_>>) -> Result<Vec<Function>, AllocError>
     ensures { IfOk result (λ v. AreFunctionsOf (map function_view list.entry.items) v.items) }
 {
     Ok(all_of(alloc, list.into_iter())?)

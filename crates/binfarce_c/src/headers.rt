@@ -1,14 +1,11 @@
 //! The format of a file, and its header.
 
 ghost use Rattle.std.specs.Prelude.{◌≡◌};
-ghost use Rattle.binfarce.specs.Elf.{elf32, elf64};
 ghost use Rattle.binfarce.specs.Format.{format_of};
-ghost use Rattle.binfarce.specs.Macho as macho;
-ghost use Rattle.binfarce.specs.Pe as pe;
-ghost use Rattle.binfarce_c.specs.Headers.{GivesHeader, ChecksHeader, format_number, order_number, order_of};
+ghost use Rattle.binfarce_c.specs.Headers.{GivesElfHeader, GivesHeader, format_number, no_header, order_number};
 
-use crate::status::{OK, status_of};
-use binfarce::{ByteOrder, Format, ParseError, detect_format, macho, pe};
+use crate::status::{OK, UNKNOWN_FORMAT, status_of};
+use binfarce::{ByteOrder, Format, ParseError, detect_format};
 use binfarce_elf::class::Class;
 use binfarce_elf::header::parse_header;
 
@@ -44,6 +41,23 @@ pub struct ElfHeader {
     pub shstrndx: u16,
 }
 
+// What is given in place of a header where there is none.
+const NO_HEADER: ElfHeader = ElfHeader {
+    elf_type: 0,
+    machine: 0,
+    version: 0,
+    entry: 0,
+    phoff: 0,
+    shoff: 0,
+    flags: 0,
+    ehsize: 0,
+    phentsize: 0,
+    phnum: 0,
+    shentsize: 0,
+    shnum: 0,
+    shstrndx: 0,
+};
+
 /// The format that a file's first bytes name: 0 for none, and then ELF of 32 bits in little-endian and in big-endian
 /// order, of 64 bits the same, Mach-O, PE. See `binfarce.h`.
 #[unsafe(no_mangle)]
@@ -65,27 +79,28 @@ fn of_order(byte_order: ByteOrder) -> u32
     u32::from(byte_order == ByteOrder::BigEndian)
 }
 
-/// The file header of a 32-bit ELF file. See `binfarce.h`.
+/// The file header of an ELF file. See `binfarce.h`.
 #[unsafe(no_mangle)]
-pub extern "C" fn binfarce_elf32_header(file: &[u8], big_endian: bool, out: &mut ElfHeader) -> u32
-    ensures { GivesHeader elf32 (order_of big_endian) file.now out.old out.new result }
+#[tactic(auto, unfolding(crate::specs::Headers::GivesElfHeader))]
+pub extern "C" fn binfarce_elf_header(file: &[u8], out: &mut ElfHeader) -> u32
+    ensures { GivesElfHeader (format_of file.now) file.now out.new result }
 {
-    elf_header::<u32>(file, order_of(big_endian), out)
-}
-
-/// The file header of a 64-bit ELF file. See `binfarce.h`.
-#[unsafe(no_mangle)]
-pub extern "C" fn binfarce_elf64_header(file: &[u8], big_endian: bool, out: &mut ElfHeader) -> u32
-    ensures { GivesHeader elf64 (order_of big_endian) file.now out.old out.new result }
-{
-    elf_header::<u64>(file, order_of(big_endian), out)
+    match detect_format(file) {
+        Format::Elf32 { byte_order } => elf_header::<u32>(file, byte_order, out),
+        Format::Elf64 { byte_order } => elf_header::<u64>(file, byte_order, out),
+        Format::Macho | Format::PE | Format::Unknown => {
+            *out = NO_HEADER;
+            UNKNOWN_FORMAT
+        }
+    }
 }
 
 // The file header of an ELF file of this class, widened.
 fn elf_header<C: Class>(file: &[u8], byte_order: ByteOrder, out: &mut ElfHeader) -> u32
-    ensures { GivesHeader C.table byte_order file.now out.old out.new result }
+    ensures { GivesHeader C.table byte_order file.now out.new result }
 {
     let Ok(header) = parse_header::<C>(file, byte_order) else {
+        *out = NO_HEADER;
         return status_of(ParseError::UnexpectedEof);
     };
     *out = ElfHeader {
@@ -104,31 +119,4 @@ fn elf_header<C: Class>(file: &[u8], byte_order: ByteOrder, out: &mut ElfHeader)
         shstrndx: header.shstrndx,
     };
     OK
-}
-
-/// Whether a Mach-O file has its file header. See `binfarce.h`.
-#[unsafe(no_mangle)]
-pub extern "C" fn binfarce_macho_header(file: &[u8]) -> u32
-    ensures { ChecksHeader macho.least_length file.now result }
-{
-    macho::parse(file).map_or_else(status_of, |_| OK)
-}
-
-/// Whether a PE file has its file header. See `binfarce.h`.
-#[unsafe(no_mangle)]
-pub extern "C" fn binfarce_pe_header(file: &[u8]) -> u32
-    ensures { ChecksHeader (pe.least_length file.now) file.now result }
-{
-    pe::parse(file).map_or_else(status_of, |_| OK)
-}
-
-/// The byte order that a caller names.
-pub(crate) fn order_of(big_endian: bool) -> ByteOrder
-    ensures { result ≡ order_of big_endian }
-{
-    if big_endian {
-        ByteOrder::BigEndian
-    } else {
-        ByteOrder::LittleEndian
-    }
 }

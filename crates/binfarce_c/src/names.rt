@@ -6,10 +6,10 @@ ghost use Rattle.binfarce_c.specs.Names.{Demangles, Trims, GivesCrate, GivesMang
 
 use crate::buffer::{Text, give, put};
 use crate::functions::start;
-use crate::status::{NONE, NOT_UTF8, OK, OUT_OF_MEMORY};
+use crate::status::{NONE, NOT_UTF8, OK, OUT_OF_MEMORY, number_of};
 use binfarce::demangle::{self, Demangled, Kind, crate_of, push_trimmed};
 use std::alloc::Global;
-use std::str;
+use std::{ptr, str};
 
 /// What `binfarce_demangle` returns: `struct binfarce_name`.
 #[repr(C)]
@@ -25,8 +25,8 @@ pub struct SymbolName {
     pub trimmed_length: usize,
     /// The whole length of the crate's name in bytes.
     pub crate_length: usize,
-    /// Whether the name has a crate.
-    pub has_crate: bool,
+    /// 1 where the name has a crate, and else 0.
+    pub has_crate: u32,
 }
 
 /// How a name is mangled, and the part of it that is kept: `struct binfarce_mangling`.
@@ -71,7 +71,7 @@ pub extern "C" fn binfarce_demangle(
         complete_length: found.complete.len(),
         trimmed_length: found.trimmed.len(),
         crate_length: crate_text.len(),
-        has_crate: found.crate_name.is_some(),
+        has_crate: number_of(found.crate_name.is_some()),
     }
 }
 
@@ -111,9 +111,14 @@ pub extern "C" fn binfarce_crate_of(alloc: Global, name: &[u8], out: &mut [u8]) 
 #[unsafe(no_mangle)]
 #[tactic(auto, unfolding(crate::specs::Names::GivesMangling))]
 pub extern "C" fn binfarce_mangling(name: &[u8], out: &mut Mangling) -> u32
-    ensures { GivesMangling name.now out.old out.new result }
+    ensures { GivesMangling name.now out.new result }
 {
     let Ok(name) = str::from_utf8(name) else {
+        *out = Mangling {
+            part: ptr::null(),
+            part_length: 0,
+            kind: 0,
+        };
         return NOT_UTF8;
     };
     *out = mangling_of(demangle::demangle(name));
@@ -147,7 +152,7 @@ fn no_name(status: u32) -> SymbolName
         complete_length: 0,
         trimmed_length: 0,
         crate_length: 0,
-        has_crate: false,
+        has_crate: 0,
     }
 }
 

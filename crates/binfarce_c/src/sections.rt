@@ -1,29 +1,25 @@
-//! A section by its name, and by its number.
+//! The sections of a file of any format: all of them in a caller's array, and the bytes of one.
 
-ghost use Rattle.std.specs.Prelude.{◌≡◌, length, MatchResult};
-ghost use Rattle.std.specs.Option.{option_map};
-ghost use Rattle.binfarce.specs.Elf as elf;
-ghost use Rattle.binfarce.specs.ElfViews as elf_view;
-ghost use Rattle.binfarce.specs.Macho as macho;
-ghost use Rattle.binfarce.specs.MachoViews as macho_view;
-ghost use Rattle.binfarce.specs.Pe as pe;
-ghost use Rattle.binfarce.specs.PeViews as pe_view;
-ghost use Rattle.binfarce.specs.Refusal.{Gives, refusal_of};
+ghost use Rattle.std.specs.Prelude.{◌≡◌, None, length};
+ghost use Rattle.binfarce.specs.Format.{format_of};
+ghost use Rattle.binfarce_foreign.specs.Foreign.{foreign_in};
+ghost use Rattle.binfarce_sections.specs.Named.{bytes_named};
+ghost use Rattle.binfarce_sections.specs.Section.{sections_of};
+ghost use Rattle.binfarce_sections.specs.Views.{section_view, sections_left};
 ghost use Rattle.binfarce_c.specs.Buffer.{PointsTo};
-ghost use Rattle.binfarce_c.specs.Headers.{order_of};
-ghost use Rattle.binfarce_c.specs.Sections.{GivesSection, HasName, IsSection, OfUtf8, elf_details, macho_details, pe_details, numbered, elf_table_section, elf_section, elf_numbered, macho_section, macho_numbered, pe_section, pe_numbered};
-ghost use Rattle.binfarce_c.specs.Status.{status_of};
-ghost use Rattle.binfarce_c.specs.machine.Sought.{Given, IsFound};
+ghost use Rattle.binfarce_c.specs.Sections.{GivesBytes, GivesSections, GivesWalk, HoldsBytes, IsSection};
+ghost use Rattle.binfarce_c.specs.machine.Filled.{OneMore};
+ghost use Rattle.binfarce_c.specs.machine.SectionErrors.{Hands, Maps, error_status, seen};
 
 use crate::functions::start;
-use crate::headers::order_of;
-use crate::status::{NONE, NOT_UTF8, OK, status_of};
-use binfarce::{ByteOrder, ParseError, elf32, elf64, macho, pe};
-use std::ops::Range;
-use std::str;
-
-// What was sought, if the file has it, or the refusal.
-type Sought<T> = Result<Option<T>, ParseError>;
+use crate::status::{
+    NO_BYTES, NONE, NOT_UTF8, OK, PAST_END, UNKNOWN_FORMAT, foreign_in, foreign_status, number_of,
+    status_of,
+};
+use binfarce_sections::bytes::section_bytes;
+use binfarce_sections::error::SectionError;
+use binfarce_sections::sections::{self, sections_of};
+use std::{ptr, str};
 
 /// A section of a file: `struct binfarce_section`.
 #[repr(C)]
@@ -39,349 +35,193 @@ pub struct Section {
     pub segment_length: usize,
     /// The address of its first byte in memory.
     pub address: u64,
-    /// In ELF its type, and in the other formats 0.
+    /// Where its bytes begin in the file, as the file states it.
+    pub offset: u64,
+    /// Its size in bytes.
+    pub size: u64,
+    /// How many bytes it has in the file.
+    pub file_size: u64,
+    /// How many bytes it has in memory.
+    pub memory_size: u64,
+    /// Its flags.
+    pub flags: u64,
+    /// In ELF and Mach-O the number of its type, and in PE 0.
     pub kind: u32,
-    /// Whether the section's end fits 64 bits: `BINFARCE_OK`, or `BINFARCE_MALFORMED_INPUT` with 0 for both ends.
-    pub range_status: u32,
-    /// Where its bytes begin in the file.
-    pub start: usize,
-    /// Where they end: the offset after the last one.
-    pub end: usize,
-    /// In ELF how many entries of its entry size it has, 0 where that size is 0; in the other formats 0.
-    pub entries: u64,
-    /// Whether it has a name, which may be empty: an ELF section may have none.
-    pub has_name: bool,
+    /// 1 where it has a name, which may be empty, and 0 for an ELF section that has none.
+    pub has_name: u32,
+    /// 1 where it has bytes in the file, and else 0.
+    pub has_bytes: u32,
 }
 
-/// The first section of a 32-bit ELF file with this name. See `binfarce.h`.
+/// What a call that gives sections returns: `struct binfarce_sections`.
+#[repr(C)]
+#[derive(Drop)]
+pub struct Sections {
+    /// `BINFARCE_OK`, or the refusal of the next section.
+    pub status: u32,
+    /// How many sections there are, however many of them the array had room for.
+    pub count: usize,
+}
+
+/// Bytes of a file: `struct binfarce_bytes`.
+#[repr(C)]
+#[derive(Clone, Copy)]
+pub struct Bytes {
+    /// The first of them, in the file; null where there is none.
+    pub start: *const u8,
+    /// How many there are.
+    pub length: usize,
+}
+
+/// All sections of a file. See `binfarce.h`.
 #[unsafe(no_mangle)]
-#[tactic(auto, using(crate::proofs::Sought::given))]
-pub extern "C" fn binfarce_elf32_section(
-    file: &[u8],
-    big_endian: bool,
-    name: &[u8],
-    out: &mut Section,
-) -> u32
-    ensures { OfUtf8 name.now
-        (GivesSection (elf_section elf.elf32 (order_of big_endian) file.now name.now) out.old out.new result) out.old
-        out.new result }
+pub extern "C" fn binfarce_sections(file: &[u8], out: &mut [Section]) -> Sections
+    ensures { GivesSections (foreign_in file.now) (sections_of (format_of file.now) file.now) out.old out.new result }
 {
-    match str::from_utf8(name) {
-        Ok(name) => give(named_32(file, order_of(big_endian), name), out),
-        Err(_) => NOT_UTF8,
+    match foreign_in(file) {
+        None => of_known(file, out),
+        Some(foreign) => ended(foreign_status(foreign), 0),
     }
 }
 
-/// The section of a 32-bit ELF file with this number. See `binfarce.h`.
-#[unsafe(no_mangle)]
-#[tactic(auto, using(crate::proofs::Sought::given))]
-pub extern "C" fn binfarce_elf32_section_at(
-    file: &[u8],
-    big_endian: bool,
-    index: usize,
-    out: &mut Section,
-) -> u32
-    ensures { GivesSection (elf_numbered elf.elf32 (order_of big_endian) file.now index) out.old out.new result }
+// Those of a file that isn't foreign.
+#[tactic(auto, using(crate::proofs::Filled::opened, crate::proofs::Filled::refused))]
+fn of_known(file: &[u8], out: &mut [Section]) -> Sections
+    ensures { GivesSections None (sections_of (format_of file.now) file.now) out.old out.new result }
 {
-    give(numbered_32(file, order_of(big_endian), index), out)
-}
-
-/// The first section of a 64-bit ELF file with this name. See `binfarce.h`.
-#[unsafe(no_mangle)]
-#[tactic(auto, using(crate::proofs::Sought::given))]
-pub extern "C" fn binfarce_elf64_section(
-    file: &[u8],
-    big_endian: bool,
-    name: &[u8],
-    out: &mut Section,
-) -> u32
-    ensures { OfUtf8 name.now
-        (GivesSection (elf_section elf.elf64 (order_of big_endian) file.now name.now) out.old out.new result) out.old
-        out.new result }
-{
-    match str::from_utf8(name) {
-        Ok(name) => give(named_64(file, order_of(big_endian), name), out),
-        Err(_) => NOT_UTF8,
+    match sections_of(file) {
+        Ok(sections) => fill(sections, out),
+        Err(e) => ended(reason_of(e), 0),
     }
 }
 
-/// The section of a 64-bit ELF file with this number. See `binfarce.h`.
+/// The bytes of the first section of this name. See `binfarce.h`.
 #[unsafe(no_mangle)]
-#[tactic(auto, using(crate::proofs::Sought::given))]
-pub extern "C" fn binfarce_elf64_section_at(
-    file: &[u8],
-    big_endian: bool,
-    index: usize,
-    out: &mut Section,
-) -> u32
-    ensures { GivesSection (elf_numbered elf.elf64 (order_of big_endian) file.now index) out.old out.new result }
+#[tactic(auto, using(crate::proofs::SectionBytes::bytes_given))]
+pub extern "C" fn binfarce_section_bytes(file: &[u8], name: &[u8], out: &mut Bytes) -> u32
+    ensures { GivesBytes name.now (foreign_in file.now)
+        (bytes_named (sections_of (format_of file.now) file.now) file.now name.now) out.new result }
 {
-    give(numbered_64(file, order_of(big_endian), index), out)
+    give(bytes_or_status(file, name), out)
 }
 
-/// The first section of a Mach-O file with this segment's and this section's name. A name that isn't UTF-8 is no
-/// section's. See `binfarce.h`.
-#[unsafe(no_mangle)]
-#[tactic(auto, using(crate::proofs::Sought::given))]
-pub extern "C" fn binfarce_macho_section(
-    file: &[u8],
-    segment: &[u8],
-    name: &[u8],
-    out: &mut Section,
-) -> u32
-    ensures { OfUtf8 segment.now
-        (OfUtf8 name.now (GivesSection (macho_section file.now segment.now name.now) out.old out.new result) out.old
-        out.new result) out.old out.new result }
+// The bytes, or the status.
+#[tactic(auto, using(crate::proofs::SectionBytes::handed_on))]
+fn bytes_or_status<'a>(file: &'a [u8], name: &[u8]) -> Result<&'a [u8], u32>
+    ensures { Hands name.now (foreign_in file.entry.now)
+        (bytes_named (sections_of (format_of file.entry.now) file.entry.now) file.entry.now name.now) result }
 {
-    let Ok(segment) = str::from_utf8(segment) else {
-        return NOT_UTF8;
+    let Ok(name) = str::from_utf8(name) else {
+        return Err(NOT_UTF8);
     };
-    match str::from_utf8(name) {
-        Ok(name) => give(named_macho(file, segment, name), out),
-        Err(_) => NOT_UTF8,
+    match foreign_in(file) {
+        None => handed(section_bytes(file, name)),
+        Some(foreign) => Err(foreign_status(foreign)),
     }
 }
 
-/// The section of a Mach-O file with this number. See `binfarce.h`.
-#[unsafe(no_mangle)]
-#[tactic(auto, using(crate::proofs::Sought::given))]
-pub extern "C" fn binfarce_macho_section_at(file: &[u8], index: usize, out: &mut Section) -> u32
-    ensures { GivesSection (macho_numbered file.now index) out.old out.new result }
+// The bytes that were given, or the number of the reason why there are none.
+fn handed(given: Result<&[u8], SectionError>) -> Result<&[u8], u32>
+    ensures { Maps given.entry result }
 {
-    give(numbered_macho(file, index), out)
-}
-
-/// The first section of a PE file with this name. See `binfarce.h`.
-#[unsafe(no_mangle)]
-#[tactic(auto, using(crate::proofs::Sought::given))]
-pub extern "C" fn binfarce_pe_section(file: &[u8], name: &[u8], out: &mut Section) -> u32
-    ensures { OfUtf8 name.now (GivesSection (pe_section file.now name.now) out.old out.new result) out.old
-        out.new result }
-{
-    match str::from_utf8(name) {
-        Ok(name) => give(named_pe(file, name), out),
-        Err(_) => NOT_UTF8,
+    match given {
+        Ok(bytes) => Ok(bytes),
+        Err(e) => Err(reason_of(e)),
     }
 }
 
-/// The section of a PE file with this number. See `binfarce.h`.
-#[unsafe(no_mangle)]
-#[tactic(auto, using(crate::proofs::Sought::given))]
-pub extern "C" fn binfarce_pe_section_at(file: &[u8], index: usize, out: &mut Section) -> u32
-    ensures { GivesSection (pe_numbered file.now index) out.old out.new result }
-{
-    give(numbered_pe(file, index), out)
-}
-
-#[tactic(auto, using(crate::proofs::Drained::of_32_bits))]
-fn named_32(file: &[u8], byte_order: ByteOrder, name: &str) -> Sought<Section>
-    ensures { IsFound (elf_section elf.elf32 byte_order file.now name.now) result }
-{
-    named_in_32(&elf32::parse(file, byte_order)?, name)
-}
-
-fn named_in_32(file: &elf32::Elf32<'_>, name: &str) -> Sought<Section>
-    ensures { IsFound (elf_table_section elf.elf32 (elf.section_table elf.elf32 file.now) name.now) result }
-{
-    match file.section_with_name(name)? {
-        Some(section) => Ok(Some(shown_32(file, section))),
-        None => Ok(None),
-    }
-}
-
-#[tactic(auto, using(crate::proofs::Drained::of_32_bits))]
-fn numbered_32(file: &[u8], byte_order: ByteOrder, index: usize) -> Sought<Section>
-    ensures { IsFound (elf_numbered elf.elf32 byte_order file.now index) result }
-{
-    let file = elf32::parse(file, byte_order)?;
-    match nth_32(&file, index)? {
-        Some(section) => Ok(Some(shown_32(&file, section))),
-        None => Ok(None),
-    }
-}
-
-fn nth_32(file: &elf32::Elf32<'_>, index: usize) -> Sought<elf32::Section>
-    ensures { Gives refusal_of (option_map (elf_view.section_view (λ n. n)))
-        (numbered index (elf.walk elf.elf32 (elf.section_table elf.elf32 file.now))) result }
-{
-    file.sections().nth(index).transpose()
-}
-
-pub(crate) fn shown_32(file: &elf32::Elf32<'_>, section: elf32::Section) -> Section
-    ensures { IsSection (elf_details elf.elf32 (elf.section_table elf.elf32 file.now)
-        (elf_view.section_view (λ n. n) section)) result }
-{
-    section_of(
-        section.name(file),
-        "",
-        u64::from(section.address()),
-        section.section_type(),
-        section.range(),
-        u64::from(section.entries()),
-    )
-}
-
-#[tactic(auto, using(crate::proofs::Drained::of_64_bits))]
-fn named_64(file: &[u8], byte_order: ByteOrder, name: &str) -> Sought<Section>
-    ensures { IsFound (elf_section elf.elf64 byte_order file.now name.now) result }
-{
-    named_in_64(&elf64::parse(file, byte_order)?, name)
-}
-
-fn named_in_64(file: &elf64::Elf64<'_>, name: &str) -> Sought<Section>
-    ensures { IsFound (elf_table_section elf.elf64 (elf.section_table elf.elf64 file.now) name.now) result }
-{
-    match file.section_with_name(name)? {
-        Some(section) => Ok(Some(shown_64(file, section))),
-        None => Ok(None),
-    }
-}
-
-#[tactic(auto, using(crate::proofs::Drained::of_64_bits))]
-fn numbered_64(file: &[u8], byte_order: ByteOrder, index: usize) -> Sought<Section>
-    ensures { IsFound (elf_numbered elf.elf64 byte_order file.now index) result }
-{
-    let file = elf64::parse(file, byte_order)?;
-    match nth_64(&file, index)? {
-        Some(section) => Ok(Some(shown_64(&file, section))),
-        None => Ok(None),
-    }
-}
-
-fn nth_64(file: &elf64::Elf64<'_>, index: usize) -> Sought<elf64::Section>
-    ensures { Gives refusal_of (option_map (elf_view.section_view (λ n. n)))
-        (numbered index (elf.walk elf.elf64 (elf.section_table elf.elf64 file.now))) result }
-{
-    file.sections().nth(index).transpose()
-}
-
-pub(crate) fn shown_64(file: &elf64::Elf64<'_>, section: elf64::Section) -> Section
-    ensures { IsSection (elf_details elf.elf64 (elf.section_table elf.elf64 file.now)
-        (elf_view.section_view (λ n. n) section)) result }
-{
-    section_of(
-        section.name(file),
-        "",
-        section.address(),
-        section.section_type(),
-        section.range(),
-        section.entries(),
-    )
-}
-
-fn named_macho(file: &[u8], segment: &str, name: &str) -> Sought<Section>
-    ensures { IsFound (macho_section file.now segment.now name.now) result }
-{
-    let found = macho::parse(file)?.section_with_name(segment, name)?;
-    Ok(found.map(shown_macho))
-}
-
-fn numbered_macho(file: &[u8], index: usize) -> Sought<Section>
-    ensures { IsFound (macho_numbered file.now index) result }
-{
-    Ok(nth_macho(&macho::parse(file)?, index)?.map(shown_macho))
-}
-
-fn nth_macho<'a>(file: &macho::Macho<'a>, index: usize) -> Sought<macho::Section<'a>>
-    ensures { Gives refusal_of (option_map macho_view.section_view) (numbered index (macho.walk file.now)) result }
-{
-    file.sections().nth(index).transpose()
-}
-
-pub(crate) fn shown_macho(section: macho::Section<'_>) -> Section
-    ensures { IsSection (macho_details (macho_view.section_view section.entry)) result }
-{
-    section_of(
-        Some(section.name()),
-        section.segment_name(),
-        section.address(),
-        0,
-        section.range(),
-        0,
-    )
-}
-
-fn named_pe(file: &[u8], name: &str) -> Sought<Section>
-    ensures { IsFound (pe_section file.now name.now) result }
-{
-    match pe::parse(file)?.section_with_name(name)? {
-        Some(section) => Ok(Some(shown_pe(section))),
-        None => Ok(None),
-    }
-}
-
-fn numbered_pe(file: &[u8], index: usize) -> Sought<Section>
-    ensures { IsFound (pe_numbered file.now index) result }
-{
-    match nth_pe(&pe::parse(file)?, index)? {
-        Some(section) => Ok(Some(shown_pe(section))),
-        None => Ok(None),
-    }
-}
-
-fn nth_pe<'a>(file: &pe::Pe<'a>, index: usize) -> Sought<pe::Section<'a>>
-    ensures { Gives refusal_of (option_map pe_view.section_view) (numbered index (pe.walk file.now)) result }
-{
-    file.sections().nth(index).transpose()
-}
-
-pub(crate) fn shown_pe(section: pe::Section<'_>) -> Section
-    ensures { IsSection (pe_details (pe_view.section_view section.entry)) result }
-{
-    section_of(
-        Some(section.name()),
-        "",
-        u64::from(section.address()),
-        0,
-        section.range(),
-        0,
-    )
-}
-
-// The section that was found, in the caller's struct.
-fn give(found: Sought<Section>, out: &mut Section) -> u32
-    ensures { Given found out.old out.new result }
+// The bytes in a caller's struct, and the status.
+fn give(found: Result<&[u8], u32>, out: &mut Bytes) -> u32
+    ensures { HoldsBytes (seen found.entry) out.new result }
 {
     match found {
-        Ok(Some(section)) => {
-            *out = section;
+        Ok(bytes) => {
+            *out = bytes_at(bytes);
             OK
         }
-        Ok(None) => NONE,
-        Err(e) => status_of(e),
+        Err(status) => {
+            *out = Bytes {
+                start: ptr::null(),
+                length: 0,
+            };
+            status
+        }
     }
 }
 
-// A section with these names and numbers, and with this range or the status of its refusal.
-fn section_of(
-    name: Option<&str>,
-    segment: &str,
-    address: u64,
-    kind: u32,
-    range: Result<Range<usize>, ParseError>,
-    entries: u64,
-) -> Section
-    ensures name { HasName (option_map (λ t. t.now) name.entry) result }
-    ensures segment { PointsTo segment.now result.segment }
-    ensures segment_length { result.segment_length ≡ length segment.now }
-    ensures numbers { (result.address ≡ address) × (result.kind ≡ kind) × (result.entries ≡ entries) }
-    ensures range { MatchResult range
-        (λ r. (result.range_status ≡ 0) × (result.start ≡ r.start) × (result.end ≡ r.end))
-        (λ e. (result.range_status ≡ status_of (refusal_of e)) × (result.start ≡ 0) × (result.end ≡ 0)) }
+fn bytes_at(bytes: &[u8]) -> Bytes
+    ensures start { PointsTo bytes.now result.start }
+    ensures length { result.length ≡ length bytes.now }
 {
-    let text = name.unwrap_or("");
-    let (range_status, at) = range.map_or_else(|e| (status_of(e), 0..0), |range| (OK, range));
+    Bytes {
+        start: start(bytes),
+        length: bytes.len(),
+    }
+}
+
+// The number of an error. The last three are errors of other calls.
+fn reason_of(error: SectionError) -> u32
+    ensures { result ≡ error_status error }
+{
+    match error {
+        SectionError::Unknown => UNKNOWN_FORMAT,
+        SectionError::Parse(e) => status_of(e),
+        SectionError::NoSection => NONE,
+        SectionError::NoBytes => NO_BYTES,
+        SectionError::PastEnd => PAST_END,
+        SectionError::OutOfMemory | SectionError::Write | SectionError::Unreadable => NONE,
+    }
+}
+
+// Puts all sections that come into the array, up to a refusal.
+fn fill(sections: sections::Sections<'_>, out: &mut [Section]) -> Sections
+    ensures { GivesWalk (sections_left sections.entry) out.old out.new result }
+{
+    let mut count = 0;
+    for section in sections {
+        match section {
+            Ok(section) => count = place(shown(section), count, out),
+            Err(e) => return ended(status_of(e), count),
+        }
+    }
+    Sections { status: OK, count }
+}
+
+fn ended(status: u32, count: usize) -> Sections
+    ensures { result ≡ record { status = status; count = count } }
+{
+    Sections { status, count }
+}
+
+// Puts a section into the array after those before it, if there is room. Returns how many came so far.
+fn place(section: Section, count: usize, out: &mut [Section]) -> usize
+    ensures { OneMore section count out.old out.new result }
+{
+    let room = out.len();
+    if count < room {
+        out[count] = section;
+    }
+    count.saturating_add(1)
+}
+
+fn shown(section: sections::Section<'_>) -> Section
+    ensures { IsSection (section_view section.entry) result }
+{
+    let name = section.name.unwrap_or("");
+    let segment = section.segment.unwrap_or("");
     Section {
-        name: start(text.as_bytes()),
-        name_length: text.len(),
+        name: start(name.as_bytes()),
+        name_length: name.len(),
         segment: start(segment.as_bytes()),
         segment_length: segment.len(),
-        address,
-        kind,
-        range_status,
-        start: at.start,
-        end: at.end,
-        entries,
-        has_name: name.is_some(),
+        address: section.address,
+        offset: section.offset,
+        size: section.size,
+        file_size: section.file_size,
+        memory_size: section.memory_size,
+        flags: section.flags,
+        kind: section.kind.number().unwrap_or(0),
+        has_name: number_of(section.name.is_some()),
+        has_bytes: number_of(section.has_bytes),
     }
 }

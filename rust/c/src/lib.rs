@@ -5,7 +5,7 @@
 #![cfg_attr(rustfmt, rustfmt::skip)]
 
 use exported::exports::{self, *};
-use std::{mem, slice};
+use std::{mem, ptr, slice};
 
 /// The slice of `length` values at `start`. Where `length` is 0, `start` isn't used and may be null.
 ///
@@ -17,14 +17,16 @@ unsafe fn values<'a, T>(start: *const T, length: usize) -> &'a [T] {
     if length == 0 { &[] } else { unsafe { slice::from_raw_parts(start, length) } }
 }
 
-/// The same for values that are written.
+/// The slice of `length` values at `start` that an export writes to. C needn't have initialised them: any bytes are values of
+/// these types, numbers and raw pointers, and no export reads one that it hasn't written. The same holds of a struct that an export
+/// fills.
 ///
 /// # Safety
 ///
 /// `start` points to `length` writable values, and nothing else reads or writes them during the borrow.
 unsafe fn values_mut<'a, T>(start: *mut T, length: usize) -> &'a mut [T] {
     // SAFETY: required of the caller.
-    if length == 0 { &mut [] } else { unsafe { slice::from_raw_parts_mut(start, length) } }
+    if length == 0 { &mut [] } else { unsafe { &mut *ptr::slice_from_raw_parts_mut(start, length) } }
 }
 
 // From here on written by rust/c/generate from include/binfarce.h.
@@ -56,7 +58,7 @@ const _: () = {
         complete_length: usize,
         trimmed_length: usize,
         crate_length: usize,
-        has_crate: bool,
+        has_crate: u32,
     }
     fn is_same(SymbolName { status, kind, complete_length, trimmed_length, crate_length, has_crate }: SymbolName) -> Declared {
         Declared { status, kind, complete_length, trimmed_length, crate_length, has_crate }
@@ -176,15 +178,17 @@ const _: () = {
         segment: *const u8,
         segment_length: usize,
         address: u64,
+        offset: u64,
+        size: u64,
+        file_size: u64,
+        memory_size: u64,
+        flags: u64,
         kind: u32,
-        range_status: u32,
-        start: usize,
-        end: usize,
-        entries: u64,
-        has_name: bool,
+        has_name: u32,
+        has_bytes: u32,
     }
-    fn is_same(Section { name, name_length, segment, segment_length, address, kind, range_status, start, end, entries, has_name }: Section) -> Declared {
-        Declared { name, name_length, segment, segment_length, address, kind, range_status, start, end, entries, has_name }
+    fn is_same(Section { name, name_length, segment, segment_length, address, offset, size, file_size, memory_size, flags, kind, has_name, has_bytes }: Section) -> Declared {
+        Declared { name, name_length, segment, segment_length, address, offset, size, file_size, memory_size, flags, kind, has_name, has_bytes }
     }
     let _ = is_same;
     assert!(mem::offset_of!(Declared, name) == mem::offset_of!(Section, name));
@@ -192,12 +196,14 @@ const _: () = {
     assert!(mem::offset_of!(Declared, segment) == mem::offset_of!(Section, segment));
     assert!(mem::offset_of!(Declared, segment_length) == mem::offset_of!(Section, segment_length));
     assert!(mem::offset_of!(Declared, address) == mem::offset_of!(Section, address));
+    assert!(mem::offset_of!(Declared, offset) == mem::offset_of!(Section, offset));
+    assert!(mem::offset_of!(Declared, size) == mem::offset_of!(Section, size));
+    assert!(mem::offset_of!(Declared, file_size) == mem::offset_of!(Section, file_size));
+    assert!(mem::offset_of!(Declared, memory_size) == mem::offset_of!(Section, memory_size));
+    assert!(mem::offset_of!(Declared, flags) == mem::offset_of!(Section, flags));
     assert!(mem::offset_of!(Declared, kind) == mem::offset_of!(Section, kind));
-    assert!(mem::offset_of!(Declared, range_status) == mem::offset_of!(Section, range_status));
-    assert!(mem::offset_of!(Declared, start) == mem::offset_of!(Section, start));
-    assert!(mem::offset_of!(Declared, end) == mem::offset_of!(Section, end));
-    assert!(mem::offset_of!(Declared, entries) == mem::offset_of!(Section, entries));
     assert!(mem::offset_of!(Declared, has_name) == mem::offset_of!(Section, has_name));
+    assert!(mem::offset_of!(Declared, has_bytes) == mem::offset_of!(Section, has_bytes));
     assert!(mem::size_of::<Declared>() == mem::size_of::<Section>());
 };
 
@@ -215,6 +221,22 @@ const _: () = {
     assert!(mem::offset_of!(Declared, status) == mem::offset_of!(Sections, status));
     assert!(mem::offset_of!(Declared, count) == mem::offset_of!(Sections, count));
     assert!(mem::size_of::<Declared>() == mem::size_of::<Sections>());
+};
+
+/// `struct binfarce_bytes` has the fields of the export's struct, at the same offsets.
+const _: () = {
+    #[repr(C)]
+    struct Declared {
+        start: *const u8,
+        length: usize,
+    }
+    fn is_same(Bytes { start, length }: Bytes) -> Declared {
+        Declared { start, length }
+    }
+    let _ = is_same;
+    assert!(mem::offset_of!(Declared, start) == mem::offset_of!(Bytes, start));
+    assert!(mem::offset_of!(Declared, length) == mem::offset_of!(Bytes, length));
+    assert!(mem::size_of::<Declared>() == mem::size_of::<Bytes>());
 };
 
 /// See `binfarce.h`.
@@ -308,178 +330,61 @@ pub unsafe extern "C" fn binfarce_detect_format(file: *const u8, file_length: us
 ///
 /// The caller keeps the rules of `binfarce.h`.
 #[no_mangle]
-pub unsafe extern "C" fn binfarce_elf32_header(file: *const u8, file_length: usize, big_endian: bool, out: *mut ElfHeader) -> u32 {
+pub unsafe extern "C" fn binfarce_foreign(file: *const u8, file_length: usize) -> u32 {
     // SAFETY: the rules of binfarce.h say so; nothing is kept after the call.
-    unsafe { exports::binfarce_elf32_header(values(file, file_length), big_endian, &mut *out) }
+    unsafe { exports::binfarce_foreign(values(file, file_length)) }
 }
 
 /// # Safety
 ///
 /// The caller keeps the rules of `binfarce.h`.
 #[no_mangle]
-pub unsafe extern "C" fn binfarce_elf64_header(file: *const u8, file_length: usize, big_endian: bool, out: *mut ElfHeader) -> u32 {
+pub unsafe extern "C" fn binfarce_elf_header(file: *const u8, file_length: usize, out: *mut ElfHeader) -> u32 {
     // SAFETY: the rules of binfarce.h say so; nothing is kept after the call.
-    unsafe { exports::binfarce_elf64_header(values(file, file_length), big_endian, &mut *out) }
+    unsafe { exports::binfarce_elf_header(values(file, file_length), &mut *out) }
 }
 
 /// # Safety
 ///
 /// The caller keeps the rules of `binfarce.h`.
 #[no_mangle]
-pub unsafe extern "C" fn binfarce_macho_header(file: *const u8, file_length: usize) -> u32 {
+pub unsafe extern "C" fn binfarce_functions(file: *const u8, file_length: usize, section: *const u8, section_length: usize, out: *mut Function, out_length: usize) -> Functions {
     // SAFETY: the rules of binfarce.h say so; nothing is kept after the call.
-    unsafe { exports::binfarce_macho_header(values(file, file_length)) }
+    unsafe { exports::binfarce_functions(Global, values(file, file_length), values(section, section_length), values_mut(out, out_length)) }
 }
 
 /// # Safety
 ///
 /// The caller keeps the rules of `binfarce.h`.
 #[no_mangle]
-pub unsafe extern "C" fn binfarce_pe_header(file: *const u8, file_length: usize) -> u32 {
+pub unsafe extern "C" fn binfarce_all_functions(file: *const u8, file_length: usize, table: u32, out: *mut Function, out_length: usize) -> Functions {
     // SAFETY: the rules of binfarce.h say so; nothing is kept after the call.
-    unsafe { exports::binfarce_pe_header(values(file, file_length)) }
+    unsafe { exports::binfarce_all_functions(Global, values(file, file_length), table, values_mut(out, out_length)) }
 }
 
 /// # Safety
 ///
 /// The caller keeps the rules of `binfarce.h`.
 #[no_mangle]
-pub unsafe extern "C" fn binfarce_elf32_functions(file: *const u8, file_length: usize, big_endian: bool, section: *const u8, section_length: usize, out: *mut Function, out_length: usize) -> Functions {
+pub unsafe extern "C" fn binfarce_function_at(functions: *const Function, functions_length: usize, address: u64) -> usize {
     // SAFETY: the rules of binfarce.h say so; nothing is kept after the call.
-    unsafe { exports::binfarce_elf32_functions(Global, values(file, file_length), big_endian, values(section, section_length), values_mut(out, out_length)) }
+    unsafe { exports::binfarce_function_at(values(functions, functions_length), address) }
 }
 
 /// # Safety
 ///
 /// The caller keeps the rules of `binfarce.h`.
 #[no_mangle]
-pub unsafe extern "C" fn binfarce_elf64_functions(file: *const u8, file_length: usize, big_endian: bool, section: *const u8, section_length: usize, out: *mut Function, out_length: usize) -> Functions {
+pub unsafe extern "C" fn binfarce_sections(file: *const u8, file_length: usize, out: *mut Section, out_length: usize) -> Sections {
     // SAFETY: the rules of binfarce.h say so; nothing is kept after the call.
-    unsafe { exports::binfarce_elf64_functions(Global, values(file, file_length), big_endian, values(section, section_length), values_mut(out, out_length)) }
+    unsafe { exports::binfarce_sections(values(file, file_length), values_mut(out, out_length)) }
 }
 
 /// # Safety
 ///
 /// The caller keeps the rules of `binfarce.h`.
 #[no_mangle]
-pub unsafe extern "C" fn binfarce_macho_functions(file: *const u8, file_length: usize, out: *mut Function, out_length: usize) -> Functions {
+pub unsafe extern "C" fn binfarce_section_bytes(file: *const u8, file_length: usize, name: *const u8, name_length: usize, out: *mut Bytes) -> u32 {
     // SAFETY: the rules of binfarce.h say so; nothing is kept after the call.
-    unsafe { exports::binfarce_macho_functions(Global, values(file, file_length), values_mut(out, out_length)) }
-}
-
-/// # Safety
-///
-/// The caller keeps the rules of `binfarce.h`.
-#[no_mangle]
-pub unsafe extern "C" fn binfarce_pe_functions(file: *const u8, file_length: usize, out: *mut Function, out_length: usize) -> Functions {
-    // SAFETY: the rules of binfarce.h say so; nothing is kept after the call.
-    unsafe { exports::binfarce_pe_functions(Global, values(file, file_length), values_mut(out, out_length)) }
-}
-
-/// # Safety
-///
-/// The caller keeps the rules of `binfarce.h`.
-#[no_mangle]
-pub unsafe extern "C" fn binfarce_elf32_section(file: *const u8, file_length: usize, big_endian: bool, name: *const u8, name_length: usize, out: *mut Section) -> u32 {
-    // SAFETY: the rules of binfarce.h say so; nothing is kept after the call.
-    unsafe { exports::binfarce_elf32_section(values(file, file_length), big_endian, values(name, name_length), &mut *out) }
-}
-
-/// # Safety
-///
-/// The caller keeps the rules of `binfarce.h`.
-#[no_mangle]
-pub unsafe extern "C" fn binfarce_elf64_section(file: *const u8, file_length: usize, big_endian: bool, name: *const u8, name_length: usize, out: *mut Section) -> u32 {
-    // SAFETY: the rules of binfarce.h say so; nothing is kept after the call.
-    unsafe { exports::binfarce_elf64_section(values(file, file_length), big_endian, values(name, name_length), &mut *out) }
-}
-
-/// # Safety
-///
-/// The caller keeps the rules of `binfarce.h`.
-#[no_mangle]
-pub unsafe extern "C" fn binfarce_macho_section(file: *const u8, file_length: usize, segment: *const u8, segment_length: usize, name: *const u8, name_length: usize, out: *mut Section) -> u32 {
-    // SAFETY: the rules of binfarce.h say so; nothing is kept after the call.
-    unsafe { exports::binfarce_macho_section(values(file, file_length), values(segment, segment_length), values(name, name_length), &mut *out) }
-}
-
-/// # Safety
-///
-/// The caller keeps the rules of `binfarce.h`.
-#[no_mangle]
-pub unsafe extern "C" fn binfarce_pe_section(file: *const u8, file_length: usize, name: *const u8, name_length: usize, out: *mut Section) -> u32 {
-    // SAFETY: the rules of binfarce.h say so; nothing is kept after the call.
-    unsafe { exports::binfarce_pe_section(values(file, file_length), values(name, name_length), &mut *out) }
-}
-
-/// # Safety
-///
-/// The caller keeps the rules of `binfarce.h`.
-#[no_mangle]
-pub unsafe extern "C" fn binfarce_elf32_section_at(file: *const u8, file_length: usize, big_endian: bool, index: usize, out: *mut Section) -> u32 {
-    // SAFETY: the rules of binfarce.h say so; nothing is kept after the call.
-    unsafe { exports::binfarce_elf32_section_at(values(file, file_length), big_endian, index, &mut *out) }
-}
-
-/// # Safety
-///
-/// The caller keeps the rules of `binfarce.h`.
-#[no_mangle]
-pub unsafe extern "C" fn binfarce_elf64_section_at(file: *const u8, file_length: usize, big_endian: bool, index: usize, out: *mut Section) -> u32 {
-    // SAFETY: the rules of binfarce.h say so; nothing is kept after the call.
-    unsafe { exports::binfarce_elf64_section_at(values(file, file_length), big_endian, index, &mut *out) }
-}
-
-/// # Safety
-///
-/// The caller keeps the rules of `binfarce.h`.
-#[no_mangle]
-pub unsafe extern "C" fn binfarce_macho_section_at(file: *const u8, file_length: usize, index: usize, out: *mut Section) -> u32 {
-    // SAFETY: the rules of binfarce.h say so; nothing is kept after the call.
-    unsafe { exports::binfarce_macho_section_at(values(file, file_length), index, &mut *out) }
-}
-
-/// # Safety
-///
-/// The caller keeps the rules of `binfarce.h`.
-#[no_mangle]
-pub unsafe extern "C" fn binfarce_pe_section_at(file: *const u8, file_length: usize, index: usize, out: *mut Section) -> u32 {
-    // SAFETY: the rules of binfarce.h say so; nothing is kept after the call.
-    unsafe { exports::binfarce_pe_section_at(values(file, file_length), index, &mut *out) }
-}
-
-/// # Safety
-///
-/// The caller keeps the rules of `binfarce.h`.
-#[no_mangle]
-pub unsafe extern "C" fn binfarce_elf32_sections(file: *const u8, file_length: usize, big_endian: bool, out: *mut Section, out_length: usize) -> Sections {
-    // SAFETY: the rules of binfarce.h say so; nothing is kept after the call.
-    unsafe { exports::binfarce_elf32_sections(values(file, file_length), big_endian, values_mut(out, out_length)) }
-}
-
-/// # Safety
-///
-/// The caller keeps the rules of `binfarce.h`.
-#[no_mangle]
-pub unsafe extern "C" fn binfarce_elf64_sections(file: *const u8, file_length: usize, big_endian: bool, out: *mut Section, out_length: usize) -> Sections {
-    // SAFETY: the rules of binfarce.h say so; nothing is kept after the call.
-    unsafe { exports::binfarce_elf64_sections(values(file, file_length), big_endian, values_mut(out, out_length)) }
-}
-
-/// # Safety
-///
-/// The caller keeps the rules of `binfarce.h`.
-#[no_mangle]
-pub unsafe extern "C" fn binfarce_macho_sections(file: *const u8, file_length: usize, out: *mut Section, out_length: usize) -> Sections {
-    // SAFETY: the rules of binfarce.h say so; nothing is kept after the call.
-    unsafe { exports::binfarce_macho_sections(values(file, file_length), values_mut(out, out_length)) }
-}
-
-/// # Safety
-///
-/// The caller keeps the rules of `binfarce.h`.
-#[no_mangle]
-pub unsafe extern "C" fn binfarce_pe_sections(file: *const u8, file_length: usize, out: *mut Section, out_length: usize) -> Sections {
-    // SAFETY: the rules of binfarce.h say so; nothing is kept after the call.
-    unsafe { exports::binfarce_pe_sections(values(file, file_length), values_mut(out, out_length)) }
+    unsafe { exports::binfarce_section_bytes(values(file, file_length), values(name, name_length), &mut *out) }
 }

@@ -1,8 +1,10 @@
 -- The function symbols that were found, before they are put into a caller's array.
-use Rattle.std.specs.Prelude.{◌≡◌, ℕ, List, Result, Ok, Err, length}
+use Rattle.std.specs.Prelude.{◌≡◌, ℕ, List, Result, Ok, Err, length, map}
 use Rattle.std.specs.Global.{Vec}
 use Rattle.binfarce.specs.declared.ParseError.{ParseError}
-use Rattle.binfarce.specs.Refusal.{Refusal, refusal_of}
+use Rattle.binfarce.specs.declared.SectionFunction.{SectionFunction}
+use Rattle.binfarce.specs.SymbolViews.{function_view}
+use Rattle.binfarce.specs.Refusal.{Refusal, refusal_of, out_of_memory}
 use Rattle.binfarce.specs.Symbol.{Listed}
 use Rattle.binfarce_c.specs.declared.functions.Function.{Function}
 use Rattle.binfarce_c.specs.declared.functions.Functions.{Functions}
@@ -19,8 +21,12 @@ abbrev pub ListsOr : Type 0 → Result Listed Refusal → Type 0
 ListsOr Needs (Ok listed) = Unit {0}
 ListsOr Needs (Err refusal) = Needs
 
-abbrev pub Lists : Result Listed Refusal → Type 0
-Lists answer = ListsOr ⊥ answer
+-- the functions of a list, or its refusal; a failed allocation is one, too
+abbrev pub Collects : Result (Vec SectionFunction) ParseError → Result (Vec Function × ℕ) ParseError → Type 0
+Collects (Ok listed) (Ok found) = AreFunctionsOf (map (λ f. function_view f.function) listed.items) found.0.items × (found.1 ≡ 0)
+Collects (Ok listed) (Err e) = refusal_of e ≡ out_of_memory
+Collects (Err refusal) (Ok found) = ⊥
+Collects (Err refusal) (Err e) = refusal_of e ≡ refusal_of refusal
 
 -- the functions that were found are in the array
 abbrev pub Ends : Result (Vec Function × ℕ) ParseError → List Function → List Function → Functions → Type 0

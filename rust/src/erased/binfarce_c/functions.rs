@@ -4,9 +4,13 @@
 
 use crate::shim::Vec;
 use crate::erased::binfarce_c::buffer::put;
-use crate::erased::binfarce_c::headers::order_of;
-use crate::erased::binfarce_c::status::{NOT_UTF8, OK, detail_of, status_of};
-use crate::erased::binfarce::{ByteOrder, FunctionSymbol, ParseError, elf32, elf64, macho, pe};
+use crate::erased::binfarce_c::status::{
+    NOT_UTF8, OK, UNKNOWN_FORMAT, detail_of, foreign_in, foreign_status, status_of,
+};
+use crate::erased::binfarce::{
+    ByteOrder, Format, FunctionSymbol, ParseError, SectionFunction, SymbolTable, detect_format,
+    elf32, elf64, macho, pe,
+};
 use crate::erased::binfarce_elf::class::Width;
 use crate::shim::alloc::{AllocError, Global};
 use crate::shim::ptr;
@@ -42,54 +46,113 @@ pub struct Functions {
     pub section_size: u64,
 }
 
-/// The function symbols of a section of a 32-bit ELF file. See `binfarce.h`.
-pub fn binfarce_elf32_functions(
+/// The function symbols of a file of any format in the order of its listing. See `binfarce.h`.
+pub fn binfarce_functions(
     alloc: Global,
     file: &[u8],
-    big_endian: bool,
     section: &[u8],
     out: &mut [Function],
 ) -> Functions {
-    match str::from_utf8(section) {
-        Ok(section) => give(of_elf(alloc, file, Width::Bits32, big_endian, section), out),
-        Err(_) => nothing(NOT_UTF8, 0),
+    let Ok(section) = str::from_utf8(section) else {
+        return nothing(NOT_UTF8, 0);
+    };
+    match foreign_in(file) {
+        None => of_section(alloc, file, section, out),
+        Some(foreign) => nothing(foreign_status(foreign), 0),
     }
 }
 
-/// The function symbols of a section of a 64-bit ELF file. See `binfarce.h`.
-pub fn binfarce_elf64_functions(
-    alloc: Global,
-    file: &[u8],
-    big_endian: bool,
-    section: &[u8],
-    out: &mut [Function],
-) -> Functions {
-    match str::from_utf8(section) {
-        Ok(section) => give(of_elf(alloc, file, Width::Bits64, big_endian, section), out),
-        Err(_) => nothing(NOT_UTF8, 0),
+// Those of a file that isn't foreign.
+fn of_section(alloc: Global, file: &[u8], section: &str, out: &mut [Function]) -> Functions {
+    match detect_format(file) {
+        Format::Elf32 { byte_order } => {
+            give(of_elf(alloc, file, Width::Bits32, byte_order, section), out)
+        }
+        Format::Elf64 { byte_order } => {
+            give(of_elf(alloc, file, Width::Bits64, byte_order, section), out)
+        }
+        Format::Macho => give(of_macho(alloc, file), out),
+        Format::PE => give(of_pe(alloc, file), out),
+        Format::Unknown => nothing(UNKNOWN_FORMAT, 0),
     }
 }
 
-/// The function symbols of a Mach-O file. See `binfarce.h`.
-pub fn binfarce_macho_functions(
+/// The function symbols of all sections of a file of any format. See `binfarce.h`.
+pub fn binfarce_all_functions(
     alloc: Global,
     file: &[u8],
+    table: u32,
     out: &mut [Function],
 ) -> Functions {
-    give(of_macho(alloc, file), out)
+    match foreign_in(file) {
+        None => of_all(alloc, file, table_of(table), out),
+        Some(foreign) => nothing(foreign_status(foreign), 0),
+    }
 }
 
-/// The function symbols of a PE file. See `binfarce.h`.
-pub fn binfarce_pe_functions(
-    alloc: Global,
-    file: &[u8],
-    out: &mut [Function],
-) -> Functions {
-    give(of_pe(alloc, file), out)
+// Those of a file that isn't foreign, by this symbol table.
+fn of_all(alloc: Global, file: &[u8], which: SymbolTable, out: &mut [Function]) -> Functions {
+    match detect_format(file) {
+        Format::Elf32 { byte_order } => {
+            give(
+                all_of_elf(alloc, file, Width::Bits32, byte_order, which),
+                out,
+            )
+        }
+        Format::Elf64 { byte_order } => {
+            give(
+                all_of_elf(alloc, file, Width::Bits64, byte_order, which),
+                out,
+            )
+        }
+        Format::Macho => give(all_of_macho(alloc, file, which), out),
+        Format::PE => give(all_of_pe(alloc, file, which), out),
+        Format::Unknown => nothing(UNKNOWN_FORMAT, 0),
+    }
 }
 
-fn of_elf(alloc: Global, file: &[u8], width: Width, big_endian: bool, section: &str) -> Found {
-    let (functions, size) = stored_in_elf(file, width, order_of(big_endian), section)?;
+/// The function that an address symbolizes to, in an array of functions: its index, or the array's length where none
+/// holds it. See `binfarce.h`.
+pub fn binfarce_function_at(functions: &[Function], address: u64) -> usize {
+    let mut found = None;
+    for index in 0..functions.len() {
+        found = found_with(found, functions[index], index, address);
+    }
+    match found {
+        Some((index, _)) => index,
+        None => functions.len(),
+    }
+}
+
+// The index and the address of the function that was found before this one, or those of this one.
+fn found_with(
+    found: Option<(usize, u64)>,
+    function: Function,
+    index: usize,
+    address: u64,
+) -> Option<(usize, u64)> {
+    if !holds(function, address) {
+        return found;
+    }
+    match found {
+        None => Some((index, function.address)),
+        Some((first, highest)) => {
+            if function.address <= highest {
+                Some((first, highest))
+            } else {
+                Some((index, function.address))
+            }
+        }
+    }
+}
+
+// Whether its range holds the address. The end of the range may lie past 64 bits.
+fn holds(function: Function, address: u64) -> bool {
+    function.address <= address && address - function.address < function.size.max(1)
+}
+
+fn of_elf(alloc: Global, file: &[u8], width: Width, byte_order: ByteOrder, section: &str) -> Found {
+    let (functions, size) = stored_in_elf(file, width, byte_order, section)?;
     Ok((all_of(alloc, functions)?, size))
 }
 
@@ -108,16 +171,96 @@ fn stored_in_elf<'a>(
 
 fn of_macho(alloc: Global, file: &[u8]) -> Found {
     let (functions, size) = macho::parse(file)?.functions(alloc)?;
-    Ok((all_listed(alloc, functions)?, size))
+    Ok((all_stored(alloc, functions)?, size))
 }
 
 fn of_pe(alloc: Global, file: &[u8]) -> Found {
     let (functions, size) = pe::parse(file)?.functions(alloc)?;
-    Ok((all_listed(alloc, functions)?, size))
+    Ok((all_stored(alloc, functions)?, size))
+}
+
+// The function symbols of all sections of an ELF file, by this symbol table.
+fn all_of_elf(
+    alloc: Global,
+    file: &[u8],
+    width: Width,
+    byte_order: ByteOrder,
+    which: SymbolTable,
+) -> Found {
+    all_listed(alloc, listed_in_elf(alloc, file, width, byte_order, which))
+}
+
+fn listed_in_elf<'a>(
+    alloc: Global,
+    file: &'a [u8],
+    width: Width,
+    byte_order: ByteOrder,
+    which: SymbolTable,
+) -> Result<Vec<SectionFunction<'a>>, ParseError> {
+    match width {
+        Width::Bits32 => elf32::parse(file, byte_order)?.all_functions(alloc, which),
+        Width::Bits64 => elf64::parse(file, byte_order)?.all_functions(alloc, which),
+    }
+}
+
+// Those of a Mach-O file, which has no dynamic symbol table.
+fn all_of_macho(alloc: Global, file: &[u8], which: SymbolTable) -> Found {
+    match which {
+        SymbolTable::Symtab => symtab_of_macho(alloc, file),
+        SymbolTable::Dynsym => Err(ParseError::SectionIsMissing(which.name())),
+    }
+}
+
+fn symtab_of_macho(alloc: Global, file: &[u8]) -> Found {
+    all_listed(alloc, listed_in_macho(alloc, file))
+}
+
+fn listed_in_macho(alloc: Global, file: &[u8]) -> Result<Vec<SectionFunction<'_>>, ParseError> {
+    macho::parse(file)?.all_functions(alloc)
+}
+
+// Those of a PE file, which has none either.
+fn all_of_pe(alloc: Global, file: &[u8], which: SymbolTable) -> Found {
+    match which {
+        SymbolTable::Symtab => symtab_of_pe(alloc, file),
+        SymbolTable::Dynsym => Err(ParseError::SectionIsMissing(which.name())),
+    }
+}
+
+fn symtab_of_pe(alloc: Global, file: &[u8]) -> Found {
+    all_listed(alloc, listed_in_pe(alloc, file))
+}
+
+fn listed_in_pe(alloc: Global, file: &[u8]) -> Result<Vec<SectionFunction<'_>>, ParseError> {
+    pe::parse(file)?.all_functions(alloc)
+}
+
+// The symbol table that a caller names.
+fn table_of(table: u32) -> SymbolTable {
+    match table {
+        0 => SymbolTable::Symtab,
+        _ => SymbolTable::Dynsym,
+    }
+}
+
+// Each function symbol of a list with sections, or its refusal.
+fn all_listed(alloc: Global, listed: Result<Vec<SectionFunction<'_>>, ParseError>) -> Found {
+    match listed {
+        Ok(functions) => Ok((each_of(alloc, functions)?, 0)),
+        Err(e) => Err(e),
+    }
+}
+
+fn each_of(alloc: Global, list: Vec<SectionFunction<'_>>) -> Result<Vec<Function>, AllocError> {
+    let mut all = Vec::new(alloc);
+    for listed in list {
+        all.push(function_of(listed.function))?;
+    }
+    Ok(all)
 }
 
 // Each function symbol of a list.
-fn all_listed(alloc: Global, list: Vec<FunctionSymbol<'_>>) -> Result<Vec<Function>, AllocError> {
+fn all_stored(alloc: Global, list: Vec<FunctionSymbol<'_>>) -> Result<Vec<Function>, AllocError> {
     Ok(all_of(alloc, list.into_iter())?)
 }
 

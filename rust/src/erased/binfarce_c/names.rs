@@ -5,9 +5,10 @@
 use crate::shim::String;
 use crate::erased::binfarce_c::buffer::{Text, give, put};
 use crate::erased::binfarce_c::functions::start;
-use crate::erased::binfarce_c::status::{NONE, NOT_UTF8, OK, OUT_OF_MEMORY};
+use crate::erased::binfarce_c::status::{NONE, NOT_UTF8, OK, OUT_OF_MEMORY, number_of};
 use crate::erased::binfarce::demangle::{self, Demangled, Kind, crate_of, push_trimmed};
 use crate::shim::alloc::Global;
+use crate::shim::ptr;
 use core::str;
 
 /// What `binfarce_demangle` returns: `struct binfarce_name`.
@@ -23,8 +24,8 @@ pub struct SymbolName {
     pub trimmed_length: usize,
     /// The whole length of the crate's name in bytes.
     pub crate_length: usize,
-    /// Whether the name has a crate.
-    pub has_crate: bool,
+    /// 1 where the name has a crate, and else 0.
+    pub has_crate: u32,
 }
 
 /// How a name is mangled, and the part of it that is kept: `struct binfarce_mangling`.
@@ -64,7 +65,7 @@ pub fn binfarce_demangle(
         complete_length: found.complete.len(),
         trimmed_length: found.trimmed.len(),
         crate_length: crate_text.len(),
-        has_crate: found.crate_name.is_some(),
+        has_crate: number_of(found.crate_name.is_some()),
     }
 }
 
@@ -95,6 +96,11 @@ pub fn binfarce_crate_of(alloc: Global, name: &[u8], out: &mut [u8]) -> Text {
 /// How a name is mangled. Nothing is allocated. See `binfarce.h`.
 pub fn binfarce_mangling(name: &[u8], out: &mut Mangling) -> u32 {
     let Ok(name) = str::from_utf8(name) else {
+        *out = Mangling {
+            part: ptr::null(),
+            part_length: 0,
+            kind: 0,
+        };
         return NOT_UTF8;
     };
     *out = mangling_of(demangle::demangle(name));
@@ -122,7 +128,7 @@ fn no_name(status: u32) -> SymbolName {
         complete_length: 0,
         trimmed_length: 0,
         crate_length: 0,
-        has_crate: false,
+        has_crate: 0,
     }
 }
 

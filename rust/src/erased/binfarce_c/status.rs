@@ -4,6 +4,7 @@
 
 use crate::erased::binfarce_c::buffer;
 use crate::erased::binfarce::ParseError;
+use crate::erased::binfarce_foreign::{FIRST_LENGTH, Foreign, named_by};
 
 /// The call succeeded.
 pub(crate) const OK: u32 = 0;
@@ -23,6 +24,12 @@ pub(crate) const UNKNOWN_FORMAT: u32 = 4;
 /// A sum of sizes is 2^64 or more.
 pub(crate) const TOO_LARGE: u32 = 5;
 
+/// The section has no bytes in the file.
+pub(crate) const NO_BYTES: u32 = 14;
+
+/// The section's bytes end past the file.
+pub(crate) const PAST_END: u32 = 15;
+
 /// The version: 0.3.0.
 const VERSION: u32 = 3 << 8;
 
@@ -31,6 +38,8 @@ pub(crate) fn status_of(error: ParseError) -> u32 {
     match error {
         ParseError::SymbolsSectionIsMissing => 6,
         ParseError::SectionIsMissing(".symtab") => 7,
+        ParseError::SectionIsMissing(".dynsym") => 12,
+        ParseError::SectionIsMissing(".dynstr") => 13,
         ParseError::SectionIsMissing(_) => 8,
         ParseError::UnexpectedSectionType { .. } => 9,
         ParseError::MalformedInput => 10,
@@ -45,6 +54,52 @@ pub(crate) fn detail_of(error: ParseError) -> u32 {
         ParseError::UnexpectedSectionType { actual, .. } => actual,
         _ => 0,
     }
+}
+
+/// What a file is that no reader reads, by its first bytes; `BINFARCE_OK` for any other. See `binfarce.h`.
+pub fn binfarce_foreign(file: &[u8]) -> u32 {
+    match foreign_in(file) {
+        None => OK,
+        Some(foreign) => foreign_status(foreign),
+    }
+}
+
+/// What a file is that no reader reads, if it is such a file.
+pub(crate) fn foreign_in(file: &[u8]) -> Option<Foreign> {
+    let count = FIRST_LENGTH.min(file.len());
+    named_by(&file[..count])
+}
+
+/// The number of such a file.
+pub(crate) fn foreign_status(foreign: Foreign) -> u32 {
+    match foreign {
+        Foreign::Universal => 32,
+        Foreign::JavaClass => 33,
+        Foreign::Macho32 => 34,
+        Foreign::MachoBigEndian => 35,
+        Foreign::Archive => 36,
+        Foreign::ThinArchive => 37,
+        Foreign::Coff => 38,
+        Foreign::Pdb => 39,
+        Foreign::Wasm => 40,
+        Foreign::Bitcode => 41,
+        Foreign::Script => 42,
+        Foreign::Text => 43,
+        Foreign::Empty => 44,
+        Foreign::ManySections => 45,
+        Foreign::Core => 46,
+        Foreign::Dos => 47,
+        Foreign::Ne => 48,
+        Foreign::Le => 49,
+        Foreign::Gzip => 50,
+        Foreign::Xz => 51,
+        Foreign::Zstd => 52,
+    }
+}
+
+/// Whether something is so, as C gets it: 1 or 0.
+pub(crate) fn number_of(it: bool) -> u32 {
+    if it { 1 } else { 0 }
 }
 
 /// The version of the library: `BINFARCE_VERSION_NUMBER`.
@@ -73,6 +128,38 @@ fn words_of(status: u32) -> &'static str {
         9 => "unexpected section type",
         10 => "malformed input file",
         11 => "unexpected end of file",
+        12 => "section .dynsym is missing",
+        13 => "section .dynstr is missing",
+        14 => "section has no bytes in the file",
+        15 => "section reaches past the end of the file",
+        _ => foreign_words(status),
+    }
+}
+
+// The text of the number of a file that no reader reads.
+fn foreign_words(status: u32) -> &'static str {
+    match status {
+        32 => "a universal Mach-O file",
+        33 => "a Java class file",
+        34 => "a Mach-O file of 32 bits",
+        35 => "a big-endian Mach-O file",
+        36 => "an archive",
+        37 => "a thin archive",
+        38 => "a COFF object file",
+        39 => "a PDB file",
+        40 => "a WebAssembly module",
+        41 => "LLVM bitcode",
+        42 => "a script",
+        43 => "a text",
+        44 => "an empty file",
+        45 => "an ELF file of 65,280 sections or more",
+        46 => "a core file",
+        47 => "a DOS program",
+        48 => "an NE file, of 16-bit Windows or OS/2",
+        49 => "an LE or LX file, of OS/2 or Windows 9x",
+        50 => "a gzip file",
+        51 => "an xz file",
+        52 => "a Zstandard file",
         _ => "unknown status",
     }
 }

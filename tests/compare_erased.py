@@ -38,6 +38,7 @@ SOURCE = [
     (rf"\bformat ! \( in ({VALUE}) ; ({ITEMS})\)", r"String :: formatted ( \1 , format_args ! ( \2 ) )"),
 ]
 ERASED = [
+    (r"# \[ non_exhaustive \] (?=pub struct (?:CodeSegment|FunctionSymbol|LoadAddress|SectionFunction)\b)", ""),
     (r"# \[ cfg_attr \( not \( debug_assertions \) , inline \( always \) \) \]", "# [ inline ( always ) ]"),
     (r"\bcollect_in\b", "collect"), (r"\bto_signed\b", "cast_signed"), (r"\btrimmed_ascii", "trim_ascii"), (r"\bto_usize \(", "usize :: from ("),
     (r"\bcrate :: erased ::", ""), (r"\bcrate :: shim ::|\bcore ::", "std ::"),

@@ -4,7 +4,7 @@
 set -eu
 cd "$(dirname "$0")/.."
 said=$(mktemp)
-trap 'rm -f "$said"' EXIT; trap 'exit 130' HUP INT TERM
+trap 'rm -f "$said" "$said.rmeta"' EXIT; trap 'exit 130' HUP INT TERM
 
 cargo fmt --all --check
 # The documents that are left are those with std.
@@ -17,5 +17,5 @@ if grep -A 4 "current MSRV" "$said"; then
     echo "lints.sh: these lines need a newer Rust than rust-version"; exit 1
 fi
 echo 'pub fn newer(bytes: &[u8]) -> &[u8] { bytes.trim_ascii() }' | CARGO_PKG_RUST_VERSION=1.65 clippy-driver --crate-type lib \
-    --emit metadata -o /dev/null -W clippy::incompatible_msrv - 2>&1 | grep -q "current MSRV" ||
+    --emit metadata -o "$said" -W clippy::incompatible_msrv - 2>&1 | grep -q "current MSRV" ||
     { echo "lints.sh: clippy doesn't see what is newer"; exit 1; }

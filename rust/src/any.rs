@@ -1,5 +1,6 @@
 //! Files of any format that is read: the file's first bytes name the format.
 
+use crate::erased::binfarce::{elf32, elf64};
 use crate::erased::binfarce_bytes::{format, functions as lookup};
 use crate::erased::binfarce_sections::bytes as bytes_of;
 use crate::erased::binfarce_sections::error::SectionError;
@@ -8,6 +9,8 @@ use crate::erased::binfarce_sections::sections as sections_of;
 use crate::erased::binfarce_tools::functions as functions_of;
 use crate::erased::binfarce_tools::list::{self as listing, ListError, Sink};
 use crate::erased::binfarce_tools::report::{self as reporting, ReportError};
+#[cfg(feature = "std")]
+use crate::error::StreamError;
 use crate::error::{Error, Foreign, ParseError};
 use crate::foreign::{FIRST_LENGTH, named_by};
 use crate::shim::{self, alloc::Global};
@@ -16,7 +19,7 @@ use crate::streams::read_by_format;
 use crate::{AllFunctions, Format, FunctionSymbol, string_of};
 use alloc::string::String;
 #[cfg(feature = "std")]
-use std::io::{self, Read, Seek};
+use std::io::{Read, Seek};
 
 /// Returns the format that a file's first 8 bytes name; a shorter file has none. The readers themselves don't check magic numbers.
 ///
@@ -34,6 +37,7 @@ use std::io::{self, Read, Seek};
 /// assert_eq!(detect_format(b"#!/bin/sh"), Format::Unknown);
 /// # Ok::<(), std::io::Error>(())
 /// ```
+#[must_use]
 pub fn detect_format(file: &[u8]) -> Format {
     format::detect_format(file)
 }
@@ -61,12 +65,14 @@ pub(crate) fn known_format(file: &[u8]) -> Result<Format, Error> {
 /// # Examples
 ///
 /// ```
-/// use binfarce::{FunctionSymbol, symbol_at};
-///
-/// let functions = [("outer", 0x10, 32), ("inner", 0x18, 8)].map(|(name, address, size)| FunctionSymbol { name, address, size });
-/// let names = [0x17, 0x18, 0x20, 0x30].map(|address| symbol_at(&functions, address).map(|function| function.name));
-/// assert_eq!(names, [Some("outer"), Some("inner"), Some("outer"), None]);
+/// # let path = concat!(env!("CARGO_MANIFEST_DIR"), "/samples/macho.bin");
+/// let file = std::fs::read(path)?;
+/// let functions = binfarce::functions(&file, ".text")?.0.collect::<Vec<_>>();
+/// let names = [0x103f, 0x1040, 0x1100].map(|address| binfarce::symbol_at(&functions, address).map(|function| function.name));
+/// assert_eq!(names, [Some("a"), Some("c"), None]);
+/// # Ok::<(), Box<dyn std::error::Error>>(())
 /// ```
+#[must_use]
 pub fn symbol_at<'a>(functions: &[FunctionSymbol<'a>], address: u64) -> Option<FunctionSymbol<'a>> {
     lookup::symbol_at(functions, address)
 }
@@ -107,26 +113,46 @@ pub fn symbol_at<'a>(functions: &[FunctionSymbol<'a>], address: u64) -> Option<F
 /// # Ok::<(), Box<dyn std::error::Error>>(())
 /// ```
 pub fn functions<'a>(file: &'a [u8], section: &str) -> Result<(Functions<'a>, u64), Error> {
-    known_format(file)?;
-    let (functions, size) = functions_of::functions_of_file(Global, file, section)?;
-    Ok((Functions(AllFunctions::new(functions.all)?), size))
+    // Of an ELF file the reader's own iterator, whose items have less to be read.
+    let (functions, size) = match known_format(file)? {
+        Format::Elf32 { byte_order } => elf32::parse(file, byte_order)?.functions(section)?,
+        Format::Elf64 { byte_order } => elf64::parse(file, byte_order)?.functions(section)?,
+        Format::Macho | Format::PE | Format::Unknown => {
+            let (functions, size) = functions_of::functions_of_file(Global, file, section)?;
+            return Ok((Functions(Items::All(AllFunctions::new(functions.all)?)), size));
+        }
+    };
+    // A row has 16 bytes or more.
+    Ok((Functions(Items::Elf(Bounded::new(functions, file.len() / 16))), size))
 }
 
 /// An iterator over the function symbols of a file: the answer of [`functions`] and of
 /// [`Tables::functions`](crate::Tables::functions).
 #[must_use = "iterators are lazy and do nothing unless consumed"]
 #[derive(Clone)]
-pub struct Functions<'a>(pub(crate) AllFunctions<'a>);
+pub struct Functions<'a>(pub(crate) Items<'a>);
+
+#[derive(Clone)]
+pub(crate) enum Items<'a> {
+    Elf(Bounded<elf32::Functions<'a>>),
+    All(AllFunctions<'a>),
+}
 
 impl<'a> Iterator for Functions<'a> {
     type Item = FunctionSymbol<'a>;
 
     fn next(&mut self) -> Option<Self::Item> {
-        Some(self.0.next()?.function)
+        match &mut self.0 {
+            Items::Elf(functions) => functions.next(),
+            Items::All(functions) => Some(functions.next()?.function),
+        }
     }
 
     fn size_hint(&self) -> (usize, Option<usize>) {
-        self.0.size_hint()
+        match &self.0 {
+            Items::Elf(functions) => functions.size_hint(),
+            Items::All(functions) => functions.size_hint(),
+        }
     }
 }
 
@@ -174,6 +200,7 @@ pub struct Section<'a> {
 /// assert_eq!((SectionType::Elf(0x6000_0000).name(), SectionType::Pe.number()), (None, None));
 /// ```
 #[derive(Debug, Clone, Copy, PartialEq, Eq, Hash)]
+#[non_exhaustive]
 pub enum SectionType {
     /// In an ELF file (`sh_type`).
     Elf(u32),
@@ -186,11 +213,13 @@ pub enum SectionType {
 impl SectionType {
     /// Returns its name: in ELF as readelf prints it, such as `PROGBITS`; in Mach-O that of `<mach-o/loader.h>` without `S_`,
     /// such as `REGULAR`. `None` for a number without a name there, and in PE.
+    #[must_use]
     pub fn name(self) -> Option<&'static str> {
         kinds::SectionType::from(self).name()
     }
 
     /// Returns its number; `None` in PE.
+    #[must_use]
     pub fn number(self) -> Option<u32> {
         kinds::SectionType::from(self).number()
     }
@@ -331,7 +360,7 @@ pub fn section_bytes<'a>(file: &'a [u8], name: &str) -> Result<&'a [u8], Error> 
 ///
 /// # Errors
 ///
-/// That of `file`; otherwise that of [`section_bytes`], as an [`io::Error`].
+/// [`StreamError::Stream`] with that of `file`; otherwise that of [`section_bytes`].
 ///
 /// # Examples
 ///
@@ -339,10 +368,10 @@ pub fn section_bytes<'a>(file: &'a [u8], name: &str) -> Result<&'a [u8], Error> 
 /// # let path = concat!(env!("CARGO_MANIFEST_DIR"), "/samples/elf64-little.bin");
 /// let text = binfarce::read_section(std::fs::File::open(path)?, ".text")?;
 /// assert_eq!(text.len(), 32);
-/// # Ok::<(), std::io::Error>(())
+/// # Ok::<(), Box<dyn std::error::Error>>(())
 /// ```
 #[cfg(feature = "std")]
-pub fn read_section<R: Read + Seek>(file: R, name: &str) -> io::Result<Vec<u8>> {
+pub fn read_section<R: Read + Seek>(file: R, name: &str) -> Result<Vec<u8>, StreamError> {
     let mut text = Text::new();
     read_by_format(file, |file, _| bytes_of::write_section_of(Global, file, &mut (), name, &mut text))?;
     Ok(text.bytes.into_std())

@@ -85,6 +85,7 @@ impl SymbolName {
     /// // A name that isn't mangled is unchanged.
     /// assert_eq!(SymbolName::demangle("main").trimmed, "main");
     /// ```
+    #[must_use]
     pub fn demangle(name: &str) -> Self {
         SymbolName::try_demangle(name).unwrap_or_else(|_| out_of_memory())
     }
@@ -105,6 +106,13 @@ impl SymbolName {
     /// ```
     pub fn try_demangle(name: &str) -> Result<Self, OutOfMemory> {
         Demangler::new().demangle(name)
+    }
+}
+
+/// `{}` prints the complete text, and `{:#}` the trimmed one, as of a [`Demangle`].
+impl fmt::Display for SymbolName {
+    fn fmt(&self, f: &mut fmt::Formatter<'_>) -> fmt::Result {
+        f.pad(if f.alternate() { &self.trimmed } else { &self.complete })
     }
 }
 
@@ -145,6 +153,7 @@ pub struct Demangler(erased::Demangler);
 
 impl Demangler {
     /// Returns a demangler that holds no memory yet.
+    #[must_use]
     pub fn new() -> Self {
         Demangler(erased::Demangler::new(Global))
     }
@@ -188,7 +197,7 @@ impl Demangler {
         with_shim(text, |text| {
             // A legacy name is printed part by part, and its text is mostly no longer than the name. Of a v0 name all is
             // appended at once.
-            if name.starts_with("_ZN") || name.starts_with("ZN") || name.starts_with("__ZN") {
+            if is_legacy(name) {
                 text.reserve(name.len())?;
             }
             self.0.push_trimmed(text, name)
@@ -271,6 +280,43 @@ impl Demangler {
     }
 }
 
+/// What names are printed by: memory for the next one, at most 1 MiB of the demangler and [`MOST_KEPT`] bytes of the text.
+struct Printing {
+    demangler: erased::Demangler,
+    text: shim::String,
+}
+
+const MOST_KEPT: usize = 1 << 16;
+
+#[cfg(feature = "std")]
+std::thread_local! {
+    static KEPT: core::cell::RefCell<Printing> = core::cell::RefCell::new(Printing::new());
+}
+
+impl Printing {
+    fn new() -> Self {
+        Printing { demangler: erased::Demangler::new(Global), text: shim::String::new(Global) }
+    }
+
+    fn show(&mut self, name: &str, f: &mut fmt::Formatter<'_>) -> fmt::Result {
+        let (Printing { demangler, text }, full) = (self, !f.alternate());
+        text.clear();
+        // The trimmed text of a legacy name grows part by part, and is mostly no longer than the name.
+        let printed = if is_legacy(name) && !full { text.reserve(name.len()) } else { Ok(()) };
+        let printed = printed.and_then(|()| demangler.short_text(text, name, full, MAX_PRINTED + 1));
+        let shown = f.pad(if printed.is_ok() { text } else { name });
+        if text.capacity() > MOST_KEPT {
+            *text = shim::String::new(Global);
+        }
+        shown
+    }
+}
+
+/// Whether a name has a prefix of the legacy mangling.
+fn is_legacy(name: &str) -> bool {
+    name.starts_with("_ZN") || name.starts_with("ZN") || name.starts_with("__ZN")
+}
+
 /// Lends a text to a call that appends to it.
 fn with_shim<T>(
     text: &mut String,
@@ -321,7 +367,8 @@ pub const MAX_PRINTED: usize = 1 << 20;
 /// A name that may be mangled, to be printed: the answer of [`demangle`].
 ///
 /// `{}` prints its [complete](SymbolName::complete) text, and `{:#}` its [trimmed](SymbolName::trimmed) one, into any
-/// [`fmt::Write`]. The text is made before the first byte is written, in memory that is bounded by [`MAX_PRINTED`]. The name is
+/// [`fmt::Write`]. The text is made before the first byte is written, in memory that is bounded by [`MAX_PRINTED`]; with the feature
+/// `std` each thread keeps at most 1 MiB of it for its next names, as a [`Demangler`] does. The name is
 /// printed as it is stored where its text has more bytes than that, and where an allocation fails: so a panic hook can print a
 /// name where memory has run out, and the program doesn't end. [`SymbolName::try_demangle`] and [`trimmed()`] return an error there.
 ///
@@ -340,13 +387,28 @@ pub struct Demangle<'a>(&'a str);
 
 impl fmt::Display for Demangle<'_> {
     fn fmt(&self, f: &mut fmt::Formatter<'_>) -> fmt::Result {
-        let mut text = shim::String::new(Global);
-        let printed = erased::Demangler::new(Global).short_text(&mut text, self.0, !f.alternate(), MAX_PRINTED + 1);
-        f.pad(if printed.is_ok() { &text } else { self.0 })
+        // By what the thread keeps, unless that is in use, by a writer that prints a name, or gone.
+        #[cfg(feature = "std")]
+        if let Ok(Some(shown)) = KEPT.try_with(|kept| Some(kept.try_borrow_mut().ok()?.show(self.0, f))) {
+            return shown;
+        }
+        Printing::new().show(self.0, f)
     }
 }
 
 impl<'a> Demangle<'a> {
+    /// Returns the name as it is stored.
+    ///
+    /// # Examples
+    ///
+    /// ```
+    /// assert_eq!(binfarce::demangle::demangle("_RNvC1a1b").as_str(), "_RNvC1a1b");
+    /// ```
+    #[must_use]
+    pub fn as_str(&self) -> &'a str {
+        self.0
+    }
+
     /// Returns how the name is mangled, decided without printing it: a v0 name beyond the limits is [`Kind::V0`] here. Nothing
     /// is allocated.
     ///
@@ -358,6 +420,7 @@ impl<'a> Demangle<'a> {
     /// let kinds = ["_RNvC1a1b", "_ZN3foo3barE", "main"].map(|name| demangle(name).kind());
     /// assert_eq!(kinds, [Kind::V0, Kind::Legacy, Kind::Unknown]);
     /// ```
+    #[must_use]
     pub fn kind(&self) -> Kind {
         erased::demangle(self.0).kind()
     }
@@ -374,6 +437,7 @@ impl<'a> Demangle<'a> {
     /// assert_eq!(demangle("_ZN3foo3barE.llvm.9d1c").part(), "3foo3barE.llvm.9d1c");
     /// assert_eq!(demangle("main").part(), "main");
     /// ```
+    #[must_use]
     pub fn part(&self) -> &'a str {
         erased::demangle(self.0).part()
     }
@@ -390,6 +454,7 @@ impl<'a> Demangle<'a> {
 /// assert_eq!((name.kind(), name.part()), (Kind::V0, "NvC1a1b"));
 /// assert_eq!(format!("{name} {name:#}"), "a[0]::b a::b");
 /// ```
+#[must_use]
 pub fn demangle(name: &str) -> Demangle<'_> {
     Demangle(name)
 }

@@ -75,52 +75,62 @@ macro_rules! reader {
             }
 
             /// Returns the number of the section's entries (`sh_size` divided by `sh_entsize`); 0 where their size is 0.
+            #[must_use]
             pub fn entries(&self) -> $Width {
                 self.0.entries()
             }
 
             /// Returns the section's name, a part of the file `parent`. `None` where it has no valid one.
+            #[must_use]
             pub fn name<'a>(&self, parent: &$Elf<'a>) -> Option<&'a str> {
                 self.0.name(&parent.0)
             }
 
             /// Returns the type of the section (`sh_type`).
+            #[must_use]
             pub fn section_type(&self) -> u32 {
                 self.0.section_type()
             }
 
             /// Returns the flags of the section (`sh_flags`).
+            #[must_use]
             pub fn flags(&self) -> $Width {
                 self.0.flags()
             }
 
             /// Returns how many bytes the section has in the file: its size, but 0 where its type is `SHT_NOBITS`.
+            #[must_use]
             pub fn file_size(&self) -> u64 {
                 self.0.file_size()
             }
 
             /// Returns how many bytes the section has in memory: its size where its flags have `SHF_ALLOC`, else 0.
+            #[must_use]
             pub fn memory_size(&self) -> u64 {
                 self.0.memory_size()
             }
 
             /// Returns the address of the section's first byte in memory, or 0 (`sh_addr`).
+            #[must_use]
             pub fn address(&self) -> $Width {
                 self.0.address()
             }
 
             /// Returns the offset of the section's first byte in the file (`sh_offset`), as the file states it.
+            #[must_use]
             pub fn offset(&self) -> $Width {
                 self.0.offset()
             }
 
             /// Returns the section's size in bytes (`sh_size`), as the file states it. A section of type `SHT_NOBITS` has
             /// this size in memory alone.
+            #[must_use]
             pub fn size(&self) -> $Width {
                 self.0.size()
             }
 
             /// Returns the index of the section's header in the section header table, which counts from 0.
+            #[must_use]
             pub fn index(&self) -> u16 {
                 self.0.index
             }
@@ -192,6 +202,7 @@ macro_rules! reader {
             /// assert_eq!((header.elf_type, header.version, header.shstrndx), (1, 1, 4));
             /// # Ok::<(), Box<dyn std::error::Error>>(())
             /// ```
+            #[must_use]
             pub fn header(&self) -> $Header {
                 let header = self.0.header();
                 $Header {
@@ -282,13 +293,12 @@ macro_rules! reader {
                 Ok(self.0.section_with_index(index)?.map(Section))
             }
 
-            /// Returns the section's bytes, a part of the file. A section of type `SHT_NOBITS` has no bytes in the file:
-            /// for it they have no meaning.
+            /// Returns the section's bytes, a part of the file.
             ///
             /// # Errors
             ///
-            /// [`ParseError::MalformedInput`] where their end passes 64 bits, [`ParseError::UnexpectedEof`] where it
-            /// passes the end of the file.
+            /// As of [`section_bytes`](crate::section_bytes): [`Error::NoBytes`] for a section of type `SHT_NOBITS`, such as
+            /// `.bss`; [`Error::PastEnd`] where its bytes end past the file.
             ///
             /// # Examples
             ///
@@ -298,8 +308,12 @@ macro_rules! reader {
             /// assert_eq!(elf.section_bytes(&text)?, &file[text.range()?]);
             /// # Ok::<(), Box<dyn std::error::Error>>(())
             /// ```
-            pub fn section_bytes(&self, section: &Section) -> Result<&'a [u8], ParseError> {
-                Ok(self.0.section_bytes(&section.0)?)
+            pub fn section_bytes(&self, section: &Section) -> Result<&'a [u8], Error> {
+                // `SHT_NOBITS`.
+                match section.section_type() {
+                    8 => Err(Error::NoBytes),
+                    _ => self.0.section_bytes(&section.0).map_err(|_| Error::PastEnd),
+                }
             }
 
             /// Returns the function symbols of the section with this name with readable names, in the order of the symbol

@@ -52,6 +52,7 @@ impl ParseError {
     /// assert_eq!(elf.dynamic_functions(".text").err().map(|e| e.kind()), Some(ErrorKind::NoSymbolTable));
     /// # Ok::<(), Box<dyn std::error::Error>>(())
     /// ```
+    #[must_use]
     pub fn kind(&self) -> ErrorKind {
         Error::Parse(*self).kind()
     }
@@ -126,7 +127,7 @@ impl error::Error for UnexpectedEof {}
 ///
 /// let refused = binfarce::functions(b"#!/bin/sh", ".text").unwrap_err();
 /// assert_eq!(refused.kind(), ErrorKind::UnknownFormat);
-/// assert_eq!(refused.to_string(), "a script; its first line names the program that runs it");
+/// assert_eq!(refused.to_string(), "a script");
 /// assert_eq!(Error::Parse(ParseError::SectionIsMissing(".symtab")).kind(), ErrorKind::NoSymbolTable);
 /// ```
 #[derive(Debug, Clone, Copy, PartialEq, Eq, Hash)]
@@ -144,6 +145,8 @@ pub enum Error {
     PastEnd,
     /// The sum of all sizes is 2^64 or more.
     TooLarge,
+    /// The maps of a process don't say where a file is loaded.
+    NoBase,
     /// An allocation failed.
     OutOfMemory,
 }
@@ -152,7 +155,7 @@ pub enum Error {
 /// class file, an archive, a COFF object file, a PDB file, a WebAssembly module, LLVM bitcode, a core file, a DOS program, an NE or LE
 /// file, a file of gzip, xz or zstd, a script, or a text in ASCII.
 ///
-/// `{}` prints what it is and what would help, as the command `binfarce` does.
+/// `{}` prints what it is.
 ///
 /// # Examples
 ///
@@ -160,14 +163,23 @@ pub enum Error {
 /// use binfarce::Error;
 ///
 /// let Err(Error::UnknownFormat(Some(foreign))) = binfarce::sections(b"\xca\xfe\xba\xbe\0\0\0\x02") else { panic!() };
-/// assert_eq!(foreign.to_string(), "a universal Mach-O file; `lipo -thin ARCHITECTURE FILE` extracts a part");
+/// assert_eq!(foreign.to_string(), "a universal Mach-O file");
 /// ```
 #[derive(Debug, Clone, Copy, PartialEq, Eq, Hash)]
 pub struct Foreign(pub(crate) foreign::Foreign);
 
 impl fmt::Display for Foreign {
     fn fmt(&self, f: &mut fmt::Formatter<'_>) -> fmt::Result {
-        fmt::Display::fmt(&self.0, f)
+        fmt::Write::write_fmt(&mut UpToAdvice(f), format_args!("{}", self.0))
+    }
+}
+
+/// Writes a text without what the command `binfarce` adds for its users, behind a semicolon. The text comes in one piece.
+struct UpToAdvice<'a, 'b>(&'a mut fmt::Formatter<'b>);
+
+impl fmt::Write for UpToAdvice<'_, '_> {
+    fn write_str(&mut self, text: &str) -> fmt::Result {
+        self.0.pad(text.split(';').next().unwrap_or(text))
     }
 }
 
@@ -190,6 +202,8 @@ pub enum ErrorKind {
     Invalid,
     /// The sum of all sizes is 2^64 or more.
     TooLarge,
+    /// The maps of a process don't say where a file is loaded.
+    NoBase,
     /// An allocation failed.
     OutOfMemory,
 }
@@ -199,7 +213,7 @@ impl Error {
     ///
     /// | kind | errors |
     /// |---|---|
-    /// | `UnknownFormat`, `NoBytes`, `TooLarge`, `OutOfMemory` | the error of the same name |
+    /// | `UnknownFormat`, `NoBytes`, `TooLarge`, `NoBase`, `OutOfMemory` | the error of the same name |
     /// | `NoSymbolTable` | [`ParseError::SectionIsMissing`] of `.symtab` or `.dynsym` |
     /// | `NoSection` | [`Error::NoSection`] and [`ParseError::SymbolsSectionIsMissing`] |
     /// | `Invalid` | [`Error::PastEnd`] and every other [`ParseError`] |
@@ -216,6 +230,7 @@ impl Error {
     /// assert_eq!(kind(".text", SymbolTable::Dynsym), Some(ErrorKind::NoSymbolTable));
     /// # Ok::<(), std::io::Error>(())
     /// ```
+    #[must_use]
     pub fn kind(&self) -> ErrorKind {
         match self {
             Error::UnknownFormat(_) => ErrorKind::UnknownFormat,
@@ -224,6 +239,7 @@ impl Error {
             Error::NoBytes => ErrorKind::NoBytes,
             Error::Parse(_) | Error::PastEnd => ErrorKind::Invalid,
             Error::TooLarge => ErrorKind::TooLarge,
+            Error::NoBase => ErrorKind::NoBase,
             Error::OutOfMemory => ErrorKind::OutOfMemory,
         }
     }
@@ -236,10 +252,12 @@ impl Error {
     /// ```
     /// use binfarce::{Error, ErrorKind, Selection, SymbolTable, Tables};
     ///
-    /// let refused = Tables::read(std::io::Cursor::new("#!/bin/sh"), Selection::All, SymbolTable::Symtab).unwrap_err();
+    /// let file = std::io::Cursor::new("#!/bin/sh");
+    /// let refused = Tables::read(file, Selection::All, SymbolTable::Symtab).map_err(std::io::Error::from).unwrap_err();
     /// assert_eq!(Error::of_io(&refused).map(|e| e.kind()), Some(ErrorKind::UnknownFormat));
     /// ```
     #[cfg(feature = "std")]
+    #[must_use]
     pub fn of_io(e: &io::Error) -> Option<Error> {
         match e.kind() {
             io::ErrorKind::OutOfMemory => Some(Error::OutOfMemory),
@@ -258,6 +276,7 @@ impl fmt::Display for Error {
             Error::NoBytes => write!(f, "section has no bytes in the file"),
             Error::PastEnd => write!(f, "section reaches past the end of the file"),
             Error::TooLarge => write!(f, "sizes are too large"),
+            Error::NoBase => write!(f, "the maps don't say where the file is loaded"),
             Error::OutOfMemory => write!(f, "out of memory"),
         }
     }
@@ -310,6 +329,89 @@ impl From<Error> for io::Error {
         match e {
             Error::OutOfMemory => OutOfMemory.into(),
             _ => io::Error::new(io::ErrorKind::InvalidData, e),
+        }
+    }
+}
+
+/// Why a call failed that reads or writes a stream. Nothing is allocated for it; as an [`io::Error`] a refusal is. With the feature
+/// `std`.
+///
+/// # Examples
+///
+/// ```
+/// use binfarce::{ErrorKind, Selection, StreamError, SymbolTable, Tables};
+/// use std::io::{self, Cursor};
+///
+/// let refused = Tables::read(Cursor::new("#!/bin/sh"), Selection::All, SymbolTable::Symtab).unwrap_err();
+/// assert_eq!(refused.refusal().map(|e| e.kind()), Some(ErrorKind::UnknownFormat));
+///
+/// fn list(file: std::fs::File) -> io::Result<()> {
+///     Ok(Tables::read(file, Selection::All, SymbolTable::Symtab)?.list_to(io::stdout())?)
+/// }
+/// ```
+#[cfg(feature = "std")]
+#[derive(Debug)]
+#[non_exhaustive]
+pub enum StreamError {
+    /// The stream's own error.
+    Stream(io::Error),
+    /// Any other reason.
+    Refused(Error),
+}
+
+#[cfg(feature = "std")]
+impl StreamError {
+    /// Returns the reason if it isn't the stream's own error. With the feature `std`.
+    #[must_use]
+    pub fn refusal(&self) -> Option<Error> {
+        match self {
+            StreamError::Stream(_) => None,
+            StreamError::Refused(e) => Some(*e),
+        }
+    }
+}
+
+#[cfg(feature = "std")]
+impl fmt::Display for StreamError {
+    fn fmt(&self, f: &mut fmt::Formatter<'_>) -> fmt::Result {
+        match self {
+            StreamError::Stream(e) => fmt::Display::fmt(e, f),
+            StreamError::Refused(e) => fmt::Display::fmt(e, f),
+        }
+    }
+}
+
+#[cfg(feature = "std")]
+impl error::Error for StreamError {
+    fn source(&self) -> Option<&(dyn error::Error + 'static)> {
+        match self {
+            StreamError::Stream(e) => e.source(),
+            StreamError::Refused(_) => None,
+        }
+    }
+}
+
+#[cfg(feature = "std")]
+impl From<Error> for StreamError {
+    fn from(e: Error) -> Self {
+        StreamError::Refused(e)
+    }
+}
+
+#[cfg(feature = "std")]
+impl From<io::Error> for StreamError {
+    fn from(e: io::Error) -> Self {
+        StreamError::Stream(e)
+    }
+}
+
+/// [`Error::of_io`] leads back to a refusal, for which this allocates.
+#[cfg(feature = "std")]
+impl From<StreamError> for io::Error {
+    fn from(e: StreamError) -> Self {
+        match e {
+            StreamError::Stream(e) => e,
+            StreamError::Refused(e) => e.into(),
         }
     }
 }

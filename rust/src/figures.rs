@@ -63,6 +63,7 @@ pub struct Shown {
 impl Shown {
     /// Returns what is shown by default: all lines in the order of [`Tables::list_to`](crate::Tables#method.list_to), trimmed
     /// names, and the section's size.
+    #[must_use]
     pub fn new() -> Self {
         Shown { order: None, first: None, naming: Naming::Trimmed, has_total: true }
     }
@@ -125,6 +126,7 @@ pub struct Grouping {
 
 impl Grouping {
     /// Returns the grouping by a key, in which Rust's standard library isn't joined.
+    #[must_use]
     pub fn by(key: Key) -> Self {
         Grouping { key, joins_std: false }
     }

@@ -10,7 +10,7 @@
 //!   [`macho`], [`pe`].
 //! - Function symbols of all sections, dynamic ones, sums of their sizes, and files that are read at offsets: [`Tables`] and
 //!   [`read_section`](crate#functions).
-//! - The function at an address: [`Symbolizer`].
+//! - The function at an address: [`Symbolizer`], and [`Process`](crate#structs) for all files of a running program.
 //!
 //! # Examples
 //!
@@ -92,6 +92,8 @@ of_values! {
     FunctionSymbol<'_>: |it| (it.name, it.address, it.size);
     SectionFunction<'_>: |it| (it.section, it.info, it.version, it.function);
     else
+    CodeSegment: |it| (it.address, it.offset, it.size, it.memory_size, it.align);
+    LoadAddress: |it| (it.address, it.code);
     foreign::Foreign: |it| core::mem::discriminant(it);
     figures::Key: |it| core::mem::discriminant(it);
     figures::Naming: |it| core::mem::discriminant(it);
@@ -124,6 +126,8 @@ mod filter;
 use erased::binfarce_foreign as foreign;
 pub mod macho;
 pub mod pe;
+#[cfg(feature = "std")]
+mod process;
 #[cfg(doctest)]
 mod refused;
 // Each program and library takes a part of it.
@@ -146,10 +150,14 @@ pub use erased::binfarce_bytes::ByteOrder;
 pub use erased::binfarce_bytes::format::Format;
 pub use erased::binfarce_bytes::functions::{FunctionSymbol, SectionFunction};
 pub use erased::binfarce_elf_memory::segments::{CodeSegment, LoadAddress};
+#[cfg(feature = "std")]
+pub use error::StreamError;
 pub use error::{Error, ErrorKind, Foreign, OutOfMemory, ParseError, UnexpectedEof};
 #[cfg(feature = "std")]
 pub use filter::filter_stream;
 pub use filter::{Form, filter};
+#[cfg(feature = "std")]
+pub use process::{Frame, Process};
 #[cfg(feature = "std")]
 pub use streams::read_load_address;
 pub use symbolizer::{Symbolizer, load_address, mapped_at};
@@ -167,14 +175,17 @@ pub mod programs {
     use crate::{erased, shim::HostRuntime};
     use std::process::ExitCode;
 
+    #[must_use]
     pub fn binfarce() -> ExitCode {
         erased::binfarce_command::main(HostRuntime::new())
     }
 
+    #[must_use]
     pub fn binfarce_list() -> ExitCode {
         erased::binfarce_list::main(HostRuntime::new())
     }
 
+    #[must_use]
     pub fn binfarce_size() -> ExitCode {
         erased::binfarce_size::main(HostRuntime::new())
     }

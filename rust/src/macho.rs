@@ -54,42 +54,50 @@ impl<'a> Section<'a> {
     }
 
     /// Returns the section's name (`sectname`).
+    #[must_use]
     pub fn name(&self) -> &'a str {
         self.0.name()
     }
 
     /// Returns the name of the section's segment (`segname`).
+    #[must_use]
     pub fn segment_name(&self) -> &'a str {
         self.0.segment_name()
     }
 
     /// Returns the address of the section's first byte in memory (`addr`).
+    #[must_use]
     pub fn address(&self) -> u64 {
         self.0.address()
     }
 
     /// Returns the offset of the section's first byte in the file, or 0 where it has no bytes there (`offset`).
+    #[must_use]
     pub fn offset(&self) -> u32 {
         self.0.offset()
     }
 
     /// Returns the section's size in bytes (`size`).
+    #[must_use]
     pub fn size(&self) -> u64 {
         self.0.size()
     }
 
     /// Returns the section's flags (`flags`): its type in the low byte, and attributes. 0 where the file ends before them.
+    #[must_use]
     pub fn flags(&self) -> u32 {
         self.0.flags()
     }
 
     /// Returns the section's type (`SECTION_TYPE`), the low byte of its flags.
+    #[must_use]
     pub fn section_type(&self) -> u32 {
         self.0.section_type()
     }
 
     /// Returns how many bytes the section has in the file: its size, but 0 where its type fills it with zeros in memory, or
     /// its offset is 0.
+    #[must_use]
     pub fn file_size(&self) -> u64 {
         self.0.file_size()
     }
@@ -146,6 +154,7 @@ pub fn parse(data: &[u8]) -> Result<Macho<'_>, ParseError> {
 
 impl<'a> Macho<'a> {
     /// Returns the file header.
+    #[must_use]
     pub fn header(&self) -> MachoHeader {
         let file = self.0.data();
         MachoHeader {
@@ -223,8 +232,8 @@ impl<'a> Macho<'a> {
     ///
     /// # Errors
     ///
-    /// [`ParseError::MalformedInput`] where their end passes 64 bits, [`ParseError::UnexpectedEof`] where it passes the
-    /// end of the file.
+    /// As of [`section_bytes`](crate::section_bytes): [`Error::NoBytes`] for a section that is filled with zeros by its type, or
+    /// whose offset is 0; [`Error::PastEnd`] where its bytes end past the file.
     ///
     /// # Examples
     ///
@@ -235,11 +244,15 @@ impl<'a> Macho<'a> {
     /// let file = std::fs::read(path)?;
     /// let program = macho::parse(&file)?;
     /// let text = program.section_with_name("__TEXT", "__text")?.ok_or("no text section")?;
-    /// assert_eq!(program.section_bytes(&text)?, &file[text.range()?]);
+    /// // The offset of this small file's section is 0.
+    /// assert_eq!(program.section_bytes(&text), Err(binfarce::Error::NoBytes));
     /// # Ok::<(), Box<dyn std::error::Error>>(())
     /// ```
-    pub fn section_bytes(&self, section: &Section<'_>) -> Result<&'a [u8], ParseError> {
-        Ok(self.0.section_bytes(&section.0)?)
+    pub fn section_bytes(&self, section: &Section<'_>) -> Result<&'a [u8], Error> {
+        if section.0.is_zero_filled() || section.offset() == 0 {
+            return Err(Error::NoBytes);
+        }
+        self.0.section_bytes(&section.0).map_err(|_| Error::PastEnd)
     }
 
     /// Returns the function symbols of the text section with readable names, by address, and the section's size in bytes. Those at

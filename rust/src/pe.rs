@@ -57,48 +57,57 @@ impl<'a> Section<'a> {
     }
 
     /// Returns the name in the section's header: `/` and an offset in the string table for a name of more than 8 bytes.
+    #[must_use]
     pub fn name(&self) -> &'a str {
         self.0.name()
     }
 
     /// Returns the address of the section's first byte in memory, counted from the image base (`VirtualAddress`).
+    #[must_use]
     pub fn address(&self) -> u32 {
         self.0.address()
     }
 
     /// Returns the section's size in memory in bytes (`VirtualSize`).
+    #[must_use]
     pub fn virtual_size(&self) -> u32 {
         self.0.virtual_size()
     }
 
     /// Returns the offset of the section's first byte in the file, or 0 where it has no bytes there (`PointerToRawData`).
+    #[must_use]
     pub fn offset(&self) -> u32 {
         self.0.offset()
     }
 
     /// Returns how many bytes the section has in the file (`SizeOfRawData`).
+    #[must_use]
     pub fn size(&self) -> u32 {
         self.0.size()
     }
 
     /// Returns the section's flags (`Characteristics`). 0 where the file ends before them.
+    #[must_use]
     pub fn characteristics(&self) -> u32 {
         self.0.characteristics()
     }
 
     /// Returns how many bytes of the file are the section's: `SizeOfRawData`, but 0 where `PointerToRawData` is 0.
+    #[must_use]
     pub fn file_size(&self) -> u32 {
         self.0.file_size()
     }
 
     /// Returns how many bytes the section has in memory: `VirtualSize`, or `SizeOfRawData` where that is 0, as in an object
     /// file.
+    #[must_use]
     pub fn memory_size(&self) -> u32 {
         self.0.memory_size()
     }
 
     /// Returns the index of the section's header in the section table, which counts from 0. The section's number in
     /// [`SectionFunction`] is greater by 1.
+    #[must_use]
     pub fn index(&self) -> u16 {
         self.0.index
     }
@@ -158,6 +167,7 @@ pub fn parse(data: &[u8]) -> Result<Pe<'_>, ParseError> {
 
 impl<'a> Pe<'a> {
     /// Returns the file header.
+    #[must_use]
     pub fn header(&self) -> PeHeader {
         let file = self.0.data();
         // `e_lfanew` of the stub; the signature has 4 bytes.
@@ -235,28 +245,32 @@ impl<'a> Pe<'a> {
         Ok(self.0.section_with_name(name)?.map(Section))
     }
 
-    /// Returns the section's bytes, a part of the file.
+    /// Returns the section's bytes in the file, `SizeOfRawData` of them. [`section_bytes`](crate::section_bytes) ends them at the
+    /// section's size in memory.
     ///
     /// # Errors
     ///
-    /// [`ParseError::UnexpectedEof`] where they end past the file.
+    /// [`Error::NoBytes`] where `PointerToRawData` or `SizeOfRawData` is 0; [`Error::PastEnd`] where its bytes end past the file.
     ///
     /// # Examples
     ///
     /// ```
-    /// use binfarce::{ParseError, pe};
+    /// use binfarce::{Error, pe};
     ///
     /// # let path = concat!(env!("CARGO_MANIFEST_DIR"), "/samples/pe-image.bin");
     /// let file = std::fs::read(path)?;
     /// let program = pe::parse(&file)?;
     /// let text = program.section_with_name(".text")?.ok_or("no text section")?;
-    /// // This small file ends within its section.
+    /// // The pointer of this small file's section is 0.
     /// assert_eq!(text.range()?, 0..512);
-    /// assert_eq!(program.section_bytes(&text), Err(ParseError::UnexpectedEof));
+    /// assert_eq!(program.section_bytes(&text), Err(Error::NoBytes));
     /// # Ok::<(), Box<dyn std::error::Error>>(())
     /// ```
-    pub fn section_bytes(&self, section: &Section<'_>) -> Result<&'a [u8], ParseError> {
-        Ok(self.0.section_bytes(&section.0)?)
+    pub fn section_bytes(&self, section: &Section<'_>) -> Result<&'a [u8], Error> {
+        if section.offset() == 0 || section.size() == 0 {
+            return Err(Error::NoBytes);
+        }
+        self.0.section_bytes(&section.0).map_err(|_| Error::PastEnd)
     }
 
     /// Returns the function symbols of the section `.text` with readable names, by address, and the section's size in

@@ -60,4 +60,31 @@ struct Options;
 ///     let binfarce::Section { segment, name, address, offset, size, has_bytes, .. } = section;
 /// };
 /// ```
+/// ```compile_fail
+/// let of = |name| binfarce::FunctionSymbol { name, address: 0, size: 0 };
+/// ```
+/// ```compile_fail
+/// let of = |section, function| binfarce::SectionFunction { section, info: 0, version: 0, function };
+/// ```
+/// ```compile_fail
+/// let of = |it: binfarce::LoadAddress| { let binfarce::LoadAddress { address, code } = it; };
+/// ```
+/// ```compile_fail
+/// let of = |it| { let binfarce::CodeSegment { address, offset, size, memory_size, align } = it; };
+/// ```
+/// ```compile_fail
+/// let of = |it| match it { binfarce::SectionType::Elf(_) | binfarce::SectionType::Macho(_) | binfarce::SectionType::Pe => 0 };
+/// ```
+/// ```compile_fail
+/// let of = |it| { let binfarce::Frame { path, function, offset } = it; };
+/// ```
+/// ```
+/// use binfarce::{CodeSegment, Frame, FunctionSymbol, LoadAddress, SectionFunction, SectionType};
+/// let of = |it| { let FunctionSymbol { name, address, size, .. } = it; };
+/// let of = |it| { let SectionFunction { section, info, version, function, .. } = it; };
+/// let of = |it| { let LoadAddress { address, code, .. } = it; };
+/// let of = |it| { let CodeSegment { address, offset, size, memory_size, align, .. } = it; };
+/// let of = |it| match it { SectionType::Elf(_) | SectionType::Macho(_) | SectionType::Pe => 0, _ => 1 };
+/// let of = |it| { let Frame { path, function, offset, .. } = it; };
+/// ```
 struct Answers;

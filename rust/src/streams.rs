@@ -13,7 +13,7 @@ use crate::erased::binfarce_tools::tables;
 use crate::figures::{Figures, Grouping, Growth, Layout, Shown};
 use crate::foreign::FIRST_LENGTH;
 use crate::shim::alloc::Global;
-use crate::{Error, Format, Selection, SymbolTable, Tables};
+use crate::{Error, Format, Selection, StreamError, SymbolTable, Tables};
 use core::cell::RefCell;
 use std::io::{self, ErrorKind, Read, Seek, SeekFrom, Write};
 
@@ -47,9 +47,7 @@ impl<S> Kept<S> {
     /// The same of a count of bytes, which is at most `most`.
     fn keep_count(&mut self, result: io::Result<usize>, most: usize) -> io::Result<usize> {
         self.keep(match result {
-            Ok(count) if count > most => {
-                Err(io::Error::new(ErrorKind::InvalidData, "a stream counts more bytes than it was given"))
-            }
+            Ok(count) if count > most => Err(ErrorKind::InvalidData.into()),
             _ => result,
         })
     }
@@ -114,8 +112,8 @@ impl<S: Read + Seek> Source for RefCell<Kept<S>> {
 ///
 /// # Errors
 ///
-/// That of `file`; [`Error::UnknownFormat`] and that of `read`, each as an [`io::Error`].
-pub(crate) fn read_by_format<S, T, F>(file: S, read: F) -> io::Result<T>
+/// That of `file`; [`Error::UnknownFormat`] and that of `read`.
+pub(crate) fn read_by_format<S, T, F>(file: S, read: F) -> Result<T, StreamError>
 where
     S: Read + Seek,
     F: FnOnce(&RefCell<Kept<S>>, Format) -> Result<T, SectionError>,
@@ -129,7 +127,7 @@ where
     };
     match answer {
         Ok(answer) => Ok(answer),
-        Err(SectionError::Unreadable) => Err(file.into_inner().into_error(ErrorKind::UnexpectedEof)),
+        Err(SectionError::Unreadable) => Err(file.into_inner().into_error(ErrorKind::UnexpectedEof).into()),
         Err(e) => Err(Error::from(e).into()),
     }
 }
@@ -141,7 +139,7 @@ impl Tables<'static> {
     ///
     /// # Errors
     ///
-    /// That of `file`; otherwise that of [`Tables::new`], as an [`io::Error`], of which [`Error::of_io`] returns it.
+    /// [`StreamError::Stream`] with that of `file`; otherwise that of [`Tables::new`].
     ///
     /// # Examples
     ///
@@ -153,10 +151,9 @@ impl Tables<'static> {
     /// assert_eq!(tables.functions()?.count(), 3);
     /// # Ok::<(), Box<dyn std::error::Error>>(())
     /// ```
-    pub fn read<R: Read + Seek>(file: R, selection: Selection<'_>, table: SymbolTable) -> io::Result<Self> {
-        let (table, selection) = (table.into_erased(), selection.into());
+    pub fn read<R: Read + Seek>(file: R, selection: Selection<'_>, table: SymbolTable) -> Result<Self, StreamError> {
         let tables = read_by_format(file, |file, format| {
-            Ok(tables::read_tables(Global, file, &mut (), format, table, selection)?)
+            Ok(tables::read_tables(Global, file, &mut (), format, table.into_erased(), selection.into())?)
         })?;
         Ok(Tables(tables.accepted(Global).map_err(Error::from)?))
     }
@@ -168,8 +165,8 @@ impl Tables<'_> {
     ///
     /// # Errors
     ///
-    /// That of `output`; [`ErrorKind::WriteZero`] where it takes no more bytes; otherwise that of [`Tables::functions`], as an
-    /// [`io::Error`]: then nothing is written.
+    /// [`StreamError::Stream`] with that of `output`, or with [`ErrorKind::WriteZero`] where it takes no more bytes; otherwise that
+    /// of [`Tables::functions`]: then nothing is written.
     ///
     /// # Examples
     ///
@@ -184,7 +181,7 @@ impl Tables<'_> {
     /// assert_eq!(text, b"0000000000001000         16 .text foo\n0000000000001010         16 .symtab bad\n0000000000001010          0 .text bad\n");
     /// # Ok::<(), Box<dyn std::error::Error>>(())
     /// ```
-    pub fn list_to<W: Write>(&self, output: W) -> io::Result<()> {
+    pub fn list_to<W: Write>(&self, output: W) -> Result<(), StreamError> {
         write_to(output, |sink| Ok(list_tables(Global, &self.0, sink)?))
     }
 
@@ -193,7 +190,7 @@ impl Tables<'_> {
     ///
     /// # Errors
     ///
-    /// Those of [`Tables::list_to`]; [`Error::TooLarge`], as an [`io::Error`], where the sum of all sizes is 2^64 or more.
+    /// Those of [`Tables::list_to`]; [`Error::TooLarge`] where the sum of all sizes is 2^64 or more.
     ///
     /// # Examples
     ///
@@ -208,7 +205,7 @@ impl Tables<'_> {
     /// assert_eq!(text, b"        16 [unknown]\n        16 foo\nsum 32\n");
     /// # Ok::<(), Box<dyn std::error::Error>>(())
     /// ```
-    pub fn report_to<W: Write>(&self, output: W) -> io::Result<()> {
+    pub fn report_to<W: Write>(&self, output: W) -> Result<(), StreamError> {
         write_to(output, |sink| report_tables(Global, &self.0, sink))
     }
 
@@ -232,7 +229,7 @@ impl Tables<'_> {
     /// assert!(picture.starts_with(b"<svg "));
     /// # Ok::<(), Box<dyn std::error::Error>>(())
     /// ```
-    pub fn map_to<W: Write>(&self, title: &str, grouping: impl Into<Grouping>, output: W) -> io::Result<()> {
+    pub fn map_to<W: Write>(&self, title: &str, grouping: impl Into<Grouping>, output: W) -> Result<(), StreamError> {
         let grouping = grouping.into().into_erased();
         write_to(output, |sink| map_by(Global, title, &Claims::of_tables(Global, &self.0)?, grouping, None, sink))
     }
@@ -258,7 +255,7 @@ impl Tables<'_> {
     /// assert_eq!(text, b"0000000000001010         16 .symtab bad\n0000000000001010          0 .text bad\n0000000000001000         16 .text foo\n");
     /// # Ok::<(), Box<dyn std::error::Error>>(())
     /// ```
-    pub fn rows_to<W: Write>(&self, shown: &Shown, layout: Layout<'_>, output: W) -> io::Result<()> {
+    pub fn rows_to<W: Write>(&self, shown: &Shown, layout: Layout<'_>, output: W) -> Result<(), StreamError> {
         let (shown, form) = (shown.into_erased(), layout.into_erased());
         write_to(output, |sink| Ok(list_by(Global, &self.0, &shown, form, sink)?))?;
         Ok(())
@@ -269,7 +266,7 @@ impl Tables<'_> {
     ///
     /// # Errors
     ///
-    /// Those of [`Tables::list_to`]; [`Error::TooLarge`], as an [`io::Error`], where the sum of all, each byte counted once, is
+    /// Those of [`Tables::list_to`]; [`Error::TooLarge`] where the sum of all, each byte counted once, is
     /// 2^64 or more.
     ///
     /// # Examples
@@ -287,7 +284,7 @@ impl Tables<'_> {
     /// assert_eq!(text, b"        16  50.00% foo\nsum 16\ntext 32\n");
     /// # Ok::<(), Box<dyn std::error::Error>>(())
     /// ```
-    pub fn figures_to<W: Write>(&self, figures: &Figures, layout: Layout<'_>, output: W) -> io::Result<u64> {
+    pub fn figures_to<W: Write>(&self, figures: &Figures, layout: Layout<'_>, output: W) -> Result<u64, StreamError> {
         let (figures, form) = (figures.into_erased(), layout.into_erased());
         let sums = write_to(output, |sink| sum_by(Global, &Claims::of_tables(Global, &self.0)?, &figures, form, sink))?;
         Ok(sums.total)
@@ -322,7 +319,7 @@ impl Tables<'_> {
         figures: &Figures,
         layout: Layout<'_>,
         output: W,
-    ) -> io::Result<Growth>
+    ) -> Result<Growth, StreamError>
     where
         W: Write,
     {
@@ -354,12 +351,12 @@ impl Tables<'_> {
     /// assert_eq!(text, b"[unknown];bad 16\nfoo 16\n");
     /// # Ok::<(), Box<dyn std::error::Error>>(())
     /// ```
-    pub fn stacks_to<W: Write>(&self, output: W) -> io::Result<()> {
+    pub fn stacks_to<W: Write>(&self, output: W) -> Result<(), StreamError> {
         write_to(output, |sink| fold_claims(Global, &Claims::of_tables(Global, &self.0)?, false, sink))
     }
 }
 
-fn write_to<T, W, F>(output: W, write: F) -> io::Result<T>
+fn write_to<T, W, F>(output: W, write: F) -> Result<T, StreamError>
 where
     W: Write,
     F: FnOnce(&mut Kept<W>) -> Result<T, ReportError>,
@@ -368,7 +365,7 @@ where
     let written = write(&mut output);
     match written {
         Ok(value) => Ok(value),
-        Err(ReportError::Write) => Err(output.into_error(ErrorKind::WriteZero)),
+        Err(ReportError::Write) => Err(output.into_error(ErrorKind::WriteZero).into()),
         Err(e) => Err(Error::from(e).into()),
     }
 }
@@ -378,7 +375,7 @@ where
 ///
 /// # Errors
 ///
-/// That of `file`; otherwise that of [`load_address`](crate::load_address), as an [`io::Error`].
-pub fn read_load_address<R: Read + Seek>(file: R) -> io::Result<Option<LoadAddress>> {
+/// [`StreamError::Stream`] with that of `file`; otherwise that of [`load_address`](crate::load_address).
+pub fn read_load_address<R: Read + Seek>(file: R) -> Result<Option<LoadAddress>, StreamError> {
     read_by_format(file, |file, format| Ok(loading::read_load_address(Global, file, &mut (), format)?))
 }

@@ -178,6 +178,7 @@ impl<'a> Symbolizer<'a> {
     /// assert_eq!(symbolizer.find(0x2000), None);
     /// # Ok::<(), Box<dyn std::error::Error>>(())
     /// ```
+    #[must_use]
     pub fn find(&self, address: u64) -> Option<(FunctionSymbol<'_>, u64)> {
         self.look_up(address, false)
     }
@@ -201,6 +202,7 @@ impl<'a> Symbolizer<'a> {
     /// assert_eq!(symbolizer.find_return(0x1000).map(|(_, offset)| offset), Some(0));
     /// # Ok::<(), Box<dyn std::error::Error>>(())
     /// ```
+    #[must_use]
     pub fn find_return(&self, address: u64) -> Option<(FunctionSymbol<'_>, u64)> {
         self.look_up(address, true)
     }
@@ -222,11 +224,13 @@ impl<'a> Symbolizer<'a> {
     /// assert_eq!(found.map(|(file, function, offset)| (file, function.name, offset)), Some((1, "bad", 4)));
     /// # Ok::<(), Box<dyn std::error::Error>>(())
     /// ```
+    #[must_use]
     pub fn find_among<'s>(files: &'s [Symbolizer<'_>], address: u64) -> Option<(usize, FunctionSymbol<'s>, u64)> {
         look_up_among(files, address, false)
     }
 
     /// The same of a return address, by [`Symbolizer::find_return`].
+    #[must_use]
     pub fn find_return_among<'s>(
         files: &'s [Symbolizer<'_>],
         address: u64,
@@ -302,21 +306,34 @@ pub fn load_address(file: &[u8]) -> Result<Option<LoadAddress>, Error> {
 /// # Examples
 ///
 /// ```
-/// use binfarce::{CodeSegment, LoadAddress, mapped_at};
+/// use binfarce::{load_address, mapped_at};
 ///
-/// let code = CodeSegment { address: 0x2970, offset: 0x970, size: 0x370, memory_size: 0x370, align: 0x1000 };
-/// let loaded = LoadAddress { address: 0, code: Some(code) };
-/// // The first mapping is one to read the file: its backtraces do that.
+/// # let path = concat!(env!("CARGO_MANIFEST_DIR"), "/samples/elf64-little.bin");
+/// // No segment of this file is loaded, and nothing says where its code is.
+/// let loaded = load_address(&std::fs::read(path)?)?;
 /// let maps = "\
-/// 563261d00000-563261d01000 r--p 00000000 fe:00 10961329   /tmp/app
 /// 563261dae000-563261daf000 r--p 00000000 fe:00 10961329   /tmp/app
 /// 563261db0000-563261db1000 r-xp 00000000 fe:00 10961329   /tmp/app
 /// ";
-/// assert_eq!(mapped_at(maps.as_bytes(), "app", Some(loaded)), Some(0x5632_61da_e000));
-/// assert_eq!(mapped_at(maps.as_bytes(), "pp", Some(loaded)), None);
+/// assert_eq!(mapped_at(maps.as_bytes(), "app", loaded), Some(0x5632_61da_e000));
+/// assert_eq!(mapped_at(maps.as_bytes(), "pp", loaded), None);
+/// # Ok::<(), Box<dyn std::error::Error>>(())
 /// ```
+#[must_use]
 pub fn mapped_at(maps: &[u8], path: &str, loaded: Option<LoadAddress>) -> Option<u64> {
     base_of(maps, path.as_bytes(), loaded.unwrap_or(LoadAddress { address: 0, code: None })).ok()
+}
+
+#[test]
+fn a_mapping_to_read_a_file_is_not_its_base() {
+    use crate::CodeSegment;
+    let code = CodeSegment { address: 0x2970, offset: 0x970, size: 0x370, memory_size: 0x370, align: 0x1000 };
+    let maps = b"\
+563261d00000-563261d01000 r--p 00000000 fe:00 10961329   /tmp/app
+563261dae000-563261daf000 r--p 00000000 fe:00 10961329   /tmp/app
+563261db0000-563261db1000 r-xp 00000000 fe:00 10961329   /tmp/app
+";
+    assert_eq!(mapped_at(maps, "app", Some(LoadAddress { address: 0, code: Some(code) })), Some(0x5632_61da_e000));
 }
 
 #[test]

@@ -1,7 +1,7 @@
 //! The function symbols of a file of any format: of one section or of all, from memory or from a file that is read at offsets.
 
-use crate::any::{Functions, known_format};
-use crate::erased::binfarce::elf32;
+use crate::any::{Functions, Items, known_format};
+use crate::erased::binfarce::{elf32, elf64};
 use crate::erased::binfarce_elf::symbol_table;
 use crate::erased::binfarce_figures::claims::Claims;
 use crate::erased::binfarce_figures::sums::numbers_of;
@@ -12,7 +12,7 @@ use crate::error::{Error, ParseError};
 use crate::figures::Grouping;
 use crate::shim;
 use crate::shim::alloc::Global;
-use crate::{FunctionSymbol, SectionFunction};
+use crate::{Format, FunctionSymbol, SectionFunction};
 use alloc::string::String;
 use alloc::vec::Vec;
 
@@ -108,13 +108,19 @@ impl<'a> Tables<'a> {
     /// assert_eq!(tables(b"#!/bin/sh").unwrap_err().kind(), ErrorKind::UnknownFormat);
     /// # Ok::<(), Box<dyn std::error::Error>>(())
     /// ```
-    pub fn new(file: &'a [u8], selection: Selection<'a>, table: SymbolTable) -> Result<Self, Error> {
+    pub fn new(file: &'a [u8], selection: Selection<'_>, table: SymbolTable) -> Result<Self, Error> {
         let format = known_format(file)?;
         let tables = match (selection, table) {
-            (Selection::Section(section), SymbolTable::Symtab) => tables::Tables::whole(file, section),
-            _ => tables::read_tables(Global, &file, &mut (), format, table.into_erased(), selection.into())?,
+            (Selection::Section(section), SymbolTable::Symtab) => match stored_name(file, format, section)? {
+                Some(stored) => tables::Tables::whole(file, stored).accepted(Global)?,
+                None => return Err(ParseError::SymbolsSectionIsMissing.into()),
+            },
+            _ => {
+                let selection = selection.into();
+                tables::read_tables(Global, &file, &mut (), format, table.into_erased(), selection)?.accepted(Global)?
+            }
         };
-        Ok(Tables(tables.accepted(Global)?))
+        Ok(Tables(tables))
     }
 
     /// Returns an iterator over the function symbols, with their names as the file stores them: those of a section as
@@ -136,7 +142,7 @@ impl<'a> Tables<'a> {
     /// # Ok::<(), Box<dyn std::error::Error>>(())
     /// ```
     pub fn functions(&self) -> Result<Functions<'_>, Error> {
-        Ok(Functions(AllFunctions::new(self.0.functions(Global)?.into_list().0.all)?))
+        Ok(Functions(Items::All(AllFunctions::new(self.0.functions(Global)?.into_list().0.all)?)))
     }
 
     /// Returns the function symbols of all sections, each with its section's number; `None` where the tables are of one
@@ -180,6 +186,7 @@ impl<'a> Tables<'a> {
     /// assert_eq!((tables.section_name(1), tables.section_name(2)), (Some("__TEXT,__text"), None));
     /// # Ok::<(), Box<dyn std::error::Error>>(())
     /// ```
+    #[must_use]
     pub fn section_name(&self, number: u32) -> Option<&str> {
         self.0.section_name(number)
     }
@@ -198,6 +205,7 @@ impl<'a> Tables<'a> {
     /// assert!(!tables.shares_addresses());
     /// # Ok::<(), Box<dyn std::error::Error>>(())
     /// ```
+    #[must_use]
     pub fn shares_addresses(&self) -> bool {
         self.0.shares_addresses()
     }
@@ -273,6 +281,22 @@ impl<'a> Tables<'a> {
         });
         Ok(Sums { rows, total, section_size: section_size.unwrap_or(total) })
     }
+}
+
+/// The name of the first section of this name, as the file stores it: it lives as long as the file's bytes. Of a Mach-O or PE file the
+/// name doesn't matter.
+fn stored_name<'a>(file: &'a [u8], format: Format, name: &str) -> Result<Option<&'a str>, Error> {
+    Ok(match format {
+        Format::Elf32 { byte_order } => {
+            let elf = elf32::parse(file, byte_order)?;
+            elf.section_with_name(name)?.and_then(|section| section.name(&elf))
+        }
+        Format::Elf64 { byte_order } => {
+            let elf = elf64::parse(file, byte_order)?;
+            elf.section_with_name(name)?.and_then(|section| section.name(&elf))
+        }
+        Format::Macho | Format::PE | Format::Unknown => Some(""),
+    })
 }
 
 /// An iterator over the function symbols of all sections: the answer of [`Tables::all_functions`].

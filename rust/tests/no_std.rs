@@ -25,7 +25,7 @@ text 32
 Some("bad")
 [("[unknown]", 16), ("foo", 16)]
 true
-a script; its first line names the program that runs it
+a script
 panicked in a::b
 panicked in _RNvC1a1b, V0, true
 "#;

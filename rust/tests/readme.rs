@@ -4,7 +4,7 @@ use binfarce::demangle::{Demangler, Kind, SymbolName, demangle, trimmed};
 use binfarce::figures::{Figures, Key, Layout, Shown};
 use binfarce::*;
 use std::fs::File;
-use std::io::{self, Read, Seek};
+use std::io::{self, Cursor, Read, Seek};
 
 const SAMPLE: &str = concat!(env!("CARGO_MANIFEST_DIR"), "/samples/elf64-little.bin");
 
@@ -69,7 +69,7 @@ fn one_file_of_another_format() -> Result<(), Box<dyn std::error::Error>> {
 }
 
 fn read(file: impl Read + Seek) -> io::Result<Tables<'static>> {
-    Tables::read(file, Selection::Section(".text"), SymbolTable::Symtab)
+    Ok(Tables::read(file, Selection::Section(".text"), SymbolTable::Symtab)?)
 }
 
 #[test]
@@ -112,6 +112,24 @@ fn several_files() -> Result<(), Box<dyn std::error::Error>> {
     let symbolizers = [symbolizer.with_base(mapped_at(maps, path, loaded).unwrap())];
     assert_eq!(Symbolizer::find_among(&symbolizers, address).unwrap().0, 0);
     Ok(())
+}
+
+#[test]
+#[cfg(target_os = "linux")]
+fn a_process() -> Result<(), Box<dyn std::error::Error>> {
+    let address = main_of_tests as *const () as usize as u64 + 1;
+    let process = Process::own()?;
+    assert!(process.find_return(address).is_some_and(|it| it.function.name.contains("main_of_tests")));
+    let (maps, open) = (b"5000-6000 r-xp 00000000 fe:00 1  /lib/libapp.so\n", |_: &str| Ok(Cursor::new("#!/bin/sh")));
+    let process = Process::of_maps(maps, open)?;
+    let (path, e): (&str, &StreamError) = process.refused().next().unwrap();
+    assert_eq!((path, e.refusal().map(|e| e.kind())), ("/lib/libapp.so", Some(ErrorKind::UnknownFormat)));
+    Ok(())
+}
+
+#[inline(never)]
+fn main_of_tests() {
+    println!("called by nobody");
 }
 
 #[test]

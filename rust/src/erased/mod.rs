@@ -21,6 +21,7 @@ pub mod binfarce_pe;
 pub mod binfarce_tables;
 pub mod binfarce;
 #[cfg(test)]
+#[cfg(feature = "stored")]
 pub mod binfarce_image;
 pub mod binfarce_rows;
 #[cfg(any(test, feature = "programs"))]
@@ -44,21 +45,29 @@ pub mod binfarce_size;
 #[cfg(any(test, feature = "programs"))]
 pub mod binfarce_command;
 #[cfg(test)]
+#[cfg(feature = "stored")]
 pub mod test_samples;
 #[cfg(test)]
+#[cfg(feature = "stored")]
 pub mod test_image_samples;
 #[cfg(test)]
+#[cfg(feature = "stored")]
 pub mod test_reading;
 #[cfg(test)]
+#[cfg(feature = "stored")]
 pub mod test_lookups;
 #[cfg(test)]
+#[cfg(feature = "stored")]
 pub mod test_memory;
 #[cfg(test)]
+#[cfg(feature = "stored")]
 pub mod test_names;
 #[cfg(test)]
+#[cfg(feature = "stored")]
 pub mod test_formats;
 
 #[cfg(test)]
+#[cfg(feature = "stored")]
 pub const TEST_PROGRAMS: &[(&str, crate::shim::test::Main)] = &[
     ("test_lookups", test_lookups::main),
     ("test_memory", test_memory::main),

@@ -337,6 +337,7 @@ fn deep_names_in_a_thread() {
 // The programs among the erased tests: their stored runs, where the crate is in its repository; and of the one that has a line for
 // each group of calls and the number of an allocation, runs in which that one is refused.
 #[test]
+#[cfg(feature = "stored")]
 fn stored_runs() {
     let is = |code: ExitCode, want: u8| format!("{code:?}") == format!("{:?}", ExitCode::from(want));
     for &(name, main) in crate::erased::TEST_PROGRAMS {

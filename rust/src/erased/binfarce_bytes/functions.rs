@@ -4,6 +4,7 @@
 
 /// A function symbol as a file stores it. Its name is a slice of the file's bytes, and still mangled.
 #[derive(Debug, Clone, Copy)]
+#[non_exhaustive]
 pub struct FunctionSymbol<'a> {
     /// The name as it is stored.
     pub name: &'a str,
@@ -16,6 +17,7 @@ pub struct FunctionSymbol<'a> {
 
 /// A function symbol, and its section.
 #[derive(Debug, Clone, Copy)]
+#[non_exhaustive]
 pub struct SectionFunction<'a> {
     /// The section's number: in an ELF file the index of its section header, in Mach-O and PE files counted from 1.
     pub section: u32,

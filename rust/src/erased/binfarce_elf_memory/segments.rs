@@ -21,6 +21,7 @@ pub fn program_length(width: Width) -> usize {
 
 /// Where a file says that it is loaded, unless the loader chooses another address.
 #[derive(Debug, Clone, Copy, PartialEq)]
+#[non_exhaustive]
 pub struct LoadAddress {
     /// The address of the file's first byte in memory.
     pub address: u64,
@@ -30,6 +31,7 @@ pub struct LoadAddress {
 
 /// A segment of code, which may be executed: where bytes of the file are loaded.
 #[derive(Debug, Clone, Copy, PartialEq)]
+#[non_exhaustive]
 pub struct CodeSegment {
     /// The address of its first byte (`p_vaddr`).
     pub address: u64,

@@ -402,7 +402,9 @@ ends(1, "", f"binfarce: {linked}: linked is at several addresses in the maps; gi
 ends(0, f"{0x500005:016x} foo+0x5\n", "", *code_at, "--as=y/linked", "500005", given=(read + code + again).encode())
 # Linux's line on a fault is a mapping of the code, with the offset in the file of the faulting address, or in older kernels without.
 for fault in ("ip 0000000000400005 sp 0 error 4 in linked[5,400000+1000] likely on CPU 1", "ip 0000000000400005 sp 0 error 4 in linked[400000+1000]", "ip:400005 sp:0 error:0 in linked[5,400000+1000]"):
-    ends(0, f"{0x400005:016x} foo+0x5\n", "", *code_at, "400005", given=f"[ 3.7] linked[7]: segfault at 0 {fault}\n".encode())
+    # The address is behind the word ip, not behind a host's name or a program's that begins so.
+    for before in ("[ 3.7] linked[7]", "Dec  1 10:00:00 ip-172-31-5-6 kernel: iperf3[7]"):
+        ends(0, f"{0x400005:016x} foo+0x5\n", "", *code_at, "400005", given=f"{before}: segfault at 0 {fault}\n".encode())
 # Other mappings of a file with code don't place it, but for that of its first byte.
 for kind, offset in (("r--p", "00005000"), ("r-xp", "00001000")):
     ends(1, "", f"binfarce: {linked}: the maps don't say where the code of {linked} is; give --base, or more of the maps", *code_at, "400005",

@@ -44,10 +44,15 @@ in_brackets address text =
 abbrev pub named_fault : (address : ℕ) → (text : List ℕ) → Option (Mapping × List ℕ)
 named_fault address text = option_map (λ mapping. (mapping, before_first (nat_eq 91) text)) (in_brackets address (before_first (nat_eq 93) (after_first (nat_eq 91) text)))
 
--- so behind ` in `, of a text that begins with the address after one byte
+-- so behind ` in `, of a text that begins with the address
 abbrev pub fault_behind : (text : List ℕ) → Option (Mapping × List ℕ)
-fault_behind text = option_and_then (λ address. option_and_then (named_fault address) (behind_mark (codes " in ") text)) (hexadecimal (before_first (nat_eq 32) (drop 1 text)))
+fault_behind text = option_and_then (λ address. option_and_then (named_fault address) (behind_mark (codes " in ") text)) (hexadecimal (before_first (nat_eq 32) text))
+
+-- what is behind the mark of the address: the word `ip`, or where a line has none, ` ip:`. Other words may begin so, as a host's name or a program's
+abbrev pub behind_ip : (word line : Option (List ℕ)) → Option (List ℕ)
+behind_ip (Some text) line = Some text
+behind_ip None line = line
 
 -- what the line of a fault says: the mapping of the code, and the name of its file
 abbrev pub fault_in : (line : List ℕ) → Option (Mapping × List ℕ)
-fault_in line = option_and_then fault_behind (behind_mark (codes " ip") line)
+fault_in line = option_and_then fault_behind (behind_ip (behind_mark (codes " ip ") line) (behind_mark (codes " ip:") line))

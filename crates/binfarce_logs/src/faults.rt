@@ -11,14 +11,17 @@ use binfarce_rows::address::hex_number;
 pub(crate) fn fault_in(line: &[u8]) -> Option<(Mapping, &[u8])>
     ensures { option_map (λ m. (m.0, m.1.now)) result ≡ fault_in line.now }
 {
-    fault_behind(behind_mark(b" ip", line)?)
+    match behind_mark(b" ip ", line) {
+        Some(text) => fault_behind(text),
+        None => fault_behind(behind_mark(b" ip:", line)?),
+    }
 }
 
-// So of a text that begins with the address after one byte.
+// What it says in this text, which begins with the address.
 fn fault_behind(text: &[u8]) -> Option<(Mapping, &[u8])>
     ensures { option_map (λ m. (m.0, m.1.now)) result ≡ fault_behind text.now }
 {
-    let address = hex_number(before_blank(behind(0, text)))?;
+    let address = hex_number(before_blank(text))?;
     named_fault(address, behind_mark(b" in ", text)?)
 }
 

@@ -7,12 +7,15 @@ use crate::erased::binfarce_rows::address::hex_number;
 
 // What the line of a fault says: the mapping of the code, and the name of its file.
 pub(crate) fn fault_in(line: &[u8]) -> Option<(Mapping, &[u8])> {
-    fault_behind(behind_mark(b" ip", line)?)
+    match behind_mark(b" ip ", line) {
+        Some(text) => fault_behind(text),
+        None => fault_behind(behind_mark(b" ip:", line)?),
+    }
 }
 
-// So of a text that begins with the address after one byte.
+// What it says in this text, which begins with the address.
 fn fault_behind(text: &[u8]) -> Option<(Mapping, &[u8])> {
-    let address = hex_number(before_blank(behind(0, text)))?;
+    let address = hex_number(before_blank(text))?;
     named_fault(address, behind_mark(b" in ", text)?)
 }
 

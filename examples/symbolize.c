@@ -1,5 +1,5 @@
-/* symbolize FILE ADDRESS..: the function at each address, in hexadecimal, as `binfarce at` prints it: by the symbol table, or where
-   the file has none by the dynamic one. */
+/* symbolize FILE ADDRESS..: the function at each address, in hexadecimal, as `binfarce at` prints it, but that of aliases the first in
+   the table is named, also a local one: by the symbol table, or where the file has none by the dynamic one. */
 #include "read.h"
 
 /* The readable name of a function: the caller frees it. NULL where memory runs out. */

@@ -99,11 +99,11 @@ enum binfarce_status {
     BINFARCE_NO_BYTES = 14, /* the section has none in the file, as .bss */
     BINFARCE_PAST_END = 15, /* they end past the file */
     /* What a file is that isn't read: binfarce_foreign, and each call for a file but binfarce_list and binfarce_report. */
-    BINFARCE_UNIVERSAL = 32, /* a universal Mach-O file: the program reads its part */
+    BINFARCE_UNIVERSAL = 32, /* a universal Mach-O file: the caller passes the bytes of one of its parts */
     BINFARCE_JAVA_CLASS = 33,
     BINFARCE_MACHO32 = 34,
     BINFARCE_MACHO_BIG_ENDIAN = 35,
-    BINFARCE_ARCHIVE = 36, /* of ar: the program reads its members */
+    BINFARCE_ARCHIVE = 36, /* of ar: the caller passes the bytes of a member */
     BINFARCE_THIN_ARCHIVE = 37,
     BINFARCE_COFF = 38, /* a COFF object file */
     BINFARCE_PDB = 39,
@@ -159,7 +159,7 @@ size_t binfarce_terminate(uint8_t *out, size_t out_length, size_t length);
 /*
  * The words of a status, as binfarce-list and binfarce-size print them, but without the number of
  * BINFARCE_UNEXPECTED_SECTION_TYPE: its words are "unexpected section type", and the call that was refused has the number in
- * `detail`. From 32 on they are what a file is, as "an archive", of which the command adds what helps. Of a number that is no
+ * `detail`. From 32 on they are what a file is, as "an archive"; the command binfarce prints a hint after them. Of a number that is no
  * status they are "unknown status". 64 bytes have room for the words of this version. Returns their length. Does not allocate.
  */
 size_t binfarce_status_text(uint32_t status, uint8_t *out, size_t out_length);
@@ -303,7 +303,8 @@ enum binfarce_symbol_table {
  * The function symbols of all sections of a file, in the caller's array: of an ELF file in the order of this symbol table (a number
  * above 1 is taken as BINFARCE_DYNSYM), also indirect ones (STT_GNU_IFUNC); one of size 0 ends at the next symbol or with its
  * section. Addresses are those in memory that the file states, of a PE file virtual ones; in an object file all sections of ELF
- * and PE begin at 0. Refused as binfarce_functions refuses. Allocates, more for more symbols.
+ * and PE begin at 0. Refused as binfarce_functions refuses, but for what is about a
+ * section's name. Allocates, more for more symbols.
  */
 struct binfarce_functions binfarce_all_functions(const uint8_t *file, size_t file_length, uint32_t table,
                                                  struct binfarce_function *out, size_t out_length);
@@ -311,7 +312,9 @@ struct binfarce_functions binfarce_all_functions(const uint8_t *file, size_t fil
 /*
  * The function at an address: the index of the one in this array that holds it, and `functions_length` if none does. It is held
  * from a function's address on, for its size, which counts at least 1. Of several that hold it it is the one of greatest
- * address, and of these the first. The address is one that the file states: of a running program less what the loader added.
+ * address, and of these the first; in an ELF file local symbols come first, so of aliases it may be a local one, where the command
+ * `binfarce at` names another. The array is best that of binfarce_all_functions: that of one section lacks other sections and
+ * functions of size 0, and has offsets in a PE file. The address is one that the file states: of a running program less what the loader added.
  * All of the array is searched, and the file isn't read. Does not allocate.
  */
 size_t binfarce_function_at(const struct binfarce_function *functions, size_t functions_length, uint64_t address);

@@ -10,6 +10,8 @@ CREATE TEMP VIEW earlier AS SELECT * FROM sums WHERE snapshot = (SELECT number F
 SELECT sum(size) AS bytes, count(*), name FROM latest WHERE error IS NULL GROUP BY name ORDER BY bytes DESC, name LIMIT 20;
 .print Programs that contain :crate: bytes, program, machine
 SELECT size, file, host FROM latest WHERE name = :crate ORDER BY size DESC, file, host;
+.print Compared with: snapshot, taken
+SELECT number, taken FROM snapshots WHERE number = (SELECT number FROM before);
 .print What grew since the snapshot before: bytes more, bytes, crate, program, machine
 SELECT size - ifnull(old, 0) AS more, size, name, file, host
     FROM (SELECT *, (SELECT size FROM earlier WHERE earlier.host = latest.host AND earlier.file = latest.file

@@ -54,7 +54,12 @@ touch "$work/free" && : >"$work/asked"
 PATH="$work/stub:$PATH" ./sizes --label=one --resume="$work/part" 2 <"$work/list" 2>"$work/said" >"$work/resumed"
 rows <"$work/resumed" | cmp - "$work/one" || fail "other lines after an interruption"
 [ "$(grep -c / "$work/asked")" = 1 ] || fail "what was done is done again: $(cat "$work/asked")"
-! ./sizes --resume="$work/part" 2 --dynamic <"$work/list" >"$work/none" 2>/dev/null || fail "other options are resumed"
+! ./sizes --label=one --resume="$work/part" 2 --dynamic <"$work/list" >"$work/none" 2>/dev/null || fail "other options are resumed"
+! ./sizes --resume="$work/part" 2 <"$work/list" >"$work/none" 2>/dev/null || fail "another label is resumed"
+cp "$work/part" "$work/same"
+! ./sizes --label=one --resume="$work/same" 2 <"$work/list" >"$work/same" 2>"$work/said" || fail "an output is resumed from itself"
+grep -q 'also the output' "$work/said" || fail "an output that is resumed isn't said: $(cat "$work/said")"
+! echo a | ./sizes 1 >"$work/none" 2>/dev/null || fail "names without a NUL end with 0"
 # Where ssh is cut off, the machine's lines end early.
 { ./sizes --host=web1 1 <"$work/list"; ./sizes --host=web2 1 <"$work/list" | head -n 4; } >"$work/cut" 2>/dev/null
 refuses "$work/none.db" "$work/cut" "what a lost machine wrote"

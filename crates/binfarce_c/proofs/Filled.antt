@@ -1,9 +1,9 @@
 -- Sections that are put into an array, one after the other.
-use Rattle.std.proofs.Common.{◌≡◌, ℕ, suc, ◌+◌, ◌-◌, ◌^◌, ◌<◌, ◌≤◌, min, List, [], ◌∷◌, ◌++◌, length, length-append, append_assoc, Option, Some, None, Result, Ok, Err, refl, sym, ap, subst, ◌∙◌, arith}
+use Rattle.std.proofs.Common.{◌≡◌, ℕ, suc, ◌+◌, ◌-◌, ◌^◌, ◌<◌, ◌≤◌, min, List, [], ◌∷◌, ◌++◌, length, length-append, append_assoc, Option, Some, None, Ok, Err, refl, sym, ap, subst, ◌∙◌, arith}
 use Rattle.std.specs.List.{AllZip, slice_set}
 use Rattle.std.proofs.lemmas.List.{append-nil, set_past}
 use Rattle.std.proofs.Math.Seq.{take-nil, drop-nil}
-use Rattle.binfarce.specs.Refusal.{Refusal, refusal_of}
+use Rattle.binfarce.specs.Refusal.{Refusal}
 use Rattle.binfarce.specs.Walk.{Walk, ahead_of, ended}
 use Rattle.binfarce_sections.specs.Section as seen
 use Rattle.binfarce_sections.specs.Views.{Opens, sections_left}

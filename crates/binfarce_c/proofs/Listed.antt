@@ -1,11 +1,11 @@
 -- The function symbols that were found, as the answer of a file.
-use Rattle.std.proofs.Common.{◌≡◌, ◌⊎◌, inl, inr, ℕ, List, [], ◌∷◌, length, map, Option, Some, Result, Ok, Err, refl, sym, ap, subst, ◌∙◌}
+use Rattle.std.proofs.Common.{◌≡◌, inl, inr, ℕ, true≢false, List, [], ◌∷◌, length, map, Some, Result, Ok, Err, refl, sym, ap, subst, ◌∙◌}
 use Rattle.std.specs.Global.{Vec}
 use Rattle.std.specs.Result.{IsOk}
 use Rattle.binfarce.specs.declared.ParseError.{ParseError}
 use Rattle.binfarce.specs.declared.SectionFunction.{SectionFunction}
 use Rattle.binfarce.specs.ElfSelection.{Selected}
-use Rattle.binfarce.specs.Refusal.{◌>>=◌, Refusal, out_of_memory}
+use Rattle.binfarce.specs.Refusal.{◌>>=◌, Refusal}
 use Rattle.binfarce.specs.SectionEntries.{AnswersAll, SectionEntry}
 use Rattle.binfarce.specs.SelectionViews.{HoldsAllFunctions}
 use Rattle.binfarce.specs.Symbol.{Answers, Entry, Listed}
@@ -36,7 +36,7 @@ elf_found (Ok selected) (Err refusal) (Err e) holds is = (is ∙ holds.0, tt)
 elf_found (Err r) (Ok functions) found holds is = absurd holds
 elf_found (Err r) (Err refusal) (Ok found) holds is = absurd is
 elf_found (Err r) (Err refusal) (Err e) (inl same) is = inl (is ∙ same)
-elf_found (Err r) (Err refusal) (Err e) (inr more) is = absurd more.1
+elf_found (Err r) (Err refusal) (Err e) (inr more) is = absurd (true≢false (sym more.1))
 
 -- those of a Mach-O or PE file
 pub all_found : (Needs : Type 0) (answer : Result (List SectionEntry) Refusal) (listed : Result (Vec SectionFunction) ParseError) (found : Result (Vec Function × ℕ) ParseError)

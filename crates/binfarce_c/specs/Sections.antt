@@ -1,5 +1,5 @@
 -- The results of the exports for the sections of a file.
-use Rattle.std.specs.Prelude.{◌≡◌, ◌⊎◌, ◌-◌, ◌^◌, ℕ, List, Option, Some, None, Result, Ok, Err, length, map, min, unwrap_or}
+use Rattle.std.specs.Prelude.{◌≡◌, ◌⊎◌, ◌-◌, ◌^◌, ℕ, List, Option, Some, None, Result, Ok, Err, length, min, unwrap_or}
 use Rattle.std.specs.List.{AllZip}
 use Rattle.std.specs.Ptr.{null_ptr}
 use Rattle.std.specs.Str.{IsUtf8}

@@ -1,10 +1,7 @@
 -- A caller's array while sections are put into it.
 use Rattle.std.specs.Prelude.{◌≡◌, ℕ, List, [], ◌∷◌, ◌++◌}
-use Rattle.std.specs.List.{AllZip}
-use Rattle.binfarce.specs.Walk.{Walk}
-use Rattle.binfarce_sections.specs.Section as seen
 use Rattle.binfarce_c.specs.declared.sections.Section.{Section}
-use Rattle.binfarce_c.specs.Sections.{IsSection, count_of}
+use Rattle.binfarce_c.specs.Sections.{count_of}
 use Rattle.binfarce_c.specs.Buffer.{put}
 
 -- the array, which was this one, has the sections that came, and their number is this

@@ -913,10 +913,10 @@ ends(0, changed(rows), "", "binfarce", "diff", "--by=section", was, now)
 data = bytearray(pathlib.Path(sample).read_bytes())
 table = int.from_bytes(data[40:48], "little")
 data[table + 4] = 1
-pathlib.Path(nameless := f"{scratch}/nameless.o").write_bytes(data)
+pathlib.Path(unnamed := f"{scratch}/nameless.o").write_bytes(data)
 data[table + 32] = 3
 pathlib.Path(other := f"{scratch}/nameless3.o").write_bytes(data)
-assert objects("diff", "--by=section", nameless, other)[0]["section"] is None
+assert objects("diff", "--by=section", unnamed, other)[0]["section"] is None
 assert {it["section"] for it in objects("size", "--by=section", other)[:-1]} == {None, *(it["section"] for it in objects("size", "--by=section", sample)[:-1])}
 # Of several files each has its heading, also where nothing is below it; and none in JSON.
 lines = f"\n{empty}:\n\n{image}:\n{0x140001000:016x}         16 .text f\n{0x140001010:016x}          8 .text g\n"
@@ -925,7 +925,18 @@ for options, heads in (((), (f"\n{old}:\n", f"\n{image}:\n")), (("--json",), (""
     lines = "".join(head + printed(folder / "binfarce", "size", "--by=section", *options, path) for head, path in zip(heads, (old, image)))
     ends(0, lines, "", "binfarce", "size", "--by=section", *options, old, image)
 # Of a Mach-O or PE file `.text` is the code, and no other section is taken.
-ends(0, f"{0:016x} {512:10} f\ntext 512\n", "", "binfarce", "list", "--section=.text", image)
+ends(0, f"{0x140001000:016x} {16:10} f\n{0x140001010:016x} {8:10} g\ntext 24\n", "", "binfarce", "list", "--section=.text", image)
+ends(0, f"{0x140001017:016x} g+0x7\n", "", "binfarce", "at", "--section=.text", image, "140001017")
+# There a function ends with its section, and address 0 of an object file is one: 0x1000 less than in the sample, and `d` in another section behind it.
+data = bytearray(pathlib.Path("rust/samples/macho.bin").read_bytes())
+for place in (136, 216, 232, 248, 264):
+    data[place + 1] -= 0x10
+data[261], data[265] = 2, 2
+pathlib.Path(path := f"{scratch}/at-0.o").write_bytes(data)
+rows = ((0, 64, "a"), (0, 64, "b"), (0x40, 192, "c"))
+ends(0, "".join(f"{address:016x} {size:10} {name}\n" for address, size, name in rows) + "text 256\n", "", "binfarce", "list", path)
+ends(0, "       256 100.00% [unknown]\nsum 256\ntext 256\n", f"binfarce: {path}: 256 of 256 bytes {nameless}", "binfarce", "size", "--percent", path)
+ends(0, f"{0x40:016x} {448:10} c\ntext 256\n", "", "binfarce-list", path)
 for path, *words in ((image, "list"), (image, "map"), ("rust/samples/macho.bin", "size"), (image, "at", "0")):
     words[1:1] = ["--section=__text", path]
     ends(1, "", f"binfarce: {path}: {no_section}", "binfarce", *words)

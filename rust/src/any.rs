@@ -80,10 +80,10 @@ pub fn symbol_at<'a>(functions: &[FunctionSymbol<'a>], address: u64) -> Option<F
 /// Returns an iterator over the function symbols of a file, and the size of their section in bytes.
 ///
 /// The section is the one with the name `section` of an ELF file, usually `.text`; of a Mach-O or PE file it is always the
-/// text section. The names are parts of the file, still mangled.
+/// code section, and the addresses and sizes are those that `all_functions` of the format's reader gives: a function ends at the
+/// next symbol of its section or with it. The names are parts of the file, still mangled.
 ///
-/// Left out are symbols of size 0 and indirect functions (`STT_GNU_IFUNC`) of an ELF file, those at address 0 of a Mach-O file, so
-/// the first function of an object file, and static functions of a PE file. [`Tables`](crate::Tables) of
+/// Left out are symbols of size 0 and indirect functions (`STT_GNU_IFUNC`) of an ELF file. [`Tables`](crate::Tables) of
 /// [`Selection::All`](crate::Selection::All) have them.
 ///
 /// # Errors

@@ -21,7 +21,7 @@ use alloc::vec::Vec;
 #[non_exhaustive]
 pub enum Selection<'a> {
     /// Those of the section with this name in an ELF file, usually `.text`. Of a Mach-O or PE file they are always those of
-    /// the text section.
+    /// the code section.
     Section(&'a str),
     /// Those of all sections.
     All,

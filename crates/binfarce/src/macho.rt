@@ -6,7 +6,7 @@ ghost use Rattle.binfarce_bytes.specs.Refusal.{Gives, refusal_of, unexpected_eof
 ghost use Rattle.binfarce_bytes.specs.Walk.{MayBeAsked, FirstAccepted, first};
 ghost use Rattle.binfarce_macho.specs.Macho.{header_of, section_data, walk, is_named, least_length};
 ghost use Rattle.binfarce_macho.specs.MachoSections.{HasSection};
-ghost use Rattle.binfarce_macho.specs.MachoSelection.{all_answer, selected_answer, FileNeedsMemory};
+ghost use Rattle.binfarce_macho.specs.MachoSelection.{all_answer, selected_answer};
 ghost use Rattle.binfarce_macho.specs.MachoSymbols.{ArrangesRows, SizesEntries, HasAddress, macho_answer};
 ghost use Rattle.binfarce_bytes.specs.Entries.{Answers};
 ghost use Rattle.binfarce_bytes.specs.SectionEntries.{AnswersAll};
@@ -18,7 +18,7 @@ ghost use Rattle.binfarce.specs.Symbol.{HoldsSymbols};
 use crate::symbols::{symbols_of_list, without_sections};
 use binfarce_bytes::ParseError;
 use binfarce_bytes::functions::{FunctionSymbol, SectionFunction, Selection};
-use binfarce_macho::functions::functions_of_file;
+use binfarce_macho::functions::{functions_of_file, text_functions};
 pub use binfarce_macho::header::MachoHeader;
 use binfarce_macho::header::parse_header;
 use binfarce_macho::sections;
@@ -166,9 +166,8 @@ impl<'a> Macho<'a> {
     pub fn functions(&self, alloc: Global) -> Result<(Vec<FunctionSymbol<'a>>, u64), ParseError>
         ensures { Answers HoldsFunctions (λ _. HasAddress self.now) (macho_answer self.now) result }
     {
-        let section = Selection::Section("__text");
-        let (functions, size) = self.selected_functions(alloc, section)?;
-        Ok((without_sections(alloc, &functions)?, size.unwrap_or(0)))
+        let (functions, size) = text_functions(alloc, self.data, self.header)?;
+        Ok((without_sections(alloc, &functions)?, size))
     }
 
     /// The function symbols of all sections that hold instructions, each with its section's number: by section, and in
@@ -193,19 +192,23 @@ impl<'a> Macho<'a> {
         Ok(functions)
     }
 
-    /// The function symbols of `functions` with their section's number, and the text's size in bytes; or those of
-    /// `all_functions`, without a size.
+    /// The function symbols of `all_functions`; by a name, whichever it is, those of the code section alone, with its
+    /// size in bytes.
+    ///
+    /// The code section is the first of the first 255 sections that is named `__TEXT,__text`. Unlike `functions`, which
+    /// answers as the original crate does, an object's functions at address 0 are among them, and no size reaches past
+    /// the section's end.
     ///
     /// # Errors
     ///
-    /// Those of these calls; `OutOfMemory` as they say.
+    /// Those of `all_functions`, and after those of its sections `SymbolsSectionIsMissing`; `OutOfMemory` as it says.
     pub fn selected_functions(
         &self,
         alloc: Global,
         selection: Selection<'_>,
     ) -> Result<(Vec<SectionFunction<'a>>, Option<u64>), ParseError>
-        ensures { let section = section_of selection.entry in
-            Answers HoldsSized (λ _. FileNeedsMemory section self.now) (selected_answer section self.now) result }
+        ensures { Answers HoldsSized (λ _. HasSection self.now) (selected_answer (section_of selection.entry) self.now)
+            result }
     {
         functions_of_file(alloc, self.data, self.header, selection)
     }

@@ -191,8 +191,9 @@ module _ (sections : List NumberedSection) (table : Symbols) where
       named = h.named;
     }
 
-    pub past_all : length sections ≤ at → HoldsKept sections table n (at + 1) held names
-    past_all past = record { long = h.long; each = λ i low lt. absurd (omega arith); many = h.many; named = h.named }
+    -- of fewer sections
+    pub past_one : HoldsKept sections table n (at + 1) held names
+    past_one = record { long = h.long; each = λ i low lt. h.each i (omega arith) lt; many = h.many; named = h.named }
 
     -- what is held of the next section
     pub held_here : (place d : Vec code.RowAddress Global) → at < length sections → place ≡ get_or held at d → rows_view place.items ≡ filter_map (row_in sections table at) (range_with_len 0 n)

@@ -1,3 +1,4 @@
+pub mod CodeSections
 pub mod CommandWalks
 pub mod Walks
 pub mod Kept
@@ -8,6 +9,7 @@ pub mod SectionsLeft
 pub mod Held
 pub mod AllWalks
 pub mod TextRows
+pub mod TextAnswers
 pub mod EachSection
 pub mod SectionLists
 pub mod Selected

@@ -11,7 +11,6 @@ use Rattle.binfarce_bytes.specs.RowViews.{row_view, rows_view}
 use Rattle.binfarce_bytes.specs.SectionEntries.{SectionEntry, in_section}
 use Rattle.binfarce_bytes.specs.Sizes.{RowAddress, arranged}
 use Rattle.binfarce_bytes.specs.SymbolViews.{function_view, section_function_view}
-use Rattle.binfarce_macho.specs.MachoSelection.{the_text, entries_in}
 use Rattle.binfarce_macho.specs.MachoSymbols.{Extent, Symbols, Located, row_addresses, text_end_of, located_at, located_by, entry_of, kept, answer_of}
 use Rattle.binfarce_macho.proofs.Kept.{kept_more, kept_refused, kept_view}
 
@@ -67,8 +66,11 @@ module _ (before : List SectionEntry) (f : RowAddress → Result (Option Entry) 
 
 -- the entries of a text
 module _ (text : Extent) (symbols : Symbols) where
-  pub end_refused : (why : Refusal) → text_end_of text ≡ Err why → entries_in (the_text text) (Some symbols) ≡ Err why
-  unfolding entries_in located_at
+  abbrev answered : Result Listed Refusal
+  answered = located_by text (Some symbols) >>= answer_of
+
+  pub end_refused : (why : Refusal) → text_end_of text ≡ Err why → answered ≡ Err why
+  unfolding located_at
   end_refused why e = rw e refl
 
   module _ (end : ℕ) (is : text_end_of text ≡ Ok end) where
@@ -76,11 +78,12 @@ module _ (text : Extent) (symbols : Symbols) where
     unfolding located_at
     text_located = rw is refl
 
-    pub text_listed : listed [] (λ at. entry_of (record { text_end = end; text_size = 0; strings = symbols.strings; rows = symbols.rows }) at) (arranged (row_addresses symbols.rows)) ≡ entries_in (the_text text) (Some symbols)
-    unfolding entries_in answer_of entry_of
+    pub text_listed : listed [] (λ at. entry_of (record { text_end = end; text_size = 0; strings = symbols.strings; rows = symbols.rows }) at) (arranged (row_addresses symbols.rows))
+        ≡ (answered >>= λ listed. Ok (in_section 1 listed.entries))
+    unfolding answer_of entry_of
     text_listed =
         by_kept (kept (entry_of (record { text_end = end; text_size = text.size; strings = symbols.strings; rows = symbols.rows })) (arranged (row_addresses symbols.rows)))
-        ∙ sym (ap (λ (r : Result (Option Located) Refusal). r >>= λ found. answer_of found >>= λ listed. Ok (in_section 1 listed.entries)) text_located)
+        ∙ sym (ap (λ (r : Result (Option Located) Refusal). (r >>= answer_of) >>= λ (listed : Listed). Ok (in_section 1 listed.entries)) text_located)
       where
         by_kept : (r : Result (List Entry) Refusal) → (r >>= λ entries. Ok ([] ++ in_section 1 entries)) ≡ ((r >>= λ entries. Ok (record { entries = entries; section_size = text.size })) >>= λ (listed : Listed). Ok (in_section 1 listed.entries))
         by_kept (Err why) = refl

@@ -119,7 +119,3 @@ entries_of symbols section number =
 abbrev pub entries_at : Symbols → ℕ → Option NumberedSection → List SectionEntry
 entries_at symbols number None = []
 entries_at symbols number (Some section) = in_section number (entries_of symbols section number)
-
--- the entries of all these sections, of which the first has number 1, in the order of their numbers
-unfoldable pub entries_of_all : List NumberedSection → Symbols → List SectionEntry
-entries_of_all sections symbols = flat_map (λ index. entries_at symbols (index + 1) (slice_get sections index)) (range_with_len 0 greatest_section)

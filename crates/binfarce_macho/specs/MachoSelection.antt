@@ -1,27 +1,52 @@
--- The function symbols of a selection of a Mach-O file: those of the text, or those of all sections.
-use Rattle.std.specs.Prelude.{◌≢◌, ℕ, Bool, false, List, [], map, is_some, Option, Some, None, Result, Ok, Err, if◌then◌else◌}
+-- The function symbols of a selection of a Mach-O file: those of the code section, or those of all sections.
+use Rattle.std.specs.Prelude.{◌≢◌, ℕ, ◌+◌, Bool, true, false, List, [], ◌∷◌, codes, map, slice_get, nat_eq, Option, Some, None, Result, Ok, Err, if◌then◌else◌}
+use Rattle.std.specs.List.{range_with_len, flat_map}
 use Rattle.std.specs.Option.{option_map}
+use Rattle.std.specs.Str.{bytes_eq}
 use Rattle.std.specs.String.{string_bytes}
-use Rattle.binfarce_bytes.specs.Refusal.{◌>>=◌, Refusal, if_as_long_as}
-use Rattle.binfarce_bytes.specs.SectionEntries.{SectionEntry, SelectedSymbols, in_section}
+use Rattle.binfarce_bytes.specs.Refusal.{◌>>=◌, Refusal, required, symbols_section_is_missing, if_as_long_as}
+use Rattle.binfarce_bytes.specs.SectionEntries.{SectionEntry, SelectedSymbols}
+use Rattle.binfarce_macho.specs.declared.numbered.CodeSection as code_section
 use Rattle.binfarce_macho.specs.declared.numbered.NumberedSection as code_numbered
 use Rattle.binfarce_macho.specs.declared.numbered.SelectedSections as code_sections
-use Rattle.binfarce_macho.specs.declared.numbered.SelectedSections.TheVariants as variants
 use Rattle.binfarce_macho.specs.declared.symbols.Extent as code_extent
 use Rattle.binfarce_macho.specs.declared.symbols.SymbolBytes as code_symbols
 use Rattle.binfarce_macho.specs.Macho.{least_length}
-use Rattle.binfarce_macho.specs.MachoSections.{NumberedSection, numbered_sections, name_of, entries_of_all, HasSection}
-use Rattle.binfarce_macho.specs.MachoSymbols.{Extent, Symbols, Located, text_extent, table_of, symbols_by, located_by, answer_of, row_addresses, HasAddress}
+use Rattle.binfarce_macho.specs.MachoSections.{NumberedSection, greatest_section, numbered_sections, name_of, entries_at}
+use Rattle.binfarce_macho.specs.MachoSymbols.{Extent, Symbols, Located, table_of, symbols_by, row_addresses}
 
--- the selected sections: the text, or all in the order of their numbers
-pub data SelectedSections : Type 0 where
-  the_text : Extent → SelectedSections
-  all_sections : List NumberedSection → SelectedSections
+-- the code section, by its name as `otool` and `ld` have it
+abbrev pub is_code : Option (List ℕ) → Bool
+is_code None = false
+is_code (Some name) = bytes_eq name (codes "__TEXT,__text")
 
--- those of a file: a name selects the text
+-- its index among the sections, and its size in bytes
+pub record CodeSection : Type 0 where
+  pub index : ℕ
+  pub size : ℕ
+
+-- the first code section among sections of which the first has this index
+unfoldable pub code_among : ℕ → List NumberedSection → Option CodeSection
+code_among index [] = None
+code_among index (section ∷ others) =
+    if is_code section.name then Some (record { index = index; size = section.extent.size }) else code_among (index + 1) others
+
+-- the code section where a name is selected, whichever it is; none where all sections are
+abbrev pub code_of : Option (List ℕ) → List NumberedSection → Result (Option CodeSection) Refusal
+code_of None sections = Ok None
+code_of (Some name) sections = required symbols_section_is_missing (code_among 0 sections) >>= λ code. Ok (Some code)
+
+-- the sections in the order of their numbers, of which all are selected or the code section alone
+pub record SelectedSections : Type 0 where
+  pub sections : List NumberedSection
+  pub code : Option CodeSection
+
+-- those of a file
 unfoldable pub sections_in : Option (List ℕ) → List ℕ → Result SelectedSections Refusal
-sections_in (Some name) file = text_extent file >>= λ text. Ok (the_text text)
-sections_in None file = numbered_sections file >>= λ sections. Ok (all_sections sections)
+sections_in section file = do
+  sections ← numbered_sections file
+  code ← code_of section sections
+  Ok (record { sections = sections; code = code })
 
 -- what the function symbols of a selection are made of: the sections; and the symbols, where the file has a symbol table
 pub record SelectedTables : Type 0 where
@@ -40,47 +65,45 @@ selected_tables section file = do
 abbrev pub selected_file_tables : Option (List ℕ) → List ℕ → Result SelectedTables Refusal
 selected_file_tables section file = if_as_long_as least_length file (selected_tables section file)
 
--- the entries: of the text those of `macho_answer`, which have section number 1, or a refusal
-unfoldable pub entries_in : SelectedSections → Option Symbols → Result (List SectionEntry) Refusal
-entries_in (the_text text) symbols = do
-  found ← located_by text symbols
-  listed ← answer_of found
-  Ok (in_section 1 listed.entries)
-entries_in (all_sections sections) None = Ok []
-entries_in (all_sections sections) (Some symbols) = Ok (entries_of_all sections symbols)
+-- the section of this index is selected: each is, or the code section alone
+abbrev pub is_selected : Option CodeSection → ℕ → Bool
+is_selected None index = true
+is_selected (Some code) index = nat_eq index code.index
 
--- the text's size, and 0 where there is no symbol table; none for all sections
-abbrev pub size_of : SelectedSections → (has_symbols : Bool) → Option ℕ
-size_of (the_text text) has_symbols = Some (if has_symbols then text.size else 0)
-size_of (all_sections sections) has_symbols = None
+-- the entries of the section of this index, if it is selected; its number is one more
+abbrev pub selected_at : SelectedSections → Symbols → ℕ → List SectionEntry
+selected_at selected symbols index = if is_selected selected.code index then entries_at symbols (index + 1) (slice_get selected.sections index) else []
 
-abbrev pub section_size : SelectedSections → Option Symbols → Option ℕ
-section_size sections symbols = size_of sections (is_some symbols)
+-- the entries of the selected sections, in the order of their numbers
+unfoldable pub entries_of_selected : SelectedSections → Symbols → List SectionEntry
+entries_of_selected selected symbols = flat_map (selected_at selected symbols) (range_with_len 0 greatest_section)
 
--- the names of all sections; none of the text alone
-abbrev pub section_name : SelectedSections → ℕ → Option (List ℕ)
-section_name (the_text text) number = None
-section_name (all_sections sections) number = name_of sections number
+-- so of a file: without a symbol table there are none
+abbrev pub entries_in : SelectedSections → Option Symbols → List SectionEntry
+entries_in selected None = []
+entries_in selected (Some symbols) = entries_of_selected selected symbols
+
+-- the size of the code section, where it alone is selected
+abbrev pub section_size : SelectedSections → Option ℕ
+section_size selected = option_map (λ code. code.size) selected.code
 
 -- the function symbols that are made of these tables. The sections of an object file, too, have addresses of their own
-unfoldable pub symbols_of : SelectedTables → Result SelectedSymbols Refusal
-symbols_of tables = do
-  entries ← entries_in tables.sections tables.symbols
-  Ok (record {
-    entries = entries;
-    section_size = section_size tables.sections tables.symbols;
-    section_name = section_name tables.sections;
-    shares_addresses = false;
-    version_name = λ version. None;
-  })
+abbrev pub symbols_of : SelectedTables → SelectedSymbols
+symbols_of tables = record {
+  entries = entries_in tables.sections tables.symbols;
+  section_size = section_size tables.sections;
+  section_name = name_of tables.sections.sections;
+  shares_addresses = false;
+  version_name = λ version. None;
+}
 
 -- what a file answers for a selection
 abbrev pub selected_answer : Option (List ℕ) → List ℕ → Result SelectedSymbols Refusal
-selected_answer section file = selected_tables section file >>= symbols_of
+selected_answer section file = selected_tables section file >>= λ tables. Ok (symbols_of tables)
 
 -- that of a file that has a header
 abbrev pub selected_file_answer : Option (List ℕ) → List ℕ → Result SelectedSymbols Refusal
-selected_file_answer section file = selected_file_tables section file >>= symbols_of
+selected_file_answer section file = selected_file_tables section file >>= λ tables. Ok (symbols_of tables)
 
 -- the entries of all sections of a file
 unfoldable pub all_answer : List ℕ → Result (List SectionEntry) Refusal
@@ -92,16 +115,6 @@ SomeAddress (Ok (Some found)) = row_addresses found.rows ≢ []
 SomeAddress (Ok None) = ⊥
 SomeAddress (Err refusal) = ⊥
 
--- the tables that need memory: an address in the text's symbol table, or a section
-abbrev pub NeedsMemory : SelectedSections → Option Symbols → Type 0
-NeedsMemory (the_text text) symbols = SomeAddress (located_by text symbols)
-NeedsMemory (all_sections sections) symbols = sections ≢ []
-
--- the files that need memory
-abbrev pub FileNeedsMemory : Option (List ℕ) → List ℕ → Type 0
-FileNeedsMemory (Some name) file = HasAddress file
-FileNeedsMemory None file = HasSection file
-
 -- an `Extent`
 abbrev pub extent_view : code_extent.Extent → Extent
 extent_view e = record { address = e.address; size = e.size }
@@ -110,10 +123,13 @@ extent_view e = record { address = e.address; size = e.size }
 abbrev pub numbered_view : code_numbered.NumberedSection → NumberedSection
 numbered_view s = record { extent = extent_view s.extent; has_instructions = s.has_instructions; name = option_map string_bytes s.name }
 
+-- a `CodeSection`
+abbrev pub code_view : code_section.CodeSection → CodeSection
+code_view c = record { index = c.index; size = c.size }
+
 -- a `SelectedSections`
 abbrev pub sections_view : code_sections.SelectedSections → SelectedSections
-sections_view (variants.Text text) = the_text (extent_view text)
-sections_view (variants.All sections) = all_sections (map numbered_view sections.items)
+sections_view s = record { sections = map numbered_view s.sections.items; code = option_map code_view s.code }
 
 -- a `SymbolBytes`
 abbrev pub symbols_view : code_symbols.SymbolBytes → Symbols

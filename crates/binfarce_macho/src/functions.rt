@@ -1,6 +1,6 @@
-//! The function symbols of the selected sections.
+//! The function symbols of the selected sections, and those of the text by the rule of `functions` of a reader.
 
-ghost use Rattle.std.specs.Prelude.{◌≡◌, ◌≢◌, ℕ, ◌+◌, ◌-◌, ◌*◌, ◌/◌, ◌<◌, ◌≤◌, ◌++◌, [], ◌∷◌, length, map, nat_eq, not, slice_get, All, None, Some, Ok, IfOk, OnErr, unwrap_or, MatchOption};
+ghost use Rattle.std.specs.Prelude.{◌≡◌, ◌≢◌, ℕ, ◌+◌, ◌-◌, ◌*◌, ◌/◌, ◌<◌, ◌≤◌, ◌++◌, ◌&&◌, [], ◌∷◌, length, map, nat_eq, nat_lt, not, slice_get, All, None, Some, Ok, IfOk, OnErr, unwrap_or, MatchOption};
 ghost use Rattle.std.specs.Option.{option_map};
 ghost use Rattle.binfarce_bytes.specs.Refusal.{Gives, refusal_of};
 ghost use Rattle.binfarce_bytes.specs.Entries.{Answers};
@@ -9,16 +9,18 @@ ghost use Rattle.binfarce_bytes.specs.Selection.{section_of};
 ghost use Rattle.binfarce_bytes.specs.Sizes.{addresses_of, arranged, least_above};
 ghost use Rattle.binfarce_bytes.specs.SymbolViews.{function_view, section_function_view, HoldsSectionFunctions, HoldsSized};
 ghost use Rattle.binfarce_macho.specs.Macho.{header_of};
-ghost use Rattle.binfarce_macho.specs.MachoSections.{lies_in, is_label, function_name, entries_of_all};
-ghost use Rattle.binfarce_macho.specs.MachoSelection.{entries_in, selected_answer, NeedsMemory, SomeAddress, FileNeedsMemory, extent_view, numbered_view, sections_view, symbols_view, the_text};
-ghost use Rattle.binfarce_macho.specs.MachoSymbols.{row_addresses, is_candidate, size_up_to, sized_entry, entry_of, located_by, text_end_of};
+ghost use Rattle.binfarce_macho.specs.MachoSections.{lies_in, is_label, function_name, HasSection};
+ghost use Rattle.binfarce_macho.specs.MachoSelection.{code_view, entries_in, entries_of_selected, is_selected, selected_answer, SomeAddress, extent_view, numbered_view, sections_view, symbols_view};
+ghost use Rattle.binfarce_macho.specs.MachoSymbols.{row_addresses, is_candidate, size_up_to, sized_entry, entry_of, located_by, macho_answer, text_end_of, HasAddress};
 ghost use Rattle.binfarce_macho.specs.MachoViews.{header_view};
-ghost use Rattle.binfarce_macho.specs.machine.RawMacho.{symbol_view, located_view, text_added, named_in, function_in, HoldsKept, IsInside};
+ghost use Rattle.binfarce_macho.specs.machine.RawMacho.{symbol_view, located_view, selected_view, text_added, text_answer, named_in, function_in, HoldsInFirst, HoldsKept, IsInside};
 
 use crate::header::MachoHeader;
-use crate::numbered::{MAX_SECT, NumberedSection, SelectedSections, selected_sections};
+use crate::numbered::{
+    CodeSection, MAX_SECT, NumberedSection, SelectedSections, selected_sections,
+};
 use crate::symbols::{
-    Extent, SYMBOL_LENGTH, SymbolBytes, SymbolRow, symbol_at, symbol_table, symbols_by,
+    Extent, SYMBOL_LENGTH, SymbolBytes, SymbolRow, symbol_at, symbol_table, symbols_by, text_extent,
 };
 use binfarce_bytes::ParseError;
 use binfarce_bytes::functions::{FunctionSymbol, SectionFunction, Selection};
@@ -49,9 +51,9 @@ struct Kept<'a> {
     names: Vec<&'a str>,
 }
 
-/// The function symbols of a selection of a file with this header, and the text's size in bytes, `None` for all
-/// sections: the answer of `functions` of a reader, with its refusals. `OutOfMemory` only where the text's table has an
-/// address, or where of all sections there is one.
+/// The function symbols of a selection of a file with this header, and the size in bytes of the code section, `None` for
+/// all sections: the answer of `selected_functions` of a reader, with its refusals. `OutOfMemory` only where the file has
+/// a section.
 pub fn functions_of_file<'a>(
     alloc: Global,
     file: &'a [u8],
@@ -59,36 +61,52 @@ pub fn functions_of_file<'a>(
     selection: Selection<'_>,
 ) -> Result<(Vec<SectionFunction<'a>>, Option<u64>), ParseError>
     requires { header_view header ≡ header_of file.now }
-    ensures { let section = section_of selection.entry in
-        Answers HoldsSized (λ _. FileNeedsMemory section file.now) (selected_answer section file.now) result }
+    ensures { Answers HoldsSized (λ _. HasSection file.now) (selected_answer (section_of selection.entry) file.now)
+        result }
 {
     let sections = selected_sections(alloc, file, header, selection)?;
     let table = symbol_table(file, header)?;
     let symbols = symbols_by(file, table)?;
     let functions = functions_of(alloc, &sections, symbols)?;
-    Ok((functions, sections.size(symbols.is_some())))
+    Ok((functions, sections.size()))
 }
 
 /// The function symbols of the selected sections: by section, and in each by address and at equal addresses in table
-/// order. `MalformedInput` where the text's end exceeds 64 bits, or a row that would be kept lies past that end with no
-/// address above it. `OutOfMemory` only where the text's table has an address, or where of all sections there is one.
-#[tactic(auto, unfolding(crate::specs::MachoSelection::entries_in))]
+/// order. Only a failed allocation is an error, and it comes only where there is a section.
 pub fn functions_of<'a>(
     alloc: Global,
-    sections: &SelectedSections,
+    selected: &SelectedSections,
     symbols: Option<SymbolBytes<'a>>,
 ) -> Result<Vec<SectionFunction<'a>>, ParseError>
-    ensures { let symbols = option_map symbols_view symbols.entry in
-        Answers HoldsSectionFunctions (λ _. NeedsMemory (sections_view sections.now) symbols)
-        (entries_in (sections_view sections.now) symbols) result }
+    ensures { let sections = sections_view selected.now in
+        Answers HoldsSectionFunctions (λ _. sections.sections ≢ [])
+        (Ok (entries_in sections (option_map symbols_view symbols.entry))) result }
 {
-    let symbols = match symbols {
-        None => return Ok(Vec::new(alloc)),
-        Some(symbols) => symbols,
-    };
-    match sections {
-        SelectedSections::Text(text) => functions_of_text(alloc, *text, symbols),
-        SelectedSections::All(sections) => functions_of_all(alloc, sections, symbols),
+    match symbols {
+        None => Ok(Vec::new(alloc)),
+        Some(symbols) => functions_in(alloc, &selected.sections, selected.code, symbols),
+    }
+}
+
+/// The function symbols of the text of a file with this header, and the text's size in bytes: those of `functions` of a
+/// reader, with its refusals; each has section number 1. `OutOfMemory` only where the symbol table has an address.
+pub fn text_functions<'a>(
+    alloc: Global,
+    file: &'a [u8],
+    header: MachoHeader,
+) -> Result<(Vec<SectionFunction<'a>>, u64), ParseError>
+    requires { header_view header ≡ header_of file.now }
+    ensures { Answers (λ listed given. (map (λ e. e.entry) (map section_function_view given.0.items) ≡ listed.entries)
+        × (given.1 ≡ listed.section_size)) (λ _. HasAddress file.now) (macho_answer file.now) result }
+{
+    let text = text_extent(file, header)?;
+    let table = symbol_table(file, header)?;
+    match symbols_by(file, table)? {
+        None => Ok((Vec::new(alloc), 0)),
+        Some(symbols) => {
+            let functions = functions_of_text(alloc, text, symbols)?;
+            Ok((functions, text.size))
+        }
     }
 }
 
@@ -97,9 +115,8 @@ fn functions_of_text<'a>(
     text: Extent,
     symbols: SymbolBytes<'a>,
 ) -> Result<Vec<SectionFunction<'a>>, ParseError>
-    ensures { let found = located_by (extent_view text) (Some (symbols_view symbols.entry)) in
-        Answers HoldsSectionFunctions (λ _. SomeAddress found)
-        (entries_in (the_text (extent_view text)) (Some (symbols_view symbols.entry))) result }
+    ensures { let text = extent_view text in let symbols = symbols_view symbols.entry in
+        Answers HoldsInFirst (λ _. SomeAddress (located_by text (Some symbols))) (text_answer text symbols) result }
 {
     let end = text_end(text)?;
     let mut functions = Vec::new(alloc);
@@ -255,14 +272,16 @@ fn sized_entry(address: u64, size: Option<u64>, name: Option<&str>) -> Option<Fu
     })
 }
 
-// The function symbols of all sections, of which the first is number 1. Only a failed allocation is an error.
-fn functions_of_all<'a>(
+// The function symbols of selected sections in a symbol table. Only a failed allocation is an error.
+fn functions_in<'a>(
     alloc: Global,
     sections: &[NumberedSection],
+    code: Option<CodeSection>,
     symbols: SymbolBytes<'a>,
 ) -> Result<Vec<SectionFunction<'a>>, ParseError>
-    ensures { Answers HoldsSectionFunctions (λ _. sections.now ≢ [])
-        (Ok (entries_of_all (map numbered_view sections.now) (symbols_view symbols.entry))) result }
+    ensures { let selected = selected_view sections.now code in
+        Answers HoldsSectionFunctions (λ _. sections.now ≢ [])
+        (Ok (entries_of_selected selected (symbols_view symbols.entry))) result }
 {
     let mut functions = Vec::new(alloc);
     if sections.is_empty() {
@@ -272,13 +291,26 @@ fn functions_of_all<'a>(
     let mut kept_rows = kept.rows;
     for index in 0..MAX_SECT {
         let at = usize::from(index);
-        if at < sections.len() {
+        if is_taken(sections, code, at) {
             let rows = mem::replace(&mut kept_rows[at], Vec::new(alloc));
             let extent = sections[at].extent;
             push_section(alloc, &mut functions, extent, index + 1, rows, &kept.names)?;
         }
     }
     Ok(functions)
+}
+
+// Whether there is a section of this index, and it is selected: each is, or the code section alone.
+fn is_taken(sections: &[NumberedSection], code: Option<CodeSection>, index: usize) -> bool
+    ensures { result ≡ (nat_lt index (length sections.now) && is_selected (option_map code_view code) index) }
+{
+    if index >= sections.len() {
+        return false;
+    }
+    match code {
+        None => true,
+        Some(code) => index == code.index,
+    }
 }
 
 // The rows that are kept of each section, found in one walk over the symbol table.

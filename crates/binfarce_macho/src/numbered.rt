@@ -1,19 +1,19 @@
-//! The sections of a file by their numbers, and those that a selection takes.
+//! The sections of a file by their numbers, and which of them a selection takes.
 
 ghost use Rattle.std.specs.Prelude.{◌≡◌, ◌≢◌, ◌+◌, ◌*◌, ◌<◌, ◌≤◌, ◌^◌, ◌++◌, ◌&&◌, ◌⊎◌, [], length, map, nat_le, take, All, None, Some, Ok, Err, IfOk, OnErr, MatchResult};
 ghost use Rattle.std.specs.Option.{option_map};
 ghost use Rattle.std.specs.String.{string_bytes};
-ghost use Rattle.binfarce_bytes.specs.Refusal.{refusal_of, out_of_memory};
+ghost use Rattle.binfarce_bytes.specs.Refusal.{Gives, refusal_of, out_of_memory};
 ghost use Rattle.binfarce_bytes.specs.Selection.{section_of};
 ghost use Rattle.binfarce_macho.specs.Macho.{header_of, segment, segment_read, section_count, whole_headers};
 ghost use Rattle.binfarce_macho.specs.MachoSections.{greatest_section, first_starts, starts_in, section_starts, HasSection, has_instructions, extent_at, full_name, name_at, numbered_at, numbered_sections, name_of};
-ghost use Rattle.binfarce_macho.specs.MachoSelection.{sections_in, size_of, section_name, extent_view, numbered_view, sections_view};
+ghost use Rattle.binfarce_macho.specs.MachoSelection.{is_code, code_among, code_of, code_view, sections_in, section_size, extent_view, numbered_view, sections_view};
 ghost use Rattle.binfarce_macho.specs.MachoViews.{header_view, section_view};
 
 use crate::commands::{LC_SEGMENT_64, commands};
 use crate::header::MachoHeader;
 use crate::sections::{SECTION_LENGTH, Section, flags_at, section_at};
-use crate::symbols::{Extent, text_extent};
+use crate::symbols::Extent;
 use binfarce_bytes::functions::Selection;
 use binfarce_bytes::parser::number_at;
 use binfarce_bytes::{ByteOrder, ParseError};
@@ -34,35 +34,37 @@ pub struct NumberedSection {
     pub name: Option<String>,
 }
 
-/// The selected sections of a file.
+/// The code section of a file, the first `__TEXT,__text`: its index among the sections, and its size in bytes.
+#[derive(Clone, Copy)]
+pub(crate) struct CodeSection {
+    pub(crate) index: usize,
+    pub(crate) size: u64,
+}
+
+/// The sections of a file, in the order of their numbers, of which all are selected or the code section alone.
 #[derive(Drop)]
-pub enum SelectedSections {
-    /// The text.
-    Text(Extent),
-    /// All, in the order of their numbers.
-    All(Vec<NumberedSection>),
+pub struct SelectedSections {
+    pub(crate) sections: Vec<NumberedSection>,
+    pub(crate) code: Option<CodeSection>,
 }
 
 impl SelectedSections {
-    /// The text's size in bytes, and 0 in a file without a symbol table; `None` for all sections.
-    pub fn size(&self, has_symbols: bool) -> Option<u64>
-        ensures { result ≡ size_of (sections_view self.now) has_symbols }
+    /// The size in bytes of the code section, where it alone is selected.
+    pub fn size(&self) -> Option<u64>
+        ensures { result ≡ section_size (sections_view self.now) }
     {
-        match self {
-            SelectedSections::Text(text) => Some(if has_symbols { text.size } else { 0 }),
-            SelectedSections::All(_) => None,
+        match self.code {
+            None => None,
+            Some(code) => Some(code.size),
         }
     }
 
     /// The name of the section of this number, `SEGMENT,SECTION`; nothing is copied. `None` where there is no such
-    /// section, where one of its two names isn't valid, and for the text alone.
+    /// section, and where one of its two names isn't valid.
     pub fn name(&self, number: u32) -> Option<&str>
-        ensures { option_map (λ t. t.now) result ≡ section_name (sections_view self.entry.now) number }
+        ensures { option_map (λ t. t.now) result ≡ name_of (sections_view self.entry.now).sections number }
     {
-        match self {
-            SelectedSections::Text(_) => None,
-            SelectedSections::All(sections) => name_of(sections, number),
-        }
+        name_of(&self.sections, number)
     }
 }
 
@@ -76,9 +78,9 @@ fn name_of(sections: &[NumberedSection], number: u32) -> Option<&str>
     }
 }
 
-/// The selected sections of a file with this header. A text is refused where it is missing or empty, and sections are
-/// as `find_section` of a reader is with a callback that accepts none. `OutOfMemory` comes only where all are selected
-/// and there is one.
+/// The sections of a file with this header, of which this selection takes all, or by whatever name the code section.
+/// Refused as `find_section` of a reader is with a callback that accepts none, and then with `SymbolsSectionIsMissing`
+/// where the code section is selected and missing. `OutOfMemory` comes only where the file has a section.
 #[tactic(auto, unfolding(crate::specs::MachoSelection::sections_in))]
 pub fn selected_sections(
     alloc: Global,
@@ -90,11 +92,51 @@ pub fn selected_sections(
     ensures { let section = section_of selection.entry in MatchResult result
         (λ sections. sections_in section file.now ≡ Ok (sections_view sections))
         (λ e. (sections_in section file.now ≡ Err (refusal_of e))
-        ⊎ ((refusal_of e ≡ out_of_memory) × (section ≡ None) × HasSection file.now)) }
+        ⊎ ((refusal_of e ≡ out_of_memory) × HasSection file.now)) }
+{
+    let sections = numbered_sections(alloc, file, header)?;
+    let code = code_of(&sections, selection)?;
+    Ok(SelectedSections { sections, code })
+}
+
+// The code section, where it is selected; refused where it is missing.
+fn code_of(
+    sections: &[NumberedSection],
+    selection: Selection<'_>,
+) -> Result<Option<CodeSection>, ParseError>
+    ensures { Gives refusal_of (option_map code_view)
+        (code_of (section_of selection.entry) (map numbered_view sections.now)) result }
 {
     match selection {
-        Selection::Section(_) => Ok(SelectedSections::Text(text_extent(file, header)?)),
-        Selection::All => Ok(SelectedSections::All(numbered_sections(alloc, file, header)?)),
+        Selection::All => Ok(None),
+        Selection::Section(_) => {
+            let code = code_among(sections).ok_or(ParseError::SymbolsSectionIsMissing)?;
+            Ok(Some(code))
+        }
+    }
+}
+
+fn code_among(sections: &[NumberedSection]) -> Option<CodeSection>
+    ensures { option_map code_view result ≡ code_among 0 (map numbered_view sections.now) }
+{
+    for index in 0..sections.len() {
+        let section = &sections[index];
+        if is_code(section) {
+            return Some(CodeSection {
+                index,
+                size: section.extent.size,
+            });
+        }
+    }
+    None
+}
+
+fn is_code(section: &NumberedSection) -> bool
+    ensures { result ≡ is_code (numbered_view section.now).name }
+{
+    match &section.name {
+        None => false,
+        Some(name) => name.as_str() == "__TEXT,__text",
     }
 }
 

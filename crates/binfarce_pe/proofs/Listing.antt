@@ -11,7 +11,7 @@ use Rattle.binfarce_bytes.specs.declared.sizes.RowAddress as code
 use Rattle.binfarce_bytes.specs.Sizes.{RowAddress, comes_before, put_in, arranged, addresses_of, least, least_of, least_above}
 use Rattle.binfarce_bytes.specs.Entries.{Entry}
 use Rattle.binfarce_bytes.specs.SectionEntries.{SectionEntry, in_section}
-use Rattle.binfarce_pe.specs.PeSelection.{SelectedSections, the_text, all_sections, Rules, rules_of, memory_size, moved, section_entries}
+use Rattle.binfarce_pe.specs.PeSelection.{SelectedSections, the_text, in_memory, Rules, rules_of, memory_size, moved, section_entries}
 use Rattle.binfarce_bytes.specs.RowViews.{row_view, rows_view}
 use Rattle.binfarce_pe.specs.PeSymbols.{CoffTable, SymbolRow, symbol_of, size_among}
 use Rattle.binfarce_pe.specs.PeRules.{SectionRules, accepted_name, ending_rows, entry_under, entries_under}
@@ -156,7 +156,7 @@ GoesByAbove size = (a : ℕ) (xs ys : List ℕ) → least_above xs a ≡ least_a
 goes_by_above : (chosen : SelectedSections) (index : ℕ) → GoesByAbove ((rules_of chosen).section index).size
 goes_by_above (the_text text) index a xs ys same =
     sym (size_is text.size a xs (least_above ys a) (sym same)) ∙ size_is text.size a ys (least_above ys a) refl
-goes_by_above (all_sections base sections) index a xs ys same = ap (λ (o : Option ℕ). least_of (memory_size sections index) o - a) same
+goes_by_above (in_memory base sections code) index a xs ys same = ap (λ (o : Option ℕ). least_of (memory_size sections index) o - a) same
 
 entries_same : (table : CoffTable) (rules : SectionRules) (xs ys : List ℕ) → GoesByAbove rules.size → ((a : ℕ) → least_above xs a ≡ least_above ys a) → (rows : List RowAddress)
     → filter_map (entry_under table rules xs) rows ≡ filter_map (entry_under table rules ys) rows

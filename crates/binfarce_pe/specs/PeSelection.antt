@@ -1,18 +1,18 @@
--- The function symbols of the selected sections of a PE file: of the text, or of all sections at their addresses in memory.
-use Rattle.std.specs.Prelude.{◌≢◌, ℕ, ◌+◌, ◌-◌, ◌*◌, ◌%◌, ◌^◌, ◌≤◌, Bool, false, ◌&&◌, ◌||◌, not, List, codes, map, Option, Some, None, is_none, unwrap_or, Result, Ok, nat_eq, nat_le, if◌then◌else◌}
+-- The function symbols of the selected sections of a PE file at their addresses in memory, and those of the text by the rule of `pe_answer`.
+use Rattle.std.specs.Prelude.{◌≢◌, ℕ, ◌+◌, ◌-◌, ◌*◌, ◌%◌, ◌^◌, ◌<◌, ◌≤◌, Bool, false, ◌&&◌, ◌||◌, not, List, codes, map, Option, Some, None, is_none, unwrap_or, Result, Ok, nat_eq, nat_le, find, if◌then◌else◌}
 use Rattle.std.specs.Option.{option_map}
 use Rattle.std.specs.List.{range_with_len, flat_map, starts_with}
 use Rattle.binfarce_bytes.specs.Number.{bytes_at}
-use Rattle.binfarce_bytes.specs.Refusal.{◌>>=◌, Refusal, if_as_long_as}
+use Rattle.binfarce_bytes.specs.Refusal.{◌>>=◌, Refusal, required, symbols_section_is_missing, if_as_long_as}
 use Rattle.binfarce_bytes.specs.Field.{Field, number_in}
 use Rattle.binfarce_bytes.specs.Entries.{Entry}
 use Rattle.binfarce_bytes.specs.Sizes.{least_of, least_above}
 use Rattle.binfarce_bytes.specs.SectionEntries.{SectionEntry, SelectedSymbols, in_section, unless}
 use Rattle.binfarce_pe.specs.declared.functions.SelectedSections as code
-use Rattle.binfarce_pe.specs.declared.functions.SelectedSections.TheVariants.{Text, All}
-use Rattle.binfarce_pe.specs.Pe.{header_of, image_base, least_length, section_fields, section_length}
+use Rattle.binfarce_pe.specs.declared.functions.SelectedSections.TheVariants.{Text, Memory}
+use Rattle.binfarce_pe.specs.Pe.{Section, header_of, image_base, least_length, section_fields, section_length, is_named}
 use Rattle.binfarce_pe.specs.PeNames.{full_name, string_table}
-use Rattle.binfarce_pe.specs.PeParts.{TablePlaces, TextPlace, SectionTable, headers_view, places_of, section_table, section_in, table_walk, text_place, text_view, whole_in}
+use Rattle.binfarce_pe.specs.PeParts.{TablePlaces, TextPlace, SectionTable, headers_view, places_of, section_table, section_in, table_walk, text_view, whole_in}
 use Rattle.binfarce_pe.specs.PeSymbols.{SymbolRow, CoffTable, symbol_table, is_function}
 use Rattle.binfarce_pe.specs.PeRules.{SectionRules, text_rules, entries_under}
 
@@ -63,10 +63,11 @@ unfoldable pub memory_address : Option ℕ → SectionTable → ℕ → ℕ
 memory_address None sections index = 0
 memory_address (Some base) sections index = (base + number_of sections index section_fields.virtual_address) % 2 ^ 64
 
--- the sections that are chosen: the text, or all of a table in a file with this image base
+-- the sections that are chosen: the text, by the rule of `pe_answer`; or those of a table in a file with this image base, of which all are selected or the
+-- code section alone, which has this index, and this size in memory
 pub data SelectedSections : Type 0 where
   the_text : TextPlace → SelectedSections
-  all_sections : Option ℕ → SectionTable → SelectedSections
+  in_memory : Option ℕ → SectionTable → (code : Option TextPlace) → SelectedSections
 
 -- the size at an offset in a section of this size in memory: up to the least address above that ends sizes, and to the section's end at the latest; 0 at and
 -- past that end
@@ -89,7 +90,16 @@ pub record Rules : Type 0 where
   pub section : ℕ → SectionRules
   pub address : ℕ → ℕ → ℕ
 
--- of the text its functions, at their offsets; of all sections theirs, at their addresses in memory
+-- the index of the first section that is selected, of all or of the code section alone, and how many are from it on
+abbrev pub first_of : Option TextPlace → ℕ
+first_of None = 0
+first_of (Some code) = code.index
+
+abbrev pub count_of : ℕ → Option TextPlace → ℕ
+count_of count None = count
+count_of count (Some code) = 1
+
+-- of the text its functions, at their offsets; of sections in memory theirs, at their addresses
 abbrev pub rules_of : SelectedSections → Rules
 rules_of (the_text text) = record {
   first = text.index;
@@ -97,9 +107,9 @@ rules_of (the_text text) = record {
   section = λ index. text_rules index text.size;
   address = λ index value. value;
 }
-rules_of (all_sections base sections) = record {
-  first = 0;
-  count = sections.count;
+rules_of (in_memory base sections code) = record {
+  first = first_of code;
+  count = count_of sections.count code;
   section = section_rules sections;
   address = λ index value. (memory_address base sections index + value) % 2 ^ 64;
 }
@@ -124,20 +134,20 @@ name_of sections number =
     else if nat_le number sections.count then option_map (λ section. section.name) (section_in sections (number - 1))
     else None
 
--- of the text its size in the file
+-- the size of the section that is selected: of the text in the file, of the code section in memory
 abbrev pub section_size : SelectedSections → Option ℕ
 section_size (the_text text) = Some text.size
-section_size (all_sections base sections) = None
+section_size (in_memory base sections code) = option_map (λ code. code.size) code
 
--- of all sections their names, of which long ones are in the string table, behind the records
+-- the names of the sections, of which long ones are in the string table, behind the records; the text alone has none
 abbrev pub section_name : SelectedSections → CoffTable → ℕ → Option (List ℕ)
 section_name (the_text text) symbols = λ number. None
-section_name (all_sections base sections) symbols = λ number. option_map (full_name (string_table symbols.strings)) (name_of sections number)
+section_name (in_memory base sections code) symbols = λ number. option_map (full_name (string_table symbols.strings)) (name_of sections number)
 
--- sections without an image base share addresses
+-- all sections without an image base share addresses
 abbrev pub shares_addresses : SelectedSections → Bool
 shares_addresses (the_text text) = false
-shares_addresses (all_sections base sections) = is_none base
+shares_addresses (in_memory base sections code) = is_none base && is_none code
 
 -- the function symbols of chosen sections
 abbrev pub symbols_of : SelectedSections → CoffTable → SelectedSymbols
@@ -148,10 +158,21 @@ symbols_of chosen symbols =
 abbrev pub whole_sections : SectionTable → Result SectionTable Refusal
 whole_sections sections = unless (table_walk sections).refusal sections
 
--- what a selection chooses of a file, or the refusal: by a name, whichever it is, the text
+-- the first section `.text` of a table
+abbrev pub code_section : SectionTable → Option Section
+code_section sections = find (is_named (codes ".text")) (table_walk sections).items
+
+-- the code section where a name is selected, whichever it is, with its size in memory; none where all sections are
+abbrev pub code_of : Option (List ℕ) → SectionTable → Result (Option TextPlace) Refusal
+code_of None sections = Ok None
+code_of (Some name) sections = required symbols_section_is_missing (code_section sections) >>= λ code. Ok (Some (record { index = code.index; size = memory_size sections code.index }))
+
+-- what a selection chooses of a file, or the refusal
 abbrev pub sections_in : Option (List ℕ) → List ℕ → Result SelectedSections Refusal
-sections_in (Some name) file = text_place (section_table file) >>= λ text. Ok (the_text text)
-sections_in None file = whole_sections (section_table file) >>= λ sections. Ok (all_sections (base_at file (places_of file)) sections)
+sections_in section file = do
+  sections ← whole_sections (section_table file)
+  code ← code_of section sections
+  Ok (in_memory (base_at file (places_of file)) sections code)
 
 -- the refusals in order: those of the selection and of the symbol table; else the function symbols
 unfoldable pub selected_answer : Option (List ℕ) → List ℕ → Result SelectedSymbols Refusal
@@ -175,9 +196,19 @@ selected_file_answer section file = if_as_long_as (least_length file) file (sele
 -- a `SelectedSections`
 abbrev pub sections_view : code.SelectedSections → SelectedSections
 sections_view (Text text) = the_text (text_view text)
-sections_view (All base headers) = all_sections base (headers_view headers)
+sections_view (Memory base headers code) = in_memory base (headers_view headers) (option_map text_view code)
 
--- none of the section headers that are chosen is truncated
+-- the code section, if it is selected, is one of so many
+abbrev pub IsWithin : Option TextPlace → ℕ → Type 0
+IsWithin None count = Unit {0}
+IsWithin (Some code) count = code.index < count
+
+-- none of the section headers is truncated, and one is the code section's, if it is selected
 abbrev pub IsWhole : SelectedSections → Type 0
 IsWhole (the_text text) = Unit {0}
-IsWhole (all_sections base sections) = sections.count ≤ whole_in sections
+IsWhole (in_memory base sections code) = (sections.count ≤ whole_in sections) × IsWithin code sections.count
+
+-- the section header of this index isn't truncated
+abbrev pub HasHeader : SelectedSections → ℕ → Type 0
+HasHeader (the_text text) index = Unit {0}
+HasHeader (in_memory base sections code) index = index < whole_in sections

@@ -1,9 +1,10 @@
-//! The function symbols of selected sections: of the text, or of all sections at their addresses in memory.
+//! The function symbols of selected sections at their addresses in memory, and those of the text by the rule of
+//! `functions` of a reader.
 
 ghost use Rattle.std.specs.Prelude.{◌≡◌, ◌≢◌, ◌⊎◌, ℕ, ◌&&◌, ◌+◌, ◌-◌, ◌*◌, ◌<◌, ◌≤◌, ◌++◌, true, false, List, [], ◌∷◌, length, map, All, Some, None, IfOk, IfSome, OnErr, MatchOption, is_some, nat_eq, nat_lt, unwrap_or, if◌then◌else◌};
 ghost use Rattle.std.specs.List.{filter_map};
 ghost use Rattle.std.specs.Option.{option_map};
-ghost use Rattle.binfarce_bytes.specs.Entries.{Answers};
+ghost use Rattle.binfarce_bytes.specs.Entries.{Answers, ListsSome};
 ghost use Rattle.binfarce_bytes.specs.Refusal.{Gives, refusal_of};
 ghost use Rattle.binfarce_bytes.specs.RowViews.{rows_view};
 ghost use Rattle.binfarce_bytes.specs.SectionEntries.{SelectsSome};
@@ -12,17 +13,18 @@ ghost use Rattle.binfarce_bytes.specs.Sizes.{addresses_of, least_above, least_of
 ghost use Rattle.binfarce_bytes.specs.SymbolViews.{section_function_view, HoldsSized};
 ghost use Rattle.binfarce_pe.specs.Pe.{section_at};
 ghost use Rattle.binfarce_pe.specs.PeNames.{full_name, string_table};
-ghost use Rattle.binfarce_pe.specs.PeParts.{places_of, places_view, headers_view, section_table, table_view, whole_in};
+ghost use Rattle.binfarce_pe.specs.PeParts.{places_of, places_view, headers_view, section_table, table_view, text_view, whole_in};
 ghost use Rattle.binfarce_pe.specs.PeRules.{accepted_name, ends_at};
-ghost use Rattle.binfarce_pe.specs.PeSelection.{is_external_or_static, is_inner, is_routine, memory_size, memory_address, rules_of, name_of, section_entries, entries_by, section_size, whole_sections, sections_in, selected_answer, sections_view, IsWhole};
+ghost use Rattle.binfarce_pe.specs.PeSelection.{is_external_or_static, is_inner, is_routine, memory_size, memory_address, rules_of, name_of, section_entries, entries_by, section_size, whole_sections, code_section, code_of, sections_in, selected_answer, sections_view, IsWhole, IsWithin, HasHeader};
+ghost use Rattle.binfarce_pe.specs.PeViews.{section_view};
 ghost use Rattle.binfarce_pe.specs.PeSymbols as pe_symbols;
-ghost use Rattle.binfarce_pe.specs.PeSymbols.{record_count};
+ghost use Rattle.binfarce_pe.specs.PeSymbols.{pe_answer, record_count};
 ghost use Rattle.binfarce_pe.specs.machine.RawPe.{symbol_view, bound_of, ending_name, function_in, names_view, HoldsRows, HoldsSections};
 
 use crate::header::image_base;
 use crate::names::{full_name, string_table};
 use crate::parts::{SECTION_LENGTH, TableOffsets, Text, text_in};
-use crate::sections::{Table, section_at, section_table};
+use crate::sections::{Section, Table, section_at, section_named, section_table};
 use crate::symbols::{
     CoffTable, SYMBOL_LENGTH, SymbolRow, is_function, name_of, symbol_of, symbol_table,
 };
@@ -42,28 +44,30 @@ const IMAGE_SYM_CLASS_LABEL: u8 = 6;
 /// The sections of a file whose function symbols are listed.
 #[derive(Clone, Copy)]
 pub enum SelectedSections<'a> {
-    /// The text: external functions, at their offsets in it.
+    /// The text, by the rule of `functions` of a reader: external functions, at their offsets in it.
     Text(Text),
-    /// All sections of a file with this image base, with these headers: external and static functions, at their
-    /// addresses in memory.
-    All(Option<u64>, Table<'a>),
+    /// The sections of a file with this image base, with these headers: external and static functions, at their
+    /// addresses in memory. All are selected, or the code section alone, which has this index and size.
+    Memory(Option<u64>, Table<'a>, Option<Text>),
 }
 
 impl SelectedSections<'_> {
-    /// How many bytes the text has in the file; `None` for all sections.
+    /// The size in bytes of the section that is selected: of the text in the file, of the code section in memory. `None`
+    /// for all sections.
     pub fn section_size(self) -> Option<u64>
         ensures { result ≡ section_size (sections_view self.entry) }
     {
         match self {
             SelectedSections::Text(text) => Some(u64::from(text.size)),
-            SelectedSections::All(_, _) => None,
+            SelectedSections::Memory(_, _, None) => None,
+            SelectedSections::Memory(_, _, Some(code)) => Some(u64::from(code.size)),
         }
     }
 }
 
 /// The function symbols of a selection in a file whose tables are at these places, and the size of the selected
-/// section: the answer of `functions` of a reader, with its refusals. `OutOfMemory` only instead of a list that isn't
-/// empty.
+/// section: the answer of `selected_functions` of a reader, with its refusals. `OutOfMemory` only instead of a list that
+/// isn't empty.
 #[tactic(auto, unfolding(crate::specs::PeSelection::selected_answer))]
 pub fn functions_of_file<'a>(
     alloc: Global,
@@ -80,7 +84,24 @@ pub fn functions_of_file<'a>(
     Ok((functions, sections.section_size()))
 }
 
-// What a selection chooses of a file, or the first refusal.
+/// The function symbols of the text of a file whose tables are at these places, and the text's size in bytes in the
+/// file: those of `functions` of a reader, with its refusals. `OutOfMemory` only instead of a list that isn't empty.
+pub fn text_functions<'a>(
+    alloc: Global,
+    file: &'a [u8],
+    places: TableOffsets,
+) -> Result<(Vec<SectionFunction<'a>>, u64), ParseError>
+    requires { places_view places ≡ places_of file.now }
+    ensures { Answers (λ listed given. (map (λ e. e.entry) (map section_function_view given.0.items) ≡ listed.entries)
+        × (given.1 ≡ listed.section_size)) ListsSome (pe_answer file.entry.now) result }
+{
+    let text = text_in(section_table(file, places))?;
+    let symbols = symbol_table(file, places)?;
+    let functions = functions_of(alloc, SelectedSections::Text(text), symbols)?;
+    Ok((functions, u64::from(text.size)))
+}
+
+// The sections of a file, none of whose headers is truncated, of which this selection takes all or the code section.
 fn selected_sections<'a>(
     file: &'a [u8],
     places: TableOffsets,
@@ -90,25 +111,11 @@ fn selected_sections<'a>(
     ensures answer { Gives refusal_of sections_view (sections_in (section_of selection.entry) file.entry.now) result }
     ensures whole { IfOk result (λ c. IsWhole (sections_view c)) }
 {
-    match selection {
-        Selection::Section(_) => Ok(SelectedSections::Text(text_in(section_table(file, places))?)),
-        Selection::All => all_sections(file, places),
-    }
-}
-
-// All sections of a file, none of whose headers is truncated.
-fn all_sections<'a>(
-    file: &'a [u8],
-    places: TableOffsets,
-) -> Result<SelectedSections<'a>, ParseError>
-    requires { places_view places ≡ places_of file.now }
-    ensures answer { Gives refusal_of sections_view (sections_in None file.entry.now) result }
-    ensures whole { IfOk result (λ c. IsWhole (sections_view c)) }
-{
     let optional_header = to_index(places.optional_header);
     let header = slice_at(file, optional_header, places.optional_header_size)?;
     let headers = whole_sections(section_table(file, places))?;
-    Ok(SelectedSections::All(image_base(header), headers))
+    let code = code_of(headers, selection)?;
+    Ok(SelectedSections::Memory(image_base(header), headers, code))
 }
 
 // The section headers, of which none is truncated.
@@ -122,6 +129,39 @@ fn whole_sections(sections: Table<'_>) -> Result<Table<'_>, ParseError>
         Ok(sections)
     } else {
         Err(ParseError::UnexpectedEof)
+    }
+}
+
+/// The index and the size in bytes of the code section among section headers of which none is truncated, if the
+/// selection is of one section. `SymbolsSectionIsMissing` where it is missing.
+pub fn code_of(sections: Table<'_>, selection: Selection<'_>) -> Result<Option<Text>, ParseError>
+    requires { sections.count ≤ whole_in (headers_view sections) }
+    ensures answer { Gives refusal_of (option_map text_view)
+        (code_of (section_of selection.entry) (headers_view sections.entry)) result }
+    ensures within { IfOk result (λ code. IsWithin (option_map text_view code) sections.entry.count) }
+{
+    match selection {
+        Selection::All => Ok(None),
+        Selection::Section(_) => match code_section(sections) {
+            None => Err(ParseError::SymbolsSectionIsMissing),
+            Some(code) => {
+                let size = memory_size(sections, u32::from(code.index));
+                Ok(Some(Text {
+                    index: code.index,
+                    size,
+                }))
+            }
+        },
+    }
+}
+
+// The first section `.text`.
+fn code_section(sections: Table<'_>) -> Option<Section<'_>>
+    ensures { option_map section_view result ≡ code_section (headers_view sections.entry) }
+{
+    match section_named(sections, ".text") {
+        Ok(found) => found,
+        Err(_) => None,
     }
 }
 
@@ -177,7 +217,8 @@ fn span_of(sections: SelectedSections<'_>) -> (u32, u32)
 {
     match sections {
         SelectedSections::Text(text) => (u32::from(text.index), 1),
-        SelectedSections::All(_, headers) => (0, u32::from(headers.count)),
+        SelectedSections::Memory(_, headers, None) => (0, u32::from(headers.count)),
+        SelectedSections::Memory(_, _, Some(code)) => (u32::from(code.index), 1),
     }
 }
 
@@ -188,7 +229,7 @@ fn accepts(sections: SelectedSections<'_>, row: SymbolRow) -> bool
 {
     let is_kept = match sections {
         SelectedSections::Text(_) => row.storage_class == IMAGE_SYM_CLASS_EXTERNAL,
-        SelectedSections::All(_, _) => is_external_or_static(row),
+        SelectedSections::Memory(_, _, _) => is_external_or_static(row),
     };
     is_function(row) && is_kept
 }
@@ -207,7 +248,7 @@ fn ends_sizes(
 {
     match sections {
         SelectedSections::Text(_) => false,
-        SelectedSections::All(_, _) => {
+        SelectedSections::Memory(_, _, _) => {
             is_external_or_static(row) || is_routine(symbols, number, row)
         }
     }
@@ -340,13 +381,12 @@ fn function_name<'a>(
 // The size that sizes end at in the section of this index.
 #[tactic(auto, unfolding(crate::specs::PeSelection::memory_size, crate::specs::Pe::section_fields))]
 fn bound_of(sections: SelectedSections<'_>, index: u32) -> u32
-    requires whole { IsWhole (sections_view sections) }
-    requires within { index < (rules_of (sections_view sections)).first + (rules_of (sections_view sections)).count }
+    requires { HasHeader (sections_view sections) index }
     ensures { result ≡ bound_of (sections_view sections.entry) index }
 {
     match sections {
         SelectedSections::Text(text) => text.size,
-        SelectedSections::All(_, headers) => memory_size(headers, index),
+        SelectedSections::Memory(_, headers, _) => memory_size(headers, index),
     }
 }
 
@@ -367,15 +407,14 @@ fn memory_size(sections: Table<'_>, index: u32) -> u32
 
 // The address for a row's value in the section of this index.
 fn address_of(sections: SelectedSections<'_>, index: u32, value: u64) -> u64
-    requires whole { IsWhole (sections_view sections) }
-    requires within { index < (rules_of (sections_view sections)).first + (rules_of (sections_view sections)).count }
+    requires { HasHeader (sections_view sections) index }
     ensures { result ≡ (rules_of (sections_view sections.entry)).address index value }
 {
     match sections {
         SelectedSections::Text(_) => value,
-        SelectedSections::All(base, headers) => memory_address(base, headers, index).wrapping_add(
-            value,
-        ),
+        SelectedSections::Memory(base, headers, _) => memory_address(
+            base, headers, index,
+        ).wrapping_add(value),
     }
 }
 
@@ -493,9 +532,7 @@ fn push_functions<'a>(
     held: Held<'a>,
 ) -> Result<(), AllocError>
     requires named { All (λ r. r.index < length held.names.items) held.rows.items }
-    requires whole { IsWhole (sections_view sections) }
-    requires within { (index < 65536)
-        × (index < (rules_of (sections_view sections)).first + (rules_of (sections_view sections)).count) }
+    requires within { (index < 65536) × HasHeader (sections_view sections) index }
     ensures { let rules = rules_of (sections_view sections.entry) in (table : pe_symbols.CoffTable)
         → HoldsRows table (rules.section index) held.entry → IfOk result
         (λ _. map section_function_view functions.new.items
@@ -523,9 +560,7 @@ fn push_rows<'a>(
 ) -> Result<(), AllocError>
     requires named { All (λ r. r.index < length names.now) rows.now }
     requires above { above.now ≡ map (λ r. least_above (addresses_of (rows_view rows.now)) r.address) rows.now }
-    requires whole { IsWhole (sections_view sections) }
-    requires within { (index < 65536)
-        × (index < (rules_of (sections_view sections)).first + (rules_of (sections_view sections)).count) }
+    requires within { (index < 65536) × HasHeader (sections_view sections) index }
     ensures { let rules = rules_of (sections_view sections.entry) in IfOk result
         (λ _. map section_function_view functions.new.items
         ≡ map section_function_view functions.old.items ++ filter_map (function_in rules index (names_view names.now)
@@ -561,7 +596,7 @@ fn size_at(sections: SelectedSections<'_>, address: u64, above: Option<u64>, bou
 {
     match sections {
         SelectedSections::Text(_) => size_up_to(address, above, bound),
-        SelectedSections::All(_, _) => size_within(address, above, bound),
+        SelectedSections::Memory(_, _, _) => size_within(address, above, bound),
     }
 }
 

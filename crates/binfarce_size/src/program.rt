@@ -13,7 +13,7 @@ ghost use Rattle.binfarce_size.specs.declared.program.Fault.TheVariants.{Usage};
 use binfarce_bytes::source::Source;
 use binfarce_tools::list::Out;
 use binfarce_tools::program::{
-    Failure, file_and_section, is_read_at_offsets, read_whole, tables_at,
+    Contents, Failure, contents_at, file_and_section, is_read_at_offsets, read_whole,
 };
 use binfarce_tools::report::{ReportError, report, report_tables};
 use std::alloc::Global;
@@ -90,7 +90,7 @@ pub fn run<R: Read, W: Write>(
     report(alloc, &bytes, section, out).map_err(Fault::Report)
 }
 
-/// As `run`, but of a file that can be read at offsets only the headers, the symbol table and the names are read.
+/// As `run`, but of an ELF file that can be read at offsets only the headers, the symbol table and the names are read.
 pub fn run_file<F: Read + Source<Log = ()>, W: Write>(
     alloc: Global,
     file: &mut F,
@@ -109,8 +109,10 @@ pub fn run_file<F: Read + Source<Log = ()>, W: Write>(
     if !is_read_at_offsets(file) {
         return run(alloc, file, section, out);
     }
-    let tables = tables_at(alloc, file, section)?;
-    report_tables(alloc, &tables, out).map_err(Fault::Report)
+    match contents_at(alloc, file, section)? {
+        Contents::Tables(tables) => report_tables(alloc, &tables, out).map_err(Fault::Report),
+        Contents::Whole(bytes) => report(alloc, &bytes, section, out).map_err(Fault::Report),
+    }
 }
 
 /// The program's exit status: 2 for wrong arguments, and 1 for any other fault.

@@ -1,14 +1,9 @@
 -- What the function symbols of a selection of a Mach-O file are made of, by what was read of it.
-use Rattle.std.proofs.Common.{◌≡◌, ◌⊎◌, ◌≢◌, ℕ, ◌≤◌, false, List, length, Option, None, Result, Ok, Err, inl, inr, refl, sym, ap, subst, ◌∙◌}
-use Rattle.std.specs.Global.{Vec}
+use Rattle.std.proofs.Common.{◌≡◌, ◌⊎◌, ◌≢◌, ℕ, ◌≤◌, false, List, length, Option, Result, Ok, Err, inl, inr, refl, sym, ap, subst, ◌∙◌}
 use Rattle.std.proofs.lemmas.Bool.{le-ltb}
 use Rattle.binfarce_bytes.specs.declared.error.ParseError.{ParseError}
 use Rattle.binfarce_bytes.specs.Refusal.{◌>>=◌, Refusal, refusal_of, out_of_memory}
-use Rattle.binfarce_bytes.specs.Entries.{Answers}
-use Rattle.binfarce_bytes.specs.SectionEntries.{SectionEntry, SelectedSymbols}
-use Rattle.binfarce_bytes.specs.SymbolViews.{HoldsSectionFunctions, HoldsSelected}
-use Rattle.binfarce_bytes.specs.declared.functions.SectionFunction.{SectionFunction}
-use Rattle.binfarce_macho.specs.MachoSelection.{SelectedSections, SelectedTables, sections_in, selected_tables, selected_file_tables, entries_in, section_size, section_name, symbols_of}
+use Rattle.binfarce_macho.specs.MachoSelection.{SelectedSections, SelectedTables, sections_in, selected_tables, selected_file_tables}
 use Rattle.binfarce_macho.specs.MachoSymbols.{SymtabCommand, symbols_by, table_of}
 use Rattle.binfarce_tables.specs.declared.error.ReadError.{ReadError}
 use Rattle.binfarce_tables.specs.declared.error.ReadError.TheVariants.{Refused, OutOfMemory}
@@ -52,27 +47,6 @@ module _ (section : Option (List ℕ)) (file : List ℕ) where
 
   pub from_found : (found : CommandParts) → 28 ≤ length file → selected_commands section file ≡ Ok found → selected_file_tables section file ≡ after_commands file found
   from_found found inside is = steps_are inside ∙ ap (λ (r : Result CommandParts Refusal). r >>= after_commands file) is
-
--- the function symbols of parts, by the entries of their sections
-pub entries_selected : (tables : SelectedTables) (N : Type 0) (result : Result (Vec SectionFunction) ParseError) → Answers HoldsSectionFunctions (λ _. N) (entries_in tables.sections tables.symbols) result
-    → Answers HoldsSelected (λ _. N) (symbols_of tables) result
-unfolding symbols_of
-entries_selected tables N result given = by_entries (entries_in tables.sections tables.symbols) result given
-  where
-    selected : List SectionEntry → SelectedSymbols
-    selected entries = record {
-      entries = entries;
-      section_size = section_size tables.sections tables.symbols;
-      section_name = section_name tables.sections;
-      shares_addresses = false;
-      version_name = λ version. None;
-    }
-
-    by_entries : (r : Result (List SectionEntry) Refusal) (result : Result (Vec SectionFunction) ParseError) → Answers HoldsSectionFunctions (λ _. N) r result → Answers HoldsSelected (λ _. N) (r >>= λ entries. Ok (selected entries)) result
-    by_entries (Ok entries) (Ok functions) h = h
-    by_entries (Ok entries) (Err e) h = h
-    by_entries (Err why) (Ok functions) h = h
-    by_entries (Err why) (Err e) h = h
 
 -- a refusal, or a failed allocation
 pub with_memory : {X Y : Type 0} (view : X → Y) (answer : Result Y Refusal) (p : ParseError) (e : ReadError) → ((refusal_of p ≡ out_of_memory) × (e ≡ OutOfMemory)) ⊎ ((refusal_of p ≢ out_of_memory) × (e ≡ Refused p))

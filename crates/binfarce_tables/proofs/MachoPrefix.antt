@@ -15,7 +15,7 @@ use Rattle.binfarce_bytes.specs.SectionEntries.{unless}
 use Rattle.binfarce_bytes.specs.Walk.{Walk, first, found_or_end, ahead_of, and_then}
 use Rattle.binfarce_macho.specs.Macho.{Command, Section, header_of, header_fields, header_length, command_at, body_of, commands_from, commands, section_at, section_fields, flags_at, section_offset, section_count, whole_headers, sections_below, segment, is_segment, sections_of, walk, is_named}
 use Rattle.binfarce_macho.specs.MachoSections.{NumberedSection, first_starts, starts_in, starts_among, section_starts, has_instructions, extent_at, numbered_at, numbered_sections}
-use Rattle.binfarce_macho.specs.MachoSelection.{the_text, all_sections, sections_in}
+use Rattle.binfarce_macho.specs.MachoSelection.{code_of, sections_in}
 use Rattle.binfarce_macho.specs.MachoSymbols.{SymtabCommand, symbol_table_at, symbol_table_fields, Extent, some_size, text_extent, symbol_command, whole_table, named_table, table_of}
 use Rattle.binfarce_macho.specs.MachoParts.{holds_body, holds_from, holds_commands, segment_address, is_text_segment, load_address}
 use Rattle.binfarce_macho.proofs.AllWalks.{each_start}
@@ -302,11 +302,13 @@ module _ (file bytes : List ℕ) (short : length bytes ≤ length file) (same : 
         (λ command is. let found = found_held (commands bytes).items command agrees.1 is in whole_same command found.0 found.1)
         ∙ ap (λ (w : Walk Command). first (λ c. eqb c.kind 2) w >>= named_table file) commands_same
 
+    pub among_same : starts_among bytes (commands bytes).items ≡ starts_among file (commands file).items
+    among_same = starts_held (commands bytes).items agrees.1 ∙ ap (λ (w : Walk Command). starts_among file w.items) commands_same
+
     starts_same : section_starts bytes ≡ section_starts file
     unfolding section_starts
     starts_same =
-        ap₂ (λ (end : Option Refusal) (starts : List ℕ). unless end (take 255 starts)) (ap (λ (w : Walk Section). w.refusal) walk_same)
-        (starts_held (commands bytes).items agrees.1 ∙ ap (λ (w : Walk Command). starts_among file w.items) commands_same)
+        ap₂ (λ (end : Option Refusal) (starts : List ℕ). unless end (take 255 starts)) (ap (λ (w : Walk Section). w.refusal) walk_same) among_same
 
     each_whole : (starts : List ℕ) → section_starts bytes ≡ Ok starts → All IsHeld starts
     unfolding section_starts
@@ -324,8 +326,8 @@ module _ (file bytes : List ℕ) (short : length bytes ≤ length file) (same : 
 
     pub sections_held : (section : Option (List ℕ)) → sections_in section bytes ≡ sections_in section file
     unfolding sections_in
-    sections_held (Some name) = ap (λ (w : Walk Section). text_in w >>= λ text. Ok (the_text text)) walk_same
-    sections_held None = ap (λ (r : Result (List NumberedSection) Refusal). r >>= λ sections. Ok (all_sections sections)) numbered_held
+    sections_held section =
+        ap (λ (r : Result (List NumberedSection) Refusal). r >>= λ sections. code_of section sections >>= λ code. Ok (record { sections = sections; code = code })) numbered_held
 
     pub table_held : table_of bytes ≡ table_of file
     table_held = named_held
@@ -392,6 +394,7 @@ begins_with_commands file bytes is = by_held (holds_commands (bytes_at file 0 (s
 -- what the bytes that its commands are in say of a file's sections, of its symbol table, and of where it is loaded
 pub record SameSections (file bytes : List ℕ) : Type 0 where
   pub sections : (section : Option (List ℕ)) → sections_in section bytes ≡ sections_in section file
+  pub among : starts_among bytes (commands bytes).items ≡ starts_among file (commands file).items
   pub table : table_of bytes ≡ table_of file
   pub loaded : load_address bytes ≡ load_address file
 
@@ -406,7 +409,8 @@ same_sections file bytes inside is = rw is (by_held (holds_commands (bytes_at fi
         let whole : 28 ≤ length begins = omega (arith, long, inside) in
         record {
           sections = sections_held file begins short (λ k width h. prefix_same file (said_end file) k width (omega arith) h) whole held;
+          among = among_same file begins short (λ k width h. prefix_same file (said_end file) k width (omega arith) h) whole held;
           table = table_held file begins short (λ k width h. prefix_same file (said_end file) k width (omega arith) h) whole held;
           loaded = load_same file begins short (λ k width h. prefix_same file (said_end file) k width (omega arith) h) whole held;
         }
-    by_held false held = record { sections = λ section. refl; table = refl; loaded = refl }
+    by_held false held = record { sections = λ section. refl; among = refl; table = refl; loaded = refl }

@@ -11,8 +11,12 @@ use Rattle.binfarce_bytes.specs.Refusal.{◌>>=◌, Refusal, required, symbols_s
 use Rattle.binfarce_bytes.specs.Walk.{Walk, first}
 use Rattle.binfarce_pe.specs.Pe.{header_after, header_fields, Section, section_at, section_fields, characteristics_at, section_length, is_named}
 use Rattle.binfarce_pe.specs.PeParts.{TablePlaces, SectionTable, TextPlace, headers_alone, section_in, whole_in, table_walk, text_place}
-use Rattle.binfarce_tables.specs.machine.PePlaces.{headers_at, text_at}
+use Rattle.binfarce_tables.specs.machine.PePlaces.{headers_at}
 use Rattle.binfarce_tables.proofs.HeadersAlone.{bytes_in, value_in, turned}
+
+-- the text of the section table at its place
+abbrev pub text_at : List ℕ → TablePlaces → Result TextPlace Refusal
+text_at file places = text_place (headers_at file places)
 
 -- the bytes that a section table has in the file
 abbrev pub headers_of : List ℕ → TablePlaces → List ℕ
@@ -114,15 +118,18 @@ module _ (file : List ℕ) (places : TablePlaces) (inside : places.sections < le
       fits i n lt = grind arith
 
   -- the sections among the headers alone are the file's
-  pub headers_walk : 0 < count → table_walk alone ≡ table_walk table
+  pub headers_items : (table_walk alone).items ≡ (table_walk table).items
+  unfolding table_walk
+  headers_items =
+      ap (λ (m : ℕ). filter_map (section_in alone) (range_with_len 0 m)) (rooms (length (headers_of file places)) headers_long).0
+      ∙ filter_map_same (section_in alone) (section_in table) 0 (min count (whole_in table)) (λ i lt. same_header i (omega (arith, lt)))
+
+  headers_walk : 0 < count → table_walk alone ≡ table_walk table
   unfolding table_walk
   headers_walk any =
       let some : 0 < length (headers_of file places) = omega (arith, headers_long, any, inside) in
       let both = rooms (length (headers_of file places)) headers_long in
-      let items : filter_map (section_in alone) (range_with_len 0 (min count (whole_in alone))) ≡ filter_map (section_in table) (range_with_len 0 (min count (whole_in table))) =
-      ap (λ (m : ℕ). filter_map (section_in alone) (range_with_len 0 m)) both.0
-      ∙ filter_map_same (section_in alone) (section_in table) 0 (min count (whole_in table)) (λ i lt. same_header i (omega (arith, lt))) in
-      ap₂ (λ (xs : List Section) (end : Option Refusal). record { items = xs; refusal = end }) items
+      ap₂ (λ (xs : List Section) (end : Option Refusal). record { items = xs; refusal = end }) headers_items
       (rw (lt-ltb 0 (length (headers_of file places)) some, lt-ltb places.sections (length file) inside, both.1) refl)
 
   pub text_alone : 0 < count → text_place alone ≡ text_at file places

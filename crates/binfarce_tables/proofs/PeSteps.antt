@@ -6,14 +6,15 @@ use Rattle.binfarce_bytes.specs.Number.{bytes_at}
 use Rattle.binfarce_bytes.specs.Refusal.{◌>>=◌, Refusal, unexpected_eof}
 use Rattle.binfarce_bytes.specs.SectionEntries.{SelectedSymbols, unless}
 use Rattle.binfarce_pe.specs.Pe.{least_length, signature_offset, header_after, header_of}
-use Rattle.binfarce_pe.specs.PeParts.{TablePlaces, places_after, places_of, table_walk}
-use Rattle.binfarce_pe.specs.PeSelection.{SelectedSections, all_sections, base_at, sections_in, symbols_of, selected_answer, selected_file_answer, load_address_at, file_load_address}
+use Rattle.binfarce_pe.specs.PeParts.{TablePlaces, TextPlace, places_after, places_of, table_walk, whole_in}
+use Rattle.binfarce_pe.specs.PeSelection.{SelectedSections, in_memory, base_at, code_of, sections_in, symbols_of, selected_answer, selected_file_answer, load_address_at, file_load_address}
 use Rattle.binfarce_pe.specs.PeSymbols.{CoffTable, symbol_table}
 use Rattle.binfarce_tables.specs.declared.error.ReadError.{ReadError}
 use Rattle.binfarce_tables.specs.Reading.{Reads}
 use Rattle.binfarce_tables.specs.machine.PePlaces.{signature_step, places_step, headers_at, alone_at, chosen_at, table_at}
 use Rattle.binfarce_tables.proofs.PeAlone.{header_alone}
-use Rattle.binfarce_tables.proofs.PeWhole.{held, view_same}
+use Rattle.binfarce_pe.proofs.Selected.{code_within}
+use Rattle.binfarce_tables.proofs.PeWhole.{held, code_same, view_same}
 use Rattle.binfarce_tables.proofs.Readings.{instead, after_test}
 
 -- what follows the selected sections, and the places
@@ -26,22 +27,31 @@ after_places section file places = chosen_at section file places >>= symbols_at 
 by_steps : Result SelectedSections Refusal → Result CoffTable Refusal → Result SelectedSymbols Refusal
 by_steps chosen symbols = chosen >>= λ chosen. symbols >>= λ symbols. Ok (symbols_of chosen symbols)
 
--- all sections say the same by their headers alone
-by_refusal : (file : List ℕ) (places : TablePlaces) (why : Option Refusal) (symbols : Result CoffTable Refusal) → (table_walk (headers_at file places)).refusal ≡ why
-    → by_steps (unless why (headers_at file places) >>= λ sections. Ok (all_sections (base_at file places) sections)) symbols
-    ≡ by_steps (unless why (alone_at file places) >>= λ sections. Ok (all_sections (base_at file places) sections)) symbols
+-- the sections that are chosen say the same by their headers alone
+by_refusal : (section : Option (List ℕ)) (file : List ℕ) (places : TablePlaces) (why : Option Refusal) (symbols : Result CoffTable Refusal) → (table_walk (headers_at file places)).refusal ≡ why
+    → by_steps (unless why (headers_at file places) >>= λ sections. code_of section sections >>= λ code. Ok (in_memory (base_at file places) sections code)) symbols
+    ≡ by_steps (unless why (alone_at file places) >>= λ sections. code_of section sections >>= λ code. Ok (in_memory (base_at file places) sections code)) symbols
 unfolding by_steps
-by_refusal file places (Some why) symbols is = refl
-by_refusal file places None (Err why) is = refl
-by_refusal file places None (Ok symbols) is = let whole = held file places is in ap Ok (sym (view_same file places whole.0 whole.1 (base_at file places) symbols))
+by_refusal section file places (Some why) symbols is = refl
+by_refusal section file places None symbols is =
+    by_code (code_of section (headers_at file places)) refl symbols
+    ∙ ap (λ (r : Result (Option TextPlace) Refusal). by_steps (r >>= λ code. Ok (in_memory (base_at file places) (alone_at file places) code)) symbols) (sym (code_same file places whole.0 whole.1 section))
+  where
+    whole : (places.sections < length file) × (places.section_count ≤ whole_in (headers_at file places))
+    whole = held file places is
+
+    by_code : (r : Result (Option TextPlace) Refusal) → code_of section (headers_at file places) ≡ r → (symbols : Result CoffTable Refusal)
+        → by_steps (r >>= λ code. Ok (in_memory (base_at file places) (headers_at file places) code)) symbols ≡ by_steps (r >>= λ code. Ok (in_memory (base_at file places) (alone_at file places) code)) symbols
+    by_code (Err why) at symbols = refl
+    by_code (Ok code) at (Err why) = refl
+    by_code (Ok code) at (Ok symbols) = ap Ok (sym (view_same file places whole.0 whole.1 (base_at file places) code symbols (code_within section (headers_at file places) code at)))
 
 answer_is : (section : Option (List ℕ)) (file : List ℕ) → selected_answer section file ≡ by_steps (sections_in section file) (table_at file (places_of file))
 unfolding selected_answer symbol_table by_steps
 answer_is section file = refl
 
 chosen_is : (section : Option (List ℕ)) (file : List ℕ) → by_steps (sections_in section file) (table_at file (places_of file)) ≡ by_steps (chosen_at section file (places_of file)) (table_at file (places_of file))
-chosen_is (Some name) file = refl
-chosen_is None file = by_refusal file (places_of file) (table_walk (headers_at file (places_of file))).refusal (table_at file (places_of file)) refl
+chosen_is section file = by_refusal section file (places_of file) (table_walk (headers_at file (places_of file))).refusal (table_at file (places_of file)) refl
 
 after_is : (section : Option (List ℕ)) (file : List ℕ) → by_steps (chosen_at section file (places_of file)) (table_at file (places_of file)) ≡ after_places section file (places_of file)
 unfolding by_steps

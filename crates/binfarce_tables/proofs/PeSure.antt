@@ -12,10 +12,10 @@ use Rattle.binfarce_tables.proofs.PeSteps.{signature_known}
 use Rattle.binfarce_tables.proofs.Sure.{alone, front, back}
 
 module _ (P : Part → Type 0) (file : List ℕ) where
-  -- those of the symbols of a selection, at the places that were read
-  module _ (section : Option (List ℕ)) (are : All P (pe_parts section file)) where
+  -- those of the symbols, at the places that were read
+  module _ (are : All P (pe_parts file)) where
     abbrev rest : List Part
-    rest = selected_parts section file (places_of file) ++ table_parts file (places_of file)
+    rest = selected_parts file (places_of file) ++ table_parts file (places_of file)
 
     each : All P (pointer_part ∷ header_part file ∷ rest)
     unfolding pe_parts
@@ -34,11 +34,11 @@ module _ (P : Part → Type 0) (file : List ℕ) where
       same : places_of file ≡ places
       same = let is = places_read file places step in sym is.0
 
-      pub selected_sure : All P (selected_parts section file places)
-      selected_sure = subst (λ (p : TablePlaces). All P (selected_parts section file p)) same (front P (selected_parts section file (places_of file)) (table_parts file (places_of file)) rest_sure)
+      pub selected_sure : All P (selected_parts file places)
+      selected_sure = subst (λ (p : TablePlaces). All P (selected_parts file p)) same (front P (selected_parts file (places_of file)) (table_parts file (places_of file)) rest_sure)
 
       pub table_sure : All P (table_parts file places)
-      table_sure = subst (λ (p : TablePlaces). All P (table_parts file p)) same (back P (selected_parts section file (places_of file)) (table_parts file (places_of file)) rest_sure)
+      table_sure = subst (λ (p : TablePlaces). All P (table_parts file p)) same (back P (selected_parts file (places_of file)) (table_parts file (places_of file)) rest_sure)
 
   -- those of the sections
   module _ (are : All P (pe_section_parts file)) where

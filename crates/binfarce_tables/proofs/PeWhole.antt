@@ -1,20 +1,20 @@
 -- The section headers of a PE file, of which none is truncated, by what was read of it.
-use Rattle.std.proofs.Common.{◌≡◌, ℕ, zero, suc, ◌+◌, ◌*◌, ◌-◌, ◌/◌, ◌%◌, ◌^◌, ◌<◌, ◌≤◌, Bool, true, false, cond, ltb, leb, ◌&&◌, List, ◌++◌, length, min, map, Vec, Global, Option, Some, None, Result, Ok, Err, inl, inr, refl, sym, ap, ap₂, ◌∙◌, arith}
+use Rattle.std.proofs.Common.{◌≡◌, ℕ, zero, suc, ◌+◌, ◌*◌, ◌-◌, ◌/◌, ◌%◌, ◌^◌, ◌<◌, ◌≤◌, Bool, true, false, cond, ltb, leb, ◌&&◌, List, ◌++◌, length, min, map, Vec, Global, Option, Some, None, Result, Ok, Err, inl, inr, refl, sym, ap, ap₂, ◌∙◌, arith, codes}
 use Rattle.std.proofs.Math.Path.{fun_ext}
 use Rattle.std.proofs.lemmas.Bool.{cases_lt, cases_eq, eq-eqb, ne_eqb, lt-ltb, le-ltb, lt-leb, le-leb, ltb-true, leb-true}
 use Rattle.std.proofs.lemmas.Nat.{le-div, div_below}
-use Rattle.std.specs.Prelude.{is_none}
+use Rattle.std.specs.Prelude.{find, is_none}
 use Rattle.std.specs.List.{range_with_len, flat_map}
 use Rattle.std.specs.Option.{option_map}
 use Rattle.binfarce_bytes.specs.declared.ByteOrder.TheVariants.{LittleEndian}
 use Rattle.binfarce_bytes.specs.Field.{Field, value_at}
 use Rattle.binfarce_bytes.specs.Number.{bytes_at}
-use Rattle.binfarce_bytes.specs.Refusal.{unexpected_eof}
+use Rattle.binfarce_bytes.specs.Refusal.{◌>>=◌, Refusal, required, symbols_section_is_missing, unexpected_eof}
 use Rattle.binfarce_bytes.specs.SectionEntries.{SectionEntry, in_section}
-use Rattle.binfarce_pe.specs.Pe.{Section, section_fields}
+use Rattle.binfarce_pe.specs.Pe.{Section, section_fields, is_named}
 use Rattle.binfarce_pe.specs.PeNames.{full_name, string_table}
-use Rattle.binfarce_pe.specs.PeParts.{TablePlaces, SectionTable, headers_alone, whole_in, table_walk}
-use Rattle.binfarce_pe.specs.PeSelection.{all_sections, is_external_or_static, ends_sizes, number_of, memory_size, memory_address, moved, size_within, rules_of, section_entries, entries_by, name_of, symbols_of}
+use Rattle.binfarce_pe.specs.PeParts.{TablePlaces, TextPlace, SectionTable, headers_alone, whole_in, table_walk}
+use Rattle.binfarce_pe.specs.PeSelection.{in_memory, first_of, count_of, code_section, code_of, IsWithin, is_external_or_static, ends_sizes, number_of, memory_size, memory_address, moved, size_within, rules_of, section_entries, entries_by, name_of, symbols_of}
 use Rattle.binfarce_pe.specs.PeSymbols.{CoffTable, is_function}
 use Rattle.binfarce_pe.specs.PeRules.{entries_under}
 use Rattle.binfarce_tables.specs.machine.PePlaces.{headers_at, alone_at, whole_at}
@@ -22,7 +22,8 @@ use Rattle.binfarce_tables.specs.declared.error.ReadError.{ReadError}
 use Rattle.binfarce_tables.specs.declared.error.ReadError.TheVariants.{Refused, Unreadable, OutOfMemory}
 use Rattle.binfarce_tables.specs.Reading.{Reads}
 use Rattle.binfarce_tables.proofs.HeadersAlone.{value_in}
-use Rattle.binfarce_tables.proofs.PeAlone.{same_header}
+use Rattle.binfarce_pe.proofs.Selected.{code_below}
+use Rattle.binfarce_tables.proofs.PeAlone.{headers_items, same_header}
 use Rattle.binfarce_tables.proofs.Readings.{taken}
 
 -- functions that agree on so many numbers
@@ -80,10 +81,12 @@ module _ (file : List ℕ) (places : TablePlaces) where
     address_same None i lt = refl
     address_same (Some base) i lt = ap (λ (n : ℕ). (base + n) % 2 ^ 64) (number_same i section_fields.virtual_address lt (omega arith))
 
-    entries_same : (base : Option ℕ) (symbols : CoffTable) → entries_by (rules_of (all_sections base alone)) symbols ≡ entries_by (rules_of (all_sections base table)) symbols
-    entries_same base symbols =
-        flat_map_same (section_entries (rules_of (all_sections base alone)) symbols) (section_entries (rules_of (all_sections base table)) symbols) 0 places.section_count
-        (λ i lt. ap₂ (λ (start size : ℕ). in_section (i + 1) (map (moved (λ value. (start + value) % 2 ^ 64)) (entries_under symbols (record { accepts = λ row. is_function row && is_external_or_static i row; ends = ends_sizes i; size = size_within size })))) (address_same base i (omega (arith, lt))) (size_same i (omega (arith, lt))))
+    -- the entries of sections of which each is one of the table's
+    entries_same : (base : Option ℕ) (code : Option TextPlace) (symbols : CoffTable) → first_of code + count_of places.section_count code ≤ places.section_count
+        → entries_by (rules_of (in_memory base alone code)) symbols ≡ entries_by (rules_of (in_memory base table code)) symbols
+    entries_same base code symbols within =
+        flat_map_same (section_entries (rules_of (in_memory base alone code)) symbols) (section_entries (rules_of (in_memory base table code)) symbols) (first_of code) (count_of places.section_count code)
+        (λ i lt. ap₂ (λ (start size : ℕ). in_section (i + 1) (map (moved (λ value. (start + value) % 2 ^ 64)) (entries_under symbols (record { accepts = λ row. is_function row && is_external_or_static i row; ends = ends_sizes i; size = size_within size })))) (address_same base i (omega (arith, lt, within))) (size_same i (omega (arith, lt, within))))
 
     name_same : (number : ℕ) → name_of alone number ≡ name_of table number
     name_same number = elim (cases_eq number 0) [
@@ -97,8 +100,27 @@ module _ (file : List ℕ) (places : TablePlaces) where
     full_same : (strings : List ℕ) (number : ℕ) → option_map (full_name (string_table strings)) (name_of alone number) ≡ option_map (full_name (string_table strings)) (name_of table number)
     full_same strings number = ap (option_map (full_name (string_table strings))) (name_same number)
 
-    pub view_same : (base : Option ℕ) (symbols : CoffTable) → symbols_of (all_sections base alone) symbols ≡ symbols_of (all_sections base table) symbols
-    view_same base symbols = ap₂ (λ (es : List SectionEntry) (names : ℕ → Option (List ℕ)). record { entries = es; section_size = None; section_name = names; shares_addresses = is_none base; version_name = λ version. None }) (entries_same base symbols) (fun_ext (full_same symbols.strings))
+    -- a code section is one of them
+    pub within_all : (code : Option TextPlace) → IsWithin code places.section_count → first_of code + count_of places.section_count code ≤ places.section_count
+    within_all None within = omega arith
+    within_all (Some code) within = omega (arith, within)
+
+    pub view_same : (base : Option ℕ) (code : Option TextPlace) (symbols : CoffTable) → IsWithin code places.section_count → symbols_of (in_memory base alone code) symbols ≡ symbols_of (in_memory base table code) symbols
+    view_same base code symbols within =
+        ap₂ (λ (es : List SectionEntry) (names : ℕ → Option (List ℕ)). record { entries = es; section_size = option_map (λ c. c.size) code; section_name = names; shares_addresses = is_none base && is_none code; version_name = λ version. None })
+        (entries_same base code symbols (within_all code within)) (fun_ext (full_same symbols.strings))
+
+    -- and the code section is the same
+    pub code_same : (section : Option (List ℕ)) → code_of section alone ≡ code_of section table
+    code_same None = refl
+    code_same (Some name) = ap of_item (ap (find (is_named (codes ".text"))) (headers_items file places begins)) ∙ by_item (code_section table) refl
+      where
+        of_item : Option Section → Result (Option TextPlace) Refusal
+        of_item item = required symbols_section_is_missing item >>= λ code. Ok (Some (record { index = code.index; size = memory_size alone code.index }))
+
+        by_item : (item : Option Section) → code_section table ≡ item → of_item item ≡ (required symbols_section_is_missing item >>= λ code. Ok (Some (record { index = code.index; size = memory_size table code.index })))
+        by_item None is = refl
+        by_item (Some code) is = ap (λ (size : ℕ). Ok (Some (record { index = code.index; size = size }))) (size_same code.index (code_below table code is))
 
   -- where nothing is refused, none is truncated
   pub held : (table_walk table).refusal ≡ None → (places.sections < length file) × (places.section_count ≤ whole_in table)

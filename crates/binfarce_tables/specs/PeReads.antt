@@ -55,14 +55,13 @@ strings_parts file places = if has_long_names (walk file) then parts_if (strings
 unfoldable pub pe_section_parts : List ℕ → List Part
 pe_section_parts file = pointer_part ∷ header_part file ∷ beginning_part file (places_of file) ∷ strings_parts file (places_of file)
 
--- what a selection needs: of the text the section headers, and of all sections the beginning of the optional header too
-abbrev pub selected_parts : Option (List ℕ) → List ℕ → TablePlaces → List Part
-selected_parts (Some name) file places = headers_part file places ∷ []
-selected_parts None file places = headers_part file places ∷ optional_header_part places ∷ []
+-- what every selection needs: the section headers, and the beginning of the optional header
+abbrev pub selected_parts : List ℕ → TablePlaces → List Part
+selected_parts file places = headers_part file places ∷ optional_header_part places ∷ []
 
--- what a reading of the symbols of a selection reads
-unfoldable pub pe_parts : Option (List ℕ) → List ℕ → List Part
-pe_parts section file = pointer_part ∷ header_part file ∷ (selected_parts section file (places_of file) ++ table_parts file (places_of file))
+-- what a reading of the symbols reads, whichever sections are selected
+unfoldable pub pe_parts : List ℕ → List Part
+pe_parts file = pointer_part ∷ header_part file ∷ (selected_parts file (places_of file) ++ table_parts file (places_of file))
 
 -- what a reading of the load address reads
 abbrev pub pe_load_parts : List ℕ → List Part

@@ -11,7 +11,7 @@ ghost use Rattle.binfarce_bytes.specs.SymbolViews.{HoldsSelected};
 ghost use Rattle.binfarce_macho.specs.Macho.{least_length, header_of};
 ghost use Rattle.binfarce_macho.specs.MachoParts.{table_view, holds_commands, load_address, file_load_address};
 ghost use Rattle.binfarce_macho.specs.MachoSelection as selection;
-ghost use Rattle.binfarce_macho.specs.MachoSelection.{selected_file_tables, section_name, section_size, symbols_of, NeedsMemory};
+ghost use Rattle.binfarce_macho.specs.MachoSelection.{selected_file_tables, symbols_of};
 ghost use Rattle.binfarce_macho.specs.MachoSymbols.{symbols_by};
 ghost use Rattle.binfarce_macho.specs.MachoViews.{header_view};
 ghost use Rattle.binfarce_tables.specs.BeginningReading.{ReadsBeginning, macho_sections};
@@ -52,32 +52,30 @@ struct SymbolParts {
 }
 
 impl Parts {
-    /// The function symbols that a reader of the whole file gives for the selection, in its order. Nothing is read:
-    /// names are slices of the parts.
+    /// The function symbols that `selected_functions` of a reader of the whole file gives for the selection, in its
+    /// order. Nothing is read: names are slices of the parts.
     ///
     /// # Errors
     ///
-    /// `MalformedInput` where the text's end exceeds 64 bits, or a row that would be kept lies past it with no address
-    /// above it. `OutOfMemory` only where the text's table has a value that isn't 0, or where all sections are selected
-    /// and there is one; it may replace the second of these errors.
+    /// `OutOfMemory`, only where the file has a section.
     pub fn functions(&self, alloc: Global) -> Result<Vec<SectionFunction<'_>>, ParseError>
         ensures { let tables = parts_view self.now in
-            Answers HoldsSelected (λ _. NeedsMemory tables.sections tables.symbols) (symbols_of tables) result }
+            Answers HoldsSelected (λ _. tables.sections.sections ≢ []) (Ok (symbols_of tables)) result }
     {
         functions_of(alloc, &self.sections, symbols_in(&self.symbols))
     }
 
-    /// The text's size in bytes, 0 in a file without a symbol table; `None` where all sections are selected.
+    /// The size in bytes of the code section; `None` where all sections are selected.
     pub fn section_size(&self) -> Option<u64>
-        ensures { let tables = parts_view self.now in result ≡ section_size tables.sections tables.symbols }
+        ensures { result ≡ (symbols_of (parts_view self.now)).section_size }
     {
-        self.sections.size(self.symbols.is_some())
+        self.sections.size()
     }
 
     /// The name of the section of this number, `SEGMENT,SECTION`; nothing is copied. `None` where there is no such
-    /// section, where one of its two names isn't valid, and where the text alone is selected.
+    /// section, and where one of its two names isn't valid.
     pub fn section_name(&self, number: u32) -> Option<&str>
-        ensures { option_map (λ t. t.now) result ≡ section_name (parts_view self.entry.now).sections number }
+        ensures { option_map (λ t. t.now) result ≡ (symbols_of (parts_view self.entry.now)).section_name number }
     {
         self.sections.name(number)
     }
@@ -106,8 +104,7 @@ fn bytes_of(symbols: &SymbolParts) -> SymbolBytes<'_>
 ///
 /// # Errors
 ///
-/// `Refused` with the error of `parse`, or of a reader of the whole file for the selection, if it comes before they
-/// look at the text's end and the symbol table's rows; `Unreadable` where the source can't be read at offsets, or a
+/// `Refused` with the error of `parse`, or of `selected_functions` of a reader of the whole file; `Unreadable` where the source can't be read at offsets, or a
 /// read of it fails, and never for a source that can't fail, such as bytes in memory; `OutOfMemory` where an allocation
 /// fails.
 pub fn read<S: Source>(

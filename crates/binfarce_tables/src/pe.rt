@@ -9,14 +9,14 @@ ghost use Rattle.binfarce_bytes.specs.Selection.{section_of};
 ghost use Rattle.binfarce_bytes.specs.SymbolViews.{HoldsSelected};
 ghost use Rattle.binfarce_pe.specs.Pe.{walk};
 ghost use Rattle.binfarce_pe.specs.PeNames.{string_table};
-ghost use Rattle.binfarce_pe.specs.PeParts.{headers_alone, places_view, table_walk, text_view, whole_in};
+ghost use Rattle.binfarce_pe.specs.PeParts.{headers_alone, headers_view, places_view, table_walk, whole_in};
 ghost use Rattle.binfarce_pe.specs.PeSelection.{sections_view, selected_file_answer, load_address_at, file_load_address, IsWhole};
 ghost use Rattle.binfarce_tables.specs.BeginningReading.{ReadsBeginning, bytes_of, pe_sections};
 ghost use Rattle.binfarce_tables.specs.PeReading.{file_has_symbols, needed_strings, selected_view, ReadsSections};
 ghost use Rattle.binfarce_tables.specs.PeReads.{pointer_part, places_parts, optional_header_part, headers_part, selected_parts, table_parts, beginning_part, strings_at, strings_parts, table_strings_parts, pe_section_parts, pe_parts, pe_load_parts};
 ghost use Rattle.binfarce_tables.specs.Reading.{Reads, Known};
 ghost use Rattle.binfarce_tables.specs.declared.error.ReadError.TheVariants.{Unreadable};
-ghost use Rattle.binfarce_tables.specs.machine.PePlaces.{headers_at, signature_step, places_step, text_at, whole_at, chosen_at, table_at, read_view, records_view};
+ghost use Rattle.binfarce_tables.specs.machine.PePlaces.{headers_at, signature_step, places_step, whole_at, chosen_at, table_at, read_view, records_view};
 
 use crate::beginning::Beginning;
 use crate::error::ReadError;
@@ -25,12 +25,11 @@ use binfarce_bytes::functions::{SectionFunction, Selection};
 use binfarce_bytes::parser::{number_at, to_index};
 use binfarce_bytes::source::Source;
 use binfarce_bytes::{ByteOrder, ParseError};
-use binfarce_pe::functions::{SelectedSections, functions_of, section_name};
+use binfarce_pe::functions::{SelectedSections, code_of, functions_of, section_name};
 use binfarce_pe::header::image_base;
 use binfarce_pe::names::has_long_names;
 use binfarce_pe::parts::{
     HEADERS_LENGTH, SECTION_LENGTH, SIGNATURE_POINTER, TableOffsets, Text, places_in, signature_in,
-    text_in,
 };
 use binfarce_pe::sections::Table;
 use binfarce_pe::symbols::CoffTable;
@@ -53,11 +52,14 @@ pub struct Parts {
     records: Records,
 }
 
-// The selected sections: the text; or all, with the image base, and with their headers, of which none is truncated.
+// The sections, with the image base and their headers, of which none is truncated; the code section, where it alone is
+// selected.
 #[derive(Drop)]
-enum Sections {
-    Text(Text),
-    All(Option<u64>, Vec<u8>, u16),
+struct Sections {
+    base: Option<u64>,
+    headers: Vec<u8>,
+    count: u16,
+    code: Option<Text>,
 }
 
 impl Model for Parts {
@@ -73,8 +75,8 @@ impl Model for Parts {
 }
 
 impl Parts {
-    /// The function symbols of the selection: those that `functions` of a reader of the whole file gives, in its order.
-    /// Nothing is read: names are slices of the parts.
+    /// The function symbols that `selected_functions` of a reader of the whole file gives for the selection, in its
+    /// order. Nothing is read: names are slices of the parts.
     ///
     /// # Errors
     ///
@@ -89,7 +91,7 @@ impl Parts {
         Ok(functions_of(alloc, self.sections.chosen(), symbols)?)
     }
 
-    /// How many bytes the section `.text` has in the file; `None` where all sections are selected.
+    /// The size in bytes of the code section in memory; `None` where all sections are selected.
     pub fn section_size(&self) -> Option<u64>
         ensures { result ≡ (selected_view self.entry.now).section_size }
     {
@@ -98,26 +100,18 @@ impl Parts {
 
     /// The name of the section of this number, which is one more than its index; one of more than 8 bytes is taken from
     /// the string table, where it is there. It is a slice of the parts; nothing is copied. `None` where there is no such
-    /// section, where its stored name isn't UTF-8, and where not all sections are selected.
+    /// section, and where its stored name isn't UTF-8.
     pub fn section_name(&self, number: u32) -> Option<&str>
         ensures { option_map (λ t. t.now) result ≡ (selected_view self.entry.now).section_name number }
     {
-        match self.sections.chosen() {
-            SelectedSections::Text(_) => None,
-            SelectedSections::All(_, headers) => {
-                section_name(headers, &self.records.strings, number)
-            }
-        }
+        section_name(self.sections.headers(), &self.records.strings, number)
     }
 
     /// Whether the selected sections share addresses: all sections of a file without an image base, as an object file.
     pub fn shares_addresses(&self) -> bool
         ensures { result ≡ (selected_view self.entry.now).shares_addresses }
     {
-        match self.sections.chosen() {
-            SelectedSections::Text(_) => false,
-            SelectedSections::All(base, _) => base.is_none(),
-        }
+        self.sections.base.is_none() && self.sections.code.is_none()
     }
 }
 
@@ -125,28 +119,35 @@ impl Sections {
     fn chosen(&self) -> SelectedSections<'_>
         ensures { sections_view result ≡ read_view self.entry.now }
     {
-        match self {
-            Sections::Text(text) => SelectedSections::Text(*text),
-            Sections::All(base, headers, count) => SelectedSections::All(
-                *base,
-                Table {
-                    bytes: headers,
-                    offset: 0,
-                    count: *count,
-                },
-            ),
-        }
+        SelectedSections::Memory(self.base, self.headers(), self.code)
+    }
+
+    fn headers(&self) -> Table<'_>
+        ensures { headers_view result ≡ headers_alone self.entry.now.headers.items self.entry.now.count }
+    {
+        table_of(&self.headers, self.count)
+    }
+}
+
+// So many section headers alone.
+fn table_of(headers: &[u8], count: u16) -> Table<'_>
+    ensures { headers_view result ≡ headers_alone headers.entry.now count }
+{
+    Table {
+        bytes: headers,
+        offset: 0,
+        count,
     }
 }
 
 /// Reads the parts of a file that a selection's function symbols need: the offset of the signature, the signature and
-/// the file header, which are 24 bytes, the section headers, the symbol table, and the strings, which are all that
-/// follows it; for all sections up to 32 bytes of the optional header. Each is read once, into memory of its size,
-/// which is never more than the file has of it. No other byte is read. The signature isn't checked.
+/// the file header, which are 24 bytes, up to 32 bytes of the optional header, the section headers, the symbol table,
+/// and the strings, which are all that follows it. Each is read once, into memory of its size, which is never more than
+/// the file has of it. No other byte is read. The signature isn't checked.
 ///
 /// # Errors
 ///
-/// `Refused` with the error of `parse` or `functions` of a reader of the whole file; `Unreadable` where the source
+/// `Refused` with the error of `parse` or `selected_functions` of a reader of the whole file; `Unreadable` where the source
 /// can't be read at offsets, or a read of it fails, and never for a source that can't fail, such as bytes in memory;
 /// `OutOfMemory` where an allocation fails.
 pub fn read<S: Source>(
@@ -159,7 +160,7 @@ pub fn read<S: Source>(
         → Reads (S.may_fail source.now) selected_view (selected_file_answer (section_of selection.entry) file) result }
     ensures only { (file : List ℕ) → S.bytes source.now ≡ Some file
         → ReadsOnly (S.is_sure source.now) (S.logs_only log.old) (S.logs_only log.new)
-        (pe_parts (section_of selection.entry) file) (IfErr result (λ e. e ≢ Unreadable)) }
+        (pe_parts file) (IfErr result (λ e. e ≢ Unreadable)) }
 {
     let opened = open(alloc, source)?;
     let places = read_places(&opened, log)?;
@@ -183,35 +184,19 @@ fn read_selected<S: Source>(
     ensures only { (file : List ℕ) → Known (S.bytes opened.now.source.now) opened.now.len file
         → places_step file ≡ Ok (places_view places)
         → ReadsOnly (S.is_sure opened.now.source.now) (S.logs_only log.old) (S.logs_only log.new)
-        (selected_parts (section_of selection.entry) file (places_view places)) (IfErr result (λ e. e ≢ Unreadable)) }
+        (selected_parts file (places_view places)) (IfErr result (λ e. e ≢ Unreadable)) }
 {
-    match selection {
-        Selection::Section(_) => {
-            let text = read_text(opened, log, places)?;
-            Ok(Sections::Text(text))
-        }
-        Selection::All => read_all_sections(opened, log, places),
-    }
-}
-
-fn read_all_sections<S: Source>(
-    opened: &Opened<'_, S>,
-    log: &mut S::Log,
-    places: TableOffsets,
-) -> Result<Sections, ReadError>
-    ensures answer { (file : List ℕ) → Known (S.bytes opened.now.source.now) opened.now.len file
-        → places_step file ≡ Ok (places_view places)
-        → Reads (S.may_fail opened.now.source.now) read_view (chosen_at None file (places_view places)) result }
-    ensures whole { IfOk result (λ s. IsWhole (read_view s)) }
-    ensures only { (file : List ℕ) → Known (S.bytes opened.now.source.now) opened.now.len file
-        → places_step file ≡ Ok (places_view places)
-        → ReadsOnly (S.is_sure opened.now.source.now) (S.logs_only log.old) (S.logs_only log.new)
-        (selected_parts None file (places_view places)) (IfErr result (λ e. e ≢ Unreadable)) }
-{
+    let count = places.section_count;
     let headers = read_headers(opened, log, places)?;
+    let code = code_of(table_of(&headers, count), selection)?;
     let size = places.optional_header_size as u64;
     let header = opened.part(log, places.optional_header, size)?;
-    Ok(Sections::All(image_base(&header), headers, places.section_count))
+    Ok(Sections {
+        base: image_base(&header),
+        headers,
+        count,
+        code,
+    })
 }
 
 /// The parts of a file that have its sections, and their names.
@@ -441,35 +426,6 @@ fn read_signature<S: Source>(opened: &Opened<'_, S>, log: &mut S::Log) -> Result
 {
     let pointer = opened.within(log, SIGNATURE_POINTER as u64, 4)?;
     Ok(signature_in(&pointer)?)
-}
-
-// The text, found in the bytes of the section headers.
-fn read_text<S: Source>(
-    opened: &Opened<'_, S>,
-    log: &mut S::Log,
-    places: TableOffsets,
-) -> Result<Text, ReadError>
-    ensures answer { (file : List ℕ) → Known (S.bytes opened.now.source.now) opened.now.len file
-        → Reads (S.may_fail opened.now.source.now) text_view (text_at file (places_view places)) result }
-    ensures only { (file : List ℕ) → Known (S.bytes opened.now.source.now) opened.now.len file
-        → ReadsOnly (S.is_sure opened.now.source.now) (S.logs_only log.old) (S.logs_only log.new)
-        (headers_part file (places_view places) ∷ []) (IfErr result (λ e. e ≢ Unreadable)) }
-{
-    let offset = places.sections;
-    if offset >= opened.len {
-        return Err(ReadError::Refused(ParseError::UnexpectedEof));
-    }
-    if places.section_count == 0 {
-        return Err(ReadError::Refused(ParseError::SymbolsSectionIsMissing));
-    }
-    let size = places.section_count as u64 * SECTION_LENGTH as u64;
-    let headers = opened.part(log, offset, size.min(opened.len - offset))?;
-    let table = Table {
-        bytes: &headers,
-        offset: 0,
-        count: places.section_count,
-    };
-    Ok(text_in(table)?)
 }
 
 // The section headers, of which none is truncated.

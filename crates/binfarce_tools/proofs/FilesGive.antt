@@ -1,5 +1,5 @@
--- What the reader of a Mach-O or PE file gives of the text is the file's answer.
-use Rattle.std.proofs.Common.{◌≡◌, ℕ, ◌≤◌, Bool, cond, ltb, List, map, length, Option, Result, Ok, Err, sym, ap, subst, ◌∙◌, inl, inr}
+-- What the reader of a Mach-O or PE file gives of the code section, or of the text, is the file's answer.
+use Rattle.std.proofs.Common.{◌≡◌, ℕ, ◌≤◌, Bool, cond, ltb, List, map, length, Option, Some, Result, Ok, Err, sym, ap, subst, ◌∙◌, inl, inr}
 use Rattle.std.specs.Global.{Vec}
 use Rattle.std.specs.Result.{IsErrAnd}
 use Rattle.std.proofs.lemmas.Bool.{le-ltb}
@@ -11,10 +11,12 @@ use Rattle.binfarce.specs.Pe as pe_file
 use Rattle.binfarce.specs.PeSelection as pe
 use Rattle.binfarce.specs.Refusal.{◌>>=◌, Refusal, refusal_of, unexpected_eof}
 use Rattle.binfarce.specs.SectionEntries.{SelectedSymbols}
-use Rattle.binfarce.specs.Symbol.{Answers}
+use Rattle.binfarce.specs.MachoSymbols.{macho_answer, macho_file_answer}
+use Rattle.binfarce.specs.PeSymbols.{pe_answer, pe_file_answer}
+use Rattle.binfarce.specs.Symbol.{Answers, Listed}
 use Rattle.binfarce.specs.SymbolViews.{section_function_view, HoldsSized}
 use Rattle.binfarce_tools.specs.declared.functions.Selected.{Selected}
-use Rattle.binfarce_tools.specs.Entries.{all_left, HoldsLeft}
+use Rattle.binfarce_tools.specs.Entries.{all_left, HoldsLeft, HoldsText}
 
 -- these function symbols, and the size of their section
 abbrev pub IsListed : Vec SectionFunction → Option ℕ → Selected → Type 0
@@ -47,7 +49,35 @@ whole : {A : Type 0} (least : ℕ) (file : List ℕ) (answer : Result A Refusal)
 whole least file answer long = ap (λ (short : Bool). cond short (Err unexpected_eof) answer) (le-ltb (length file) least long)
 
 pub macho_is : (section : Option (List ℕ)) (file : List ℕ) → macho_file.least_length ≤ length file → macho.selected_file_answer section file ≡ macho.selected_answer section file
-macho_is section file long = ap (λ (t : Result macho.SelectedTables Refusal). t >>= macho.symbols_of) (whole macho_file.least_length file (macho.selected_tables section file) long)
+macho_is section file long = ap (λ (t : Result macho.SelectedTables Refusal). t >>= λ tables. Ok (macho.symbols_of tables)) (whole macho_file.least_length file (macho.selected_tables section file) long)
 
 pub pe_is : (section : Option (List ℕ)) (file : List ℕ) → pe_file.least_length file ≤ length file → pe.selected_file_answer section file ≡ pe.selected_answer section file
 pe_is section file long = whole (pe_file.least_length file) file (pe.selected_answer section file) long
+
+-- the function symbols of the text, with their size
+abbrev pub HoldsGiven : Listed → Vec SectionFunction × ℕ → Type 0
+HoldsGiven listed given = (map (λ e. e.entry) (map section_function_view given.0.items) ≡ listed.entries) × (given.1 ≡ listed.section_size)
+
+module _ (N : Result Listed Refusal → Type 0) (mine answer : Result Listed Refusal) (is : answer ≡ mine) where
+  pub text_given : (functions : Vec SectionFunction) (size : ℕ) (value : Selected) → Answers HoldsGiven N mine (Ok (functions, size)) → IsListed functions (Some size) value → Answers HoldsText N answer (Ok value)
+  text_given functions size value h listed = subst (λ (a : Result Listed Refusal). Answers HoldsText N a (Ok value)) (sym is) (by_answer mine h)
+    where
+      by_answer : (a : Result Listed Refusal) → Answers HoldsGiven N a (Ok (functions, size)) → Answers HoldsText N a (Ok value)
+      by_answer (Ok seen) h = (ap (map (λ e. e.entry)) listed.0 ∙ h.0, listed.1 ∙ ap (λ (n : ℕ). Some n) h.1)
+      by_answer (Err why) h = h
+
+  pub text_not_given : (e : ParseError) (result : Result Selected ParseError) → Answers {X = Vec SectionFunction × ℕ} HoldsGiven N mine (Err e) → IsErrAnd result (λ f. f ≡ e) → Answers HoldsText N answer result
+  text_not_given e (Ok value) h err = absurd err
+  text_not_given e (Err f) h err = subst (λ (a : Result Listed Refusal). Answers {X = Selected} HoldsText N a (Err f)) (sym is) (by_answer mine h)
+    where
+      by_answer : (a : Result Listed Refusal) → Answers {X = Vec SectionFunction × ℕ} HoldsGiven N a (Err e) → Answers {X = Selected} HoldsText N a (Err f)
+      by_answer (Ok seen) h = (ap refusal_of err ∙ h.0, h.1)
+      by_answer (Err why) (inl h) = inl (ap refusal_of err ∙ h)
+      by_answer (Err why) (inr h) = inr (ap refusal_of err ∙ h.0, h.1)
+
+-- that of a file that isn't too short
+pub macho_text_is : (file : List ℕ) → macho_file.least_length ≤ length file → macho_file_answer file ≡ macho_answer file
+macho_text_is file long = whole macho_file.least_length file (macho_answer file) long
+
+pub pe_text_is : (file : List ℕ) → pe_file.least_length file ≤ length file → pe_file_answer file ≡ pe_answer file
+pe_text_is file long = whole (pe_file.least_length file) file (pe_answer file) long

@@ -8,7 +8,7 @@ use Rattle.binfarce.specs.declared.ParseError.{ParseError}
 use Rattle.binfarce.specs.declared.ParseError.TheVariants as errors
 use Rattle.binfarce.specs.Refusal.{Refusal, refusal_of, out_of_memory}
 use Rattle.binfarce.specs.SectionEntries.{SelectedSymbols}
-use Rattle.binfarce.specs.Symbol.{Answers}
+use Rattle.binfarce.specs.Symbol.{Answers, Listed}
 use Rattle.binfarce_tools.specs.declared.functions.Functions.{Functions}
 use Rattle.binfarce_tools.specs.declared.functions.Selected.{Selected}
 use Rattle.binfarce_tools.specs.declared.list.ListError.{ListError}
@@ -18,7 +18,8 @@ use Rattle.binfarce.specs.declared.Format.{Format}
 use Rattle.binfarce.specs.declared.SymbolTable.TheVariants.{Symtab}
 use Rattle.binfarce_tools.specs.Answer.{selected_symbols, NeedsMemory}
 use Rattle.binfarce_tools.specs.ListWords.{list_error_of}
-use Rattle.binfarce_tools.specs.Entries.{GetsAs, HoldsLeft, HoldsListed, all_left}
+use Rattle.binfarce_tools.specs.Entries.{GetsAs, HoldsLeft, HoldsListed, HoldsText, all_left}
+use Rattle.binfarce_tools.specs.SectionAnswer.{ReaderNeedsMemory, format_answer}
 use Rattle.binfarce_tools.proofs.Reported.{is_reported, Reported}
 
 -- a failed allocation is reported as such
@@ -31,26 +32,34 @@ pub parse : (e : ParseError) → is_reported (refusal_of e) ≡ true → list_er
 parse errors.OutOfMemory reported_is = absurd cc
 parse e reported_is = refl
 
-gets_refusal : (memory : Result SelectedSymbols Refusal → Type 0) (answer : Result SelectedSymbols Refusal) (e : ParseError) → Reported answer → Answers {X = Selected} HoldsLeft memory answer (Err e)
-    → GetsAs {X = Selected} HoldsLeft memory (Some answer) (Err (list_error_of e))
-gets_refusal memory (Ok seen) e reported_is answers = (answers.1, as_memory e answers.0)
-gets_refusal memory (Err refusal) e reported_is (inl is) = inl (e, is, parse e (ap is_reported is ∙ reported_is))
-gets_refusal memory (Err refusal) e reported_is (inr h) = inr (h.1, as_memory e h.0)
+module _ {L : Type 0} (Holds : L → Selected → Type 0) (memory : Result L Refusal → Type 0) where
+  gets_refusal : (answer : Result L Refusal) (e : ParseError) → Reported answer → Answers {X = Selected} Holds memory answer (Err e) → GetsAs {X = Selected} Holds memory (Some answer) (Err (list_error_of e))
+  gets_refusal (Ok seen) e reported_is answers = (answers.1, as_memory e answers.0)
+  gets_refusal (Err refusal) e reported_is (inl is) = inl (e, is, parse e (ap is_reported is ∙ reported_is))
+  gets_refusal (Err refusal) e reported_is (inr h) = inr (h.1, as_memory e h.0)
 
--- as `?` passes it on
-pub reported_refusal : (memory : Result SelectedSymbols Refusal → Type 0) (answer : Result SelectedSymbols Refusal) (e : ParseError) (result : Result Selected ListError)
-    → Reported answer → Answers {X = Selected} HoldsLeft memory answer (Err e) → IsErrAnd result (λ f. f ≡ list_error_of e) → GetsAs HoldsLeft memory (Some answer) result
-reported_refusal memory answer e (Ok x) reported_is answers is = absurd is
-reported_refusal memory answer e (Err f) reported_is answers is =
-    subst (λ (f : ListError). GetsAs {X = Selected} HoldsLeft memory (Some answer) (Err f)) (sym is) (gets_refusal memory answer e reported_is answers)
+  -- as `?` passes it on
+  pub reported_refusal : (answer : Result L Refusal) (e : ParseError) (result : Result Selected ListError)
+      → Reported answer → Answers {X = Selected} Holds memory answer (Err e) → IsErrAnd result (λ f. f ≡ list_error_of e) → GetsAs Holds memory (Some answer) result
+  reported_refusal answer e (Ok x) reported_is answers is = absurd is
+  reported_refusal answer e (Err f) reported_is answers is =
+      subst (λ (f : ListError). GetsAs {X = Selected} Holds memory (Some answer) (Err f)) (sym is) (gets_refusal answer e reported_is answers)
 
 -- what the reader of a format refuses is what is got of a file of that format
 pub refused : (format found : Format) (file section : List ℕ) (answer : Result SelectedSymbols Refusal) (e : ParseError) (result : Result Selected ListError)
-    → format ≡ found → Some answer ≡ selected_symbols Symtab (Some section) format file → Reported answer → Answers {X = Selected} HoldsLeft (NeedsMemory format (Some section) file) answer (Err e)
-    → IsErrAnd result (λ f. f ≡ list_error_of e) → GetsAs HoldsLeft (NeedsMemory found (Some section) file) (selected_symbols Symtab (Some section) found file) result
+    → format ≡ found → Some answer ≡ selected_symbols Symtab (Some section) format file → Reported answer → Answers {X = Selected} HoldsLeft (NeedsMemory format file) answer (Err e)
+    → IsErrAnd result (λ f. f ≡ list_error_of e) → GetsAs HoldsLeft (NeedsMemory found file) (selected_symbols Symtab (Some section) found file) result
 refused format found file section answer e result same is reported_is answers err =
-    subst (λ (f : Format). GetsAs HoldsLeft (NeedsMemory f (Some section) file) (selected_symbols Symtab (Some section) f file) result) same
-    (subst (λ (o : Option (Result SelectedSymbols Refusal)). GetsAs HoldsLeft (NeedsMemory format (Some section) file) o result) is (reported_refusal (NeedsMemory format (Some section) file) answer e result reported_is answers err))
+    subst (λ (f : Format). GetsAs HoldsLeft (NeedsMemory f file) (selected_symbols Symtab (Some section) f file) result) same
+    (subst (λ (o : Option (Result SelectedSymbols Refusal)). GetsAs HoldsLeft (NeedsMemory format file) o result) is (reported_refusal HoldsLeft (NeedsMemory format file) answer e result reported_is answers err))
+
+-- so of what the reader gives of a section
+pub reader_refused : (format found : Format) (file section : List ℕ) (answer : Result Listed Refusal) (e : ParseError) (result : Result Selected ListError)
+    → format ≡ found → Some answer ≡ format_answer format file section → Reported answer → Answers {X = Selected} HoldsText (ReaderNeedsMemory format file) answer (Err e)
+    → IsErrAnd result (λ f. f ≡ list_error_of e) → GetsAs HoldsText (ReaderNeedsMemory found file) (format_answer found file section) result
+reader_refused format found file section answer e result same is reported_is answers err =
+    subst (λ (f : Format). GetsAs HoldsText (ReaderNeedsMemory f file) (format_answer f file section) result) same
+    (subst (λ (o : Option (Result Listed Refusal)). GetsAs HoldsText (ReaderNeedsMemory format file) o result) is (reported_refusal HoldsText (ReaderNeedsMemory format file) answer e result reported_is answers err))
 
 -- what was got of a section, without its section
 pub listed : (memory : Result SelectedSymbols Refusal → Type 0) (answer : Option (Result SelectedSymbols Refusal)) → ((seen : SelectedSymbols) → answer ≡ Some (Ok seen) → is_some seen.section_size ≡ true)

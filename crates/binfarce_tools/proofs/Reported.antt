@@ -1,6 +1,6 @@
 -- No file's answer is that an allocation failed.
 use Rattle.std.proofs.Common.{◌≡◌, ℕ, zero, suc, ◌*◌, ◌-◌, [], ◌∷◌, Bool, true, false, ◌&&◌, List, Option, Some, None, Result, Ok, Err, refl, ltb, leb, length}
-use Rattle.std.specs.Prelude.{if◌then◌else◌, find, nat_eq, codes, ◌+◌, ◌%◌, ◌^◌, drop}
+use Rattle.std.specs.Prelude.{if◌then◌else◌, find, nat_eq, codes, ◌+◌, ◌%◌, ◌^◌, drop, take}
 use Rattle.binfarce.specs.declared.ByteOrder.{ByteOrder}
 use Rattle.binfarce.specs.Refusal.{Refusal, ◌>>=◌, required, symbols_section_is_missing, section_is_missing, unexpected_section_type, malformed_input, unexpected_eof, out_of_memory, bytes_in_file}
 use Rattle.binfarce.specs.Walk.{Walk, found_or_end, first, ended, ahead_of, and_then}
@@ -15,7 +15,12 @@ use Rattle.binfarce.specs.PeSymbols as pe
 use Rattle.binfarce.specs.PeSymbols.{pe_answer, pe_file_answer}
 use Rattle.binfarce.specs.Macho as macho_file
 use Rattle.binfarce.specs.Macho.{Command, command_at, commands_from, commands, body_of, header_of, segment, is_segment, sections_of, walk as macho_walk}
+use Rattle.binfarce.specs.MachoSections.{NumberedSection, numbered_sections, section_starts, starts_among}
 use Rattle.binfarce.specs.MachoSelection as selection
+use Rattle.binfarce.specs.PeSelection as pe_selection
+use Rattle.binfarce.specs.SectionEntries.{unless}
+use Rattle.binfarce_pe.specs.PeParts as pe_parts
+use Rattle.binfarce_pe.specs.PeParts.{section_table as section_table_of, table_walk}
 use Rattle.binfarce.specs.MachoSymbols as macho
 use Rattle.binfarce.specs.MachoSymbols.{size_up_to, macho_size, whole_table, slice_at, text_end_of, symbol_table_at, some_size, symbol_command, named_table, row_addresses, kept, answer_of, macho_answer, macho_file_answer}
 
@@ -208,17 +213,50 @@ pub reported_macho : (file : List ℕ) → Reported (macho_file_answer file)
 unfolding macho_answer
 reported_macho file = reported_if (ltb (length file) 28) (Err unexpected_eof) _ refl (reported_step (macho.located file) answer_of (reported_macho_located file) reported_answer_of)
 
--- what is made of the tables of a selection
-reported_entries : (sections : selection.SelectedSections) (symbols : Option macho.Symbols) → Reported (selection.entries_in sections symbols)
-unfolding selection.entries_in
-reported_entries (selection.the_text text) symbols =
-    reported_step (macho.located_by text symbols) _ (reported_located_by text symbols) (λ found. reported_step (answer_of found) _ (reported_answer_of found) (λ listed. tt))
-reported_entries (selection.all_sections sections) None = tt
-reported_entries (selection.all_sections sections) (Some symbols) = tt
+-- what is selected of a Mach-O file
+reported_unless : {A : Type 0} (end : Option Refusal) (x : A) → ReportedEnd end → Reported (unless end x)
+reported_unless None x t = tt
+reported_unless (Some refusal) x t = t
 
-pub reported_symbols_of : (tables : selection.SelectedTables) → Reported (selection.symbols_of tables)
-unfolding selection.symbols_of
-reported_symbols_of tables = reported_step (selection.entries_in tables.sections tables.symbols) _ (reported_entries tables.sections tables.symbols) (λ entries. tt)
+reported_numbered : (file : List ℕ) → Reported (numbered_sections file)
+unfolding numbered_sections section_starts
+reported_numbered file =
+    reported_step (section_starts file) _ (reported_unless (macho_walk file).refusal (take 255 (starts_among file (commands file).items)) (reported_macho_walk file)) (λ starts. tt)
+
+reported_code : (section : Option (List ℕ)) (sections : List NumberedSection) → Reported (selection.code_of section sections)
+reported_code None sections = tt
+reported_code (Some name) sections =
+    reported_step (required symbols_section_is_missing (selection.code_among 0 sections)) _ (reported_required symbols_section_is_missing (selection.code_among 0 sections) refl) (λ code. tt)
+
+pub reported_macho_selected : (section : Option (List ℕ)) (file : List ℕ) → Reported (selection.selected_file_answer section file)
+unfolding selection.selected_tables selection.sections_in
+reported_macho_selected section file =
+    reported_step (selection.selected_file_tables section file) _
+    (reported_if (ltb (length file) 28) (Err unexpected_eof) (selection.selected_tables section file) refl
+    (reported_step (selection.sections_in section file) _
+    (reported_step (numbered_sections file) _ (reported_numbered file) (λ sections. reported_step (selection.code_of section sections) _ (reported_code section sections) (λ code. tt)))
+    (λ sections. reported_step (macho.table_of file) _ (reported_table_of file) (λ table.
+    reported_step (macho.symbols_by file table) _ (reported_symbols_by file table) (λ symbols. tt)))))
+    (λ tables. tt)
+
+-- and of a PE file
+reported_pe_code : (section : Option (List ℕ)) (sections : pe_parts.SectionTable) → Reported (pe_selection.code_of section sections)
+reported_pe_code None sections = tt
+reported_pe_code (Some name) sections =
+    reported_step (required symbols_section_is_missing (pe_selection.code_section sections)) _ (reported_required symbols_section_is_missing (pe_selection.code_section sections) refl) (λ code. tt)
+
+reported_table_walk : (sections : pe_parts.SectionTable) → ReportedEnd (table_walk sections).refusal
+unfolding table_walk
+reported_table_walk sections = reported_end_if _ None (Some unexpected_eof) tt refl
+
+pub reported_pe_selected : (section : Option (List ℕ)) (file : List ℕ) → Reported (pe_selection.selected_file_answer section file)
+unfolding pe_selection.selected_answer
+reported_pe_selected section file =
+    reported_if (ltb (length file) (least_length file)) (Err unexpected_eof) _ refl
+    (reported_step (pe_selection.sections_in section file) _
+    (reported_step (pe_selection.whole_sections (section_table_of file)) _ (reported_unless (table_walk (section_table_of file)).refusal (section_table_of file) (reported_table_walk (section_table_of file)))
+    (λ sections. reported_step (pe_selection.code_of section sections) _ (reported_pe_code section sections) (λ code. tt)))
+    (λ chosen. reported_step (pe.symbol_table file) _ (reported_symbol_table file) (λ symbols. tt)))
 
 -- an answer whose list doesn't report a failed allocation doesn't either
 pub reported_list : {A B : Type 0} (answer : Result A Refusal) (f : A → B) → Reported (answer >>= λ x. Ok (f x)) → Reported answer

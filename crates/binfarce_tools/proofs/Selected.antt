@@ -1,8 +1,8 @@
 -- What a file of each format answers for a section is the answer of its reader, with the size of the section.
-use Rattle.std.proofs.Common.{◌≡◌, ℕ, Bool, true, false, cond, ltb, List, [], ◌∷◌, map, length, Option, Some, None, is_some, unwrap_or, Result, Ok, Err, refl, sym, ap, subst, ◌∙◌}
+use Rattle.std.proofs.Common.{◌≡◌, ◌≢◌, ℕ, Bool, true, false, ◌&&◌, cond, ltb, List, [], ◌∷◌, map, length, Option, Some, None, is_some, unwrap_or, Result, Ok, Err, refl, sym, ap, subst, ◌∙◌}
 use Rattle.std.proofs.Math.Path.{fun_ext}
-use Rattle.std.specs.Option.{option_and_then}
-use Rattle.std.specs.Prelude.{nat_le}
+use Rattle.std.specs.Option.{option_map, option_and_then}
+use Rattle.std.specs.Prelude.{nat_le, is_none}
 use Rattle.std.specs.List.{sum_by}
 use Rattle.binfarce.specs.declared.ByteOrder.{ByteOrder}
 use Rattle.binfarce.specs.declared.Format.{Format}
@@ -10,7 +10,7 @@ use Rattle.binfarce.specs.declared.Format.TheVariants as formats
 use Rattle.binfarce.specs.declared.SymbolTable.{SymbolTable}
 use Rattle.binfarce.specs.declared.SymbolTable.TheVariants.{Symtab, Dynsym}
 use Rattle.binfarce.specs.Format.{format_of}
-use Rattle.binfarce.specs.Refusal.{◌>>=◌, Refusal, unexpected_eof, symbols_section_is_missing}
+use Rattle.binfarce.specs.Refusal.{◌>>=◌, Refusal, required, unexpected_eof, symbols_section_is_missing}
 use Rattle.binfarce.specs.SectionEntries.{SectionEntry, SelectedSymbols, in_section, unless}
 use Rattle.binfarce.specs.Symbol.{Entry, Listed}
 use Rattle.binfarce.specs.Elf.{ElfClass, SectionTable, Section, elf32, elf64, header_of, section_table, walk, names_bytes, name_among}
@@ -22,17 +22,15 @@ use Rattle.binfarce.specs.ElfSymbols.{sought, is_named, elf_file_answer}
 use Rattle.binfarce.specs.Text.{text_at}
 use Rattle.binfarce.specs.Versions.{bytes_if, definitions_from, definitions_section, index_of, version_name, versions_section}
 use Rattle.binfarce.specs.Macho.{least_length}
-use Rattle.binfarce.specs.MachoSections.{NumberedSection, numbered_sections}
+use Rattle.binfarce.specs.MachoSections.{NumberedSection, HasSection, numbered_sections}
 use Rattle.binfarce.specs.MachoSelection as macho
-use Rattle.binfarce.specs.MachoSymbols.{SymtabCommand, Symbols, table_of, symbols_by, macho_answer, macho_file_answer}
+use Rattle.binfarce.specs.MachoSymbols.{SymtabCommand, Symbols, table_of, symbols_by}
 use Rattle.binfarce.specs.Pe as pe_file
 use Rattle.binfarce.specs.PeSelection as pe
-use Rattle.binfarce.specs.PeSymbols.{pe_answer, pe_file_answer}
 use Rattle.binfarce_elf_memory.proofs.Answered.{section_is_answered}
-use Rattle.binfarce_macho.proofs.Selected.{as_selected, text_selected, needs}
-use Rattle.binfarce_pe.specs.PeParts.{TextPlace, SectionTable as PeSections, places_of, section_table as pe_sections, text_place}
+use Rattle.binfarce_macho.proofs.Selected.{some_numbered}
+use Rattle.binfarce_pe.specs.PeParts.{TextPlace, SectionTable as PeSections, places_of, section_table as pe_sections}
 use Rattle.binfarce_pe.specs.PeSymbols as pe_symbols
-use Rattle.binfarce_pe.proofs.Selected.{listed_is}
 use Rattle.binfarce_tools.specs.Answer.{by_symbol_table, one_list, selected_symbols, selected_answer}
 
 -- a section has a size, and shares no addresses; all sections have none
@@ -163,24 +161,6 @@ elf_listed class order file name =
 
 -- Mach-O
 module _ (file : List ℕ) where
-  macho_selected : (name : List ℕ) → macho.selected_file_answer (Some name) file ≡ (macho_file_answer file >>= as_selected)
-  macho_selected name = by_test (ltb (length file) least_length)
-    where
-      by_test : (short : Bool) → (cond short (Err unexpected_eof) (macho.selected_tables (Some name) file) >>= macho.symbols_of) ≡ (cond short (Err unexpected_eof) (macho_answer file) >>= as_selected)
-      by_test true = refl
-      by_test false = text_selected name file
-
-  entries_alone : (entries : List Entry) → map (λ e. e.entry) (in_section 1 entries) ≡ entries
-  entries_alone [] = refl
-  entries_alone (e ∷ entries) = ap (λ (es : List Entry). e ∷ es) (entries_alone entries)
-
-  pub macho_listed : (name : List ℕ) → macho_file_answer file ≡ one_list (macho.selected_file_answer (Some name) file)
-  macho_listed name = by_answer (macho_file_answer file) ∙ sym (ap one_list (macho_selected name))
-    where
-      by_answer : (a : Result Listed Refusal) → a ≡ one_list (a >>= as_selected)
-      by_answer (Err why) = refl
-      by_answer (Ok listed) = ap (λ (es : List Entry). Ok (record { entries = es; section_size = listed.section_size })) (sym (entries_alone listed.entries))
-
   -- what the tables of a selection are made of
   abbrev Made : Option (List ℕ) → macho.SelectedTables → Type 0
   Made section t = (macho.sections_in section file ≡ Ok t.sections) × ((table : Option (SymtabCommand ℕ)) × (table_of file ≡ Ok table) × (symbols_by file table ≡ Ok t.symbols))
@@ -211,59 +191,60 @@ module _ (file : List ℕ) where
       by_test true e = absurd cc
       by_test false e = by_sections (macho.sections_in section file) refl e
 
-  -- so those that need memory are of a file that needs it
-  pub macho_needs : (section : Option (List ℕ)) (t : macho.SelectedTables) → macho.selected_file_tables section file ≡ Ok t → macho.NeedsMemory t.sections t.symbols → macho.FileNeedsMemory section file
-  macho_needs section t is = let m = made section t is in needs section file t.sections m.0 m.1.0 m.1.1 t.symbols m.1.2
+  -- so those that have a section are of a file that has one
+  pub macho_needs : (section : Option (List ℕ)) (t : macho.SelectedTables) → macho.selected_file_tables section file ≡ Ok t → t.sections.sections ≢ [] → HasSection file
+  macho_needs section t is = some_numbered section file t.sections (made section t is).0
 
-  abbrev pub IsMadeOf : macho.SelectedTables → SelectedSymbols → Type 0
-  IsMadeOf t seen =
-      (seen.section_size ≡ macho.section_size t.sections t.symbols) × (macho.section_name t.sections ≡ seen.section_name) × (false ≡ seen.shares_addresses) × (seen.version_name ≡ (λ version. None))
-
-  pub macho_made : (t : macho.SelectedTables) (seen : SelectedSymbols) → macho.symbols_of t ≡ Ok seen → IsMadeOf t seen
-  unfolding macho.symbols_of
-  macho_made t seen is = by_entries (macho.entries_in t.sections t.symbols) is
+  -- the code section has a size
+  code_size : (section : Option (List ℕ)) (sections : List NumberedSection) (code : Option macho.CodeSection) → macho.code_of section sections ≡ Ok code → is_some (option_map (λ c. c.size) code) ≡ is_some section
+  code_size None sections code is = let none : None ≡ code = cc in ap (λ (c : Option macho.CodeSection). is_some (option_map (λ c. c.size) c)) (sym none)
+  code_size (Some name) sections code is = by_found (macho.code_among 0 sections) is
     where
-      by_entries : (r : Result _ Refusal) → (r >>= λ entries. Ok (record { entries = entries; section_size = macho.section_size t.sections t.symbols; section_name = macho.section_name t.sections; shares_addresses = false; version_name = λ version. None })) ≡ Ok seen → IsMadeOf t seen
-      by_entries (Err why) e = absurd cc
-      by_entries (Ok entries) e =
-          let same = ok_is e in (ap (λ (s : SelectedSymbols). s.section_size) (sym same), ap (λ (s : SelectedSymbols). s.section_name) same, ap (λ (s : SelectedSymbols). s.shares_addresses) same, ap (λ (s : SelectedSymbols). s.version_name) (sym same))
+      by_found : (o : Option macho.CodeSection) → (required symbols_section_is_missing o >>= λ code. Ok (Some code)) ≡ Ok code → is_some (option_map (λ c. c.size) code) ≡ true
+      by_found None e = absurd cc
+      by_found (Some found) e = ap (λ (c : Option macho.CodeSection). is_some (option_map (λ c. c.size) c)) (sym (ok_is e))
+
+  macho_size : (section : Option (List ℕ)) (selected : macho.SelectedSections) → macho.sections_in section file ≡ Ok selected → is_some (macho.section_size selected) ≡ is_some section
+  unfolding macho.sections_in
+  macho_size section selected is = by_sections (numbered_sections file) is
+    where
+      by_code : (sections : List NumberedSection) (r : Result (Option macho.CodeSection) Refusal) → macho.code_of section sections ≡ r → (r >>= λ code. Ok (record { sections = sections; code = code })) ≡ Ok selected
+          → is_some (macho.section_size selected) ≡ is_some section
+      by_code sections (Err why) at e = absurd cc
+      by_code sections (Ok code) at e = ap (λ (s : macho.SelectedSections). is_some (macho.section_size s)) (sym (ok_is e)) ∙ code_size section sections code at
+
+      by_sections : (r : Result (List NumberedSection) Refusal) → (r >>= λ sections. macho.code_of section sections >>= λ code. Ok (record { sections = sections; code = code })) ≡ Ok selected → is_some (macho.section_size selected) ≡ is_some section
+      by_sections (Err why) e = absurd cc
+      by_sections (Ok sections) e = by_code sections (macho.code_of section sections) refl e
 
   macho_sized : (section : Option (List ℕ)) (seen : SelectedSymbols) → macho.selected_file_answer section file ≡ Ok seen → IsSized section seen
-  unfolding macho.sections_in
-  macho_sized (Some name) seen is = by_answer (macho_file_answer file) (sym (macho_selected name) ∙ is)
+  macho_sized section seen is = by_tables (macho.selected_file_tables section file) refl is
     where
-      by_answer : (a : Result Listed Refusal) → (a >>= as_selected) ≡ Ok seen → IsSized (Some name) seen
-      by_answer (Err why) e = absurd cc
-      by_answer (Ok listed) e = subst (IsSized (Some name)) (ok_is e) (refl, λ one. refl)
-  macho_sized None seen is = by_tables (macho.selected_file_tables None file) refl is
-    where
-      by_kind : (sections : macho.SelectedSections) (symbols : Option Symbols) (r : Result (List NumberedSection) Refusal) → (r >>= λ sections. Ok (macho.all_sections sections)) ≡ Ok sections → macho.section_size sections symbols ≡ None
-      by_kind sections symbols (Err why) e = absurd cc
-      by_kind sections symbols (Ok list) e = ap (λ (s : macho.SelectedSections). macho.section_size s symbols) (sym (ok_is e))
-
-      no_size : (t : macho.SelectedTables) → macho.sections_in None file ≡ Ok t.sections → macho.section_size t.sections t.symbols ≡ None
-      no_size t e = by_kind t.sections t.symbols (numbered_sections file) e
-
-      by_tables : (r : Result macho.SelectedTables Refusal) → macho.selected_file_tables None file ≡ r → (r >>= macho.symbols_of) ≡ Ok seen → IsSized None seen
+      by_tables : (r : Result macho.SelectedTables Refusal) → macho.selected_file_tables section file ≡ r → (r >>= λ tables. Ok (macho.symbols_of tables)) ≡ Ok seen → IsSized section seen
       by_tables (Err why) at e = absurd cc
-      by_tables (Ok t) at e = (ap is_some ((macho_made t seen e).0 ∙ no_size t (made None t at).0), λ one. absurd cc)
+      by_tables (Ok t) at e = subst (IsSized section) (ok_is e) (macho_size section t.sections (made section t at).0, λ one. refl)
 
   macho_unversioned : (section : Option (List ℕ)) (seen : SelectedSymbols) → macho.selected_file_answer section file ≡ Ok seen → seen.version_name ≡ (λ version. None)
   macho_unversioned section seen is = by_tables (macho.selected_file_tables section file) is
     where
-      by_tables : (r : Result macho.SelectedTables Refusal) → (r >>= macho.symbols_of) ≡ Ok seen → seen.version_name ≡ (λ version. None)
+      by_tables : (r : Result macho.SelectedTables Refusal) → (r >>= λ tables. Ok (macho.symbols_of tables)) ≡ Ok seen → seen.version_name ≡ (λ version. None)
       by_tables (Err why) e = absurd cc
-      by_tables (Ok t) e = (macho_made t seen e).3
+      by_tables (Ok t) e = ap (λ (s : SelectedSymbols). s.version_name) (sym (ok_is e))
 
 -- PE
-module _ (file : List ℕ) where
-  pub pe_listed : (name : List ℕ) → pe_file_answer file ≡ one_list (pe.selected_file_answer (Some name) file)
-  pe_listed name = by_test (ltb (length file) (pe_file.least_length file))
-    where
-      by_test : (short : Bool) → cond short (Err unexpected_eof) (pe_answer file) ≡ one_list (cond short (Err unexpected_eof) (pe.selected_answer (Some name) file))
-      by_test true = refl
-      by_test false = listed_is sizes name file
+pe_code_size : (section : Option (List ℕ)) (sections : PeSections) (code : Option TextPlace) → pe.code_of section sections ≡ Ok code → is_some (option_map (λ c. c.size) code) ≡ is_some section
+pe_code_size None sections code is = let none : None ≡ code = cc in ap (λ (c : Option TextPlace). is_some (option_map (λ c. c.size) c)) (sym none)
+pe_code_size (Some name) sections code is = by_found (pe.code_section sections) is
+  where
+    by_found : (o : Option pe_file.Section) → (required symbols_section_is_missing o >>= λ (s : pe_file.Section). Ok (Some (record { index = s.index; size = pe.memory_size sections s.index }))) ≡ Ok code → is_some (option_map (λ c. c.size) code) ≡ true
+    by_found None e = absurd cc
+    by_found (Some found) e = ap (λ (c : Option TextPlace). is_some (option_map (λ c. c.size) c)) (sym (ok_is e))
 
+no_and : (b : Bool) → (b && false) ≡ false
+no_and true = refl
+no_and false = refl
+
+module _ (file : List ℕ) where
   by_table : (chosen : pe.SelectedSections) (seen : SelectedSymbols) (table : Result pe_symbols.CoffTable Refusal) → (table >>= λ symbols. Ok (pe.symbols_of chosen symbols)) ≡ Ok seen
       → (seen.section_size ≡ pe.section_size chosen) × (seen.shares_addresses ≡ pe.shares_addresses chosen)
   by_table chosen seen (Err why) e = absurd cc
@@ -271,26 +252,32 @@ module _ (file : List ℕ) where
 
   pe_sized : (section : Option (List ℕ)) (seen : SelectedSymbols) → pe.selected_file_answer section file ≡ Ok seen → IsSized section seen
   unfolding pe.selected_answer
-  pe_sized section seen is = by_test section (ltb (length file) (pe_file.least_length file)) is
+  pe_sized section seen is = by_test (ltb (length file) (pe_file.least_length file)) is
     where
-      by_text : (text : Result TextPlace Refusal)
-          → ((text >>= λ text. Ok (pe.the_text text)) >>= λ chosen. pe_symbols.symbol_table file >>= λ symbols. Ok (pe.symbols_of chosen symbols)) ≡ Ok seen → (is_some seen.section_size ≡ true) × (true ≡ true → seen.shares_addresses ≡ false)
-      by_text (Err why) e = absurd cc
-      by_text (Ok text) e = let both = by_table (pe.the_text text) seen (pe_symbols.symbol_table file) e in (ap is_some both.0, λ one. both.1)
+      by_size : (code : Option TextPlace) (shared : Bool) → is_some (option_map (λ c. c.size) code) ≡ is_some section → is_some section ≡ true → (shared && is_none code) ≡ false
+      by_size None shared size one = let never : false ≡ true = size ∙ one in absurd cc
+      by_size (Some code) shared size one = no_and shared
 
-      by_all : (base : Option ℕ) (sections : Result PeSections Refusal)
-          → ((sections >>= λ sections. Ok (pe.all_sections base sections)) >>= λ chosen. pe_symbols.symbol_table file >>= λ symbols. Ok (pe.symbols_of chosen symbols)) ≡ Ok seen → is_some seen.section_size ≡ false
-      by_all base (Err why) e = absurd cc
-      by_all base (Ok sections) e = ap is_some (by_table (pe.all_sections base sections) seen (pe_symbols.symbol_table file) e).0
+      by_code : (base : Option ℕ) (sections : PeSections) (r : Result (Option TextPlace) Refusal) → pe.code_of section sections ≡ r
+          → ((r >>= λ code. Ok (pe.in_memory base sections code)) >>= λ chosen. pe_symbols.symbol_table file >>= λ symbols. Ok (pe.symbols_of chosen symbols)) ≡ Ok seen → IsSized section seen
+      by_code base sections (Err why) at e = absurd cc
+      by_code base sections (Ok code) at e =
+          let both = by_table (pe.in_memory base sections code) seen (pe_symbols.symbol_table file) e in
+          let size = pe_code_size section sections code at in
+          (ap is_some both.0 ∙ size, λ one. both.1 ∙ by_size code (is_none base) size one)
 
-      by_test : (section : Option (List ℕ)) (short : Bool) → cond short (Err unexpected_eof) (pe.selected_answer section file) ≡ Ok seen → IsSized section seen
-      by_test section true e = absurd cc
-      by_test (Some name) false e = by_text (text_place (pe_sections file)) e
-      by_test None false e = (by_all (pe.base_at file (places_of file)) (pe.whole_sections (pe_sections file)) e, λ one. absurd cc)
+      by_whole : (base : Option ℕ) (r : Result PeSections Refusal)
+          → ((r >>= λ sections. pe.code_of section sections >>= λ code. Ok (pe.in_memory base sections code)) >>= λ chosen. pe_symbols.symbol_table file >>= λ symbols. Ok (pe.symbols_of chosen symbols)) ≡ Ok seen → IsSized section seen
+      by_whole base (Err why) e = absurd cc
+      by_whole base (Ok sections) e = by_code base sections (pe.code_of section sections) refl e
+
+      by_test : (short : Bool) → cond short (Err unexpected_eof) (pe.selected_answer section file) ≡ Ok seen → IsSized section seen
+      by_test true e = absurd cc
+      by_test false e = by_whole (pe.base_at file (places_of file)) (pe.whole_sections (pe_sections file)) e
 
   pe_unversioned : (section : Option (List ℕ)) (seen : SelectedSymbols) → pe.selected_file_answer section file ≡ Ok seen → seen.version_name ≡ (λ version. None)
   unfolding pe.selected_answer
-  pe_unversioned section seen is = by_test section (ltb (length file) (pe_file.least_length file)) is
+  pe_unversioned section seen is = by_test (ltb (length file) (pe_file.least_length file)) is
     where
       by_symbols : (chosen : pe.SelectedSections) (symbols : Result pe_symbols.CoffTable Refusal) → (symbols >>= λ symbols. Ok (pe.symbols_of chosen symbols)) ≡ Ok seen → seen.version_name ≡ (λ version. None)
       by_symbols chosen (Err why) e = absurd cc
@@ -300,10 +287,9 @@ module _ (file : List ℕ) where
       by_chosen (Err why) e = absurd cc
       by_chosen (Ok chosen) e = by_symbols chosen (pe_symbols.symbol_table file) e
 
-      by_test : (section : Option (List ℕ)) (short : Bool) → cond short (Err unexpected_eof) (pe.selected_answer section file) ≡ Ok seen → seen.version_name ≡ (λ version. None)
-      by_test section true e = absurd cc
-      by_test (Some name) false e = by_chosen (text_place (pe_sections file) >>= λ text. Ok (pe.the_text text)) e
-      by_test None false e = by_chosen (pe.whole_sections (pe_sections file) >>= λ sections. Ok (pe.all_sections (pe.base_at file (places_of file)) sections)) e
+      by_test : (short : Bool) → cond short (Err unexpected_eof) (pe.selected_answer section file) ≡ Ok seen → seen.version_name ≡ (λ version. None)
+      by_test true e = absurd cc
+      by_test false e = by_chosen (pe.sections_in section file) e
 
 -- a file of any format
 some_is : {A : Type 0} {a b : A} → Path (Option A) (Some a) (Some b) → a ≡ b

@@ -1,5 +1,5 @@
 -- What the tables of a file give is what the file answers for the selection.
-use Rattle.std.proofs.Common.{◌≡◌, ℕ, Bool, true, false, List, map, Option, Some, None, is_some, Result, Ok, Err, refl, sym, ap, subst, ◌∙◌, inl, inr}
+use Rattle.std.proofs.Common.{◌≡◌, ◌≢◌, ℕ, [], Bool, true, false, List, map, Option, Some, None, is_some, Result, Ok, Err, refl, sym, ap, subst, ◌∙◌, inl, inr}
 use Rattle.std.specs.Global.{Vec}
 use Rattle.std.proofs.Math.Path.{fun_ext}
 use Rattle.std.specs.Result.{IsErrAnd}
@@ -30,11 +30,8 @@ use Rattle.binfarce_tools.specs.ListWords.{list_error_of}
 use Rattle.binfarce_tools.specs.Tables.{AcceptsTables, AreTablesOf, given_by, may_be_refused, section_names, shares_addresses_of, version_names_of}
 use Rattle.binfarce_tools.proofs.Listings.{reported_refusal}
 use Rattle.binfarce_tools.proofs.Reported.{Reported}
-use Rattle.binfarce_tools.proofs.Selected.{sized_in, unversioned_in, macho_made, macho_needs}
+use Rattle.binfarce_tools.proofs.Selected.{sized_in, unversioned_in, macho_needs}
 use Rattle.binfarce_tools.proofs.TablesRead.{of_format}
-
-some_is : {A : Type 0} {a b : A} → Path (Option A) (Some a) (Some b) → a ≡ b
-some_is e = cc
 
 some_ok : {A : Type 0} {a b : A} → Path (Option (Result A Refusal)) (Some (Ok a)) (Some (Ok b)) → a ≡ b
 some_ok e = cc
@@ -47,32 +44,26 @@ module _ (which : SymbolTable) (file : List ℕ) (section : Option (List ℕ)) w
   pub given : (seen : SelectedSymbols) (value : Selected) → selected_answer which section file ≡ Some (Ok seen) → HoldsLeft seen value → GetsIn which file section (Ok value)
   given seen value is held = subst (λ (a : Option (Result SelectedSymbols Refusal)). P a (Ok value)) (sym is) held
 
-  -- so for a list that the parts give of an answer
-  pub given_of : (N : Result SelectedSymbols Refusal → Type 0) (answer : Result SelectedSymbols Refusal) (functions : Vec SectionFunction) (value : Selected) → selected_answer which section file ≡ Some answer
-      → Answers HoldsSelected N answer (Ok functions) → all_left value.functions ≡ map section_function_view functions.items → ((seen : SelectedSymbols) → answer ≡ Ok seen → value.size ≡ seen.section_size) → GetsIn which file section (Ok value)
-  given_of N (Ok seen) functions value is answers left sized = subst (λ (a : Option (Result SelectedSymbols Refusal)). P a (Ok value)) (sym is) (left ∙ answers, sized seen refl)
-  given_of N (Err why) functions value is answers left sized = absurd answers
-
   -- and why there are none
   pub not_given : (N : Result SelectedSymbols Refusal → Type 0) (answer : Result SelectedSymbols Refusal) (e : ParseError) (result : Result Selected ListError) → selected_answer which section file ≡ Some answer
       → (N answer → MemoryIn file section answer) → Reported answer → Answers {X = Vec SectionFunction} HoldsSelected N answer (Err e) → IsErrAnd result (λ f. f ≡ list_error_of e) → GetsIn which file section result
   not_given N answer e result is memory reported answers err =
-      subst (λ (a : Option (Result SelectedSymbols Refusal)). P a result) (sym is) (reported_refusal (MemoryIn file section) answer e result reported (as_left answer memory answers) err)
+      subst (λ (a : Option (Result SelectedSymbols Refusal)). P a result) (sym is) (reported_refusal HoldsLeft (MemoryIn file section) answer e result reported (as_left answer memory answers) err)
     where
       as_left : (answer : Result SelectedSymbols Refusal) → (N answer → MemoryIn file section answer) → Answers {X = Vec SectionFunction} HoldsSelected N answer (Err e) → Answers {X = Selected} HoldsLeft (MemoryIn file section) answer (Err e)
       as_left (Ok seen) memory h = (h.0, memory h.1)
       as_left (Err why) memory (inl h) = inl h
       as_left (Err why) memory (inr h) = inr (h.0, memory h.1)
 
-  -- the parts of a Mach-O file that need memory are of a file that needs it
-  pub macho_memory : (t : macho.SelectedTables) (answer : Result SelectedSymbols Refusal) → format_of file ≡ formats.Macho → macho.selected_file_tables section file ≡ Ok t → macho.NeedsMemory t.sections t.symbols → MemoryIn file section answer
+  -- the parts of a Mach-O file that have a section are of a file that needs memory
+  pub macho_memory : (t : macho.SelectedTables) (answer : Result SelectedSymbols Refusal) → format_of file ≡ formats.Macho → macho.selected_file_tables section file ≡ Ok t → t.sections.sections ≢ [] → MemoryIn file section answer
   unfolding NeedsMemory
-  macho_memory t answer format is need = subst (λ (f : Format). NeedsMemory f section file answer) (sym format) (macho_needs file section t is need)
+  macho_memory t answer format is need = subst (λ (f : Format). NeedsMemory f file answer) (sym format) (macho_needs file section t is need)
 
   -- and so are the function symbols of a PE file
   pub pe_memory : (answer : Result SelectedSymbols Refusal) → format_of file ≡ formats.PE → SelectsSome answer → MemoryIn file section answer
   unfolding NeedsMemory
-  pe_memory answer format some = subst (λ (f : Format). NeedsMemory f section file answer) (sym format) some
+  pe_memory answer format some = subst (λ (f : Format). NeedsMemory f file answer) (sym format) some
 
   -- a file of an unknown format has no answer
   pub of_unknown : format_of file ≡ formats.Unknown → GetsIn which file section (Err errors.Unknown)
@@ -122,7 +113,7 @@ module _ (which : SymbolTable) (file : List ℕ) (section : Option (List ℕ)) w
   pub answered : (read : Tables) → AreTablesOf which file section read → may_be_refused read ≡ false → IsAnswered
   unfolding AreTablesOf
   answered (variants.Elf parts) are sure = (elf_reading.parts_view parts, are)
-  answered (variants.Macho parts) are sure = absurd cc
+  answered (variants.Macho parts) are sure = (macho.symbols_of (macho_reading.parts_view parts), are.1)
   answered (variants.Pe parts) are sure = (pe_reading.selected_view parts, are.1)
   answered variants.Unknown are sure = absurd cc
   answered (variants.Whole whole named) are sure = absurd cc
@@ -132,7 +123,7 @@ module _ (which : SymbolTable) (file : List ℕ) (section : Option (List ℕ)) w
   pub names_are : (read : Tables) (seen : SelectedSymbols) → AreTablesOf which file section read → selected_answer which section file ≡ Some (Ok seen) → seen.section_size ≡ None → section_names read ≡ seen.section_name
   unfolding AreTablesOf selected_symbols
   names_are (variants.Elf parts) seen are is none = ap (λ (a : SelectedSymbols). a.section_name) (some_ok (sym are ∙ is))
-  names_are (variants.Macho parts) seen are is none = (macho_made file (macho_reading.parts_view parts) seen (some_is (sym are.1 ∙ is))).1
+  names_are (variants.Macho parts) seen are is none = ap (λ (a : SelectedSymbols). a.section_name) (some_ok (sym are.1 ∙ is))
   names_are (variants.Pe parts) seen are is none = ap (λ (a : SelectedSymbols). a.section_name) (some_ok (sym are.1 ∙ is))
   names_are variants.Unknown seen are is none =
       let e : Path (Option (Result SelectedSymbols Refusal)) None (Some (Ok seen)) = sym (of_format which section file formats.Unknown are) ∙ is in absurd cc
@@ -145,7 +136,7 @@ module _ (which : SymbolTable) (file : List ℕ) (section : Option (List ℕ)) w
   pub sharing_is : (read : Tables) (seen : SelectedSymbols) → AreTablesOf which file section read → selected_answer which section file ≡ Some (Ok seen) → shares_addresses_of read ≡ seen.shares_addresses
   unfolding AreTablesOf selected_symbols
   sharing_is (variants.Elf parts) seen are is = ap (λ (a : SelectedSymbols). a.shares_addresses) (some_ok (sym are ∙ is))
-  sharing_is (variants.Macho parts) seen are is = (macho_made file (macho_reading.parts_view parts) seen (some_is (sym are.1 ∙ is))).2
+  sharing_is (variants.Macho parts) seen are is = ap (λ (a : SelectedSymbols). a.shares_addresses) (some_ok (sym are.1 ∙ is))
   sharing_is (variants.Pe parts) seen are is = ap (λ (a : SelectedSymbols). a.shares_addresses) (some_ok (sym are.1 ∙ is))
   sharing_is variants.Unknown seen are is =
       let e : Path (Option (Result SelectedSymbols Refusal)) None (Some (Ok seen)) = sym (of_format which section file formats.Unknown are) ∙ is in absurd cc
@@ -159,7 +150,7 @@ module _ (which : SymbolTable) (file : List ℕ) (section : Option (List ℕ)) w
   pub versions_are : (read : Tables) (seen : SelectedSymbols) → AreTablesOf which file section read → selected_answer which section file ≡ Some (Ok seen) → version_names_of read ≡ seen.version_name
   unfolding AreTablesOf selected_symbols
   versions_are (variants.Elf parts) seen are is = ap (λ (a : SelectedSymbols). a.version_name) (some_ok (sym are ∙ is))
-  versions_are (variants.Macho parts) seen are is = sym (macho_made file (macho_reading.parts_view parts) seen (some_is (sym are.1 ∙ is))).3
+  versions_are (variants.Macho parts) seen are is = ap (λ (a : SelectedSymbols). a.version_name) (some_ok (sym are.1 ∙ is))
   versions_are (variants.Pe parts) seen are is = ap (λ (a : SelectedSymbols). a.version_name) (some_ok (sym are.1 ∙ is))
   versions_are variants.Unknown seen are is =
       let e : Path (Option (Result SelectedSymbols Refusal)) None (Some (Ok seen)) = sym (of_format which section file formats.Unknown are) ∙ is in absurd cc

@@ -8,6 +8,7 @@ use Rattle.binfarce.specs.SectionEntries.{SelectedSymbols, SelectsSome, as_liste
 use Rattle.binfarce.specs.Symbol.{Entry, Listed}
 use Rattle.binfarce.specs.Elf.{elf32, elf64}
 use Rattle.binfarce.specs.ElfSelection.{selected_file_answer}
+use Rattle.binfarce.specs.MachoSections.{HasSection}
 use Rattle.binfarce.specs.MachoSelection as macho
 use Rattle.binfarce.specs.PeSelection as pe
 use Rattle.binfarce.specs.declared.SymbolTable.{SymbolTable}
@@ -18,8 +19,8 @@ abbrev pub by_symbol_table : {A : Type 0} → SymbolTable → Result A Refusal �
 by_symbol_table Symtab answer = answer
 by_symbol_table Dynsym answer = Err (section_is_missing (codes ".dynsym"))
 
--- what the reader of the format answers for a selection by this symbol table: a section is that of an ELF file, and of a Mach-O or PE file the text; none
--- for an unknown format
+-- what a file of the format answers for a selection by this symbol table: a section is that of an ELF file, and of a Mach-O or PE file the code section;
+-- none for an unknown format
 unfoldable pub selected_symbols : SymbolTable → (section : Option (List ℕ)) → Format → List ℕ → Option (Result SelectedSymbols Refusal)
 selected_symbols which section (Elf32 order) file = Some (selected_file_answer which elf32 order file section)
 selected_symbols which section (Elf64 order) file = Some (selected_file_answer which elf64 order file section)
@@ -35,18 +36,18 @@ selected_answer which section file = selected_symbols which section (format_of f
 abbrev pub file_answer : (file section : List ℕ) → Option (Result SelectedSymbols Refusal)
 file_answer file section = selected_answer Symtab (Some section) file
 
--- the answers that need memory, which alone a failed allocation may replace: function symbols, if there are some; and any answer of a Mach-O file whose
--- table has an address, or which has a section where all are selected
-unfoldable pub NeedsMemory : Format → (section : Option (List ℕ)) → (file : List ℕ) → Result SelectedSymbols Refusal → Type 0
-NeedsMemory (Elf32 order) section file answer = SelectsSome answer
-NeedsMemory (Elf64 order) section file answer = SelectsSome answer
-NeedsMemory Macho section file answer = macho.FileNeedsMemory section file
-NeedsMemory PE section file answer = SelectsSome answer
-NeedsMemory Unknown section file answer = ⊥
+-- the answers that need memory, which alone a failed allocation may replace: function symbols, if there are some; and any answer of a Mach-O file that has
+-- a section
+unfoldable pub NeedsMemory : Format → (file : List ℕ) → Result SelectedSymbols Refusal → Type 0
+NeedsMemory (Elf32 order) file answer = SelectsSome answer
+NeedsMemory (Elf64 order) file answer = SelectsSome answer
+NeedsMemory Macho file answer = HasSection file
+NeedsMemory PE file answer = SelectsSome answer
+NeedsMemory Unknown file answer = ⊥
 
 -- those of a file for a selection
 abbrev pub MemoryIn : (file : List ℕ) → (section : Option (List ℕ)) → Result SelectedSymbols Refusal → Type 0
-MemoryIn file section answer = NeedsMemory (format_of file) section file answer
+MemoryIn file section answer = NeedsMemory (format_of file) file answer
 
 -- the entries of an answer, without their sections
 abbrev pub entries_of : SelectedSymbols → List Entry

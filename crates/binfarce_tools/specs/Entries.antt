@@ -3,7 +3,7 @@ use Rattle.std.specs.Prelude.{◌≡◌, ◌⊎◌, ℕ, List, map, drop, Option
 use Rattle.binfarce.specs.declared.ParseError.{ParseError}
 use Rattle.binfarce.specs.SelectionViews as elf
 use Rattle.binfarce.specs.Refusal.{Refusal, refusal_of}
-use Rattle.binfarce.specs.Symbol.{Entry}
+use Rattle.binfarce.specs.Symbol.{Entry, Listed}
 use Rattle.binfarce.specs.SectionEntries.{SectionEntry, SelectedSymbols}
 use Rattle.binfarce.specs.SymbolViews.{section_function_view}
 use Rattle.binfarce.specs.declared.SymbolTable.{SymbolTable}
@@ -38,6 +38,10 @@ functions_left functions = map (λ e. e.entry) (all_left functions.all)
 -- the entries of an answer are left, with the size of the selected section, if one is selected
 abbrev pub HoldsLeft : SelectedSymbols → Selected → Type 0
 HoldsLeft answer selected = (all_left selected.functions ≡ answer.entries) × (selected.size ≡ answer.section_size)
+
+-- the entries of a reader's answer are left, with the size of its section
+abbrev pub HoldsText : Listed → Selected → Type 0
+HoldsText listed selected = (map (λ e. e.entry) (all_left selected.functions) ≡ listed.entries) × (selected.size ≡ Some listed.section_size)
 
 -- the entries of a section's answer are left, and this is its size
 abbrev pub HoldsListed : SelectedSymbols → Functions × ℕ → Type 0

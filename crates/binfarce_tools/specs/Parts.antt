@@ -1,5 +1,5 @@
 -- The parts of a file that are read.
-use Rattle.std.specs.Prelude.{Option, ℕ, List, [], ◌∷◌, length, min}
+use Rattle.std.specs.Prelude.{ℕ, List, [], ◌∷◌, length, min}
 use Rattle.binfarce_bytes.specs.Part.{Part, part}
 use Rattle.binfarce.specs.declared.Format.{Format}
 use Rattle.binfarce.specs.declared.Format.TheVariants.{Elf32, Elf64, Macho, PE, Unknown}
@@ -14,14 +14,14 @@ use Rattle.binfarce_tables.specs.PeReads.{pe_parts}
 abbrev pub head_part : List ℕ → Part
 head_part file = part 0 (min 8 (length file))
 
--- what a reading of a selection by this symbol table reads of a file of this format, which is the same for each name; nothing of an unknown one
-unfoldable pub format_parts : SymbolTable → Option (List ℕ) → Format → List ℕ → List Part
-format_parts which section (Elf32 order) file = elf_parts which elf32 order file
-format_parts which section (Elf64 order) file = elf_parts which elf64 order file
-format_parts which section Macho file = macho_parts file
-format_parts which section PE file = pe_parts section file
-format_parts which section Unknown file = []
+-- what a reading by this symbol table reads of a file of this format, which is the same for each selection; nothing of an unknown one
+unfoldable pub format_parts : SymbolTable → Format → List ℕ → List Part
+format_parts which (Elf32 order) file = elf_parts which elf32 order file
+format_parts which (Elf64 order) file = elf_parts which elf64 order file
+format_parts which Macho file = macho_parts file
+format_parts which PE file = pe_parts file
+format_parts which Unknown file = []
 
 -- all that it reads of a file
-abbrev pub parts_in : SymbolTable → Option (List ℕ) → List ℕ → List Part
-parts_in which section file = head_part file ∷ format_parts which section (format_of file) file
+abbrev pub parts_in : SymbolTable → List ℕ → List Part
+parts_in which file = head_part file ∷ format_parts which (format_of file) file

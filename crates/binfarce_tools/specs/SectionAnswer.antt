@@ -1,5 +1,5 @@
 -- What `list` and `report` promise: the answer of a file for a section, which answers need memory, and the listing and the report of an answer.
-use Rattle.std.specs.Prelude.{◌≡◌, ◌<◌, ◌^◌, ℕ, List, [], ◌∷◌, ◌++◌, Option, Some, None, Result}
+use Rattle.std.specs.Prelude.{◌≡◌, ◌<◌, ◌^◌, ℕ, Bool, true, false, List, [], ◌∷◌, ◌++◌, Option, Some, None, Result}
 use Rattle.std.specs.List.{AllZip, concat, sum_by}
 use Rattle.binfarce_names.specs.Name.{Name}
 use Rattle.binfarce_names.specs.Named.{IsNamed}
@@ -23,6 +23,11 @@ format_answer (Elf64 order) file section = Some (elf_file_answer elf64 order fil
 format_answer Macho file section = Some (macho_file_answer file)
 format_answer PE file section = Some (pe_file_answer file)
 format_answer Unknown file section = None
+
+abbrev pub is_elf : Format → Bool
+is_elf (Elf32 order) = true
+is_elf (Elf64 order) = true
+is_elf format = false
 
 -- the answer of a file for a section, by the format that its first bytes name
 abbrev pub readers_answer : (file section : List ℕ) → Option (Result Listed Refusal)

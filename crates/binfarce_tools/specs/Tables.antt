@@ -21,13 +21,12 @@ use Rattle.binfarce_tools.specs.declared.list.ListError.{ListError}
 use Rattle.binfarce_tools.specs.declared.tables.Tables.{Tables}
 use Rattle.binfarce_tools.specs.declared.tables.Tables.TheVariants.{Elf, Macho, Pe, Unknown, Whole, Made}
 
--- the tables are those of this file's answer for a selection by this symbol table: the parts of an ELF or PE file have its function symbols, those of a
--- Mach-O file what these are made of; for an unknown format there are none; a whole file has its own answer for its section by the symbol table; and
+-- the tables are those of this file's answer for a selection by this symbol table: its parts have its function symbols; for an unknown format there are none; a whole file has its own answer for its section by the symbol table; and
 -- what was made has the entries, the size and the names of versions of a section's answer
 unfoldable pub AreTablesOf : SymbolTable → (file : List ℕ) → (section : Option (List ℕ)) → Tables → Type 0
 AreTablesOf which file section (Elf parts) = selected_answer which section file ≡ Some (Ok (elf.parts_view parts))
 AreTablesOf which file section (Macho parts) =
-    (format_of file ≡ formats.Macho) × (selected_answer which section file ≡ Some (macho_file.symbols_of (macho.parts_view parts)))
+    (format_of file ≡ formats.Macho) × (selected_answer which section file ≡ Some (Ok (macho_file.symbols_of (macho.parts_view parts))))
     × (macho_file.selected_file_tables section file ≡ Ok (macho.parts_view parts))
 AreTablesOf which file section (Pe parts) = (format_of file ≡ formats.PE) × (selected_answer which section file ≡ Some (Ok (pe.selected_view parts)))
 AreTablesOf which file section Unknown = format_of file ≡ formats.Unknown
@@ -50,7 +49,7 @@ ReadsTables MayFail which file section result = ReadsAs (AreTablesOf which file 
 -- whether a file's answer may be a refusal though these are its tables
 abbrev pub may_be_refused : Tables → Bool
 may_be_refused (Elf parts) = false
-may_be_refused (Macho parts) = true
+may_be_refused (Macho parts) = false
 may_be_refused (Pe parts) = false
 may_be_refused Unknown = true
 may_be_refused (Whole whole named) = true
@@ -68,7 +67,7 @@ is_whole tables = false
 -- the names of the sections that were read, by their numbers
 abbrev pub section_names : Tables → ℕ → Option (List ℕ)
 section_names (Elf parts) = (elf.parts_view parts).section_name
-section_names (Macho parts) = macho_file.section_name (macho.parts_view parts).sections
+section_names (Macho parts) = (macho_file.symbols_of (macho.parts_view parts)).section_name
 section_names (Pe parts) = (pe.selected_view parts).section_name
 section_names tables = λ number. None
 

@@ -4,14 +4,18 @@ ghost use Rattle.std.specs.Prelude.{◌≡◌, length, map, nat_eq, Some};
 ghost use Rattle.std.specs.Iterator.{YieldsFirstBy};
 ghost use Rattle.binfarce.specs.ElfSelection.{selected_file_answer, size_taken};
 ghost use Rattle.binfarce.specs.SelectionViews.{selected_view};
+ghost use Rattle.binfarce.specs.MachoSections.{HasSection};
 ghost use Rattle.binfarce.specs.MachoSelection as macho_selection;
+ghost use Rattle.binfarce.specs.MachoSymbols.{macho_file_answer, HasAddress};
 ghost use Rattle.binfarce.specs.PeSelection as pe_selection;
+ghost use Rattle.binfarce.specs.PeSymbols.{pe_file_answer};
 ghost use Rattle.binfarce.specs.SectionEntries.{SelectsSome};
-ghost use Rattle.binfarce.specs.Symbol.{Answers};
+ghost use Rattle.binfarce.specs.Symbol.{Answers, ListsSome};
 ghost use Rattle.binfarce.specs.SymbolViews.{section_function_view};
 ghost use Rattle.binfarce.specs.declared.SymbolTable.TheVariants.{Symtab};
 ghost use Rattle.binfarce_tools.specs.Answer.{file_answer, MemoryIn};
-ghost use Rattle.binfarce_tools.specs.Entries.{all_left, arranged_left, lent_left, functions_left, HoldsLeft, HoldsListed, GetsAs, GetsIn};
+ghost use Rattle.binfarce_tools.specs.Entries.{all_left, arranged_left, lent_left, functions_left, HoldsLeft, HoldsListed, HoldsText, GetsAs, GetsIn};
+ghost use Rattle.binfarce_tools.specs.SectionAnswer.{readers_answer, NeedsMemory};
 
 use crate::list::ListError;
 use binfarce::{
@@ -23,6 +27,9 @@ use binfarce_elf::class::Class;
 use binfarce_elf::header::parse_header;
 use binfarce_elf::sections::section_table;
 use binfarce_elf_memory::selection;
+use binfarce_macho::{functions as macho_functions, header as macho_header};
+use binfarce_pe::parts::places_after;
+use binfarce_pe::{functions as pe_functions, header as pe_header};
 use std::alloc::Global;
 
 /// An iterator over the function symbols of a file, in the order of its listing.
@@ -181,6 +188,25 @@ pub(crate) fn section_functions<'a>(
     }
 }
 
+// The function symbols that the reader of the file's format gives for a section: of a Mach-O or PE file its
+// `functions`, those of the text.
+#[tactic(auto, unfolding(crate::specs::SectionAnswer::format_answer))]
+pub(crate) fn readers_functions<'a>(
+    alloc: Global,
+    file: &'a [u8],
+    section: &str,
+) -> Result<Selected<'a>, ListError>
+    ensures { GetsAs HoldsText (NeedsMemory file.entry.now) (readers_answer file.entry.now section.entry.now) result }
+{
+    match detect_format(file) {
+        Format::Macho => Ok(text_of_macho(alloc, file)?),
+        Format::PE => Ok(text_of_pe(alloc, file)?),
+        Format::Elf32 { .. } | Format::Elf64 { .. } | Format::Unknown => {
+            section_functions(alloc, file, section)
+        }
+    }
+}
+
 // The function symbols of a section of an ELF file of this class.
 #[tactic(auto, unfolding(binfarce_elf_memory::specs::ElfSelection::selected_file_answer))]
 fn functions_of_elf<'a, C: Class>(
@@ -209,13 +235,32 @@ pub(crate) fn of_elf(functions: selection::Functions<'_>) -> Selected<'_>
     }
 }
 
-// The function symbols of a Mach-O file's text, which answers for every section.
+// The function symbols of a Mach-O file's text.
+fn text_of_macho(alloc: Global, file: &[u8]) -> Result<Selected<'_>, ParseError>
+    ensures { Answers HoldsText (λ _. HasAddress file.entry.now) (macho_file_answer file.entry.now) result }
+{
+    let header = macho_header::parse_header(file)?;
+    let (functions, size) = macho_functions::text_functions(alloc, file, header)?;
+    Ok(listed(functions, Some(size)))
+}
+
+// The function symbols of a PE file's text.
+fn text_of_pe(alloc: Global, file: &[u8]) -> Result<Selected<'_>, ParseError>
+    ensures { Answers HoldsText ListsSome (pe_file_answer file.entry.now) result }
+{
+    let (pe_pointer, header) = pe_header::parse_header(file)?;
+    let places = places_after(pe_pointer, header);
+    let (functions, size) = pe_functions::text_functions(alloc, file, places)?;
+    Ok(listed(functions, Some(size)))
+}
+
+// The function symbols of a Mach-O file's code section, which answers for every section.
 fn functions_of_macho<'a>(
     alloc: Global,
     file: &'a [u8],
     section: &str,
 ) -> Result<Selected<'a>, ParseError>
-    ensures { Answers HoldsLeft (λ _. macho_selection.FileNeedsMemory (Some section.entry.now) file.entry.now)
+    ensures { Answers HoldsLeft (λ _. HasSection file.entry.now)
         (macho_selection.selected_file_answer (Some section.entry.now) file.entry.now) result }
 {
     let selection = Selection::Section(section);
@@ -223,7 +268,7 @@ fn functions_of_macho<'a>(
     Ok(listed(functions, size))
 }
 
-// The function symbols of a PE file's `.text`, which answers for every section.
+// The function symbols of a PE file's code section, which answers for every section.
 fn functions_of_pe<'a>(
     alloc: Global,
     file: &'a [u8],

@@ -8,9 +8,7 @@ ghost use Rattle.binfarce.specs.Elf.{elf32, elf64};
 ghost use Rattle.binfarce.specs.ElfSelection as elf;
 ghost use Rattle.binfarce.specs.ElfSelection.{section_file_answer};
 ghost use Rattle.binfarce.specs.ElfSymbols.{elf_file_answer};
-ghost use Rattle.binfarce.specs.MachoSelection as macho;
 ghost use Rattle.binfarce.specs.MachoSymbols.{macho_file_answer};
-ghost use Rattle.binfarce.specs.PeSelection as pe;
 ghost use Rattle.binfarce.specs.PeSymbols.{pe_file_answer};
 ghost use Rattle.binfarce.specs.declared.SymbolTable.{SymbolTable};
 ghost use Rattle.binfarce.specs.declared.SymbolTable.TheVariants.{Symtab};
@@ -26,8 +24,8 @@ ghost use Rattle.binfarce_tools.specs.machine.Symbols.{IsReportOfSymbols, symbol
 use binfarce::ByteOrder;
 use binfarce::demangle::SymbolData;
 
-/// The answer for a section, as one list with the section's size, is the one of the format's reader. It has a size, and
-/// its sections share no addresses; that for all sections has no size.
+/// The answer of an ELF file for a section, as one list with the section's size, is the one of its reader. That for a
+/// section of any file has a size, and its sections share no addresses; that for all sections has no size.
 pub fn sections_are_selected(file: &[u8], byte_order: ByteOrder, section: &str)
     ensures of_elf32 { elf_file_answer elf32 byte_order file.now section.now
         ≡ one_list (elf.selected_file_answer Symtab elf32 byte_order file.now (Some section.now)) }
@@ -37,8 +35,6 @@ pub fn sections_are_selected(file: &[u8], byte_order: ByteOrder, section: &str)
         ≡ one_list (elf.selected_file_answer which elf32 byte_order file.now (Some section.now)) }
     ensures of_either_64 { (which : SymbolTable) → section_file_answer which elf64 byte_order file.now section.now
         ≡ one_list (elf.selected_file_answer which elf64 byte_order file.now (Some section.now)) }
-    ensures of_macho { macho_file_answer file.now ≡ one_list (macho.selected_file_answer (Some section.now) file.now) }
-    ensures of_pe { pe_file_answer file.now ≡ one_list (pe.selected_file_answer (Some section.now) file.now) }
     ensures sized { (which : SymbolTable) (selection : Option (List ℕ)) (selected : SelectedSymbols)
         → selected_answer which selection file.now ≡ Some (Ok selected)
         → (is_some selected.section_size ≡ is_some selection)
@@ -111,13 +107,13 @@ fn worked_macho_parts()
 /// bytes.
 #[tactic(auto, unfolding(binfarce_tables::specs::PeReads::pe_parts, binfarce_pe::specs::Pe::header_fields, binfarce_pe::specs::Pe::header_after, binfarce_bytes::proofs::Computing::computing))]
 fn worked_pe_parts()
-    ensures whole { pe_parts (Some [])
+    ensures whole { pe_parts
         (replicate 60 0 ++ 64 ∷ replicate 9 0 ++ 1 ∷ replicate 5 0 ++ 112 ∷ 0 ∷ 0 ∷ 0 ∷ 1 ∷ replicate 50 0)
-        ≡ part 60 4 ∷ part 64 24 ∷ part 88 40 ∷ part 112 18 ∷ part 130 1 ∷ [] }
-    ensures truncated { pe_parts (Some [])
+        ≡ part 60 4 ∷ part 64 24 ∷ part 88 40 ∷ part 88 0 ∷ part 112 18 ∷ part 130 1 ∷ [] }
+    ensures truncated { pe_parts
         (replicate 60 0 ++ 64 ∷ replicate 9 0 ++ 1 ∷ replicate 5 0 ++ 112 ∷ 0 ∷ 0 ∷ 0 ∷ 1 ∷ replicate 48 0)
-        ≡ part 60 4 ∷ part 64 24 ∷ part 88 40 ∷ [] }
-    ensures optional_header { pe_parts None
+        ≡ part 60 4 ∷ part 64 24 ∷ part 88 40 ∷ part 88 0 ∷ [] }
+    ensures optional_header { pe_parts
         (replicate 60 0 ++ 64 ∷ replicate 23 0 ++ 40 ∷ replicate 50 0)
         ≡ part 60 4 ∷ part 64 24 ∷ part 128 0 ∷ part 88 32 ∷ part 0 0 ∷ part 0 135 ∷ [] }
 {}

@@ -14,7 +14,7 @@ ghost use Rattle.binfarce_tools.specs.SelectedTexts.{IsLineOfSelected, IsListing
 ghost use Rattle.binfarce_tools.specs.Writing.{EndsAs, Takes, Fails, Leaves};
 ghost use Rattle.binfarce_tools.specs.Tables.{AreTablesOf, given_by, section_names};
 
-use crate::functions::Selected;
+use crate::functions::{Selected, readers_functions};
 use crate::tables::Tables;
 use crate::writing::write_whole;
 use binfarce::{ParseError, SectionFunction};
@@ -180,10 +180,14 @@ pub fn list<S: Sink>(
     ensures fails { Fails (S.has_failed out.old) (S.has_failed out.new) (outcome_of result) }
     ensures leaves { Leaves out.old out.new (outcome_of result) }
 {
-    list_tables(alloc, &Tables::whole(file, section), out)
+    let selected = readers_functions(alloc, file, section)?;
+    let text = listing(alloc, &Tables::whole(file, section), selected)?;
+    write_whole(out, text.as_bytes())
 }
 
-/// As `list`, from the tables of a file: for the selection that they were read for. Of all sections a line is
+/// Lists the function symbols of a file's tables, for the selection that they were read for, as `list` does those of an
+/// ELF file's section. Of a Mach-O or PE file a section is the code section, and its function symbols are those that
+/// `selected_functions` of a reader gives. Of all sections a line is
 /// `{address:016x} {size:>10} {section} {trimmed}`, with the section's name, or its number in brackets where it has
 /// none; and there is no last line.
 ///

@@ -4,14 +4,17 @@ ghost use Rattle.std.specs.Prelude.{◌≡◌, ◌≢◌, ◌⊎◌, ℕ, List, 
 ghost use Rattle.std.specs.IoError.{error_kind};
 ghost use Rattle.std.specs.Process.{exit_status};
 ghost use Rattle.std.specs.String.{string_bytes};
-ghost use Rattle.binfarce_tools.specs.Given.{words_of, failure_of, tables_failure_of, GetsTables};
+ghost use Rattle.binfarce_tools.specs.Given.{words_of, failure_of, read_failure_of, AreContentsOf, GetsContents};
+ghost use Rattle.binfarce_tools.specs.SectionAnswer.{readers_answer};
 ghost use Rattle.binfarce_tools.specs.Status.{status_of};
+ghost use Rattle.binfarce_tools.specs.Tables.{ReadsAs};
 ghost use Rattle.binfarce_tools.specs.declared.program.Failure.TheVariants.{Usage, File as Unreadable, OutOfMemory, Write as Unwritten};
 
-use crate::tables::{Selection, Tables, read};
-use binfarce::{ParseError, SymbolTable};
+use crate::tables::{Selection, Tables, read_tables};
+use binfarce::{Format, ParseError, SymbolTable};
 use binfarce_bytes::source::Source;
-use binfarce_tables::ReadError;
+use binfarce_tables::format::read_format;
+use binfarce_tables::{ReadError, part};
 use std::alloc::Global;
 use std::fs::File;
 use std::io::{self, ErrorKind, Read};
@@ -97,9 +100,9 @@ fn read_failure(e: io::Error) -> Failure
     }
 }
 
-// The failure for an error of reading a file's tables.
-fn tables_failure(e: ReadError) -> Failure
-    ensures { result ≡ tables_failure_of e }
+// The failure for an error of reading a file at offsets.
+fn read_failure_at(e: ReadError) -> Failure
+    ensures { result ≡ read_failure_of e }
 {
     match e {
         ReadError::Refused(e) => Failure::Refused(e),
@@ -120,24 +123,53 @@ pub fn read_whole<R: Read>(alloc: Global, file: &mut R) -> Result<Vec<u8>, Failu
     Ok(bytes)
 }
 
-/// The tables of a source for the function symbols of a section. Only the headers, the symbol table and the names are
-/// read, at offsets.
+/// What a program reads of a file: the tables of an ELF file for a section, and all bytes of any other file.
+#[derive(Drop)]
+pub enum Contents {
+    Tables(Tables<'static>),
+    Whole(Vec<u8>),
+}
+
+/// What a program reads of a source, at offsets, for the function symbols of a section. Of an ELF file only the headers,
+/// the symbol table and the names are read.
 ///
-/// `File` where it can't be read; `Refused` with the error of its format's reader; `OutOfMemory` where an allocation
-/// fails.
-pub fn tables_at<S: Source<Log = ()>>(
+/// `File` where it can't be read; `Refused` with the error of the ELF reader; `OutOfMemory` where an allocation fails.
+pub fn contents_at<S: Source<Log = ()>>(
     alloc: Global,
     source: &S,
     section: &str,
-) -> Result<Tables<'static>, Failure>
+) -> Result<Contents, Failure>
     ensures gets { (bytes : List ℕ) → S.bytes source.now ≡ Some bytes
-        → GetsTables (S.may_fail source.now ≡ true) bytes section.now result }
+        → GetsContents (S.may_fail source.now ≡ true) bytes section.now result }
     ensures unwritten { IfErr result (λ e. e ≢ Unwritten) }
 {
-    let selection = Selection::Section(section);
-    match read(alloc, source, &mut (), SymbolTable::Symtab, selection) {
-        Ok(tables) => Ok(tables),
-        Err(e) => Err(tables_failure(e)),
+    match read_contents(alloc, source, section) {
+        Ok(contents) => Ok(contents),
+        Err(e) => Err(read_failure_at(e)),
+    }
+}
+
+fn read_contents<S: Source<Log = ()>>(
+    alloc: Global,
+    source: &S,
+    section: &str,
+) -> Result<Contents, ReadError>
+    ensures { (bytes : List ℕ) → S.bytes source.now ≡ Some bytes
+        → ReadsAs (AreContentsOf bytes section.now) (S.may_fail source.now ≡ true) (readers_answer bytes section.now)
+        result }
+{
+    let format = read_format(alloc, source, &mut ())?;
+    match format {
+        Format::Elf32 { .. } | Format::Elf64 { .. } => {
+            let selection = Selection::Section(section);
+            let which = SymbolTable::Symtab;
+            let tables = read_tables(alloc, source, &mut (), format, which, selection)?;
+            Ok(Contents::Tables(tables))
+        }
+        _ => {
+            let length = source.length()?;
+            Ok(Contents::Whole(part(alloc, source, &mut (), 0, length)?))
+        }
     }
 }
 

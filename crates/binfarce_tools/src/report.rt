@@ -18,7 +18,7 @@ ghost use Rattle.binfarce_tools.specs.Entries.{functions_left};
 ghost use Rattle.binfarce_tools.specs.Tables.{AreTablesOf};
 ghost use Rattle.binfarce_tools.specs.Sums.{AreSumsOf, sum_at, Adds};
 
-use crate::functions::Functions;
+use crate::functions::{Functions, readers_functions};
 use crate::list::{ListError, Sink, push_last_line};
 use crate::tables::Tables;
 use crate::writing::write_whole;
@@ -117,7 +117,9 @@ pub fn report<S: Sink>(
     ensures fails { Fails (S.has_failed out.old) (S.has_failed out.new) (outcome_of result) }
     ensures leaves { Leaves out.old out.new (outcome_of result) }
 {
-    report_tables(alloc, &Tables::whole(file, section), out)
+    let (functions, size) = readers_functions(alloc, file, section)?.into_list();
+    let sums = crate_sums(alloc, functions)?;
+    write_made(out, report_text(alloc, &sums, size))
 }
 
 /// As `report`, from the tables of a file: for the selection that they were read for. Of all sections there is no last

@@ -61,7 +61,7 @@ impl<'a> Tables<'a> {
     }
 
     /// The tables, unless their function symbols are refused: then `functions` fails only where an allocation does.
-    /// Those of a file read at offsets may be refused where its format is unknown, and for a Mach-O file's rows.
+    /// Those of a file read at offsets are refused where its format is unknown.
     ///
     /// # Errors
     ///
@@ -81,8 +81,8 @@ impl<'a> Tables<'a> {
         ensures { result ≡ may_be_refused self.now }
     {
         match self {
-            Tables::Elf(_) | Tables::Pe(_) | Tables::Made { .. } => false,
-            Tables::Macho(_) | Tables::Unknown | Tables::Whole { .. } => true,
+            Tables::Unknown | Tables::Whole { .. } => true,
+            _ => false,
         }
     }
 
@@ -92,7 +92,7 @@ impl<'a> Tables<'a> {
     ///
     /// # Errors
     ///
-    /// As `functions_of_file`: for all sections, `Parse` where a Mach-O file's rows are refused.
+    /// Those of `functions_of_file`; `Parse` only of a whole file.
     #[tactic(auto, unfolding(crate::specs::Tables::AreTablesOf))]
     pub fn functions(&self, alloc: Global) -> Result<Selected<'_>, ListError>
         ensures gets { (which : SymbolTable) (file : List ℕ) (section : Option (List ℕ))
@@ -114,7 +114,7 @@ impl<'a> Tables<'a> {
     }
 
     /// The name of the section of this number, a slice of the tables. `None` where there is no such section, where it
-    /// has no valid name, and where the tables are those of one section of a Mach-O or PE file, or of a whole file.
+    /// has no valid name, and where the tables are those of a whole file, or were made.
     pub fn section_name(&self, number: u32) -> Option<&str>
         ensures read { option_map (λ t. t.now) result ≡ section_names self.entry.now number }
         ensures file { (which : SymbolTable) (file : List ℕ) (section : Option (List ℕ)) (selected : SelectedSymbols)
@@ -204,7 +204,7 @@ pub fn read<S: Source>(
     ensures parts { IfOk result (λ tables. is_whole tables ≡ false) }
     ensures only { (file : List ℕ) → S.bytes source.now ≡ Some file
         → ReadsOnly (S.is_sure source.now) (S.logs_only log.old) (S.logs_only log.new)
-        (parts_in which (section_of selection.entry) file) (IfErr result (λ e. e ≢ Unreadable)) }
+        (parts_in which file) (IfErr result (λ e. e ≢ Unreadable)) }
 {
     let format = read_format(alloc, source, log)?;
     read_tables(alloc, source, log, format, which, selection)
@@ -228,7 +228,7 @@ pub fn read_tables<S: Source>(
     ensures parts { IfOk result (λ tables. is_whole tables ≡ false) }
     ensures only { (file : List ℕ) → S.bytes source.now ≡ Some file
         → ReadsOnly (S.is_sure source.now) (S.logs_only log.old) (S.logs_only log.new)
-        (format_parts which (section_of selection.entry) format file) (IfErr result (λ e. e ≢ Unreadable)) }
+        (format_parts which format file) (IfErr result (λ e. e ≢ Unreadable)) }
 {
     match format {
         Format::Elf32 { byte_order } => {

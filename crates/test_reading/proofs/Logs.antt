@@ -52,6 +52,6 @@ only_these parts before log none asked =
     λ k d lt. is_among parts (part_view (slice_index_or log k d)) (all k d lt)
 
 -- these are the parts of the file's format
-pub in_format : (which : SymbolTable) (section : Option (List ℕ)) (file : List ℕ) (format : Format) (log : List code.LoggedPart)
-    → format_of file ≡ format → LogsOnly (parts_in which section file) log → LogsOnly (head_part file ∷ format_parts which section format file) log
-in_format which section file format log is only = subst (λ (f : Format). LogsOnly (head_part file ∷ format_parts which section f file) log) is only
+pub in_format : (which : SymbolTable) (file : List ℕ) (format : Format) (log : List code.LoggedPart)
+    → format_of file ≡ format → LogsOnly (parts_in which file) log → LogsOnly (head_part file ∷ format_parts which format file) log
+in_format which file format log is only = subst (λ (f : Format). LogsOnly (head_part file ∷ format_parts which f file) log) is only

@@ -1,7 +1,6 @@
 //! A source that records the parts that it is asked for.
 
 ghost use Rattle.std.specs.Prelude.{◌≡◌, ◌++◌, ◌∷◌, [], Some, is_ok, if◌then◌else◌};
-ghost use Rattle.binfarce_bytes.specs.Selection.{section_of};
 ghost use Rattle.binfarce.specs.Elf.{elf32, elf64};
 ghost use Rattle.binfarce.specs.Format.{format_of};
 ghost use Rattle.binfarce.specs.declared.ByteOrder.{ByteOrder};
@@ -71,7 +70,7 @@ pub fn read_recorded(
     which: SymbolTable,
     selection: Selection<'_>,
 ) -> (Result<Tables<'static>, ReadError>, Vec<LoggedPart>)
-    ensures only { LogsOnly (parts_in which (section_of selection.entry) file.now) result.1.items }
+    ensures only { LogsOnly (parts_in which file.now) result.1.items }
     ensures elf_of_32_bits { (order : ByteOrder) → format_of file.now ≡ Elf32 order
         → LogsOnly (head_part file.now ∷ elf_parts which elf32 order file.now) result.1.items }
     ensures elf_of_64_bits { (order : ByteOrder) → format_of file.now ≡ Elf64 order
@@ -79,7 +78,7 @@ pub fn read_recorded(
     ensures macho { format_of file.now ≡ Macho
         → LogsOnly (head_part file.now ∷ macho_parts file.now) result.1.items }
     ensures pe { format_of file.now ≡ PE
-        → LogsOnly (head_part file.now ∷ pe_parts (section_of selection.entry) file.now) result.1.items }
+        → LogsOnly (head_part file.now ∷ pe_parts file.now) result.1.items }
 {
     let mut log = Vec::new(alloc);
     let tables = read(alloc, &Recorded { file }, &mut log, which, selection);

@@ -12,13 +12,19 @@ use Rattle.binfarce_macho.specs.declared.sections.Segment.{Segment}
 use Rattle.binfarce_macho.specs.declared.sections.Left.{Left}
 use Rattle.binfarce_macho.specs.declared.symbols.SymbolRow.{SymbolRow}
 use Rattle.binfarce_macho.specs.declared.functions.TextRows.{TextRows}
+use Rattle.binfarce_bytes.specs.declared.functions.SectionFunction.{SectionFunction}
 use Rattle.binfarce_bytes.specs.declared.sizes.RowAddress as code
+use Rattle.binfarce_bytes.specs.Entries.{Listed}
 use Rattle.binfarce_bytes.specs.Refusal.{◌>>=◌, Refusal, malformed_input, unexpected_eof}
 use Rattle.binfarce_bytes.specs.RowViews.{rows_view}
 use Rattle.binfarce_bytes.specs.SectionEntries.{SectionEntry, in_section}
 use Rattle.binfarce_bytes.specs.Sizes.{RowAddress, addresses_of}
+use Rattle.binfarce_bytes.specs.SymbolViews.{section_function_view}
 use Rattle.binfarce_bytes.specs.Walk.{Walk, ended, and_then, YieldsNext}
+use Rattle.binfarce_macho.specs.declared.numbered.CodeSection as code_section
+use Rattle.binfarce_macho.specs.declared.numbered.NumberedSection as code_numbered
 use Rattle.binfarce_macho.specs.Macho as macho
+use Rattle.binfarce_macho.specs.MachoSelection.{SelectedSections, code_view, numbered_view}
 use Rattle.binfarce_macho.specs.MachoSections.{NumberedSection, function_name, size_in}
 use Rattle.binfarce_macho.specs.MachoSymbols as symbols
 use Rattle.binfarce_macho.specs.MachoSymbols.{Extent, Symbols, Located, symbol_length, entry_of, kept}
@@ -79,6 +85,18 @@ located_view text = record { text_end = text.end; text_size = 0; strings = text.
 -- the entries with those of these rows of a text
 abbrev pub text_added : List SectionEntry → TextRows → List RowAddress → Result (List SectionEntry) Refusal
 text_added before text rows = kept (λ at. entry_of (located_view text) at) rows >>= λ entries. Ok (before ++ in_section 1 entries)
+
+-- sections, of which all are selected or the code section alone
+abbrev pub selected_view : List code_numbered.NumberedSection → Option code_section.CodeSection → SelectedSections
+selected_view sections code = record { sections = map numbered_view sections; code = option_map code_view code }
+
+-- the answer of a text with these symbols
+abbrev pub text_answer : Extent → Symbols → Result Listed Refusal
+text_answer text table = symbols.located_by text (Some table) >>= symbols.answer_of
+
+-- the value has these entries, with section number 1
+abbrev pub HoldsInFirst : Listed → Vec SectionFunction → Type 0
+HoldsInFirst listed functions = map section_function_view functions.items ≡ in_section 1 listed.entries
 
 -- the name of a row that is kept of the section of this number, where there is such a section and it holds instructions
 abbrev pub named_in : List ℕ → ℕ → Option NumberedSection → symbols.SymbolRow ℕ → Option (List ℕ)

@@ -10,7 +10,7 @@ use Rattle.binfarce_pe.specs.Pe as pe
 use Rattle.binfarce_pe.specs.PeParts.{SectionTable, whole_in, section_in, table_walk}
 use Rattle.binfarce_pe.specs.PeSymbols as symbols
 use Rattle.binfarce_pe.specs.PeRules.{SectionRules, accepted_name, ends_at, ending_rows}
-use Rattle.binfarce_pe.specs.PeSelection.{SelectedSections, the_text, all_sections, Rules, memory_size}
+use Rattle.binfarce_pe.specs.PeSelection.{SelectedSections, the_text, in_memory, Rules, memory_size}
 use Rattle.binfarce_bytes.specs.Sizes.{RowAddress, addresses_of}
 use Rattle.binfarce_bytes.specs.SectionEntries.{SectionEntry}
 use Rattle.binfarce_bytes.specs.RowViews.{rows_view}
@@ -72,7 +72,7 @@ ending_name table rules k row =
 -- the size that sizes end at in the section of this index
 abbrev pub bound_of : SelectedSections → ℕ → ℕ
 bound_of (the_text text) index = text.size
-bound_of (all_sections base sections) index = memory_size sections index
+bound_of (in_memory base sections code) index = memory_size sections index
 
 -- the entry of a row whose name has its number, in the section of this index, by the addresses that end sizes; none of a row without a name
 abbrev pub function_in : Rules → ℕ → List (Option (List ℕ)) → List ℕ → RowAddress → Option SectionEntry

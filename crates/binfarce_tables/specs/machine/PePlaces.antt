@@ -1,15 +1,15 @@
 -- Views of a reading of a PE file's parts, for private clauses.
 use Rattle.std.specs.Prelude.{ℕ, ◌+◌, ◌-◌, ◌*◌, List, length, drop, min, Option, Some, None, Result, Ok, Err, nat_le, if◌then◌else◌}
+use Rattle.std.specs.Option.{option_map}
 use Rattle.binfarce_bytes.specs.Number.{bytes_at}
 use Rattle.binfarce_bytes.specs.Refusal.{◌>>=◌, Refusal, unexpected_eof, if_as_long_as}
 use Rattle.binfarce_bytes.specs.SectionEntries.{unless}
 use Rattle.binfarce_pe.specs.Pe.{least_length, signature_offset, section_length}
-use Rattle.binfarce_pe.specs.PeParts.{TablePlaces, places_of, SectionTable, headers_alone, table_walk, TextPlace, text_place, text_view}
-use Rattle.binfarce_pe.specs.PeSelection.{SelectedSections, the_text, all_sections, base_at}
+use Rattle.binfarce_pe.specs.PeParts.{TablePlaces, places_of, SectionTable, headers_alone, table_walk, text_view}
+use Rattle.binfarce_pe.specs.PeSelection.{SelectedSections, in_memory, code_of, base_at}
 use Rattle.binfarce_pe.specs.PeSymbols.{CoffTable}
 use Rattle.binfarce_tables.specs.declared.pe.Records.{Records}
 use Rattle.binfarce_tables.specs.declared.pe.Sections.{Sections}
-use Rattle.binfarce_tables.specs.declared.pe.Sections.TheVariants.{Text, All}
 
 -- the signature's offset, where the file has the stub that states it
 abbrev pub signature_step : List ℕ → Result ℕ Refusal
@@ -22,9 +22,6 @@ places_step file = if_as_long_as (least_length file) file (Ok (places_of file))
 -- the section table at its place
 abbrev pub headers_at : List ℕ → TablePlaces → SectionTable
 headers_at file places = record { bytes = file; offset = places.sections; count = places.section_count }
-
-abbrev pub text_at : List ℕ → TablePlaces → Result TextPlace Refusal
-text_at file places = text_place (headers_at file places)
 
 -- the symbol table at its place
 abbrev pub table_at : List ℕ → TablePlaces → Result CoffTable Refusal
@@ -40,15 +37,16 @@ alone_at file places = headers_alone (bytes_at file places.sections (min (places
 abbrev pub whole_at : List ℕ → TablePlaces → Result SectionTable Refusal
 whole_at file places = unless (table_walk (headers_at file places)).refusal (alone_at file places)
 
--- what a selection chooses: by a name, whichever it is, the text; else all sections
+-- what a selection chooses
 abbrev pub chosen_at : Option (List ℕ) → List ℕ → TablePlaces → Result SelectedSections Refusal
-chosen_at (Some name) file places = text_at file places >>= λ text. Ok (the_text text)
-chosen_at None file places = whole_at file places >>= λ sections. Ok (all_sections (base_at file places) sections)
+chosen_at section file places = do
+  sections ← whole_at file places
+  code ← code_of section sections
+  Ok (in_memory (base_at file places) sections code)
 
 -- the sections that were read
 abbrev pub read_view : Sections → SelectedSections
-read_view (Text text) = the_text (text_view text)
-read_view (All base headers count) = all_sections base (headers_alone headers.items count)
+read_view s = in_memory s.base (headers_alone s.headers.items s.count) (option_map text_view s.code)
 
 -- the symbol table that was read
 abbrev pub records_view : Records → CoffTable

@@ -1,4 +1,5 @@
-ghost use Rattle.binfarce.specs.MachoSelection.{NeedsMemory, symbols_of};
+ghost use Rattle.std.specs.Prelude.{◌≢◌, [], Ok};
+ghost use Rattle.binfarce.specs.MachoSelection.{symbols_of};
 ghost use Rattle.binfarce.specs.Symbol.{Answers};
 ghost use Rattle.binfarce.specs.SymbolViews.{HoldsSelected};
 ghost use Rattle.binfarce_tables.specs.MachoReading.{parts_view};
@@ -10,7 +11,7 @@ use std::alloc::Global;
 /// The function symbols with the numbers of their sections.
 pub fn macho_symbols(alloc: Global, parts: &Parts) -> Result<Vec<SectionFunction<'_>>, ParseError>
     ensures { let tables = parts_view parts.entry.now in
-        Answers HoldsSelected (λ _. NeedsMemory tables.sections tables.symbols) (symbols_of tables) result }
+        Answers HoldsSelected (λ _. tables.sections.sections ≢ []) (Ok (symbols_of tables)) result }
 {
     parts.functions(alloc)
 }

@@ -6,7 +6,7 @@ use crate::shim::Vec;
 use crate::erased::binfarce::symbols::{symbols_of_list, without_sections};
 use crate::erased::binfarce_bytes::ParseError;
 use crate::erased::binfarce_bytes::functions::{FunctionSymbol, SectionFunction, Selection};
-use crate::erased::binfarce_macho::functions::functions_of_file;
+use crate::erased::binfarce_macho::functions::{functions_of_file, text_functions};
 pub use crate::erased::binfarce_macho::header::MachoHeader;
 use crate::erased::binfarce_macho::header::parse_header;
 use crate::erased::binfarce_macho::sections;
@@ -116,9 +116,8 @@ impl<'a> Macho<'a> {
     ///
     /// Those of `symbols`.
     pub fn functions(&self, alloc: Global) -> Result<(Vec<FunctionSymbol<'a>>, u64), ParseError> {
-        let section = Selection::Section("__text");
-        let (functions, size) = self.selected_functions(alloc, section)?;
-        Ok((without_sections(alloc, &functions)?, size.unwrap_or(0)))
+        let (functions, size) = text_functions(alloc, self.data, self.header)?;
+        Ok((without_sections(alloc, &functions)?, size))
     }
 
     /// The function symbols of all sections that hold instructions, each with its section's number: by section, and in
@@ -141,12 +140,16 @@ impl<'a> Macho<'a> {
         Ok(functions)
     }
 
-    /// The function symbols of `functions` with their section's number, and the text's size in bytes; or those of
-    /// `all_functions`, without a size.
+    /// The function symbols of `all_functions`; by a name, whichever it is, those of the code section alone, with its
+    /// size in bytes.
+    ///
+    /// The code section is the first of the first 255 sections that is named `__TEXT,__text`. Unlike `functions`, which
+    /// answers as the original crate does, an object's functions at address 0 are among them, and no size reaches past
+    /// the section's end.
     ///
     /// # Errors
     ///
-    /// Those of these calls; `OutOfMemory` as they say.
+    /// Those of `all_functions`, and after those of its sections `SymbolsSectionIsMissing`; `OutOfMemory` as it says.
     pub fn selected_functions(
         &self,
         alloc: Global,

@@ -7,7 +7,7 @@ use crate::erased::binfarce::symbols::{symbols_of_list, without_sections};
 use crate::erased::binfarce_bytes::ParseError;
 use crate::erased::binfarce_bytes::functions::{FunctionSymbol, SectionFunction, Selection};
 use crate::erased::binfarce_names::demangle::SymbolData;
-use crate::erased::binfarce_pe::functions::functions_of_file;
+use crate::erased::binfarce_pe::functions::{functions_of_file, text_functions};
 pub use crate::erased::binfarce_pe::header::PeHeader;
 use crate::erased::binfarce_pe::header::parse_header;
 use crate::erased::binfarce_pe::parts::{TableOffsets, places_after};
@@ -104,9 +104,8 @@ impl<'a> Pe<'a> {
     /// In this order: those of `find_section`; `SymbolsSectionIsMissing`; `UnexpectedEof` where the symbol table, even
     /// an empty one, doesn't begin in the file, or ends past it. `OutOfMemory` only instead of a list that isn't empty.
     pub fn functions(&self, alloc: Global) -> Result<(Vec<FunctionSymbol<'a>>, u64), ParseError> {
-        let section = Selection::Section(".text");
-        let (functions, size) = self.selected_functions(alloc, section)?;
-        Ok((without_sections(alloc, &functions)?, size.unwrap_or(0)))
+        let (functions, size) = text_functions(alloc, self.data, self.places())?;
+        Ok((without_sections(alloc, &functions)?, size))
     }
 
     /// The function symbols of `functions` with readable names, and the size of `.text` in bytes in the file.
@@ -140,12 +139,16 @@ impl<'a> Pe<'a> {
         Ok(functions)
     }
 
-    /// The function symbols of `functions` with their section's number, and the size of `.text` in bytes in the file;
-    /// or those of `all_functions`, without a size.
+    /// The function symbols of `all_functions`; by a name, whichever it is, those of the code section alone, the first
+    /// `.text`, with its size in bytes in memory (`VirtualSize`, or where that is 0 `SizeOfRawData`).
+    ///
+    /// Unlike `functions`, which answers as the original crate does, it takes static functions too, and addresses are
+    /// virtual addresses.
     ///
     /// # Errors
     ///
-    /// Those of these calls; `OutOfMemory` only instead of a list that isn't empty.
+    /// Those of `all_functions`, and after those of the section table `SymbolsSectionIsMissing`; `OutOfMemory` only
+    /// instead of a list that isn't empty.
     pub fn selected_functions(
         &self,
         alloc: Global,

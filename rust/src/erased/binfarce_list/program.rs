@@ -6,7 +6,7 @@ use crate::shim::String;
 use crate::erased::binfarce_bytes::source::Source;
 use crate::erased::binfarce_tools::list::{ListError, Out, list, list_tables};
 use crate::erased::binfarce_tools::program::{
-    Failure, file_and_section, is_read_at_offsets, read_whole, tables_at,
+    Contents, Failure, contents_at, file_and_section, is_read_at_offsets, read_whole,
 };
 use crate::shim::alloc::Global;
 use crate::shim::io::{Read, Write};
@@ -72,7 +72,7 @@ pub fn run<R: Read, W: Write>(
     list(alloc, &bytes, section, out).map_err(Fault::List)
 }
 
-/// As `run`, but of a file that can be read at offsets only the headers, the symbol table and the names are read.
+/// As `run`, but of an ELF file that can be read at offsets only the headers, the symbol table and the names are read.
 pub fn run_file<F: Read + Source<Log = ()>, W: Write>(
     alloc: Global,
     file: &mut F,
@@ -82,8 +82,10 @@ pub fn run_file<F: Read + Source<Log = ()>, W: Write>(
     if !is_read_at_offsets(file) {
         return run(alloc, file, section, out);
     }
-    let tables = tables_at(alloc, file, section)?;
-    list_tables(alloc, &tables, out).map_err(Fault::List)
+    match contents_at(alloc, file, section)? {
+        Contents::Tables(tables) => list_tables(alloc, &tables, out).map_err(Fault::List),
+        Contents::Whole(bytes) => list(alloc, &bytes, section, out).map_err(Fault::List),
+    }
 }
 
 /// The program's exit status: 2 for wrong arguments, and 1 for any other fault.

@@ -1,14 +1,14 @@
 // From crates/binfarce_macho/src/functions.rt, by tools/erase.
 
-//! The function symbols of the selected sections.
+//! The function symbols of the selected sections, and those of the text by the rule of `functions` of a reader.
 
 use crate::shim::{Vec, to_usize};
 use crate::erased::binfarce_macho::header::MachoHeader;
 use crate::erased::binfarce_macho::numbered::{
-    MAX_SECT, NumberedSection, SelectedSections, selected_sections,
+    CodeSection, MAX_SECT, NumberedSection, SelectedSections, selected_sections,
 };
 use crate::erased::binfarce_macho::symbols::{
-    Extent, SYMBOL_LENGTH, SymbolBytes, SymbolRow, symbol_at, symbol_table, symbols_by,
+    Extent, SYMBOL_LENGTH, SymbolBytes, SymbolRow, symbol_at, symbol_table, symbols_by, text_extent,
 };
 use crate::erased::binfarce_bytes::ParseError;
 use crate::erased::binfarce_bytes::functions::{FunctionSymbol, SectionFunction, Selection};
@@ -38,9 +38,9 @@ struct Kept<'a> {
     names: Vec<&'a str>,
 }
 
-/// The function symbols of a selection of a file with this header, and the text's size in bytes, `None` for all
-/// sections: the answer of `functions` of a reader, with its refusals. `OutOfMemory` only where the text's table has an
-/// address, or where of all sections there is one.
+/// The function symbols of a selection of a file with this header, and the size in bytes of the code section, `None` for
+/// all sections: the answer of `selected_functions` of a reader, with its refusals. `OutOfMemory` only where the file has
+/// a section.
 pub fn functions_of_file<'a>(
     alloc: Global,
     file: &'a [u8],
@@ -51,24 +51,37 @@ pub fn functions_of_file<'a>(
     let table = symbol_table(file, header)?;
     let symbols = symbols_by(file, table)?;
     let functions = functions_of(alloc, &sections, symbols)?;
-    Ok((functions, sections.size(symbols.is_some())))
+    Ok((functions, sections.size()))
 }
 
 /// The function symbols of the selected sections: by section, and in each by address and at equal addresses in table
-/// order. `MalformedInput` where the text's end exceeds 64 bits, or a row that would be kept lies past that end with no
-/// address above it. `OutOfMemory` only where the text's table has an address, or where of all sections there is one.
+/// order. Only a failed allocation is an error, and it comes only where there is a section.
 pub fn functions_of<'a>(
     alloc: Global,
-    sections: &SelectedSections,
+    selected: &SelectedSections,
     symbols: Option<SymbolBytes<'a>>,
 ) -> Result<Vec<SectionFunction<'a>>, ParseError> {
-    let symbols = match symbols {
-        None => return Ok(Vec::new(alloc)),
-        Some(symbols) => symbols,
-    };
-    match sections {
-        SelectedSections::Text(text) => functions_of_text(alloc, *text, symbols),
-        SelectedSections::All(sections) => functions_of_all(alloc, sections, symbols),
+    match symbols {
+        None => Ok(Vec::new(alloc)),
+        Some(symbols) => functions_in(alloc, &selected.sections, selected.code, symbols),
+    }
+}
+
+/// The function symbols of the text of a file with this header, and the text's size in bytes: those of `functions` of a
+/// reader, with its refusals; each has section number 1. `OutOfMemory` only where the symbol table has an address.
+pub fn text_functions<'a>(
+    alloc: Global,
+    file: &'a [u8],
+    header: MachoHeader,
+) -> Result<(Vec<SectionFunction<'a>>, u64), ParseError> {
+    let text = text_extent(file, header)?;
+    let table = symbol_table(file, header)?;
+    match symbols_by(file, table)? {
+        None => Ok((Vec::new(alloc), 0)),
+        Some(symbols) => {
+            let functions = functions_of_text(alloc, text, symbols)?;
+            Ok((functions, text.size))
+        }
     }
 }
 
@@ -198,10 +211,11 @@ fn sized_entry(address: u64, size: Option<u64>, name: Option<&str>) -> Option<Fu
     })
 }
 
-// The function symbols of all sections, of which the first is number 1. Only a failed allocation is an error.
-fn functions_of_all<'a>(
+// The function symbols of selected sections in a symbol table. Only a failed allocation is an error.
+fn functions_in<'a>(
     alloc: Global,
     sections: &[NumberedSection],
+    code: Option<CodeSection>,
     symbols: SymbolBytes<'a>,
 ) -> Result<Vec<SectionFunction<'a>>, ParseError> {
     let mut functions = Vec::new(alloc);
@@ -212,13 +226,24 @@ fn functions_of_all<'a>(
     let mut kept_rows = kept.rows;
     for index in 0..MAX_SECT {
         let at = usize::from(index);
-        if at < sections.len() {
+        if is_taken(sections, code, at) {
             let rows = mem::replace(&mut kept_rows[at], Vec::new(alloc));
             let extent = sections[at].extent;
             push_section(alloc, &mut functions, extent, index + 1, rows, &kept.names)?;
         }
     }
     Ok(functions)
+}
+
+// Whether there is a section of this index, and it is selected: each is, or the code section alone.
+fn is_taken(sections: &[NumberedSection], code: Option<CodeSection>, index: usize) -> bool {
+    if index >= sections.len() {
+        return false;
+    }
+    match code {
+        None => true,
+        Some(code) => index == code.index,
+    }
 }
 
 // The rows that are kept of each section, found in one walk over the symbol table.

@@ -1,12 +1,12 @@
 // From crates/binfarce_macho/src/numbered.rt, by tools/erase.
 
-//! The sections of a file by their numbers, and those that a selection takes.
+//! The sections of a file by their numbers, and which of them a selection takes.
 
 use crate::shim::{String, Vec, to_usize};
 use crate::erased::binfarce_macho::commands::{LC_SEGMENT_64, commands};
 use crate::erased::binfarce_macho::header::MachoHeader;
 use crate::erased::binfarce_macho::sections::{SECTION_LENGTH, Section, flags_at, section_at};
-use crate::erased::binfarce_macho::symbols::{Extent, text_extent};
+use crate::erased::binfarce_macho::symbols::Extent;
 use crate::erased::binfarce_bytes::functions::Selection;
 use crate::erased::binfarce_bytes::parser::number_at;
 use crate::erased::binfarce_bytes::{ByteOrder, ParseError};
@@ -26,30 +26,32 @@ pub struct NumberedSection {
     pub name: Option<String>,
 }
 
-/// The selected sections of a file.
-pub enum SelectedSections {
-    /// The text.
-    Text(Extent),
-    /// All, in the order of their numbers.
-    All(Vec<NumberedSection>),
+/// The code section of a file, the first `__TEXT,__text`: its index among the sections, and its size in bytes.
+#[derive(Clone, Copy)]
+pub(crate) struct CodeSection {
+    pub(crate) index: usize,
+    pub(crate) size: u64,
+}
+
+/// The sections of a file, in the order of their numbers, of which all are selected or the code section alone.
+pub struct SelectedSections {
+    pub(crate) sections: Vec<NumberedSection>,
+    pub(crate) code: Option<CodeSection>,
 }
 
 impl SelectedSections {
-    /// The text's size in bytes, and 0 in a file without a symbol table; `None` for all sections.
-    pub fn size(&self, has_symbols: bool) -> Option<u64> {
-        match self {
-            SelectedSections::Text(text) => Some(if has_symbols { text.size } else { 0 }),
-            SelectedSections::All(_) => None,
+    /// The size in bytes of the code section, where it alone is selected.
+    pub fn size(&self) -> Option<u64> {
+        match self.code {
+            None => None,
+            Some(code) => Some(code.size),
         }
     }
 
     /// The name of the section of this number, `SEGMENT,SECTION`; nothing is copied. `None` where there is no such
-    /// section, where one of its two names isn't valid, and for the text alone.
+    /// section, and where one of its two names isn't valid.
     pub fn name(&self, number: u32) -> Option<&str> {
-        match self {
-            SelectedSections::Text(_) => None,
-            SelectedSections::All(sections) => name_of(sections, number),
-        }
+        name_of(&self.sections, number)
     }
 }
 
@@ -61,18 +63,51 @@ fn name_of(sections: &[NumberedSection], number: u32) -> Option<&str> {
     }
 }
 
-/// The selected sections of a file with this header. A text is refused where it is missing or empty, and sections are
-/// as `find_section` of a reader is with a callback that accepts none. `OutOfMemory` comes only where all are selected
-/// and there is one.
+/// The sections of a file with this header, of which this selection takes all, or by whatever name the code section.
+/// Refused as `find_section` of a reader is with a callback that accepts none, and then with `SymbolsSectionIsMissing`
+/// where the code section is selected and missing. `OutOfMemory` comes only where the file has a section.
 pub fn selected_sections(
     alloc: Global,
     file: &[u8],
     header: MachoHeader,
     selection: Selection<'_>,
 ) -> Result<SelectedSections, ParseError> {
+    let sections = numbered_sections(alloc, file, header)?;
+    let code = code_of(&sections, selection)?;
+    Ok(SelectedSections { sections, code })
+}
+
+// The code section, where it is selected; refused where it is missing.
+fn code_of(
+    sections: &[NumberedSection],
+    selection: Selection<'_>,
+) -> Result<Option<CodeSection>, ParseError> {
     match selection {
-        Selection::Section(_) => Ok(SelectedSections::Text(text_extent(file, header)?)),
-        Selection::All => Ok(SelectedSections::All(numbered_sections(alloc, file, header)?)),
+        Selection::All => Ok(None),
+        Selection::Section(_) => {
+            let code = code_among(sections).ok_or(ParseError::SymbolsSectionIsMissing)?;
+            Ok(Some(code))
+        }
+    }
+}
+
+fn code_among(sections: &[NumberedSection]) -> Option<CodeSection> {
+    for index in 0..sections.len() {
+        let section = &sections[index];
+        if is_code(section) {
+            return Some(CodeSection {
+                index,
+                size: section.extent.size,
+            });
+        }
+    }
+    None
+}
+
+fn is_code(section: &NumberedSection) -> bool {
+    match &section.name {
+        None => false,
+        Some(name) => name.as_str() == "__TEXT,__text",
     }
 }
 

@@ -1,12 +1,15 @@
 // From crates/binfarce_pe/src/functions.rt, by tools/erase.
 
-//! The function symbols of selected sections: of the text, or of all sections at their addresses in memory.
+//! The function symbols of selected sections at their addresses in memory, and those of the text by the rule of
+//! `functions` of a reader.
 
 use crate::shim::{Vec, to_usize};
 use crate::erased::binfarce_pe::header::image_base;
 use crate::erased::binfarce_pe::names::{full_name, string_table};
 use crate::erased::binfarce_pe::parts::{SECTION_LENGTH, TableOffsets, Text, text_in};
-use crate::erased::binfarce_pe::sections::{Table, section_at, section_table};
+use crate::erased::binfarce_pe::sections::{
+    Section, Table, section_at, section_named, section_table,
+};
 use crate::erased::binfarce_pe::symbols::{
     CoffTable, SYMBOL_LENGTH, SymbolRow, is_function, name_of, symbol_of, symbol_table,
 };
@@ -26,26 +29,28 @@ const IMAGE_SYM_CLASS_LABEL: u8 = 6;
 /// The sections of a file whose function symbols are listed.
 #[derive(Clone, Copy)]
 pub enum SelectedSections<'a> {
-    /// The text: external functions, at their offsets in it.
+    /// The text, by the rule of `functions` of a reader: external functions, at their offsets in it.
     Text(Text),
-    /// All sections of a file with this image base, with these headers: external and static functions, at their
-    /// addresses in memory.
-    All(Option<u64>, Table<'a>),
+    /// The sections of a file with this image base, with these headers: external and static functions, at their
+    /// addresses in memory. All are selected, or the code section alone, which has this index and size.
+    Memory(Option<u64>, Table<'a>, Option<Text>),
 }
 
 impl SelectedSections<'_> {
-    /// How many bytes the text has in the file; `None` for all sections.
+    /// The size in bytes of the section that is selected: of the text in the file, of the code section in memory. `None`
+    /// for all sections.
     pub fn section_size(self) -> Option<u64> {
         match self {
             SelectedSections::Text(text) => Some(u64::from(text.size)),
-            SelectedSections::All(_, _) => None,
+            SelectedSections::Memory(_, _, None) => None,
+            SelectedSections::Memory(_, _, Some(code)) => Some(u64::from(code.size)),
         }
     }
 }
 
 /// The function symbols of a selection in a file whose tables are at these places, and the size of the selected
-/// section: the answer of `functions` of a reader, with its refusals. `OutOfMemory` only instead of a list that isn't
-/// empty.
+/// section: the answer of `selected_functions` of a reader, with its refusals. `OutOfMemory` only instead of a list that
+/// isn't empty.
 pub fn functions_of_file<'a>(
     alloc: Global,
     file: &'a [u8],
@@ -58,27 +63,30 @@ pub fn functions_of_file<'a>(
     Ok((functions, sections.section_size()))
 }
 
-// What a selection chooses of a file, or the first refusal.
+/// The function symbols of the text of a file whose tables are at these places, and the text's size in bytes in the
+/// file: those of `functions` of a reader, with its refusals. `OutOfMemory` only instead of a list that isn't empty.
+pub fn text_functions<'a>(
+    alloc: Global,
+    file: &'a [u8],
+    places: TableOffsets,
+) -> Result<(Vec<SectionFunction<'a>>, u64), ParseError> {
+    let text = text_in(section_table(file, places))?;
+    let symbols = symbol_table(file, places)?;
+    let functions = functions_of(alloc, SelectedSections::Text(text), symbols)?;
+    Ok((functions, u64::from(text.size)))
+}
+
+// The sections of a file, none of whose headers is truncated, of which this selection takes all or the code section.
 fn selected_sections<'a>(
     file: &'a [u8],
     places: TableOffsets,
     selection: Selection<'_>,
 ) -> Result<SelectedSections<'a>, ParseError> {
-    match selection {
-        Selection::Section(_) => Ok(SelectedSections::Text(text_in(section_table(file, places))?)),
-        Selection::All => all_sections(file, places),
-    }
-}
-
-// All sections of a file, none of whose headers is truncated.
-fn all_sections<'a>(
-    file: &'a [u8],
-    places: TableOffsets,
-) -> Result<SelectedSections<'a>, ParseError> {
     let optional_header = to_index(places.optional_header);
     let header = slice_at(file, optional_header, places.optional_header_size)?;
     let headers = whole_sections(section_table(file, places))?;
-    Ok(SelectedSections::All(image_base(header), headers))
+    let code = code_of(headers, selection)?;
+    Ok(SelectedSections::Memory(image_base(header), headers, code))
 }
 
 // The section headers, of which none is truncated.
@@ -88,6 +96,32 @@ fn whole_sections(sections: Table<'_>) -> Result<Table<'_>, ParseError> {
         Ok(sections)
     } else {
         Err(ParseError::UnexpectedEof)
+    }
+}
+
+/// The index and the size in bytes of the code section among section headers of which none is truncated, if the
+/// selection is of one section. `SymbolsSectionIsMissing` where it is missing.
+pub fn code_of(sections: Table<'_>, selection: Selection<'_>) -> Result<Option<Text>, ParseError> {
+    match selection {
+        Selection::All => Ok(None),
+        Selection::Section(_) => match code_section(sections) {
+            None => Err(ParseError::SymbolsSectionIsMissing),
+            Some(code) => {
+                let size = memory_size(sections, u32::from(code.index));
+                Ok(Some(Text {
+                    index: code.index,
+                    size,
+                }))
+            }
+        },
+    }
+}
+
+// The first section `.text`.
+fn code_section(sections: Table<'_>) -> Option<Section<'_>> {
+    match section_named(sections, ".text") {
+        Ok(found) => found,
+        Err(_) => None,
     }
 }
 
@@ -129,7 +163,8 @@ pub fn functions_of<'a>(
 fn span_of(sections: SelectedSections<'_>) -> (u32, u32) {
     match sections {
         SelectedSections::Text(text) => (u32::from(text.index), 1),
-        SelectedSections::All(_, headers) => (0, u32::from(headers.count)),
+        SelectedSections::Memory(_, headers, None) => (0, u32::from(headers.count)),
+        SelectedSections::Memory(_, _, Some(code)) => (u32::from(code.index), 1),
     }
 }
 
@@ -137,7 +172,7 @@ fn span_of(sections: SelectedSections<'_>) -> (u32, u32) {
 fn accepts(sections: SelectedSections<'_>, row: SymbolRow) -> bool {
     let is_kept = match sections {
         SelectedSections::Text(_) => row.storage_class == IMAGE_SYM_CLASS_EXTERNAL,
-        SelectedSections::All(_, _) => is_external_or_static(row),
+        SelectedSections::Memory(_, _, _) => is_external_or_static(row),
     };
     is_function(row) && is_kept
 }
@@ -151,7 +186,7 @@ fn ends_sizes(
 ) -> bool {
     match sections {
         SelectedSections::Text(_) => false,
-        SelectedSections::All(_, _) => {
+        SelectedSections::Memory(_, _, _) => {
             is_external_or_static(row) || is_routine(symbols, number, row)
         }
     }
@@ -249,7 +284,7 @@ fn function_name<'a>(
 fn bound_of(sections: SelectedSections<'_>, index: u32) -> u32 {
     match sections {
         SelectedSections::Text(text) => text.size,
-        SelectedSections::All(_, headers) => memory_size(headers, index),
+        SelectedSections::Memory(_, headers, _) => memory_size(headers, index),
     }
 }
 
@@ -268,9 +303,9 @@ fn memory_size(sections: Table<'_>, index: u32) -> u32 {
 fn address_of(sections: SelectedSections<'_>, index: u32, value: u64) -> u64 {
     match sections {
         SelectedSections::Text(_) => value,
-        SelectedSections::All(base, headers) => memory_address(base, headers, index).wrapping_add(
-            value,
-        ),
+        SelectedSections::Memory(base, headers, _) => memory_address(
+            base, headers, index,
+        ).wrapping_add(value),
     }
 }
 
@@ -407,7 +442,7 @@ fn push_rows<'a>(
 fn size_at(sections: SelectedSections<'_>, address: u64, above: Option<u64>, bound: u64) -> u64 {
     match sections {
         SelectedSections::Text(_) => size_up_to(address, above, bound),
-        SelectedSections::All(_, _) => size_within(address, above, bound),
+        SelectedSections::Memory(_, _, _) => size_within(address, above, bound),
     }
 }
 

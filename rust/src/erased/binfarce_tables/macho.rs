@@ -34,25 +34,23 @@ struct SymbolParts {
 }
 
 impl Parts {
-    /// The function symbols that a reader of the whole file gives for the selection, in its order. Nothing is read:
-    /// names are slices of the parts.
+    /// The function symbols that `selected_functions` of a reader of the whole file gives for the selection, in its
+    /// order. Nothing is read: names are slices of the parts.
     ///
     /// # Errors
     ///
-    /// `MalformedInput` where the text's end exceeds 64 bits, or a row that would be kept lies past it with no address
-    /// above it. `OutOfMemory` only where the text's table has a value that isn't 0, or where all sections are selected
-    /// and there is one; it may replace the second of these errors.
+    /// `OutOfMemory`, only where the file has a section.
     pub fn functions(&self, alloc: Global) -> Result<Vec<SectionFunction<'_>>, ParseError> {
         functions_of(alloc, &self.sections, symbols_in(&self.symbols))
     }
 
-    /// The text's size in bytes, 0 in a file without a symbol table; `None` where all sections are selected.
+    /// The size in bytes of the code section; `None` where all sections are selected.
     pub fn section_size(&self) -> Option<u64> {
-        self.sections.size(self.symbols.is_some())
+        self.sections.size()
     }
 
     /// The name of the section of this number, `SEGMENT,SECTION`; nothing is copied. `None` where there is no such
-    /// section, where one of its two names isn't valid, and where the text alone is selected.
+    /// section, and where one of its two names isn't valid.
     pub fn section_name(&self, number: u32) -> Option<&str> {
         self.sections.name(number)
     }
@@ -77,8 +75,7 @@ fn bytes_of(symbols: &SymbolParts) -> SymbolBytes<'_> {
 ///
 /// # Errors
 ///
-/// `Refused` with the error of `parse`, or of a reader of the whole file for the selection, if it comes before they
-/// look at the text's end and the symbol table's rows; `Unreadable` where the source can't be read at offsets, or a
+/// `Refused` with the error of `parse`, or of `selected_functions` of a reader of the whole file; `Unreadable` where the source can't be read at offsets, or a
 /// read of it fails, and never for a source that can't fail, such as bytes in memory; `OutOfMemory` where an allocation
 /// fails.
 pub fn read<S: Source>(

@@ -10,12 +10,11 @@ use crate::erased::binfarce_bytes::functions::{SectionFunction, Selection};
 use crate::erased::binfarce_bytes::parser::{number_at, to_index};
 use crate::erased::binfarce_bytes::source::Source;
 use crate::erased::binfarce_bytes::{ByteOrder, ParseError};
-use crate::erased::binfarce_pe::functions::{SelectedSections, functions_of, section_name};
+use crate::erased::binfarce_pe::functions::{SelectedSections, code_of, functions_of, section_name};
 use crate::erased::binfarce_pe::header::image_base;
 use crate::erased::binfarce_pe::names::has_long_names;
 use crate::erased::binfarce_pe::parts::{
     HEADERS_LENGTH, SECTION_LENGTH, SIGNATURE_POINTER, TableOffsets, Text, places_in, signature_in,
-    text_in,
 };
 use crate::erased::binfarce_pe::sections::Table;
 use crate::erased::binfarce_pe::symbols::CoffTable;
@@ -36,15 +35,18 @@ pub struct Parts {
     records: Records,
 }
 
-// The selected sections: the text; or all, with the image base, and with their headers, of which none is truncated.
-enum Sections {
-    Text(Text),
-    All(Option<u64>, Vec<u8>, u16),
+// The sections, with the image base and their headers, of which none is truncated; the code section, where it alone is
+// selected.
+struct Sections {
+    base: Option<u64>,
+    headers: Vec<u8>,
+    count: u16,
+    code: Option<Text>,
 }
 
 impl Parts {
-    /// The function symbols of the selection: those that `functions` of a reader of the whole file gives, in its order.
-    /// Nothing is read: names are slices of the parts.
+    /// The function symbols that `selected_functions` of a reader of the whole file gives for the selection, in its
+    /// order. Nothing is read: names are slices of the parts.
     ///
     /// # Errors
     ///
@@ -57,56 +59,51 @@ impl Parts {
         Ok(functions_of(alloc, self.sections.chosen(), symbols)?)
     }
 
-    /// How many bytes the section `.text` has in the file; `None` where all sections are selected.
+    /// The size in bytes of the code section in memory; `None` where all sections are selected.
     pub fn section_size(&self) -> Option<u64> {
         self.sections.chosen().section_size()
     }
 
     /// The name of the section of this number, which is one more than its index; one of more than 8 bytes is taken from
     /// the string table, where it is there. It is a slice of the parts; nothing is copied. `None` where there is no such
-    /// section, where its stored name isn't UTF-8, and where not all sections are selected.
+    /// section, and where its stored name isn't UTF-8.
     pub fn section_name(&self, number: u32) -> Option<&str> {
-        match self.sections.chosen() {
-            SelectedSections::Text(_) => None,
-            SelectedSections::All(_, headers) => {
-                section_name(headers, &self.records.strings, number)
-            }
-        }
+        section_name(self.sections.headers(), &self.records.strings, number)
     }
 
     /// Whether the selected sections share addresses: all sections of a file without an image base, as an object file.
     pub fn shares_addresses(&self) -> bool {
-        match self.sections.chosen() {
-            SelectedSections::Text(_) => false,
-            SelectedSections::All(base, _) => base.is_none(),
-        }
+        self.sections.base.is_none() && self.sections.code.is_none()
     }
 }
 
 impl Sections {
     fn chosen(&self) -> SelectedSections<'_> {
-        match self {
-            Sections::Text(text) => SelectedSections::Text(*text),
-            Sections::All(base, headers, count) => SelectedSections::All(
-                *base,
-                Table {
-                    bytes: headers,
-                    offset: 0,
-                    count: *count,
-                },
-            ),
-        }
+        SelectedSections::Memory(self.base, self.headers(), self.code)
+    }
+
+    fn headers(&self) -> Table<'_> {
+        table_of(&self.headers, self.count)
+    }
+}
+
+// So many section headers alone.
+fn table_of(headers: &[u8], count: u16) -> Table<'_> {
+    Table {
+        bytes: headers,
+        offset: 0,
+        count,
     }
 }
 
 /// Reads the parts of a file that a selection's function symbols need: the offset of the signature, the signature and
-/// the file header, which are 24 bytes, the section headers, the symbol table, and the strings, which are all that
-/// follows it; for all sections up to 32 bytes of the optional header. Each is read once, into memory of its size,
-/// which is never more than the file has of it. No other byte is read. The signature isn't checked.
+/// the file header, which are 24 bytes, up to 32 bytes of the optional header, the section headers, the symbol table,
+/// and the strings, which are all that follows it. Each is read once, into memory of its size, which is never more than
+/// the file has of it. No other byte is read. The signature isn't checked.
 ///
 /// # Errors
 ///
-/// `Refused` with the error of `parse` or `functions` of a reader of the whole file; `Unreadable` where the source
+/// `Refused` with the error of `parse` or `selected_functions` of a reader of the whole file; `Unreadable` where the source
 /// can't be read at offsets, or a read of it fails, and never for a source that can't fail, such as bytes in memory;
 /// `OutOfMemory` where an allocation fails.
 pub fn read<S: Source>(
@@ -129,24 +126,17 @@ fn read_selected<S: Source>(
     places: TableOffsets,
     selection: Selection<'_>,
 ) -> Result<Sections, ReadError> {
-    match selection {
-        Selection::Section(_) => {
-            let text = read_text(opened, log, places)?;
-            Ok(Sections::Text(text))
-        }
-        Selection::All => read_all_sections(opened, log, places),
-    }
-}
-
-fn read_all_sections<S: Source>(
-    opened: &Opened<'_, S>,
-    log: &mut S::Log,
-    places: TableOffsets,
-) -> Result<Sections, ReadError> {
+    let count = places.section_count;
     let headers = read_headers(opened, log, places)?;
+    let code = code_of(table_of(&headers, count), selection)?;
     let size = places.optional_header_size as u64;
     let header = opened.part(log, places.optional_header, size)?;
-    Ok(Sections::All(image_base(&header), headers, places.section_count))
+    Ok(Sections {
+        base: image_base(&header),
+        headers,
+        count,
+        code,
+    })
 }
 
 /// The parts of a file that have its sections, and their names.
@@ -308,29 +298,6 @@ fn read_places<S: Source>(
 fn read_signature<S: Source>(opened: &Opened<'_, S>, log: &mut S::Log) -> Result<u32, ReadError> {
     let pointer = opened.within(log, SIGNATURE_POINTER as u64, 4)?;
     Ok(signature_in(&pointer)?)
-}
-
-// The text, found in the bytes of the section headers.
-fn read_text<S: Source>(
-    opened: &Opened<'_, S>,
-    log: &mut S::Log,
-    places: TableOffsets,
-) -> Result<Text, ReadError> {
-    let offset = places.sections;
-    if offset >= opened.len {
-        return Err(ReadError::Refused(ParseError::UnexpectedEof));
-    }
-    if places.section_count == 0 {
-        return Err(ReadError::Refused(ParseError::SymbolsSectionIsMissing));
-    }
-    let size = places.section_count as u64 * SECTION_LENGTH as u64;
-    let headers = opened.part(log, offset, size.min(opened.len - offset))?;
-    let table = Table {
-        bytes: &headers,
-        offset: 0,
-        count: places.section_count,
-    };
-    Ok(text_in(table)?)
 }
 
 // The section headers, of which none is truncated.

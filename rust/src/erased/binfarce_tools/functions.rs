@@ -13,6 +13,9 @@ use crate::erased::binfarce_elf::class::Class;
 use crate::erased::binfarce_elf::header::parse_header;
 use crate::erased::binfarce_elf::sections::section_table;
 use crate::erased::binfarce_elf_memory::selection;
+use crate::erased::binfarce_macho::{functions as macho_functions, header as macho_header};
+use crate::erased::binfarce_pe::parts::places_after;
+use crate::erased::binfarce_pe::{functions as pe_functions, header as pe_header};
 use crate::shim::alloc::Global;
 
 /// An iterator over the function symbols of a file, in the order of its listing.
@@ -135,6 +138,22 @@ pub(crate) fn section_functions<'a>(
     }
 }
 
+// The function symbols that the reader of the file's format gives for a section: of a Mach-O or PE file its
+// `functions`, those of the text.
+pub(crate) fn readers_functions<'a>(
+    alloc: Global,
+    file: &'a [u8],
+    section: &str,
+) -> Result<Selected<'a>, ListError> {
+    match detect_format(file) {
+        Format::Macho => Ok(text_of_macho(alloc, file)?),
+        Format::PE => Ok(text_of_pe(alloc, file)?),
+        Format::Elf32 { .. } | Format::Elf64 { .. } | Format::Unknown => {
+            section_functions(alloc, file, section)
+        }
+    }
+}
+
 // The function symbols of a section of an ELF file of this class.
 fn functions_of_elf<'a, C: Class>(
     file: &'a [u8],
@@ -156,7 +175,22 @@ pub(crate) fn of_elf(functions: selection::Functions<'_>) -> Selected<'_> {
     }
 }
 
-// The function symbols of a Mach-O file's text, which answers for every section.
+// The function symbols of a Mach-O file's text.
+fn text_of_macho(alloc: Global, file: &[u8]) -> Result<Selected<'_>, ParseError> {
+    let header = macho_header::parse_header(file)?;
+    let (functions, size) = macho_functions::text_functions(alloc, file, header)?;
+    Ok(listed(functions, Some(size)))
+}
+
+// The function symbols of a PE file's text.
+fn text_of_pe(alloc: Global, file: &[u8]) -> Result<Selected<'_>, ParseError> {
+    let (pe_pointer, header) = pe_header::parse_header(file)?;
+    let places = places_after(pe_pointer, header);
+    let (functions, size) = pe_functions::text_functions(alloc, file, places)?;
+    Ok(listed(functions, Some(size)))
+}
+
+// The function symbols of a Mach-O file's code section, which answers for every section.
 fn functions_of_macho<'a>(
     alloc: Global,
     file: &'a [u8],
@@ -167,7 +201,7 @@ fn functions_of_macho<'a>(
     Ok(listed(functions, size))
 }
 
-// The function symbols of a PE file's `.text`, which answers for every section.
+// The function symbols of a PE file's code section, which answers for every section.
 fn functions_of_pe<'a>(
     alloc: Global,
     file: &'a [u8],

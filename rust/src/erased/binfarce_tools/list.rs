@@ -3,7 +3,7 @@
 //! Lists the function symbols of an executable, a line each.
 
 use crate::shim::String;
-use crate::erased::binfarce_tools::functions::Selected;
+use crate::erased::binfarce_tools::functions::{Selected, readers_functions};
 use crate::erased::binfarce_tools::tables::Tables;
 use crate::erased::binfarce_tools::writing::write_whole;
 use crate::erased::binfarce::{ParseError, SectionFunction};
@@ -123,10 +123,14 @@ pub fn list<S: Sink>(
     section: &str,
     out: &mut S,
 ) -> Result<(), ListError> {
-    list_tables(alloc, &Tables::whole(file, section), out)
+    let selected = readers_functions(alloc, file, section)?;
+    let text = listing(alloc, &Tables::whole(file, section), selected)?;
+    write_whole(out, text.as_bytes())
 }
 
-/// As `list`, from the tables of a file: for the selection that they were read for. Of all sections a line is
+/// Lists the function symbols of a file's tables, for the selection that they were read for, as `list` does those of an
+/// ELF file's section. Of a Mach-O or PE file a section is the code section, and its function symbols are those that
+/// `selected_functions` of a reader gives. Of all sections a line is
 /// `{address:016x} {size:>10} {section} {trimmed}`, with the section's name, or its number in brackets where it has
 /// none; and there is no last line.
 ///

@@ -3,10 +3,11 @@
 //! Code that the programs share: for arguments, for the file that they read, and for their exit.
 
 use crate::shim::{CollectIn, HostRuntime, String, Vec};
-use crate::erased::binfarce_tools::tables::{Selection, Tables, read};
-use crate::erased::binfarce::{ParseError, SymbolTable};
+use crate::erased::binfarce_tools::tables::{Selection, Tables, read_tables};
+use crate::erased::binfarce::{Format, ParseError, SymbolTable};
 use crate::erased::binfarce_bytes::source::Source;
-use crate::erased::binfarce_tables::ReadError;
+use crate::erased::binfarce_tables::format::read_format;
+use crate::erased::binfarce_tables::{ReadError, part};
 use crate::shim::alloc::Global;
 use crate::shim::fs::File;
 use crate::shim::io::{self, ErrorKind, Read};
@@ -76,8 +77,8 @@ fn read_failure(e: io::Error) -> Failure {
     }
 }
 
-// The failure for an error of reading a file's tables.
-fn tables_failure(e: ReadError) -> Failure {
+// The failure for an error of reading a file at offsets.
+fn read_failure_at(e: ReadError) -> Failure {
     match e {
         ReadError::Refused(e) => Failure::Refused(e),
         ReadError::Unreadable => Failure::File,
@@ -94,20 +95,44 @@ pub fn read_whole<R: Read>(alloc: Global, file: &mut R) -> Result<Vec<u8>, Failu
     Ok(bytes)
 }
 
-/// The tables of a source for the function symbols of a section. Only the headers, the symbol table and the names are
-/// read, at offsets.
+/// What a program reads of a file: the tables of an ELF file for a section, and all bytes of any other file.
+pub enum Contents {
+    Tables(Tables<'static>),
+    Whole(Vec<u8>),
+}
+
+/// What a program reads of a source, at offsets, for the function symbols of a section. Of an ELF file only the headers,
+/// the symbol table and the names are read.
 ///
-/// `File` where it can't be read; `Refused` with the error of its format's reader; `OutOfMemory` where an allocation
-/// fails.
-pub fn tables_at<S: Source<Log = ()>>(
+/// `File` where it can't be read; `Refused` with the error of the ELF reader; `OutOfMemory` where an allocation fails.
+pub fn contents_at<S: Source<Log = ()>>(
     alloc: Global,
     source: &S,
     section: &str,
-) -> Result<Tables<'static>, Failure> {
-    let selection = Selection::Section(section);
-    match read(alloc, source, &mut (), SymbolTable::Symtab, selection) {
-        Ok(tables) => Ok(tables),
-        Err(e) => Err(tables_failure(e)),
+) -> Result<Contents, Failure> {
+    match read_contents(alloc, source, section) {
+        Ok(contents) => Ok(contents),
+        Err(e) => Err(read_failure_at(e)),
+    }
+}
+
+fn read_contents<S: Source<Log = ()>>(
+    alloc: Global,
+    source: &S,
+    section: &str,
+) -> Result<Contents, ReadError> {
+    let format = read_format(alloc, source, &mut ())?;
+    match format {
+        Format::Elf32 { .. } | Format::Elf64 { .. } => {
+            let selection = Selection::Section(section);
+            let which = SymbolTable::Symtab;
+            let tables = read_tables(alloc, source, &mut (), format, which, selection)?;
+            Ok(Contents::Tables(tables))
+        }
+        _ => {
+            let length = source.length()?;
+            Ok(Contents::Whole(part(alloc, source, &mut (), 0, length)?))
+        }
     }
 }
 

@@ -3,7 +3,7 @@
 //! Reports how much of an executable's code each crate takes.
 
 use crate::shim::String;
-use crate::erased::binfarce_tools::functions::Functions;
+use crate::erased::binfarce_tools::functions::{Functions, readers_functions};
 use crate::erased::binfarce_tools::list::{ListError, Sink, push_last_line};
 use crate::erased::binfarce_tools::tables::Tables;
 use crate::erased::binfarce_tools::writing::write_whole;
@@ -83,7 +83,9 @@ pub fn report<S: Sink>(
     section: &str,
     out: &mut S,
 ) -> Result<(), ReportError> {
-    report_tables(alloc, &Tables::whole(file, section), out)
+    let (functions, size) = readers_functions(alloc, file, section)?.into_list();
+    let sums = crate_sums(alloc, functions)?;
+    write_made(out, report_text(alloc, &sums, size))
 }
 
 /// As `report`, from the tables of a file: for the selection that they were read for. Of all sections there is no last

@@ -45,7 +45,7 @@ impl<'a> Tables<'a> {
     }
 
     /// The tables, unless their function symbols are refused: then `functions` fails only where an allocation does.
-    /// Those of a file read at offsets may be refused where its format is unknown, and for a Mach-O file's rows.
+    /// Those of a file read at offsets are refused where its format is unknown.
     ///
     /// # Errors
     ///
@@ -60,8 +60,8 @@ impl<'a> Tables<'a> {
     // Whether the function symbols may be refused: those that were read or made of an answer aren't.
     fn may_be_refused(&self) -> bool {
         match self {
-            Tables::Elf(_) | Tables::Pe(_) | Tables::Made { .. } => false,
-            Tables::Macho(_) | Tables::Unknown | Tables::Whole { .. } => true,
+            Tables::Unknown | Tables::Whole { .. } => true,
+            _ => false,
         }
     }
 
@@ -71,7 +71,7 @@ impl<'a> Tables<'a> {
     ///
     /// # Errors
     ///
-    /// As `functions_of_file`: for all sections, `Parse` where a Mach-O file's rows are refused.
+    /// Those of `functions_of_file`; `Parse` only of a whole file.
     pub fn functions(&self, alloc: Global) -> Result<Selected<'_>, ListError> {
         match self {
             Tables::Elf(parts) => Ok(of_elf(parts.functions())),
@@ -88,7 +88,7 @@ impl<'a> Tables<'a> {
     }
 
     /// The name of the section of this number, a slice of the tables. `None` where there is no such section, where it
-    /// has no valid name, and where the tables are those of one section of a Mach-O or PE file, or of a whole file.
+    /// has no valid name, and where the tables are those of a whole file, or were made.
     pub fn section_name(&self, number: u32) -> Option<&str> {
         self.name_read(number)
     }

@@ -7,7 +7,9 @@ use Rattle.binfarce_tools.specs.Listing.{ListingFits}
 use Rattle.binfarce_tools.specs.ListWords as call
 use Rattle.binfarce_tools.specs.SectionAnswer.{IsListingOf, NeedsMemory, readers_answer}
 use Rattle.binfarce_tools.specs.SelectedTexts.{IsListingOfSelected}
+use Rattle.binfarce_tools.specs.Given.{AreContentsOf}
 use Rattle.binfarce_tools.specs.Writing.{EndsAs, Takes}
+use Rattle.binfarce_tools.specs.declared.program.Contents.TheVariants.{Tables}
 use Rattle.binfarce_tools.proofs.SectionAnswers.{ends, listing_is, takes}
 use Rattle.binfarce_list.specs.declared.program.Fault.{Fault}
 use Rattle.binfarce_list.specs.declared.program.Fault.TheVariants.{List as Listing}
@@ -20,14 +22,16 @@ same (Ok x) result is = sym (ap outcome_of is)
 same (Err e) (Ok x) is = absurd is
 same (Err e) (Err f) is = sym (ap (λ (f : Fault). outcome_of (Err f)) is)
 
-pub returns-clause-outcome : goal.returns-clause-outcome
-returns-clause-outcome g c = λ bytes known left.
+pub returns-in-Tables-clause-outcome : goal.returns-in-Tables-clause-outcome
+returns-in-Tables-clause-outcome g c = λ bytes known left.
     let section = c.args.section.now in
+    let are : AreContentsOf bytes section (Tables c.in-Tables.tables) = subst (AreContentsOf bytes section) c.in-Tables.is (c.in_ok-tables.ensures.gets bytes known) in
     inr (inr (subst (EndsAs ListingFits (NeedsMemory bytes) (readers_answer bytes section)) (same c.list_tables.result c.map_err.result c.map_err.ensures.cases)
-    (ends bytes section ListingFits (call.outcome_of c.list_tables.result) (c.list_tables.ensures.outcome Symtab bytes (Some section) (c.in_ok-tables.ensures.gets bytes known)))))
+    (ends bytes section are.0 ListingFits (call.outcome_of c.list_tables.result) (c.list_tables.ensures.outcome Symtab bytes (Some section) are.1))))
 
-pub returns-clause-takes : goal.returns-clause-takes
-returns-clause-takes g c = λ bytes known left.
+pub returns-in-Tables-clause-takes : goal.returns-in-Tables-clause-takes
+returns-in-Tables-clause-takes g c = λ bytes known left.
     let section = c.args.section.now in
+    let are : AreContentsOf bytes section (Tables c.in-Tables.tables) = subst (AreContentsOf bytes section) c.in-Tables.is (c.in_ok-tables.ensures.gets bytes known) in
     subst (Takes IsListingOf (readers_answer bytes section) _ _) (same c.list_tables.result c.map_err.result c.map_err.ensures.cases)
-    (takes bytes section IsListingOfSelected IsListingOf listing_is _ _ (call.outcome_of c.list_tables.result) (c.list_tables.ensures.takes Symtab bytes (Some section) (c.in_ok-tables.ensures.gets bytes known)))
+    (takes bytes section are.0 IsListingOfSelected IsListingOf listing_is _ _ (call.outcome_of c.list_tables.result) (c.list_tables.ensures.takes Symtab bytes (Some section) are.1))

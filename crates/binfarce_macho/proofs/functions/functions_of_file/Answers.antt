@@ -1,12 +1,13 @@
-use Rattle.std.proofs.Common.{◌∙◌, sym, ap}
+use Rattle.std.proofs.Common.{◌≢◌, []}
 use Rattle.std.specs.Option.{option_map}
 use Rattle.binfarce_bytes.specs.Refusal.{refusal_of}
 use Rattle.binfarce_bytes.specs.Selection.{section_of}
 use Rattle.binfarce_bytes.specs.SymbolViews.{HoldsSized}
 use Rattle.binfarce_macho.specs.MachoParts.{table_view}
-use Rattle.binfarce_macho.specs.MachoSelection.{NeedsMemory, FileNeedsMemory, selected_answer, size_of, sections_view, symbols_view}
+use Rattle.binfarce_macho.specs.MachoSections.{HasSection}
+use Rattle.binfarce_macho.specs.MachoSelection.{selected_answer, sections_view, symbols_view}
 use Rattle.binfarce_macho.proofs.MachoAnswers.{refusal_answers}
-use Rattle.binfarce_macho.proofs.Selected.{same_some, sections_unread, table_refused, symbols_refused, needs, functions_selected, error_selected}
+use Rattle.binfarce_macho.proofs.Selected.{some_numbered, sections_unread, table_refused, symbols_refused, functions_selected, error_selected}
 use Rattle.binfarce_macho.proofs.functions.functions_of_file.Goals as goal
 
 pub returns-in_err-sections : goal.returns-in_err-sections
@@ -17,7 +18,7 @@ returns-in_err-table c =
     let section = section_of c.args.selection in
     let file = c.args.file.now in
     let e = c.in_err-table.field-0.0 in
-    refusal_answers HoldsSized (λ _. FileNeedsMemory section file) (selected_answer section file) e c.from_residual-in_err-table.result
+    refusal_answers HoldsSized (λ _. HasSection file) (selected_answer section file) e c.from_residual-in_err-table.result
     (table_refused section file (sections_view c.in_ok-sections.sections) c.in_ok-sections.ensures (refusal_of e) c.in_err-table.ensures) c.from_residual-in_err-table.ensures.1
 
 pub returns-in_err-symbols : goal.returns-in_err-symbols
@@ -25,7 +26,7 @@ returns-in_err-symbols c =
     let section = section_of c.args.selection in
     let file = c.args.file.now in
     let e = c.in_err-symbols.field-0.0 in
-    refusal_answers HoldsSized (λ _. FileNeedsMemory section file) (selected_answer section file) e c.from_residual-in_err-symbols.result
+    refusal_answers HoldsSized (λ _. HasSection file) (selected_answer section file) e c.from_residual-in_err-symbols.result
     (symbols_refused section file (sections_view c.in_ok-sections.sections) c.in_ok-sections.ensures (option_map table_view c.in_ok-table.table) c.in_ok-table.ensures (refusal_of e) c.in_err-symbols.ensures) c.from_residual-in_err-symbols.ensures.1
 
 pub returns-in_err-functions : goal.returns-in_err-functions
@@ -33,17 +34,14 @@ returns-in_err-functions c =
     let section = section_of c.args.selection in
     let file = c.args.file.now in
     let sections = sections_view c.in_ok-sections.sections in
-    let table = option_map table_view c.in_ok-table.table in
-    let symbols = option_map symbols_view c.in_ok-symbols.symbols in
-    error_selected section file sections c.in_ok-sections.ensures table c.in_ok-table.ensures symbols c.in_ok-symbols.ensures (NeedsMemory sections symbols) (FileNeedsMemory section file) c.in_err-functions.field-0.0
-    c.from_residual-in_err-functions.result (needs section file sections c.in_ok-sections.ensures table c.in_ok-table.ensures symbols c.in_ok-symbols.ensures) c.in_err-functions.ensures c.from_residual-in_err-functions.ensures.1
+    error_selected section file sections c.in_ok-sections.ensures (option_map table_view c.in_ok-table.table) c.in_ok-table.ensures (option_map symbols_view c.in_ok-symbols.symbols) c.in_ok-symbols.ensures
+    (sections.sections ≢ []) (HasSection file) c.in_err-functions.field-0.0 c.from_residual-in_err-functions.result
+    (some_numbered section file sections c.in_ok-sections.ensures) c.in_err-functions.ensures c.from_residual-in_err-functions.ensures.1
 
 pub returns : goal.returns
 returns c =
     let section = section_of c.args.selection in
     let file = c.args.file.now in
     let sections = sections_view c.in_ok-sections.sections in
-    let table = option_map table_view c.in_ok-table.table in
-    let symbols = option_map symbols_view c.in_ok-symbols.symbols in
-    functions_selected section file sections c.in_ok-sections.ensures table c.in_ok-table.ensures symbols c.in_ok-symbols.ensures (NeedsMemory sections symbols) (FileNeedsMemory section file)
-    c.in_ok-functions.functions c.size.result (c.size.ensures ∙ ap (size_of sections) (c.is_some.ensures ∙ sym (same_some symbols_view c.in_ok-symbols.symbols))) c.in_ok-functions.ensures
+    functions_selected section file sections c.in_ok-sections.ensures (option_map table_view c.in_ok-table.table) c.in_ok-table.ensures (option_map symbols_view c.in_ok-symbols.symbols) c.in_ok-symbols.ensures
+    (sections.sections ≢ []) (HasSection file) c.in_ok-functions.functions c.size.result c.size.ensures c.in_ok-functions.ensures

@@ -46,40 +46,37 @@ returns-clause-answer g c = λ file known.
     (ap (λ (a : Result CoffTable Refusal). a >>= λ symbols. Ok (symbols_of chosen symbols)) (c.in_ok-records.ensures.answer file is_known))
 
 pub returns-in_err-opened-clause-only : goal.returns-in_err-opened-clause-only
-returns-in_err-opened-clause-only g c = λ file known. unmeasured _ (λ P. pointer_sure P file (section_of c.args.selection)) c.in_err-opened.ensures.unsure
+returns-in_err-opened-clause-only g c = λ file known. unmeasured _ (λ P. pointer_sure P file) c.in_err-opened.ensures.unsure
 
 pub returns-in_err-places-clause-only : goal.returns-in_err-places-clause-only
 returns-in_err-places-clause-only g c = λ file known.
     let is_known = c.in_ok-opened.ensures.known file known in
-    rw c.in_ok-opened.ensures.source at (passed_only _ (within (λ P. places_sure P file (section_of c.args.selection)) (c.in_err-places.ensures.only file is_known)) c.from_residual-in_err-places.ensures)
+    rw c.in_ok-opened.ensures.source at (passed_only _ (within (λ P. places_sure P file) (c.in_err-places.ensures.only file is_known)) c.from_residual-in_err-places.ensures)
 
 pub returns-in_err-sections-clause-only : goal.returns-in_err-sections-clause-only
 returns-in_err-sections-clause-only g c = λ file known.
     let is_known = c.in_ok-opened.ensures.known file known in
-    let section = section_of c.args.selection in
     let step = c.in_ok-places.ensures.answer file is_known in
-    rw c.in_ok-opened.ensures.source at (passed_only _ (next (within (λ P. places_sure P file section) (c.in_ok-places.ensures.only file is_known))
-    (within (λ P all. selected_sure P file section all (places_view c.in_ok-places.places) step) (c.in_err-sections.ensures.only file is_known step))) c.from_residual-in_err-sections.ensures)
+    rw c.in_ok-opened.ensures.source at (passed_only _ (next (within (λ P. places_sure P file) (c.in_ok-places.ensures.only file is_known))
+    (within (λ P all. selected_sure P file all (places_view c.in_ok-places.places) step) (c.in_err-sections.ensures.only file is_known step))) c.from_residual-in_err-sections.ensures)
 
 pub returns-in_err-records-clause-only : goal.returns-in_err-records-clause-only
 returns-in_err-records-clause-only g c = λ file known.
     let is_known = c.in_ok-opened.ensures.known file known in
-    let section = section_of c.args.selection in
     let places = places_view c.in_ok-places.places in
     let step = c.in_ok-places.ensures.answer file is_known in
-    rw c.in_ok-opened.ensures.source at (passed_only _ (next (within (λ P. places_sure P file section) (c.in_ok-places.ensures.only file is_known))
-    (next (within (λ P all. selected_sure P file section all places step) (c.in_ok-sections.ensures.only file is_known step))
-    (within (λ P all. table_sure P file section all places step) (c.in_err-records.ensures.only file is_known)))) c.from_residual-in_err-records.ensures)
+    rw c.in_ok-opened.ensures.source at (passed_only _ (next (within (λ P. places_sure P file) (c.in_ok-places.ensures.only file is_known))
+    (next (within (λ P all. selected_sure P file all places step) (c.in_ok-sections.ensures.only file is_known step))
+    (within (λ P all. table_sure P file all places step) (c.in_err-records.ensures.only file is_known)))) c.from_residual-in_err-records.ensures)
 
 pub returns-clause-only : goal.returns-clause-only
 returns-clause-only g c = λ file known.
     let is_known = c.in_ok-opened.ensures.known file known in
-    let section = section_of c.args.selection in
     let places = places_view c.in_ok-places.places in
     let step = c.in_ok-places.ensures.answer file is_known in
-    rw c.in_ok-opened.ensures.source at (next (within (λ P. places_sure P file section) (c.in_ok-places.ensures.only file is_known))
-    (next (within (λ P all. selected_sure P file section all places step) (c.in_ok-sections.ensures.only file is_known step))
-    (within (λ P all. table_sure P file section all places step) (c.in_ok-records.ensures.only file is_known))))
+    rw c.in_ok-opened.ensures.source at (next (within (λ P. places_sure P file) (c.in_ok-places.ensures.only file is_known))
+    (next (within (λ P all. selected_sure P file all places step) (c.in_ok-sections.ensures.only file is_known step))
+    (within (λ P all. table_sure P file all places step) (c.in_ok-records.ensures.only file is_known))))
 
 pub returns-in_err-places-clause-answer : goal.returns-in_err-places-clause-answer
 returns-in_err-places-clause-answer g c = λ file known.

@@ -8,8 +8,8 @@ use Rattle.binfarce.specs.PeSelection as pe
 use Rattle.binfarce.specs.SectionEntries.{as_listed}
 use Rattle.binfarce.specs.declared.SymbolTable.TheVariants.{Symtab}
 use Rattle.binfarce_tools.specs.Answer.{selected_symbols, NeedsMemory}
-use Rattle.binfarce_tools.proofs.Reported.{Reported, reported_elf, reported_list, reported_macho, reported_pe}
-use Rattle.binfarce_tools.proofs.Selected.{elf_listed, macho_listed, pe_listed}
+use Rattle.binfarce_tools.proofs.Reported.{Reported, reported_elf, reported_list, reported_macho_selected, reported_pe_selected}
+use Rattle.binfarce_tools.proofs.Selected.{elf_listed}
 use Rattle.binfarce_tools.proofs.Listings.{refused}
 use Rattle.binfarce_tools.proofs.functions.section_functions.Goals as goal
 
@@ -40,7 +40,7 @@ returns-in_err-functions_of_macho-in-Macho c =
     let section = c.args.section.now in
     let answer = macho.selected_file_answer (Some section) file in
     refused Macho (format_of file) file section answer c.in_err-functions_of_macho-in-Macho.field-0.0 c.from_residual-in_err-functions_of_macho-in-Macho.result c.in-Macho.ensures refl
-    (reported_list answer as_listed (subst Reported (macho_listed file section) (reported_macho file))) c.in_err-functions_of_macho-in-Macho.ensures c.from_residual-in_err-functions_of_macho-in-Macho.ensures.1
+    (reported_macho_selected (Some section) file) c.in_err-functions_of_macho-in-Macho.ensures c.from_residual-in_err-functions_of_macho-in-Macho.ensures.1
 
 pub returns-in_err-functions_of_pe-in-PE : goal.returns-in_err-functions_of_pe-in-PE
 unfolding selected_symbols NeedsMemory
@@ -49,4 +49,4 @@ returns-in_err-functions_of_pe-in-PE c =
     let section = c.args.section.now in
     let answer = pe.selected_file_answer (Some section) file in
     refused PE (format_of file) file section answer c.in_err-functions_of_pe-in-PE.field-0.0 c.from_residual-in_err-functions_of_pe-in-PE.result c.in-PE.ensures refl
-    (reported_list answer as_listed (subst Reported (pe_listed file section) (reported_pe file))) c.in_err-functions_of_pe-in-PE.ensures c.from_residual-in_err-functions_of_pe-in-PE.ensures.1
+    (reported_pe_selected (Some section) file) c.in_err-functions_of_pe-in-PE.ensures c.from_residual-in_err-functions_of_pe-in-PE.ensures.1

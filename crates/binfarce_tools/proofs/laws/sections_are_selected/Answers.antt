@@ -1,5 +1,5 @@
 use Rattle.binfarce.specs.Elf.{elf32, elf64}
-use Rattle.binfarce_tools.proofs.Selected.{elf_listed, section_listed, macho_listed, pe_listed, sized_in}
+use Rattle.binfarce_tools.proofs.Selected.{elf_listed, section_listed, sized_in}
 use Rattle.binfarce_tools.proofs.laws.sections_are_selected.Goals as goal
 
 pub returns : goal.returns
@@ -11,7 +11,5 @@ returns c =
       of_elf64 = elf_listed elf64 c.args.byte_order file section;
       of_either_32 = λ which. section_listed which elf32 c.args.byte_order file section;
       of_either_64 = λ which. section_listed which elf64 c.args.byte_order file section;
-      of_macho = macho_listed file section;
-      of_pe = pe_listed file section;
       sized = λ which. sized_in which file;
     }

@@ -1,20 +1,20 @@
-use Rattle.std.proofs.Common.{Some}
-use Rattle.binfarce.specs.declared.SymbolTable.TheVariants.{Symtab}
-use Rattle.binfarce_tools.specs.Listing.{ListingFits}
-use Rattle.binfarce_tools.specs.ListWords.{outcome_of}
-use Rattle.binfarce_tools.specs.SectionAnswer.{IsListingOf}
+use Rattle.std.proofs.Common.{sym, subst}
+use Rattle.binfarce_tools.specs.Entries.{HoldsText}
+use Rattle.binfarce_tools.specs.SectionAnswer.{IsListingOf, NeedsMemory, readers_answer}
 use Rattle.binfarce_tools.specs.SelectedTexts.{IsListingOfSelected}
-use Rattle.binfarce_tools.proofs.SectionAnswers.{ends, listing_is, takes}
+use Rattle.binfarce_tools.specs.Tables.{given_by}
+use Rattle.binfarce_tools.proofs.Lines.{takes, takes_nothing}
+use Rattle.binfarce_tools.proofs.SectionAnswers.{listing_of}
 use Rattle.binfarce_tools.proofs.list.list.Goals as goal
 
-pub returns-clause-outcome : goal.returns-clause-outcome
-returns-clause-outcome g c =
-    let file = c.args.file.now in
-    let section = c.args.section.now in
-    ends file section ListingFits (outcome_of c.list_tables.result) (c.list_tables.ensures.outcome Symtab file (Some section) c.whole.ensures)
+pub returns-in_err-text-clause-takes : goal.returns-in_err-text-clause-takes
+returns-in_err-text-clause-takes g c =
+    takes_nothing IsListingOf (readers_answer c.args.file.now c.args.section.now) _ c.from_residual-in_err-text.result c.from_residual-in_err-text.ensures.1
 
 pub returns-clause-takes : goal.returns-clause-takes
 returns-clause-takes g c =
     let file = c.args.file.now in
-    let section = c.args.section.now in
-    takes file section IsListingOfSelected IsListingOf listing_is _ _ (outcome_of c.list_tables.result) (c.list_tables.ensures.takes Symtab file (Some section) c.whole.ensures)
+    let selected = c.in_ok-selected.selected in
+    takes IsListingOf HoldsText (NeedsMemory file) (readers_answer file c.args.section.now) selected c.as_bytes.result.now _ _ c.write_whole.result c.in_ok-selected.ensures
+    (λ listed answer held. listing_of c.whole.result selected listed c.as_bytes.result.now held
+    (subst (IsListingOfSelected (given_by c.whole.result selected)) (sym c.as_bytes.ensures.value) c.in_ok-text.ensures)) c.write_whole.ensures.takes

@@ -1,4 +1,4 @@
-use Rattle.std.proofs.Common.{◌≡◌, ℕ, Bool, List, Option, Some, Result, Err, refl, sym, ap, subst, ◌∙◌}
+use Rattle.std.proofs.Common.{◌≡◌, ℕ, Bool, List, Some, Result, Ok, Err, refl, sym, ap, subst, ◌∙◌}
 use Rattle.binfarce_bytes.specs.Selection.{section_of}
 use Rattle.binfarce.specs.declared.Format.{Format}
 use Rattle.binfarce.specs.MachoSelection as macho_file
@@ -20,9 +20,9 @@ use Rattle.binfarce_bytes.specs.Source.{ReadsOnly}
 use Rattle.binfarce_tools.proofs.tables.read_tables.Goals as goal
 
 -- a reading of the parts of a file of the format that it has
-in_format : {sure : Part → Bool} {old new : (Part → Bool) → Bool} {R : Type 0} {format is : Format} (which : SymbolTable) (section : Option (List ℕ)) (file : List ℕ)
-    → format ≡ is → ReadsOnly sure old new (format_parts which section is file) R → ReadsOnly sure old new (format_parts which section format file) R
-in_format {sure = sure} {old = old} {new = new} {R = R} which section file same reads = subst (λ (f : Format). ReadsOnly sure old new (format_parts which section f file) R) (sym same) reads
+in_format : {sure : Part → Bool} {old new : (Part → Bool) → Bool} {R : Type 0} {format is : Format} (which : SymbolTable) (file : List ℕ)
+    → format ≡ is → ReadsOnly sure old new (format_parts which is file) R → ReadsOnly sure old new (format_parts which format file) R
+in_format {sure = sure} {old = old} {new = new} {R = R} which file same reads = subst (λ (f : Format). ReadsOnly sure old new (format_parts which f file) R) (sym same) reads
 
 pub returns-in_ok-parts-in-Elf32-clause-answer : goal.returns-in_ok-parts-in-Elf32-clause-answer
 unfolding AreTablesOf selected_symbols
@@ -53,14 +53,14 @@ unfolding AreTablesOf selected_symbols
 returns-in_ok-parts-in-Macho-clause-answer g c = λ file known is_format.
     let section = section_of c.args.selection in
     let answered = of_format c.args.which section file _ (sym is_format ∙ c.in-Macho.is) ∙ with_table c.args.which (macho_file.selected_file_answer section file) c.in_ok-has_table-in-Macho.ensures in
-    (sym is_format ∙ c.in-Macho.is, answered ∙ ap (λ (r : Result macho_file.SelectedTables Refusal). Some (r >>= macho_file.symbols_of)) (c.in_ok-parts-in-Macho.ensures.answer file known), c.in_ok-parts-in-Macho.ensures.answer file known)
+    (sym is_format ∙ c.in-Macho.is, answered ∙ ap (λ (r : Result macho_file.SelectedTables Refusal). Some (r >>= λ tables. Ok (macho_file.symbols_of tables))) (c.in_ok-parts-in-Macho.ensures.answer file known), c.in_ok-parts-in-Macho.ensures.answer file known)
 
 pub returns-in_err-parts-in-Macho-clause-answer : goal.returns-in_err-parts-in-Macho-clause-answer
 unfolding selected_symbols
 returns-in_err-parts-in-Macho-clause-answer g c = λ file known is_format.
     let section = section_of c.args.selection in
     unread (g.S.Source.may_fail c.args.source.now) c.args.which section file (λ (s : SelectedSymbols). s) _ _ _
-    (of_format c.args.which section file _ (sym is_format ∙ c.in-Macho.is) ∙ with_table c.args.which (macho_file.selected_file_answer section file) c.in_ok-has_table-in-Macho.ensures) (of_answer (g.S.Source.may_fail c.args.source.now) macho.parts_view (macho_file.selected_file_tables section file) macho_file.symbols_of c.in_err-parts-in-Macho.field-0.0 (c.in_err-parts-in-Macho.ensures.answer file known)) c.from_residual-in_err-parts-in-Macho.ensures
+    (of_format c.args.which section file _ (sym is_format ∙ c.in-Macho.is) ∙ with_table c.args.which (macho_file.selected_file_answer section file) c.in_ok-has_table-in-Macho.ensures) (of_answer (g.S.Source.may_fail c.args.source.now) macho.parts_view (macho_file.selected_file_tables section file) (λ tables. Ok (macho_file.symbols_of tables)) c.in_err-parts-in-Macho.field-0.0 (c.in_err-parts-in-Macho.ensures.answer file known)) c.from_residual-in_err-parts-in-Macho.ensures
 
 pub returns-in_err-has_table-in-Macho-clause-answer : goal.returns-in_err-has_table-in-Macho-clause-answer
 unfolding selected_symbols
@@ -98,35 +98,35 @@ returns-in-Unknown-clause-answer g c = λ file known is_format. sym is_format �
 
 pub returns-in_err-parts-in-Elf32-clause-only : goal.returns-in_err-parts-in-Elf32-clause-only
 unfolding format_parts
-returns-in_err-parts-in-Elf32-clause-only g c = λ file known. passed_only _ (in_format c.args.which (section_of c.args.selection) file c.in-Elf32.is (c.in_err-parts-in-Elf32.ensures.only file known)) c.from_residual.ensures
+returns-in_err-parts-in-Elf32-clause-only g c = λ file known. passed_only _ (in_format c.args.which file c.in-Elf32.is (c.in_err-parts-in-Elf32.ensures.only file known)) c.from_residual.ensures
 
 pub returns-in_ok-parts-in-Elf32-clause-only : goal.returns-in_ok-parts-in-Elf32-clause-only
 unfolding format_parts
-returns-in_ok-parts-in-Elf32-clause-only g c = λ file known. in_format c.args.which (section_of c.args.selection) file c.in-Elf32.is (c.in_ok-parts-in-Elf32.ensures.only file known)
+returns-in_ok-parts-in-Elf32-clause-only g c = λ file known. in_format c.args.which file c.in-Elf32.is (c.in_ok-parts-in-Elf32.ensures.only file known)
 
 pub returns-in_err-parts-in-Elf64-clause-only : goal.returns-in_err-parts-in-Elf64-clause-only
 unfolding format_parts
-returns-in_err-parts-in-Elf64-clause-only g c = λ file known. passed_only _ (in_format c.args.which (section_of c.args.selection) file c.in-Elf64.is (c.in_err-parts-in-Elf64.ensures.only file known)) c.from_residual-in_err-parts-in-Elf64.ensures
+returns-in_err-parts-in-Elf64-clause-only g c = λ file known. passed_only _ (in_format c.args.which file c.in-Elf64.is (c.in_err-parts-in-Elf64.ensures.only file known)) c.from_residual-in_err-parts-in-Elf64.ensures
 
 pub returns-in_ok-parts-in-Elf64-clause-only : goal.returns-in_ok-parts-in-Elf64-clause-only
 unfolding format_parts
-returns-in_ok-parts-in-Elf64-clause-only g c = λ file known. in_format c.args.which (section_of c.args.selection) file c.in-Elf64.is (c.in_ok-parts-in-Elf64.ensures.only file known)
+returns-in_ok-parts-in-Elf64-clause-only g c = λ file known. in_format c.args.which file c.in-Elf64.is (c.in_ok-parts-in-Elf64.ensures.only file known)
 
 pub returns-in_err-parts-in-Macho-clause-only : goal.returns-in_err-parts-in-Macho-clause-only
 unfolding format_parts
-returns-in_err-parts-in-Macho-clause-only g c = λ file known. passed_only _ (in_format c.args.which (section_of c.args.selection) file c.in-Macho.is (c.in_err-parts-in-Macho.ensures.only file known)) c.from_residual-in_err-parts-in-Macho.ensures
+returns-in_err-parts-in-Macho-clause-only g c = λ file known. passed_only _ (in_format c.args.which file c.in-Macho.is (c.in_err-parts-in-Macho.ensures.only file known)) c.from_residual-in_err-parts-in-Macho.ensures
 
 pub returns-in_ok-parts-in-Macho-clause-only : goal.returns-in_ok-parts-in-Macho-clause-only
 unfolding format_parts
-returns-in_ok-parts-in-Macho-clause-only g c = λ file known. in_format c.args.which (section_of c.args.selection) file c.in-Macho.is (c.in_ok-parts-in-Macho.ensures.only file known)
+returns-in_ok-parts-in-Macho-clause-only g c = λ file known. in_format c.args.which file c.in-Macho.is (c.in_ok-parts-in-Macho.ensures.only file known)
 
 pub returns-in_err-parts-in-PE-clause-only : goal.returns-in_err-parts-in-PE-clause-only
 unfolding format_parts
-returns-in_err-parts-in-PE-clause-only g c = λ file known. passed_only _ (in_format c.args.which (section_of c.args.selection) file c.in-PE.is (c.in_err-parts-in-PE.ensures.only file known)) c.from_residual-in_err-parts-in-PE.ensures
+returns-in_err-parts-in-PE-clause-only g c = λ file known. passed_only _ (in_format c.args.which file c.in-PE.is (c.in_err-parts-in-PE.ensures.only file known)) c.from_residual-in_err-parts-in-PE.ensures
 
 pub returns-in_ok-parts-in-PE-clause-only : goal.returns-in_ok-parts-in-PE-clause-only
 unfolding format_parts
-returns-in_ok-parts-in-PE-clause-only g c = λ file known. in_format c.args.which (section_of c.args.selection) file c.in-PE.is (c.in_ok-parts-in-PE.ensures.only file known)
+returns-in_ok-parts-in-PE-clause-only g c = λ file known. in_format c.args.which file c.in-PE.is (c.in_ok-parts-in-PE.ensures.only file known)
 
 pub returns-in_err-has_table-in-Macho-clause-only : goal.returns-in_err-has_table-in-Macho-clause-only
 returns-in_err-has_table-in-Macho-clause-only g c = λ file known. nothing (converted_surely c.in_err-has_table-in-Macho.field-0.0 c.from_residual-in_err-has_table-in-Macho.result c.from_residual-in_err-has_table-in-Macho.ensures)

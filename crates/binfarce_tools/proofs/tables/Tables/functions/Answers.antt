@@ -1,4 +1,4 @@
-use Rattle.std.proofs.Common.{Ok, map, ap, subst, ◌∙◌, sym}
+use Rattle.std.proofs.Common.{◌≢◌, [], Ok, map, ap, subst, ◌∙◌}
 use Rattle.binfarce.specs.MachoSelection as macho_file
 use Rattle.binfarce.specs.SectionEntries.{SelectsSome}
 use Rattle.binfarce.specs.SymbolViews.{section_function_view}
@@ -7,9 +7,7 @@ use Rattle.binfarce_tables.specs.MachoReading as macho
 use Rattle.binfarce_tables.specs.PeReading as pe
 use Rattle.binfarce_tools.specs.Tables.{AreTablesOf}
 use Rattle.binfarce_tools.specs.declared.tables.Tables.{Tables}
-use Rattle.binfarce_tools.proofs.Reported.{reported_symbols_of}
-use Rattle.binfarce_tools.proofs.Selected.{macho_made}
-use Rattle.binfarce_tools.proofs.TablesGive.{given, given_of, not_given, macho_memory, of_made, pe_memory, of_unknown, of_whole}
+use Rattle.binfarce_tools.proofs.TablesGive.{given, not_given, macho_memory, of_made, pe_memory, of_unknown, of_whole}
 use Rattle.binfarce_tools.proofs.tables.Tables.functions.Goals as goal
 
 pub returns-in-Unknown-clause-gets : goal.returns-in-Unknown-clause-gets
@@ -28,17 +26,16 @@ pub returns-in_ok-functions-in-Macho-clause-gets : goal.returns-in_ok-functions-
 unfolding AreTablesOf
 returns-in_ok-functions-in-Macho-clause-gets c = λ which file section are.
     let is = subst (λ (t : Tables). AreTablesOf which file section t) c.in-Macho.is are in
-    let t = macho.parts_view c.in-Macho.parts in
-    given_of which file section (λ _. macho_file.NeedsMemory t.sections t.symbols) (macho_file.symbols_of t) c.in_ok-functions-in-Macho.field-0 c.listed.result is.1 c.in_ok-functions-in-Macho.ensures
-    c.listed.ensures.functions (λ seen made. c.listed.ensures.size ∙ c.section_size.ensures ∙ sym (macho_made file t seen made).0)
+    given which file section (macho_file.symbols_of (macho.parts_view c.in-Macho.parts)) c.listed.result is.1
+    (c.listed.ensures.functions ∙ c.in_ok-functions-in-Macho.ensures, c.listed.ensures.size ∙ c.section_size.ensures)
 
 pub returns-in_err-functions-in-Macho-clause-gets : goal.returns-in_err-functions-in-Macho-clause-gets
 unfolding AreTablesOf
 returns-in_err-functions-in-Macho-clause-gets c = λ which file section are.
     let is = subst (λ (t : Tables). AreTablesOf which file section t) c.in-Macho.is are in
     let t = macho.parts_view c.in-Macho.parts in
-    not_given which file section (λ _. macho_file.NeedsMemory t.sections t.symbols) (macho_file.symbols_of t) c.in_err-functions-in-Macho.field-0.0 c.from_residual.result is.1
-    (macho_memory which file section t (macho_file.symbols_of t) is.0 is.2) (reported_symbols_of t) c.in_err-functions-in-Macho.ensures c.from_residual.ensures.1
+    not_given which file section (λ _. t.sections.sections ≢ []) (Ok (macho_file.symbols_of t)) c.in_err-functions-in-Macho.field-0.0 c.from_residual.result is.1
+    (macho_memory which file section t (Ok (macho_file.symbols_of t)) is.0 is.2) tt c.in_err-functions-in-Macho.ensures c.from_residual.ensures.1
 
 pub returns-in_ok-functions-in-Pe-clause-gets : goal.returns-in_ok-functions-in-Pe-clause-gets
 unfolding AreTablesOf

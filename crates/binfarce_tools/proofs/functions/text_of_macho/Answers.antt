@@ -1,0 +1,15 @@
+use Rattle.binfarce.specs.MachoSymbols.{HasAddress, macho_answer, macho_file_answer}
+use Rattle.binfarce_tools.proofs.FilesGive.{macho_text_is, text_given, text_not_given}
+use Rattle.binfarce_tools.proofs.functions.text_of_macho.Goals as goal
+
+pub returns-in_err-functions : goal.returns-in_err-functions
+returns-in_err-functions c =
+    let file = c.args.file.now in
+    text_not_given (λ _. HasAddress file) (macho_answer file) (macho_file_answer file) (macho_text_is file c.in_ok-header.ensures.0)
+    c.in_err-functions.field-0.0 c.from_residual-in_err-functions.result c.in_err-functions.ensures c.from_residual-in_err-functions.ensures.1
+
+pub returns : goal.returns
+returns c =
+    let file = c.args.file.now in
+    text_given (λ _. HasAddress file) (macho_answer file) (macho_file_answer file) (macho_text_is file c.in_ok-header.ensures.0)
+    c.in_ok-functions.functions c.in_ok-functions.size c.listed.result c.in_ok-functions.ensures (c.listed.ensures.functions, c.listed.ensures.size)

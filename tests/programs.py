@@ -749,7 +749,10 @@ for limit, status, share in (("3", 0, ""), ("2", 3, ""), ("9%", 0, ""), ("8%", 3
     ends(status, lines, line, "binfarce", "diff", "-n", "1", "--fail-above", limit, new, old)
 # Without function symbols there is no growth, which a line says; and a reader that closes the output leaves the verdict unknown.
 line = f"binfarce: {old}: no function symbols in the section; --all takes 6"
-ends(0, f"{0:10} {0:10} {'+0':>11} [total]\n", f"{line}\n{line}", "binfarce", "diff", "--fail-above=0", "--section=.data", old, old)
+# Where nothing is counted no limit is held.
+nothing = f"binfarce: {old}: nothing is counted, so --fail-above can't be held"
+ends(3, f"{0:10} {0:10} {'+0':>11} [total]\n", f"{line}\n{line}\n{nothing}", "binfarce", "diff", "--fail-above=0", "--section=.data", old, old)
+ends(3, printed(folder / "binfarce", "size", "--section=.data", old), f"{line}\n{nothing}", "binfarce", "size", "--fail-above=10", "--section=.data", old)
 for words in (("size", "--fail-above=1000", old), ("size", "--json", "--fail-above=0", old), ("diff", "--fail-above=0", old, new), ("diff", "--by=section", "--fail-above=0", old, new)):
     fails(full, 1, "binfarce: standard output: Broken pipe", "binfarce", *words)
 # A limit for the sums themselves: of two files, one is above it.

@@ -56,6 +56,7 @@ hint_words (hints.Stripped places) = codes "its debug symbols may be in " ++ str
 hint_words (hints.Missed count loaded) = codes "0 of " ++ (decimal count ++ (codes " addresses are in a function symbol; " ++ loaded_words loaded))
 hint_words (hints.Unknown bytes sum) = decimal bytes ++ (codes " of " ++ (decimal sum ++ codes " bytes have no crate, as those of C, C++ and assembly; --by=function shows whose they are"))
 hint_words (hints.Above sum most) = codes "has " ++ (decimal sum ++ (codes " bytes, and --fail-above allows " ++ decimal most))
+hint_words hints.Nothing = codes "nothing is counted, so --fail-above can't be held"
 hint_words (hints.Grown by limit) = codes "grew by " ++ (decimal by ++ (codes " bytes, and --fail-above allows " ++ limit_words limit))
 hint_words (hints.GrownBy by n limit) =
     codes "grew by " ++ (decimal by ++ (codes " bytes (" ++ (decimal (n / 100) ++ (codes "." ++ (decimal (n / 10 % 10) ++ (decimal (n % 10) ++ (codes "%), and --fail-above allows " ++ limit_words limit)))))))

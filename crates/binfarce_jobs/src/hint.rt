@@ -60,6 +60,8 @@ pub enum Hint {
     Unknown(u64, u64),
     /// It has so many bytes, more than so many that are allowed.
     Above(u64, usize),
+    /// Nothing is counted that a limit could be on.
+    Nothing,
     /// It grew by so many bytes, more than is allowed.
     Grown(u64, Limit),
     /// It grew by so many bytes, which are so many hundredths of a per cent, more than is allowed.
@@ -73,7 +75,7 @@ pub struct Hints {
     pub first: Option<Hint>,
     /// That many bytes have no crate; of a refused file where its debug symbols may be.
     pub second: Option<Hint>,
-    /// That a sum exceeds its limit.
+    /// That a sum exceeds its limit, or that there is none.
     pub excess: Option<Hint>,
 }
 
@@ -125,6 +127,7 @@ impl fmt::Display for Hint {
                 "{bytes} of {sum} bytes have no crate, as those of C, C++ and assembly; --by=function shows whose they are"
             ),
             Hint::Above(sum, most) => write!(f, "has {sum} bytes, and --fail-above allows {most}"),
+            Hint::Nothing => write!(f, "nothing is counted, so --fail-above can't be held"),
             Hint::Grown(by, limit) => write!(
                 f,
                 "grew by {by} bytes, and --fail-above allows {limit}"

@@ -49,18 +49,20 @@ impl Verdict {
     }
 }
 
-/// The hint on a sum that is more than this limit, if there is one; a limit in per cent is one on growth.
+/// The hint on a sum that is more than this limit, or 0, if there is one: where nothing is counted no limit is held. A
+/// limit in per cent is one on growth.
 pub fn above(sum: u64, limit: Option<Limit>) -> Option<Hint>
     ensures { result ≡ above sum limit }
 {
     match limit {
+        Some(Limit::Bytes(_)) if sum == 0 => Some(Hint::Nothing),
         Some(Limit::Bytes(most)) if sum > most as u64 => Some(Hint::Above(sum, most)),
         _ => None,
     }
 }
 
-/// The hint on a sum that grew by more than this limit, if there is one: where that is in per cent of an old sum, also by
-/// how many per cent it grew.
+/// The hint on a sum that grew by more than this limit, or is 0 now, if there is one: where the limit is in per cent of an
+/// old sum, also by how many per cent it grew.
 pub fn grown(growth: Growth, limit: Option<Limit>) -> Option<Hint>
     ensures { result ≡ grown growth limit }
 {
@@ -73,6 +75,7 @@ pub fn grown(growth: Growth, limit: Option<Limit>) -> Option<Hint>
             }
             _ => Some(Hint::Grown(by, limit)),
         },
+        Some(_) if growth.new == 0 => Some(Hint::Nothing),
         _ => None,
     }
 }

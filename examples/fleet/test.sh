@@ -36,12 +36,14 @@ refuses "$work/none.db" "$work/none" "a call that fails"
 # What an interruption leaves is no snapshot, and `--resume` does the rest alone.
 printf '#!/bin/sh\nfor last; do :; done\necho "$last" >>"%s/asked"\ncase $last in */app) [ -e "%s/free" ] || { echo $$ >"%s/pid/stub"; exec sleep 600; };; esac\nexec "%s" "$@"\n' \
     "$work" "$work" "$work" "$program" >"$work/stub/binfarce" && chmod +x "$work/stub/binfarce"
-# until_there FILE: waits for it, at most a minute.
-until_there() { for _ in $(seq 600); do [ ! -s "$1" ] || return 0; sleep 0.1; done; fail "nothing wrote $1: $(cat "$work"/*.log)"; }
+# until_there FILE: waits for it, at most five minutes, as other work may take the processors.
+until_there() { for _ in $(seq 3000); do [ ! -s "$1" ] || return 0; sleep 0.1; done; fail "nothing wrote $1: $(cat "$work"/*.log)"; }
 # until_lines FILE COUNT: waits until so many shares are done.
-until_lines() { for _ in $(seq 600); do [ "$(grep -c '^{"done":' "$1")" -lt "$2" ] || return 0; sleep 0.1; done; fail "$1 has fewer shares"; }
+until_lines() { for _ in $(seq 3000); do [ "$(grep -c '^{"done":' "$1" || true)" -lt "$2" ] || return 0; sleep 0.1; done; fail "$1 has fewer shares"; }
+: >"$work/part"
 PATH="$work/stub:$PATH" ./sizes --label=one 2 <"$work/list" >"$work/part" 2>/dev/null & client=$!
 until_lines "$work/part" 3
+until_there "$work/pid/stub"
 kill -9 "$client" && kill "$(cat "$work/pid/stub")" && rm "$work/pid/stub"
 wait "$client" 2>/dev/null || true
 refuses "$work/none.db" "$work/part" "a part"
@@ -98,7 +100,7 @@ until_there "$work/scheduler"
 address=$(sed -n 's/^ *"address": "\(.*\)",$/\1/p' "$work/scheduler")
 worker="$PYTHON -m dask worker $address --nthreads 1 --no-nanny --no-dashboard --local-directory $work"
 rows <"$work/two" >"$work/wanted"
-timeout 120 "$PYTHON" ./sizes --label=one "$address" <"$work/list" >"$work/lines" 2>"$work/client.log" & client=$!
+timeout 900 "$PYTHON" ./sizes --label=one "$address" <"$work/list" >"$work/lines" 2>"$work/client.log" & client=$!
 until_there "$work/client.log"
 grep -q 'waiting for workers' "$work/client.log" || fail "Dask: waiting isn't said"
 PATH="$work/stub:$PATH" starts first $worker
@@ -113,7 +115,7 @@ refuses "$work/none.db" "$work/lines" "Dask: a wrong call"
 # A scheduler that is killed leaves no snapshot.
 ends second
 PATH="$work/stub:$PATH" starts first $worker
-timeout 120 "$PYTHON" ./sizes --label=one "$address" <"$work/list" >"$work/part" 2>"$work/client.log" & client=$!
+timeout 900 "$PYTHON" ./sizes --label=one "$address" <"$work/list" >"$work/part" 2>"$work/client.log" & client=$!
 until_there "$work/pid/stub"
 ends scheduler
 ! wait "$client" || fail "Dask: a lost scheduler ends with 0"

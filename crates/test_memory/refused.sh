@@ -16,7 +16,7 @@ trap 'exit 130' INT TERM HUP
 # The groups, and more allocations than they make. What is called in the last four doesn't allocate, so of these the number is
 # that of the rows' files and one more.
 groups="listings 106 reports 139 symbols 80 names 116 kept 110 trimmed 72 crates 17 tuples 84 addresses 98 sections 131
-    readings 130 files 31 unfit_images 25 refusals 32 truncated 7 counts 22 without_allocation 1"
+    readings 154 files 31 unfit_images 25 refusals 32 truncated 7 counts 22 without_allocation 1"
 
 mkdir "$scratch/runs"
 echo $groups | xargs -n 2 | while read -r group most; do

@@ -198,7 +198,8 @@ fn holds(function: Function, address: u64) -> bool
 }
 
 fn of_elf(alloc: Global, file: &[u8], width: Width, byte_order: ByteOrder, section: &str) -> Found
-    ensures { Answers HoldsFound (ListsOr ⊥) (elf_file_answer (class_of width) byte_order file.now section.now) result }
+    ensures { Answers HoldsFound (ListsOr ⊥) (elf_file_answer (class_of width)
+        byte_order file.now section.now) result }
 {
     let (functions, size) = stored_in_elf(file, width, byte_order, section)?;
     Ok((all_of(alloc, functions)?, size))

@@ -113,7 +113,8 @@ fn write_changes<F: Read + Source<Log = ()> + Drop, Y: System<F>, W: Write>(
 ) -> Result<bool, Fault>
     ensures reports { Y.reports system.new ≡ Y.reports system.old }
     ensures writes { (may_fail : List ℕ → Bool) (old new : List ℕ) (first second : Fate SelectedSymbols)
-        → Carries (HasSummed F.bytes asked.now.symbols old) before.now first → Carries (HasSummed F.bytes asked.now.symbols new) after.now second
+        → Carries (HasSummed F.bytes asked.now.symbols old) before.now first
+        → Carries (HasSummed F.bytes asked.now.symbols new) after.now second
         → Writes (by_sizes asked.now pair.now may_fail old new) first second
         (state_of W.contents out.old (Y.reports system.old) (Y.hints system.old))
         (state_of W.contents out.new (Y.reports system.new) (Y.hints system.new)) result }
@@ -234,9 +235,11 @@ fn section_sums<'b, F: Read + Source<Log = ()> + Drop, Y: System<F>>(
     path: &str,
     read: &'b Option<ReadFile<F, SectionTables>>,
 ) -> Result<Option<SectionSums<'b>>, Fault>
-    ensures reports { ReportsSummed path.now (is_some read.entry.now) (Y.reports system.old) (Y.reports system.new) result }
+    ensures reports { ReportsSummed path.now (is_some read.entry.now) (Y.reports system.old)
+        (Y.reports system.new) result }
     ensures sums { (file : List ℕ) (may_fail : Bool)
-        → StepsOn (HasRead F.bytes AreTablesOf file) read.entry.now (λ given. (sums : FileSums) × HasSums file sums given)
+        → StepsOn (HasRead F.bytes AreTablesOf file) read.entry.now
+        (λ given. (sums : FileSums) × HasSums file sums given)
         (MayBeRefused HasNoSections may_fail file) path.now file
         (messages (Y.reports system.old) (Y.hints system.old)) (messages (Y.reports system.new) (Y.hints system.new)) result }
     ensures bytes { Y.bytes_at system.new ≡ Y.bytes_at system.old }
@@ -288,9 +291,11 @@ fn sums_of<'b, F: Read + Source<Log = ()> + Drop, Y: System<F>>(
     path: &str,
     read: &'b Option<ReadFile<F, Tables<'static>>>,
 ) -> Result<Option<Summed<'b, F>>, Fault>
-    ensures reports { ReportsSummed path.now (is_some read.entry.now) (Y.reports system.old) (Y.reports system.new) result }
+    ensures reports { ReportsSummed path.now (is_some read.entry.now) (Y.reports system.old)
+        (Y.reports system.new) result }
     ensures sums { (symbols : Taken) (file : List ℕ) (may_fail : Bool)
-        → StepsOn (HasRead F.bytes (AreTablesFor symbols) file) read.entry.now (λ given. (selected : SelectedSymbols) × HasSummed F.bytes symbols file selected given)
+        → StepsOn (HasRead F.bytes (AreTablesFor symbols) file) read.entry.now
+        (λ given. (selected : SelectedSymbols) × HasSummed F.bytes symbols file selected given)
         (MayBeRefused (HasNoSum symbols) may_fail file) path.now file
         (messages (Y.reports system.old) (Y.hints system.old)) (messages (Y.reports system.new) (Y.hints system.new)) result }
     ensures bytes { Y.bytes_at system.new ≡ Y.bytes_at system.old }

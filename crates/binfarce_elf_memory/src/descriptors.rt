@@ -327,7 +327,8 @@ fn section_holding(table: Table<'_>, width: Width, ends: &[u128], address: u64) 
 
 // The index of this section, where it begins at or before an address; else 0.
 fn if_begun(table: Table<'_>, width: Width, address: u64, index: Half) -> Half
-    ensures { result ≡ if_begun address index (slice_get (walk (class_of width) (table_view table.entry)).items index) }
+    ensures { result ≡ if_begun address index
+        (slice_get (walk (class_of width) (table_view table.entry)).items index) }
 {
     match section_numbered(table, width, index) {
         None => 0,

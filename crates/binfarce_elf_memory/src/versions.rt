@@ -84,7 +84,8 @@ pub fn name_offsets(
 // Sets the offset of a definition's name at its index, unless an earlier one is there. An index of 16 bits has none.
 fn define(offsets: &mut BTreeMap<Half, Word>, definition: Definition) -> Result<(), AllocError>
     ensures { IfOk result (λ _. (index : ℕ) → index < 32768 → get nat_cmp offsets.new index
-        ≡ option_or (get nat_cmp offsets.old index) (if nat_eq definition.index index then Some definition.name else None)) }
+        ≡ option_or (get nat_cmp offsets.old index)
+        (if nat_eq definition.index index then Some definition.name else None)) }
 {
     if definition.index >= INDICES || offsets.get(&definition.index).is_some() {
         return Ok(());

@@ -95,7 +95,8 @@ impl<'b, 'a> Claims<'b, 'a> {
     /// How many bytes the function symbols have, each byte counted once.
     pub fn total(&self) -> u64
         ensures sum { result ≡ sum_of_sizes self.now.entries }
-        ensures file { (which : SymbolTable) (file : List ℕ) (section : Option (List ℕ)) (selected : SelectedSymbols)
+        ensures file { (which : SymbolTable) (file : List ℕ) (section : Option (List ℕ))
+            (selected : SelectedSymbols)
             → AreClaimsIn which file section self.now
             → selected_answer which section file ≡ Some (Ok selected) → IsSumOf selected result }
     {
@@ -105,7 +106,8 @@ impl<'b, 'a> Claims<'b, 'a> {
     /// How many function symbols there are, with those that add no bytes.
     pub fn len(&self) -> usize
         ensures entries { result ≡ length self.now.entries }
-        ensures file { (which : SymbolTable) (file : List ℕ) (section : Option (List ℕ)) (selected : SelectedSymbols)
+        ensures file { (which : SymbolTable) (file : List ℕ) (section : Option (List ℕ))
+            (selected : SelectedSymbols)
             → AreClaimsIn which file section self.now
             → selected_answer which section file ≡ Some (Ok selected) → result ≡ length selected.entries }
     {
@@ -115,7 +117,8 @@ impl<'b, 'a> Claims<'b, 'a> {
     /// Whether there are no function symbols.
     pub fn is_empty(&self) -> bool
         ensures entries { result ≡ nat_eq (length self.now.entries) 0 }
-        ensures file { (which : SymbolTable) (file : List ℕ) (section : Option (List ℕ)) (selected : SelectedSymbols)
+        ensures file { (which : SymbolTable) (file : List ℕ) (section : Option (List ℕ))
+            (selected : SelectedSymbols)
             → AreClaimsIn which file section self.now
             → selected_answer which section file ≡ Some (Ok selected) → result ≡ nat_eq (length selected.entries) 0 }
     {

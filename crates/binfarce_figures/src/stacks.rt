@@ -121,7 +121,8 @@ pub(crate) fn push_stack(
 
 // Appends the crate and the parts of a name, unless the first of these is the crate. `root` is overwritten.
 fn push_below(text: &mut String, root: &mut String, parts: &str) -> Result<(), AllocError>
-    ensures { OnOk result (string_bytes text.new ≡ string_bytes text.old ++ stack_of (string_bytes root.old) parts.now) }
+    ensures { OnOk result (string_bytes text.new
+        ≡ string_bytes text.old ++ stack_of (string_bytes root.old) parts.now) }
 {
     let is_crate = parts == root.as_str();
     root.push_str(";")?;

@@ -264,7 +264,8 @@ pub fn refuse<F: Read + Source<Log = ()>, Y: System<F>>(
     input: &OpenFile<F>,
     fault: Fault,
 ) -> Result<Verdict, Fault>
-    ensures reports { ReportsFault path.now (Y.reports system.old) (Y.reports system.new) fault (is_of_file fault) result }
+    ensures reports { ReportsFault path.now (Y.reports system.old)
+        (Y.reports system.new) fault (is_of_file fault) result }
     ensures hints { (file : List ℕ) → bytes_of F.bytes input.now ≡ Some file
         → HintsFault path.now (Y.hints system.old) (Y.hints system.new) fault (is_of_file fault) file }
     ensures bytes { Y.bytes_at system.new ≡ Y.bytes_at system.old }

@@ -300,7 +300,8 @@ pub fn refusal_hints<S: Source<Log = ()>>(alloc: Global, source: &S, fault: &Fau
 
 // How many dynamic function symbols the file has, if it has any.
 fn dynamic<S: Source<Log = ()>>(alloc: Global, source: &S) -> Result<Option<Hint>, Fault>
-    ensures { (file : List ℕ) → S.bytes source.now ≡ Some file → IfOk result (λ hint. hint ≡ dynamic_in file) }
+    ensures { (file : List ℕ) → S.bytes source.now ≡ Some file
+        → IfOk result (λ hint. hint ≡ dynamic_in file) }
 {
     match count_of_all(alloc, source, SymbolTable::Dynsym)? {
         0 => Ok(None),

@@ -96,7 +96,8 @@ pub fn text_functions<'a>(
     header: MachoHeader,
 ) -> Result<(Vec<SectionFunction<'a>>, u64), ParseError>
     requires { header_view header ≡ header_of file.now }
-    ensures { Answers (λ listed given. (map (λ e. e.entry) (map section_function_view given.0.items) ≡ listed.entries)
+    ensures { Answers (λ listed given. (map (λ e. e.entry) (map section_function_view given.0.items)
+        ≡ listed.entries)
         × (given.1 ≡ listed.section_size)) (λ _. HasAddress file.now) (macho_answer file.now) result }
 {
     let text = text_extent(file, header)?;

@@ -56,16 +56,21 @@ fn worked_sizes()
 /// at 0x1000, `c` at 0x1040 and `d` at the text's end, which has no size there. With `d` at 0x1200, in section 2 `c` ends
 /// there, and in section 1 it is refused; so is an empty text. With one load command there is no symbol table.
 fn worked_answer()
-    ensures { let row = λ (name section low high : ℕ). name ∷ 0 ∷ 0 ∷ 0 ∷ 15 ∷ section ∷ 0 ∷ 0 ∷ low ∷ high ∷ replicate 6 0 in
+    ensures { let row = λ (name section low high : ℕ).
+        name ∷ 0 ∷ 0 ∷ 0 ∷ 15 ∷ section ∷ 0 ∷ 0 ∷ low ∷ high ∷ replicate 6 0 in
         let header = λ (commands : ℕ). replicate 16 0 ++ commands ∷ replicate 15 0 in
         let segment = replicate 3 0 ++ 152 ∷ replicate 59 0 ++ 1 ∷ replicate 7 0 in
         let names = codes "__text" ++ replicate 10 0 ++ codes "__TEXT" ++ replicate 11 0 in
-        let symtab = 2 ∷ 0 ∷ 0 ∷ 0 ∷ 24 ∷ 0 ∷ 0 ∷ 0 ∷ 208 ∷ 0 ∷ 0 ∷ 0 ∷ 4 ∷ 0 ∷ 0 ∷ 0 ∷ 16 ∷ 1 ∷ 0 ∷ 0 ∷ 9 ∷ 0 ∷ 0 ∷ 0 ∷ [] in
+        let symtab = 2 ∷ 0 ∷ 0 ∷ 0 ∷ 24 ∷ 0 ∷ 0 ∷ 0 ∷ 208 ∷ 0 ∷ 0 ∷ 0 ∷ 4 ∷ 0 ∷ 0 ∷ 0
+        ∷ 16 ∷ 1 ∷ 0 ∷ 0 ∷ 9 ∷ 0 ∷ 0 ∷ 0 ∷ [] in
         let rows = λ (section high : ℕ). row 1 1 0 16 ++ row 3 1 0 16 ++ row 5 1 64 16 ++ row 7 section 0 high in
         let strings = 0 ∷ 97 ∷ 0 ∷ 98 ∷ 0 ∷ 99 ∷ 0 ∷ 100 ∷ 0 ∷ [] in
-        let answer = λ (commands size section high : ℕ). macho_answer (header commands ++ 25 ∷ segment ++ names ++ 16 ∷ replicate 7 0
+        let answer = λ (commands size section high : ℕ).
+        macho_answer (header commands ++ 25 ∷ segment ++ names ++ 16 ∷ replicate 7 0
         ++ size ∷ replicate 38 0 ++ symtab ++ rows section high ++ strings) in
-        let functions : ℕ → List Entry = λ size. record { name = codes "a"; address = 0x1000; size = 64 } ∷ record { name = codes "b"; address = 0x1000; size = 64 }
+        let functions : ℕ → List Entry = λ size.
+        record { name = codes "a"; address = 0x1000; size = 64 }
+        ∷ record { name = codes "b"; address = 0x1000; size = 64 }
         ∷ record { name = codes "c"; address = 0x1040; size = size } ∷ [] in
         (answer 2 1 1 17 ≡ Ok (record { entries = functions 192; section_size = 256 }))
         × (answer 2 1 2 18 ≡ Ok (record { entries = functions 448; section_size = 256 }))

@@ -1,6 +1,5 @@
 -- Laws of names: what follows from their definitions, proved in `laws`.
 use Rattle.std.specs.Prelude.{◌≡◌, ℕ, ◌<◌, List, Option, Some, Bool}
-use Rattle.binfarce_names.specs.declared.demangle.Kind.TheVariants.{V0}
 use Rattle.binfarce_v0_grammar.specs.Base62.{back_reference}
 use Rattle.binfarce_v0_grammar.specs.Tree.{PathTree, path_height, path_steps, path_root}
 use Rattle.binfarce_v0_state.specs.TreeTexts.{name_text}
@@ -42,11 +41,6 @@ KnowsNoLimit part =
     (levels steps more_levels more_steps : ℕ) (first second : PathTree) (full : Bool)
     → UnfoldsWithin levels steps part first → UnfoldsWithin more_levels more_steps part second
     → (name_text full first ≡ name_text full second) × (path_root first ≡ path_root second)
-
--- text is a v0 name of these texts and this crate
-abbrev pub Means : (text complete trimmed : List ℕ) (crate_name : Option (List ℕ)) → Type 0
-Means text complete trimmed crate_name =
-    IsNamed text (record { complete = complete; trimmed = trimmed; crate_name = crate_name; kind = V0 })
 
 -- the part after a prefix unfolds to a tree of so many levels and steps
 pub record Counts (part : List ℕ) (levels steps : ℕ) : Type 0 where

@@ -92,7 +92,8 @@ pub fn text_functions<'a>(
     places: TableOffsets,
 ) -> Result<(Vec<SectionFunction<'a>>, u64), ParseError>
     requires { places_view places ≡ places_of file.now }
-    ensures { Answers (λ listed given. (map (λ e. e.entry) (map section_function_view given.0.items) ≡ listed.entries)
+    ensures { Answers (λ listed given. (map (λ e. e.entry) (map section_function_view given.0.items)
+        ≡ listed.entries)
         × (given.1 ≡ listed.section_size)) ListsSome (pe_answer file.entry.now) result }
 {
     let text = text_in(section_table(file, places))?;

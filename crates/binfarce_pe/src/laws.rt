@@ -58,20 +58,29 @@ fn worked_sizes()
 /// section and one whose name isn't UTF-8. The second has a long name.
 #[tactic(auto, unfolding(crate::specs::PeSymbols::entries_of, crate::specs::PeSymbols::kept_rows, crate::specs::PeSymbols::function_name, crate::specs::PeSymbols::name_of, crate::specs::PeSymbols::rows_from, crate::specs::PeSymbols::symbol_at, crate::specs::PeSymbols::symbol_fields, binfarce_bytes::specs::Sizes::arranged, binfarce_bytes::specs::Sizes::least_above, binfarce_bytes::proofs::Computing::computing))]
 fn worked_entries()
-    ensures { let row = λ (name offset value section kind class aux : ℕ). name ∷ 0 ∷ 0 ∷ 0 ∷ offset ∷ 0 ∷ 0 ∷ 0 ∷ value ∷ 0 ∷ 0 ∷ 0 ∷ section ∷ 0 ∷ kind ∷ 0 ∷ class ∷ aux ∷ [] in
+    ensures { let row = λ (name offset value section kind class aux : ℕ).
+        name ∷ 0 ∷ 0 ∷ 0 ∷ offset ∷ 0 ∷ 0 ∷ 0
+        ∷ value ∷ 0 ∷ 0 ∷ 0 ∷ section ∷ 0 ∷ kind ∷ 0 ∷ class ∷ aux ∷ [] in
         let kept = row 0x66 0 0x10 1 0x20 2 1 ++ row 0x78 0 0x14 1 0x20 2 0 in
-        let others = row 0x73 0 0x18 1 0x20 3 0 ++ row 0x74 0 0x1A 1 0 2 0 ++ row 0x6F 0 0x1C 2 0x20 2 0 ++ row 0xFF 0 0x1E 1 0x20 2 0 in
-        entries_of (record { rows = kept ++ others ++ row 0 4 0x20 1 0x20 2 0; strings = replicate 4 0 ++ codes "gh" ++ 0 ∷ [] }) 0 256
-        ≡ (record { name = codes "f"; address = 0x10; size = 16 } ∷ record { name = codes "gh"; address = 0x20; size = 224 } ∷ []) }
+        let others = row 0x73 0 0x18 1 0x20 3 0 ++ row 0x74 0 0x1A 1 0 2 0 ++ row 0x6F 0 0x1C 2 0x20 2 0
+        ++ row 0xFF 0 0x1E 1 0x20 2 0 in
+        entries_of (record {
+          rows = kept ++ others ++ row 0 4 0x20 1 0x20 2 0;
+          strings = replicate 4 0 ++ codes "gh" ++ 0 ∷ [];
+        }) 0 256
+        ≡ (record { name = codes "f"; address = 0x10; size = 16 }
+        ∷ record { name = codes "gh"; address = 0x20; size = 224 } ∷ []) }
 {}
 
 /// The answer of a whole file of 218 bytes: one section, `.text`, of 256 bytes, and five functions `a` to `e` at 0x180,
 /// 0, 0x40, 0 and 0x100.
 #[tactic(auto, unfolding(crate::specs::Pe::header_fields, crate::specs::Pe::header_after, crate::specs::Pe::walk, crate::specs::Pe::section_at, crate::specs::Pe::section_fields, crate::specs::Pe::characteristics_at, crate::specs::PeSymbols::pe_answer, crate::specs::PeSymbols::symbol_table, crate::specs::PeSymbols::entries_of, crate::specs::PeSymbols::kept_rows, crate::specs::PeSymbols::function_name, crate::specs::PeSymbols::name_of, crate::specs::PeSymbols::rows_from, crate::specs::PeSymbols::symbol_at, crate::specs::PeSymbols::symbol_fields, binfarce_bytes::specs::Sizes::arranged, binfarce_bytes::specs::Sizes::least_above, binfarce_bytes::proofs::Computing::computing))]
 fn worked_answer()
-    ensures { let row = λ (name low high : ℕ). name ∷ replicate 7 0 ++ low ∷ high ∷ 0 ∷ 0 ∷ 1 ∷ 0 ∷ 0x20 ∷ 0 ∷ 2 ∷ 0 ∷ [] in
+    ensures { let row = λ (name low high : ℕ).
+        name ∷ replicate 7 0 ++ low ∷ high ∷ 0 ∷ 0 ∷ 1 ∷ 0 ∷ 0x20 ∷ 0 ∷ 2 ∷ 0 ∷ [] in
         let rows = row 0x61 0x80 1 ++ row 0x62 0 0 ++ row 0x63 0x40 0 ++ row 0x64 0 0 ++ row 0x65 0 1 in
-        let headers = replicate 60 0 ++ 64 ∷ replicate 9 0 ++ 1 ∷ replicate 5 0 ++ 128 ∷ replicate 3 0 ++ 5 ∷ replicate 7 0 in
+        let headers = replicate 60 0 ++ 64 ∷ replicate 9 0 ++ 1 ∷ replicate 5 0
+        ++ 128 ∷ replicate 3 0 ++ 5 ∷ replicate 7 0 in
         let text = codes ".text" ++ replicate 12 0 ++ 1 ∷ replicate 22 0 in
         pe_answer (headers ++ text ++ rows) ≡ Ok (record {
           entries = (record { name = codes "b"; address = 0; size = 64 } ∷ record { name = codes "d"; address = 0; size = 64 }
@@ -95,7 +104,16 @@ fn worked_sizes_within()
 /// record.
 #[tactic(auto, unfolding(binfarce_bytes::proofs::Computing::computing))]
 fn worked_ends()
-    ensures { let row : ℕ → ℕ → SymbolRow ℕ = λ class section. record { zeroes = 1; offset = 0; value = 0x10; section_number = section; kind = 0; storage_class = class; number_of_aux_symbols = 0 } in
+    ensures { let row : ℕ → ℕ → SymbolRow ℕ = λ class section.
+        record {
+          zeroes = 1;
+          offset = 0;
+          value = 0x10;
+          section_number = section;
+          kind = 0;
+          storage_class = class;
+          number_of_aux_symbols = 0;
+        } in
         (ends_sizes 0 (row 3 1) (Some (codes "L1")) ≡ true)
         × (ends_sizes 0 (row 6 1) (Some (codes "enc_blk4")) ≡ true) × (ends_sizes 0 (row 6 1) None ≡ true)
         × (ends_sizes 0 (row 6 1) (Some (codes ".l_end")) ≡ false) × (ends_sizes 0 (row 6 1) (Some (codes "L1")) ≡ false)

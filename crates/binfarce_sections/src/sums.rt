@@ -215,7 +215,8 @@ fn shares_of<'a>(
     file_length: u64,
 ) -> Result<Vec<Share<'a>>, AllocError>
     requires { IsSortedByKey (λ s. s.offset) nat_cmp sections.now }
-    ensures shares { IfOk result (λ v. map share_view v.items ≡ shares_of file_length (map section_view sections.now)) }
+    ensures shares { IfOk result (λ v. map share_view v.items
+        ≡ shares_of file_length (map section_view sections.now)) }
     ensures named { IfOk result (λ v. All IsNamed v.items) }
 {
     let mut shares = Vec::with_capacity(alloc, sections.len())?;

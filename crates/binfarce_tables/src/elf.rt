@@ -87,7 +87,8 @@ impl Parts {
     /// The names of the versions that the function symbols have, which the file defines for its dynamic symbols. They
     /// borrow the parts; nothing is copied.
     pub fn version_names(&self) -> VersionNames<'_>
-        ensures { (version : ℕ) → version_names result version ≡ (parts_view self.entry.now).version_name version }
+        ensures { (version : ℕ) → version_names result version
+            ≡ (parts_view self.entry.now).version_name version }
     {
         VersionNames {
             offsets: Some(&self.versions.names),
@@ -155,7 +156,8 @@ fn sizes_of(
     taken: Taken,
     table: &TableParts,
 ) -> Result<Vec<u64>, AllocError>
-    ensures { (versions : List ℕ) (version_name : ℕ → Option (List ℕ)) → let seen = sections_view sections.now in
+    ensures { (versions : List ℕ) (version_name : ℕ → Option (List ℕ))
+        → let seen = sections_view sections.now in
         IfOk result (λ v. symbols_by seen (taken_view taken) (rows_view table.now) versions v.items version_name
         ≡ symbols_in seen (taken_view taken) (rows_view table.now) versions version_name) }
 {

@@ -117,7 +117,8 @@ impl<'a> Tables<'a> {
     /// has no valid name, and where the tables are those of a whole file, or were made.
     pub fn section_name(&self, number: u32) -> Option<&str>
         ensures read { option_map (λ t. t.now) result ≡ section_names self.entry.now number }
-        ensures file { (which : SymbolTable) (file : List ℕ) (section : Option (List ℕ)) (selected : SelectedSymbols)
+        ensures file { (which : SymbolTable) (file : List ℕ) (section : Option (List ℕ))
+            (selected : SelectedSymbols)
             → AreTablesOf which file section self.entry.now
             → selected_answer which section file ≡ Some (Ok selected) → selected.section_size ≡ None
             → option_map (λ t. t.now) result ≡ selected.section_name number }
@@ -140,7 +141,8 @@ impl<'a> Tables<'a> {
     /// They borrow the tables.
     pub fn version_names(&self) -> VersionNames<'_>
         ensures read { (version : ℕ) → version_names result version ≡ version_names_of self.entry.now version }
-        ensures file { (which : SymbolTable) (file : List ℕ) (section : Option (List ℕ)) (selected : SelectedSymbols)
+        ensures file { (which : SymbolTable) (file : List ℕ) (section : Option (List ℕ))
+            (selected : SelectedSymbols)
             → AreTablesOf which file section self.entry.now
             → selected_answer which section file ≡ Some (Ok selected)
             → (version : ℕ) → version_names result version ≡ selected.version_name version }

@@ -63,7 +63,8 @@ pub fn arguments_of<'a>(
     alloc: Global,
     texts: &'a [Option<String>],
 ) -> Result<Vec<Argument<'a>>, AllocError>
-    ensures { IfOk result (λ v. map argument_view v.items ≡ arguments_from 1 (map (option_map string_bytes) texts.entry.now)) }
+    ensures { IfOk result (λ v. map argument_view v.items
+        ≡ arguments_from 1 (map (option_map string_bytes) texts.entry.now)) }
 {
     let mut arguments = Vec::new(alloc);
     for text in texts {

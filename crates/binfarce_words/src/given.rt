@@ -133,7 +133,8 @@ impl<'a> Arguments<'a> {
 
     // Takes an operand.
     pub(crate) fn push(&mut self, argument: Argument<'a>) -> Result<(), Wrong<'a>>
-        ensures { Changes given_view (Ok (with_operand (given_view self.old) (argument_view argument.entry))) self.new result }
+        ensures { Changes given_view (Ok (with_operand (given_view self.old) (argument_view argument.entry)))
+            self.new result }
     {
         self.operands.push(argument).map_err(|_| Wrong::OutOfMemory)
     }

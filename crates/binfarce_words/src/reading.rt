@@ -55,7 +55,8 @@ struct Reading<'a> {
 impl<'a> Reading<'a> {
     // Takes the next argument.
     fn take(&mut self, command: Command, argument: Argument<'a>) -> Result<(), Wrong<'a>>
-        ensures { Changes reading_view (after_argument command (reading_view self.old) (argument_view argument.entry)) self.new result }
+        ensures { Changes reading_view (after_argument command (reading_view self.old)
+            (argument_view argument.entry)) self.new result }
     {
         match (argument, self.waiting) {
             (Argument::Text(word), _) => self.take_word(command, word),

@@ -3,7 +3,7 @@
 ghost use Rattle.std.specs.Prelude.{◌≡◌, map, IfOk, Some};
 ghost use Rattle.std.specs.Option.{option_map};
 ghost use Rattle.std.specs.String.{string_bytes};
-ghost use Rattle.binfarce_words.specs.Words.{argument_of, arguments_from, required_text, text_of};
+ghost use Rattle.binfarce_words.specs.Words.{arguments_from, required_text, text_of};
 ghost use Rattle.binfarce_words.specs.WordViews.{Gives, argument_view};
 
 use crate::wrong::Wrong;
@@ -69,17 +69,11 @@ pub fn arguments_of<'a>(
     let mut arguments = Vec::new(alloc);
     for text in texts {
         let at = arguments.len() + 1;
-        arguments.push(argument_of(at, text))?;
+        let argument = match text {
+            Some(text) => Argument::Text(text.as_str()),
+            None => Argument::NotUtf8(at),
+        };
+        arguments.push(argument)?;
     }
     Ok(arguments)
-}
-
-// The argument at this position that has this text, or none.
-fn argument_of(at: usize, text: &Option<String>) -> Argument<'_>
-    ensures { argument_view result ≡ argument_of at (option_map string_bytes text.entry.now) }
-{
-    match text {
-        Some(text) => Argument::Text(text.as_str()),
-        None => Argument::NotUtf8(at),
-    }
 }

@@ -1,7 +1,7 @@
 //! The call that the arguments mean.
 
 ghost use Rattle.std.specs.Prelude.{◌≡◌, map};
-ghost use Rattle.binfarce_words.specs.Words.{asks_help, asks_version, call_of, call_of_word, call_read, command_named, first_no_utf8, goes_on, help_call};
+ghost use Rattle.binfarce_words.specs.Words.{call_of, call_read, command_named, first_no_utf8, goes_on, help_call};
 ghost use Rattle.binfarce_words.specs.WordViews.{Gives, IsChecked, argument_view, call_view};
 
 use crate::argument::Argument;
@@ -9,7 +9,7 @@ use crate::checks::check;
 use crate::command::{COMMANDS, Command};
 use crate::flag::Flag;
 use crate::given::Arguments;
-use crate::named::{find_named, nearest};
+use crate::named::{Named, nearest};
 use crate::reading::read_given;
 use crate::wrong::Wrong;
 use std::alloc::Global;
@@ -81,23 +81,14 @@ fn goes_on(call: &Call<'_>) -> bool
 fn read_arguments<'a>(alloc: Global, arguments: &[Argument<'a>]) -> Result<Call<'a>, Wrong<'a>>
     ensures { Gives call_view (call_read (map argument_view arguments.entry.now)) result }
 {
-    match arguments {
-        [] => Err(Wrong::NoCommand),
-        [first, others @ ..] => read_words(alloc, first.required()?, others),
-    }
-}
-
-fn read_words<'a>(
-    alloc: Global,
-    word: &'a str,
-    others: &[Argument<'a>],
-) -> Result<Call<'a>, Wrong<'a>>
-    ensures { Gives call_view (call_of_word word.entry.now (map argument_view others.entry.now)) result }
-{
-    if asks_help(word) {
+    let [first, others @ ..] = arguments else {
+        return Err(Wrong::NoCommand);
+    };
+    let word = first.required()?;
+    if word == "help" || word == "--help" || word == "-h" {
         return read_help(others);
     }
-    if asks_version(word) {
+    if word == "--version" || word == "-V" {
         return Ok(Call::Version);
     }
     let command = command_named(word)?;
@@ -107,18 +98,6 @@ fn read_words<'a>(
     }
     check(command, &given)?;
     Ok(Call::Run(command, given))
-}
-
-fn asks_help(word: &str) -> bool
-    ensures { result ≡ asks_help word.now }
-{
-    word == "help" || word == "--help" || word == "-h"
-}
-
-fn asks_version(word: &str) -> bool
-    ensures { result ≡ asks_version word.now }
-{
-    word == "--version" || word == "-V"
 }
 
 // `help`, and the command that it is about.
@@ -135,7 +114,7 @@ fn read_help<'a>(others: &[Argument<'a>]) -> Result<Call<'a>, Wrong<'a>>
 fn command_named(word: &str) -> Result<Command, Wrong<'_>>
     ensures { Gives (λ command. command) (command_named word.entry.now) result }
 {
-    match find_named(&COMMANDS, word) {
+    match COMMANDS.iter().copied().find(|it| it.name() == word) {
         Some(command) => Ok(command),
         None => Err(Wrong::UnknownCommand(word, nearest(&COMMANDS, word, 0))),
     }

@@ -37,7 +37,9 @@ impl<'a> Arguments<'a> {
     pub fn value(&self, flag: Flag) -> Option<&'a str>
         ensures { option_map (λ t. t.now) result ≡ value_given flag (given_view self.now) }
     {
-        match last_given(self.options.as_slice(), flag.name()) {
+        let name = flag.name();
+        let options = self.options.as_slice();
+        match options.iter().rev().copied().find(|it| it.0.name() == name) {
             Some((_, value)) => Some(value),
             None => None,
         }
@@ -148,13 +150,6 @@ fn bad_value<'a>(flag: Flag, value: &'a str) -> Wrong<'a>
         Takes::Page if parse_address(value.as_bytes()).is_none() => Wrong::NoAddress(value),
         _ => Wrong::BadValue(flag, value),
     }
-}
-
-// The last of these options that has this name.
-fn last_given<'a>(options: &[(Flag, &'a str)], name: &str) -> Option<(Flag, &'a str)>
-    ensures { result ≡ find (λ it. bytes_eq (flag_name it.0) name.now) (reverse options.now) }
-{
-    options.iter().rev().copied().find(|it| it.0.name() == name)
 }
 
 // The option at a place among those of this name.

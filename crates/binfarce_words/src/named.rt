@@ -1,7 +1,6 @@
 //! Lookup of names.
 
-ghost use Rattle.std.specs.Prelude.{◌≡◌, List, ℕ, find};
-ghost use Rattle.std.specs.Str.{bytes_eq};
+ghost use Rattle.std.specs.Prelude.{◌≡◌, List, ℕ};
 ghost use Rattle.binfarce_words.specs.Named.{shared, IsNearest};
 
 /// An item with a name.
@@ -12,13 +11,6 @@ pub trait Named: Copy {
     /// The name.
     fn name(self) -> &'static str
         ensures { result.now ≡ text self };
-}
-
-/// The first of these that has the name. Allocates nothing.
-pub fn find_named<T: Named>(known: &[T], name: &str) -> Option<T>
-    ensures { result ≡ find (λ it. bytes_eq (T.text it) name.now) known.now }
-{
-    known.iter().copied().find(|it| it.name() == name)
 }
 
 /// One of these with the longest common prefix with the name, if that has more than `least` bytes; otherwise `None`.

@@ -2,7 +2,7 @@
 
 ghost use Rattle.std.specs.Prelude.{◌≡◌, find, map};
 ghost use Rattle.std.specs.Option.{option_map};
-ghost use Rattle.binfarce_words.specs.Words.{after_argument, after_short, after_word, flag_named, given_of, is_named, is_option, parts_of, unknown_option};
+ghost use Rattle.binfarce_words.specs.Words.{after_argument, after_short, flag_named, given_of, is_named, is_option, parts_of, unknown_option};
 ghost use Rattle.binfarce_words.specs.WordViews.{Gives, Changes, HasNearest, argument_view, given_view, reading_view, wrong_view};
 
 use crate::argument::Argument;
@@ -54,28 +54,22 @@ struct Reading<'a> {
 
 impl<'a> Reading<'a> {
     // Takes the next argument.
+    #[tactic(auto, unfolding(crate::specs::Words::after_word))]
     fn take(&mut self, command: Command, argument: Argument<'a>) -> Result<(), Wrong<'a>>
         ensures { Changes reading_view (after_argument command (reading_view self.old)
             (argument_view argument.entry)) self.new result }
     {
-        match (argument, self.waiting) {
-            (Argument::Text(word), _) => self.take_word(command, word),
-            (Argument::NotUtf8(at), Some(_)) => Err(Wrong::NotUtf8(at)),
-            (Argument::NotUtf8(_), None) => self.given.push(argument),
-        }
-    }
-
-    // Takes the next argument, which is this text.
-    #[tactic(auto, unfolding(crate::specs::Words::after_word))]
-    fn take_word(&mut self, command: Command, word: &'a str) -> Result<(), Wrong<'a>>
-        ensures { Changes reading_view (after_word command (reading_view self.old) word.now) self.new result }
-    {
+        let word = match (argument, self.waiting) {
+            (Argument::Text(word), _) => word,
+            (Argument::NotUtf8(at), Some(_)) => return Err(Wrong::NotUtf8(at)),
+            (Argument::NotUtf8(_), None) => return self.given.push(argument),
+        };
         if let Some(flag) = self.waiting {
             self.waiting = None;
             return self.given.set(flag, word);
         }
         if self.are_operands || !is_option(word) {
-            return self.given.push(Argument::Text(word));
+            return self.given.push(argument);
         }
         if word == "--" {
             self.are_operands = true;

@@ -1,7 +1,7 @@
 //! Texts at an offset, and texts in fixed-size fields.
 
 ghost use Rattle.std.specs.Prelude.{◌≡◌, ◌<◌, ◌≤◌, length, nat_eq, take, false};
-ghost use Rattle.binfarce_bytes.specs.Text.{text_at, nul_at, up_to_nul, utf8_of, text_of, FindsText};
+ghost use Rattle.binfarce_bytes.specs.Text.{text_at, nul_at, up_to_nul, utf8_of, FindsText};
 ghost use Rattle.std.specs.List.{list_any};
 ghost use Rattle.std.specs.Option.{option_map};
 
@@ -9,7 +9,7 @@ ghost use Rattle.std.specs.Option.{option_map};
 pub fn up_to_nul(bytes: &[u8]) -> &[u8]
     ensures { result.now ≡ up_to_nul bytes.now }
 {
-    match first_nul(bytes) {
+    match find_nul(bytes) {
         None => bytes,
         Some(len) => &bytes[..len],
     }
@@ -26,15 +26,15 @@ pub fn parse_null_string(bytes: &[u8], start: usize) -> Option<&str>
     text_from(bytes, start)
 }
 
-#[tactic(auto, unfolding(crate::specs::Text::text_at))]
+#[tactic(auto, using(crate::proofs::Texts::text_of_is), unfolding(crate::specs::Text::text_at))]
 fn text_from(bytes: &[u8], start: usize) -> Option<&str>
     ensures { option_map (λ t. t.now) result ≡ text_at bytes.now start }
 {
     match bytes.get(start..) {
         None => None,
         Some(rest) => match find_nul(rest) {
-            None => None,
-            Some(len) => first_text(rest, len),
+            None | Some(0) => None,
+            Some(len) => utf8_text(&rest[..len]),
         },
     }
 }
@@ -49,7 +49,7 @@ fn find_nul(bytes: &[u8]) -> Option<usize>
 {
     let far = past_strides(bytes, 0, STRIDE);
     let at = past_strides(bytes, far, LAST_STRIDE);
-    match first_nul(&bytes[at..]) {
+    match bytes[at..].iter().position(|b| *b == 0) {
         None => None,
         Some(i) => Some(at + i),
     }
@@ -74,12 +74,6 @@ fn past_strides(bytes: &[u8], start: usize, stride: usize) -> usize
     at
 }
 
-fn first_nul(bytes: &[u8]) -> Option<usize>
-    ensures { result ≡ nul_at bytes.now }
-{
-    bytes.iter().position(|b| *b == 0)
-}
-
 // Without an early exit, so that the comparisons are vectorized.
 #[inline(always)]
 fn has_nul(bytes: &[u8]) -> bool
@@ -90,18 +84,6 @@ fn has_nul(bytes: &[u8]) -> bool
         found |= *b == 0;
     }
     found
-}
-
-// The first `len` bytes.
-#[tactic(auto, using(crate::proofs::Texts::text_of_is))]
-fn first_text(bytes: &[u8], len: usize) -> Option<&str>
-    requires { len ≤ length bytes.now }
-    ensures { option_map (λ t. t.now) result ≡ text_of (take len bytes.now) }
-{
-    if len == 0 {
-        return None;
-    }
-    utf8_text(&bytes[..len])
 }
 
 /// The bytes as a text, without a copy; `None` where they aren't UTF-8.

@@ -3,3 +3,4 @@ pub mod Walks
 pub mod Names
 pub mod RowParts
 pub mod SectionsLeft
+pub mod Tables

@@ -2,17 +2,17 @@
 
 ghost use Rattle.std.specs.Prelude.{◌≡◌, nat_eq};
 ghost use Rattle.std.specs.Option.{option_map};
-ghost use Rattle.binfarce_bytes.specs.Refusal.{Gives, refusal_of, unexpected_eof, symbols_section_is_missing, section_is_missing};
+ghost use Rattle.binfarce_bytes.specs.Refusal.{Gives, refusal_of, unexpected_eof};
 ghost use Rattle.binfarce_bytes.specs.Walk.{first};
 ghost use Rattle.binfarce_elf.specs.Classes.{class_of};
-ghost use Rattle.binfarce_elf.specs.Elf.{walk, name_among};
-ghost use Rattle.binfarce_elf.specs.ElfSymbols.{is_named, sought, string_table_kind, whole_rows};
+ghost use Rattle.binfarce_elf.specs.Elf.{walk};
+ghost use Rattle.binfarce_elf.specs.ElfSymbols.{whole_rows};
 ghost use Rattle.binfarce_elf.specs.ElfViews.{section_view, table_sections_view};
-ghost use Rattle.binfarce_elf.specs.SymbolTables.{section_type, table_name, strings_name, table_sections, rows_at};
+ghost use Rattle.binfarce_elf.specs.SymbolTables.{table_sections, rows_at};
 ghost use Rattle.binfarce_elf.specs.machine.RawElf.{table_view, rows_view};
 
 use crate::class::{Class, Width, Word};
-use crate::sections::{Section, Table, first_section, section_data, section_named};
+use crate::sections::{Section, Table, first_section, section_data};
 use crate::symbol_table::{STRING_TABLE, SymbolTable};
 use binfarce_bytes::ParseError;
 use binfarce_bytes::parser::UnexpectedEof;
@@ -40,9 +40,18 @@ pub fn table_sections<C: Class>(
     ensures { Gives refusal_of table_sections_view
         (table_sections which (walk C.table (table_view table.entry))) result }
 {
-    let symbols = symbol_table::<C>(table, which)?;
-    let linked = linked_section::<C>(table, which, symbols.link)?;
-    let strings = string_table(linked)?;
+    let Some(symbols) = section_of_kind::<C>(table, which.section_type())? else {
+        return Err(ParseError::SectionIsMissing(which.name()));
+    };
+    let Some(strings) = section_of_index::<C>(table, symbols.link)? else {
+        return Err(ParseError::SectionIsMissing(which.strings_name()));
+    };
+    if strings.kind != STRING_TABLE {
+        return Err(ParseError::UnexpectedSectionType {
+            expected: STRING_TABLE,
+            actual: strings.kind,
+        });
+    }
     Ok(TableSections {
         symbols: symbols.widened(),
         strings: strings.widened(),
@@ -61,30 +70,6 @@ pub fn rows_at(file: &[u8], width: Width, sections: TableSections) -> Result<Row
     Ok(Rows { strings, rows })
 }
 
-/// The first section with this name among the section names.
-pub fn named_section<C: Class>(
-    table: Table<'_>,
-    names: Option<&[u8]>,
-    name: &str,
-) -> Result<Section<C>, ParseError>
-    ensures { Gives refusal_of (section_view C.number_of)
-        (sought symbols_section_is_missing
-        (λ s. is_named name.now (name_among (option_map (λ b. b.now) names.entry) s.name_offset))
-        (walk C.table (table_view table.entry))) result }
-{
-    section_named::<C>(table, names, name)?.ok_or(ParseError::SymbolsSectionIsMissing)
-}
-
-fn symbol_table<C: Class>(table: Table<'_>, which: SymbolTable) -> Result<Section<C>, ParseError>
-    ensures { Gives refusal_of (section_view C.number_of)
-        (sought (section_is_missing (table_name which))
-        (λ s. nat_eq s.kind (section_type which)) (walk C.table (table_view table.entry))) result }
-{
-    section_of_kind::<C>(table, which.section_type())?.ok_or(ParseError::SectionIsMissing(
-        which.name(),
-    ))
-}
-
 /// The first section of this type.
 pub fn section_of_kind<C: Class>(
     table: Table<'_>,
@@ -96,18 +81,6 @@ pub fn section_of_kind<C: Class>(
     first_section::<C, _>(table, |section| section.kind == kind)
 }
 
-fn linked_section<C: Class>(
-    table: Table<'_>,
-    which: SymbolTable,
-    link: Word,
-) -> Result<Section<C>, ParseError>
-    ensures { Gives refusal_of (section_view C.number_of)
-        (sought (section_is_missing (strings_name which))
-        (λ s. nat_eq s.index link) (walk C.table (table_view table.entry))) result }
-{
-    section_of_index::<C>(table, link)?.ok_or(ParseError::SectionIsMissing(which.strings_name()))
-}
-
 /// The section of this index.
 pub fn section_of_index<C: Class>(
     table: Table<'_>,
@@ -117,20 +90,6 @@ pub fn section_of_index<C: Class>(
         (first (λ s. nat_eq s.index index) (walk C.table (table_view table.entry))) result }
 {
     first_section::<C, _>(table, |section| u32::from(section.index) == index)
-}
-
-fn string_table<C: Class>(section: Section<C>) -> Result<Section<C>, ParseError>
-    ensures { Gives refusal_of (section_view C.number_of)
-        (string_table_kind (section_view C.number_of section)) result }
-{
-    if section.kind == STRING_TABLE {
-        Ok(section)
-    } else {
-        Err(ParseError::UnexpectedSectionType {
-            expected: STRING_TABLE,
-            actual: section.kind,
-        })
-    }
 }
 
 /// The rows of a symbol table of this class, of which none is truncated.

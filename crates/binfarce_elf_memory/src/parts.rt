@@ -19,7 +19,7 @@ ghost use Rattle.binfarce_elf_memory.specs.Versions as versions;
 use crate::descriptors::{needed_descriptors, rows_in_code};
 use crate::ends::{FileKind, keys_of, kind_of, sizes_of};
 use crate::selection::{Needed, Taken, needed_of};
-use crate::versions::{definitions_section, versions_section};
+use crate::versions::{DEFINITIONS, VERSIONS, whole_section_of_kind};
 use binfarce_bytes::functions::Selection;
 use binfarce_bytes::parser::UnexpectedEof;
 use binfarce_bytes::{ByteOrder, ParseError};
@@ -138,14 +138,18 @@ pub fn version_sections(
         (walk (class_of width) (headers_alone place.byte_order headers.now place.shnum)) }
 {
     let table = headers_alone(headers, place.byte_order, place.shnum);
-    match width {
-        Width::Bits32 => VersionSections {
-            versions: widened(versions_section::<u32>(table, which)),
-            definitions: widened(definitions_section::<u32>(table, which)),
+    match (which, width) {
+        (SymbolTable::Symtab, _) => VersionSections {
+            versions: None,
+            definitions: None,
         },
-        Width::Bits64 => VersionSections {
-            versions: versions_section::<u64>(table, which),
-            definitions: definitions_section::<u64>(table, which),
+        (SymbolTable::Dynsym, Width::Bits32) => VersionSections {
+            versions: widened(whole_section_of_kind::<u32>(table, VERSIONS)),
+            definitions: widened(whole_section_of_kind::<u32>(table, DEFINITIONS)),
+        },
+        (SymbolTable::Dynsym, Width::Bits64) => VersionSections {
+            versions: whole_section_of_kind::<u64>(table, VERSIONS),
+            definitions: whole_section_of_kind::<u64>(table, DEFINITIONS),
         },
     }
 }

@@ -27,9 +27,9 @@ use binfarce_bytes::functions::{FunctionSymbol, SectionFunction, Selection, foun
 use binfarce_bytes::parser::{UnexpectedEof, parse_null_string};
 use binfarce_bytes::{ByteOrder, ParseError};
 use binfarce_elf::class::{Class, Half, SymbolRow, Width, row_at};
-use binfarce_elf::sections::{Table, index_of, names_bytes};
+use binfarce_elf::sections::{Table, index_of, names_bytes, section_named};
 use binfarce_elf::symbol_table::SymbolTable;
-use binfarce_elf::symbols::{Rows, TableSections, named_section, rows_at, table_sections};
+use binfarce_elf::symbols::{Rows, TableSections, rows_at, table_sections};
 use std::alloc::{AllocError, Global};
 
 // The index of no section, and the first of the reserved indices.
@@ -241,7 +241,7 @@ pub fn functions_in<'a>(
 }
 
 // A selection and the sections that its symbols need; `names` holds the section names.
-#[tactic(auto, unfolding(crate::specs::ElfSelection::needed))]
+#[tactic(auto, unfolding(crate::specs::ElfSelection::needed, crate::specs::ElfSelection::taken))]
 pub(crate) fn needed_of<C: Class>(
     table: Table<'_>,
     names: Option<&[u8]>,
@@ -252,46 +252,27 @@ pub(crate) fn needed_of<C: Class>(
         (needed which (walk C.table (table_view table.entry)) (option_map (λ b. b.now) names.entry) table.entry.shnum
         (section_of selection.entry)) result }
 {
-    let taken = taken_by::<C>(table, names, which, selection)?;
+    let taken = match selection {
+        Selection::Section(name) => {
+            let Some(section) = section_named::<C>(table, names, name)? else {
+                return Err(ParseError::SymbolsSectionIsMissing);
+            };
+            Taken::Section {
+                index: index_of(section),
+                size: section.size().widened(),
+                indirect: matches!(which, SymbolTable::Dynsym),
+            }
+        }
+        Selection::All => {
+            whole_sections::<C>(table)?;
+            Taken::All { count: table.shnum }
+        }
+    };
     let sections = table_sections::<C>(table, which)?;
     Ok(Needed {
         taken,
         table: sections,
     })
-}
-
-#[tactic(auto, unfolding(crate::specs::ElfSelection::taken))]
-fn taken_by<C: Class>(
-    table: Table<'_>,
-    names: Option<&[u8]>,
-    which: SymbolTable,
-    selection: Selection<'_>,
-) -> Result<Taken, ParseError>
-    ensures { Gives refusal_of taken_view
-        (taken which (walk C.table (table_view table.entry)) (option_map (λ b. b.now) names.entry) table.entry.shnum
-        (section_of selection.entry)) result }
-{
-    match selection {
-        Selection::Section(name) => {
-            let section = named_section::<C>(table, names, name)?;
-            Ok(Taken::Section {
-                index: index_of(section),
-                size: section.size().widened(),
-                indirect: has_indirect(which),
-            })
-        }
-        Selection::All => {
-            whole_sections::<C>(table)?;
-            Ok(Taken::All { count: table.shnum })
-        }
-    }
-}
-
-// Whether indirect functions count among those of one section.
-fn has_indirect(which: SymbolTable) -> bool
-    ensures { result ≡ has_indirect which }
-{
-    which == SymbolTable::Dynsym
 }
 
 // Refused where a section header is truncated.
@@ -383,7 +364,7 @@ impl<'a> Functions<'a> {
         for k in self.next..self.rows.len() / length {
             let row = row_at(width, self.rows, k * length, self.byte_order).unwrap();
             let version = version_at(self.versions, k, self.byte_order);
-            let size = size_at(self.sizes, k);
+            let size = self.sizes.get(k).copied().unwrap_or(0);
             match function_of(self.strings, self.taken, self.has_modes, row, version, size) {
                 None => continue,
                 Some(function) => return Some((function, k + 1)),
@@ -413,16 +394,9 @@ impl<'a> Iterator for Functions<'a> {
     }
 }
 
-// The size of row k among these; 0 where they have none.
-#[inline(always)]
-fn size_at(sizes: &[u64], k: usize) -> u64
-    ensures { result ≡ slice_index_or sizes.now k 0 }
-{
-    if k < sizes.len() { sizes[k] } else { 0 }
-}
-
 // The function of a row of this version, and of this size in memory, with its section, where it is taken.
 #[inline(always)]
+#[tactic(auto, unfolding(crate::specs::ElfSelection::function_name))]
 fn function_of(
     strings: &[u8],
     taken: Taken,
@@ -434,53 +408,24 @@ fn function_of(
     ensures { option_map section_function_view result
         ≡ entry_taken strings.entry.now (taken_view taken) has_modes (symbol_view row) version size }
 {
-    let name = function_name(strings, taken, row)?;
+    if !is_taken(taken, row) || row.name == 0 {
+        return None;
+    }
+    let name = parse_null_string(strings, row.name as usize)?;
+    let (address, size) = match taken {
+        Taken::Section { .. } => (row.value, row.size),
+        Taken::All { .. } => (address_of(has_modes, row), size),
+    };
     Some(SectionFunction {
         section: u32::from(row.section),
         info: row.info,
         version,
         function: FunctionSymbol {
             name,
-            address: address_taken(taken, has_modes, row),
-            size: size_in(taken, row, size),
+            address,
+            size,
         },
     })
-}
-
-// The address of a row's function, where it is taken.
-#[inline(always)]
-fn address_taken(taken: Taken, has_modes: bool, row: SymbolRow) -> u64
-    ensures { result ≡ address_taken (taken_view taken) has_modes (symbol_view row) }
-{
-    match taken {
-        Taken::Section { .. } => row.value,
-        Taken::All { .. } => address_of(has_modes, row),
-    }
-}
-
-// The size of a row's function, where it is taken; this one in memory.
-#[inline(always)]
-fn size_in(taken: Taken, row: SymbolRow, size: u64) -> u64
-    ensures { result ≡ size_in (taken_view taken) (symbol_view row) size }
-{
-    match taken {
-        Taken::Section { .. } => row.size,
-        Taken::All { .. } => size,
-    }
-}
-
-// The name of a row's function, where it is taken.
-#[inline(always)]
-#[tactic(auto, unfolding(crate::specs::ElfSelection::function_name))]
-fn function_name(strings: &[u8], taken: Taken, row: SymbolRow) -> Option<&str>
-    ensures { option_map (λ t. t.now) result
-        ≡ function_name strings.entry.now (taken_view taken) (symbol_view row) }
-{
-    if is_taken(taken, row) && row.name != 0 {
-        parse_null_string(strings, row.name as usize)
-    } else {
-        None
-    }
 }
 
 // Whether a row is of a function that is taken.

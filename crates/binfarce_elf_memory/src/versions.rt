@@ -8,7 +8,7 @@ ghost use Rattle.binfarce_elf.specs.Elf.{walk};
 ghost use Rattle.binfarce_elf.specs.ElfViews.{section_view};
 ghost use Rattle.binfarce_elf.specs.machine.RawElf.{table_view};
 ghost use Rattle.binfarce_elf_memory.specs.SelectionViews.{version_names};
-ghost use Rattle.binfarce_elf_memory.specs.Versions.{bytes_if, definition_at, definitions, definitions_section, name_offset, version_of, versions_section};
+ghost use Rattle.binfarce_elf_memory.specs.Versions.{bytes_if, definition_at, definitions, name_offset, version_of, versions_section};
 ghost use Rattle.binfarce_elf_memory.specs.machine.RawSelection.{definition_view};
 
 use binfarce_bytes::ByteOrder;
@@ -21,9 +21,9 @@ use std::alloc::{AllocError, Global};
 use std::collections::BTreeMap;
 
 // The types of the sections of versions, and of their definitions: `SHT_GNU_versym` and `SHT_GNU_verdef`.
-const VERSIONS: Word = 0x6fffffff;
+pub(crate) const VERSIONS: Word = 0x6fffffff;
 
-const DEFINITIONS: Word = 0x6ffffffd;
+pub(crate) const DEFINITIONS: Word = 0x6ffffffd;
 
 // An index is in the low 15 bits of a version; the high bit says that the symbol is hidden.
 const INDICES: Half = 1 << 15;
@@ -135,7 +135,10 @@ pub(crate) fn row_versions<'a, C: Class>(table: Table<'a>, which: SymbolTable) -
     ensures { result.now ≡ bytes_if table.entry.data.now
         (versions_section which (walk C.table (table_view table.entry))) }
 {
-    bytes_if(table.data, versions_section::<C>(table, which))
+    match which {
+        SymbolTable::Symtab => &[],
+        SymbolTable::Dynsym => { bytes_if(table.data, whole_section_of_kind::<C>(table, VERSIONS)) }
+    }
 }
 
 // The bytes of a section, where there is one and it lies in the file.
@@ -149,33 +152,8 @@ pub(crate) fn bytes_if<C: Class>(file: &[u8], section: Option<Section<C>>) -> &[
     }
 }
 
-// The section of the versions of this symbol table's rows.
-pub(crate) fn versions_section<C: Class>(table: Table<'_>, which: SymbolTable) -> Option<Section<C>>
-    ensures { option_map (section_view C.number_of) result
-        ≡ versions_section which (walk C.table (table_view table.entry)) }
-{
-    match which {
-        SymbolTable::Symtab => None,
-        SymbolTable::Dynsym => whole_section_of_kind::<C>(table, VERSIONS),
-    }
-}
-
-// The section of the definitions of its versions.
-pub(crate) fn definitions_section<C: Class>(
-    table: Table<'_>,
-    which: SymbolTable,
-) -> Option<Section<C>>
-    ensures { option_map (section_view C.number_of) result
-        ≡ definitions_section which (walk C.table (table_view table.entry)) }
-{
-    match which {
-        SymbolTable::Symtab => None,
-        SymbolTable::Dynsym => whole_section_of_kind::<C>(table, DEFINITIONS),
-    }
-}
-
 // The first section of this type whose header is whole.
-fn whole_section_of_kind<C: Class>(table: Table<'_>, kind: Word) -> Option<Section<C>>
+pub(crate) fn whole_section_of_kind<C: Class>(table: Table<'_>, kind: Word) -> Option<Section<C>>
     ensures { option_map (section_view C.number_of) result
         ≡ find (λ s. nat_eq s.kind kind) (walk C.table (table_view table.entry)).items }
 {

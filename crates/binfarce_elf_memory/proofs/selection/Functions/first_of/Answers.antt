@@ -1,4 +1,4 @@
-use Rattle.std.proofs.Common.{◌<◌, ◌/◌, ℕ, length, get_or, sym, ap, ap₂, ◌∙◌}
+use Rattle.std.proofs.Common.{◌≡◌, ◌<◌, ◌/◌, ℕ, length, get_or, sym, ap, ap₂, ◌∙◌, rules, tests}
 use Rattle.binfarce_elf.specs.Classes.{class_of}
 use Rattle.binfarce_elf.specs.Elf.{SymbolRow}
 use Rattle.binfarce_elf_memory.specs.ElfSelection.{entry_taken}
@@ -21,7 +21,8 @@ loop-k-preserved c =
     let at = match_ok c.row_at.result c.unwrap-row.result _ _ c.unwrap-row.ensures c.row_at.ensures in
     let same = row_is class it.byte_order it.rows.now k c.symbol_length-length.result row c.symbol_length-length.ensures.is at.1 in
     let version = version_of it.byte_order it.versions.now in
-    let none = ap (λ (r : SymbolRow ℕ). entry r (version k) (get_or it.sizes.now k 0)) same ∙ ap₂ (entry row) (sym c.version_at-version.ensures) (sym c.size_at-size.ensures) ∙ sym c.in-None.ensures in
+    let size : c.unwrap_or-size.result ≡ get_or it.sizes.now k 0 = search (rules, tests) in
+    let none = ap (λ (r : SymbolRow ℕ). entry r (version k) (get_or it.sizes.now k 0)) same ∙ ap₂ (entry row) (sym c.version_at-version.ensures) (sym size) ∙ sym c.in-None.ensures in
     let below : k < length it.rows.now / class.symbol_length = rw (← c.symbol_length-length.ensures.is) c.loop-k-test.true in
     c.loop-k.invariant ∙ passed (λ k. entry (row_of class it.byte_order it.rows.now k) (version k) (get_or it.sizes.now k 0)) k (length it.rows.now / class.symbol_length) below none
 
@@ -35,6 +36,7 @@ returns-in-Some c =
     let at = match_ok c.row_at.result c.unwrap-row.result _ _ c.unwrap-row.ensures c.row_at.ensures in
     let same = row_is class it.byte_order it.rows.now k c.symbol_length-length.result row c.symbol_length-length.ensures.is at.1 in
     let version = version_of it.byte_order it.versions.now in
-    let some = ap (λ (r : SymbolRow ℕ). entry r (version k) (get_or it.sizes.now k 0)) same ∙ ap₂ (entry row) (sym c.version_at-version.ensures) (sym c.size_at-size.ensures) ∙ sym c.in-Some.ensures in
+    let size : c.unwrap_or-size.result ≡ get_or it.sizes.now k 0 = search (rules, tests) in
+    let some = ap (λ (r : SymbolRow ℕ). entry r (version k) (get_or it.sizes.now k 0)) same ∙ ap₂ (entry row) (sym c.version_at-version.ensures) (sym size) ∙ sym c.in-Some.ensures in
     let below : k < length it.rows.now / class.symbol_length = rw (← c.symbol_length-length.ensures.is) c.loop-k-test.true in
     c.loop-k.invariant ∙ kept (λ k. entry (row_of class it.byte_order it.rows.now k) (version k) (get_or it.sizes.now k 0)) k (length it.rows.now / class.symbol_length) (section_function_view c.in-Some.function) below some

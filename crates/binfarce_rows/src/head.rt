@@ -17,24 +17,15 @@ use std::fmt::Write;
 pub fn push_head(text: &mut String, address: u64, size: u64) -> Result<(), AllocError>
     ensures { OnOk result (string_bytes text.new ≡ string_bytes text.old ++ line_head address size) }
 {
-    if size < 10_000_000_000 {
-        return push_head_of_28(text, address, size);
+    if size >= 10_000_000_000 {
+        return write!(text, "{address:016x} {size:>10} ");
     }
-    write!(text, "{address:016x} {size:>10} ")
-}
-
-// Writes the head of a size of at most 10 digits: it has 28 bytes.
-#[inline(always)]
-fn push_head_of_28(text: &mut String, address: u64, size: u64) -> Result<(), AllocError>
-    requires { size < 10 ^ 10 }
-    ensures { OnOk result (string_bytes text.new ≡ string_bytes text.old ++ line_head address size) }
-{
     let mut head = [b' '; 28];
     put_head(&mut head, address, size);
     text.push_str(std::str::from_utf8(&head).unwrap())
 }
 
-// Puts an address and a size into 28 blanks.
+// Puts an address and a size of at most 10 digits into 28 blanks.
 #[inline(always)]
 fn put_head(head: &mut [u8], address: u64, size: u64)
     requires blanks { head.old ≡ replicate 28 32 }

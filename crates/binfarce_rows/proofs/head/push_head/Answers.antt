@@ -1,6 +1,6 @@
 use Rattle.std.proofs.Common.{arith, rules}
 use Rattle.binfarce_rows.proofs.Heads.{head_is_utf8}
-use Rattle.binfarce_rows.proofs.head.push_head_of_28.Goals as goal
+use Rattle.binfarce_rows.proofs.head.push_head.Goals as goal
 
 pub unwrap-requires : goal.unwrap-requires
 unwrap-requires c =

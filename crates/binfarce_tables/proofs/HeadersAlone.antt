@@ -1,7 +1,7 @@
 -- The walk over the section headers alone, and where the symbols are by what is found there.
 use Rattle.std.proofs.Common.{◌≡◌, ℕ, zero, suc, ◌+◌, ◌*◌, ◌-◌, ◌/◌, ◌<◌, ◌≤◌, cond, ltb, leb, ◌&&◌, List, ◌∷◌, length, take, drop, map, min, Some, None, refl, ap, ap₂, ◌∙◌, arith, inl, inr, length-drop}
 use Rattle.std.proofs.Math.Bool.{and-false}
-use Rattle.std.proofs.Math.Nat.{div-mul-le_self}
+use Rattle.std.proofs.Math.Nat.{div-mul-le_self, min_comm}
 use Rattle.std.proofs.lemmas.Bool.{cases_lt, lt-ltb, lt-leb, le-leb}
 use Rattle.std.proofs.lemmas.List.{drop-take, drop-drop, take-take, length-take-le}
 use Rattle.std.proofs.lemmas.Nat.{div-mul-add}
@@ -18,6 +18,7 @@ use Rattle.binfarce_elf.specs.declared.class.Width.{Width}
 use Rattle.binfarce_elf.specs.declared.class.Width.TheVariants.{Bits32, Bits64}
 use Rattle.binfarce_elf_memory.specs.declared.parts.HeaderTable.{HeaderTable}
 use Rattle.binfarce_elf.specs.machine.RawElf.{fields_of_header, fields_of_section}
+use Rattle.binfarce_tables.specs.ElfReads.{headers_size}
 use Rattle.binfarce_tables.specs.machine.Places.{headers_of}
 
 pub bytes_in : (file : List ℕ) (start len k width : ℕ) → k + width ≤ len → bytes_at (bytes_at file start len) k width ≡ bytes_at file (start + k) width
@@ -157,6 +158,15 @@ whole_is n size some =
 
 fits : (a b size rest : ℕ) → a ≤ b → b * size ≤ rest → a * size ≤ rest
 fits a b size rest le h = grind arith
+
+-- how many bytes are read of them
+pub headers_read : (class : ElfClass) (table : SectionTable) (len count size room : ℕ) → len ≡ length table.file → size ≡ class.section_length → room ≡ len - table.shoff
+    → count ≡ min (room / size) table.shnum → table.shoff ≤ len → (count * size ≡ headers_size class table) × (table.shoff + count * size ≤ length table.file)
+headers_read class table len count size room all is left least begun =
+    let whole : room / size ≡ whole_headers class table = cc in
+    let same : count * size ≡ headers_size class table = ap₂ (λ (m n : ℕ). m * n) (least ∙ min_comm (room / size) table.shnum ∙ ap (min table.shnum) whole) is in
+    let inside : count * size ≤ room = fits count (room / size) size room (omega (arith, least)) (div-mul-le_self room size) in
+    (same, omega (arith, inside, all, left, begun))
 
 pub headers_long : (class : ElfClass) (table : SectionTable) → length (headers_of class table) ≡ min table.shnum (whole_headers class table) * class.section_length
 headers_long class table =

@@ -1,28 +1,27 @@
 //! The parts of an ELF file that have the function symbols of a selection.
 
-ghost use Rattle.std.specs.Prelude.{[], ◌∷◌, ◌≡◌, ◌≢◌, ◌<◌, ◌≤◌, List, ℕ, true, Ok, Option, Some, None, IfOk, IfErr};
+ghost use Rattle.std.specs.Prelude.{[], ◌∷◌, ◌≡◌, ◌≢◌, ◌<◌, List, ℕ, true, Ok, Option, Some, None, IfOk, IfErr};
 ghost use Rattle.std.specs.BTreeMap.{get};
 ghost use Rattle.std.specs.Ordering.{nat_cmp};
 ghost use Rattle.std.specs.Option.{option_map};
 ghost use Rattle.binfarce_bytes.specs.Part.{part, parts_if};
 ghost use Rattle.binfarce_bytes.specs.Source.{ReadsOnly};
-ghost use Rattle.binfarce_bytes.specs.Refusal.{Gives, refusal_of};
 ghost use Rattle.binfarce_bytes.specs.Selection.{section_of};
 ghost use Rattle.binfarce_elf.specs.Classes.{class_of};
 ghost use Rattle.binfarce_elf.specs.Elf.{contents, header_of, names_bytes};
-ghost use Rattle.binfarce_elf_memory.specs.SelectionViews.{needed_view, kind_view, functions_left, selected_view, taken_view, version_names};
+ghost use Rattle.binfarce_elf_memory.specs.SelectionViews.{needed_view, kind_view, functions_left, selected_view, version_names};
 ghost use Rattle.binfarce_elf.specs.ElfViews.{table_sections_view, section_view};
 ghost use Rattle.binfarce_elf_memory.specs.ElfEnds.{file_kind};
 ghost use Rattle.binfarce_elf_memory.specs.ElfSelection.{selected_file_answer, needed, size_taken};
 ghost use Rattle.binfarce_elf.specs.SymbolTables.{rows_at};
 ghost use Rattle.binfarce_elf.specs.ElfSymbols.{section_data};
 ghost use Rattle.binfarce_elf_memory.specs.Versions.{bytes_if, definitions, definitions_section, name_offset, versions_section};
-ghost use Rattle.binfarce_tables.specs.ElfReading.{parts_view, symbols_by, symbols_in};
-ghost use Rattle.binfarce_tables.specs.ElfReads.{elf_parts, headers_size, names_parts, rows_parts, section_parts, version_parts};
+ghost use Rattle.binfarce_tables.specs.ElfReading.{parts_view};
+ghost use Rattle.binfarce_tables.specs.ElfReads.{elf_parts, names_parts, rows_parts, section_parts, version_parts};
 ghost use Rattle.binfarce_tables.specs.Reading.{Reads, Known};
 ghost use Rattle.binfarce_tables.specs.SectionReading.{sections_view};
 ghost use Rattle.binfarce_tables.specs.declared.error.ReadError.TheVariants.{Unreadable};
-ghost use Rattle.binfarce_tables.specs.machine.Places.{table_at, table_step, headers_of, placed_parts, rows_in_file, rows_view};
+ghost use Rattle.binfarce_tables.specs.machine.Places.{table_at, table_step, placed_parts, rows_in_file, rows_view};
 
 use crate::error::ReadError;
 use crate::opened::{Opened, open};
@@ -39,7 +38,7 @@ use binfarce_elf_memory::descriptors::stored;
 use binfarce_elf_memory::parts::{self, HeaderTable, needed_in, place_in, section_at, sizes_in};
 use binfarce_elf_memory::selection::{Functions, Needed, Taken, functions_in};
 use binfarce_elf_memory::versions::{VersionNames, name_offsets};
-use std::alloc::{AllocError, Global};
+use std::alloc::Global;
 use std::collections::BTreeMap;
 
 /// `ET_REL`, the type of an object file.
@@ -135,10 +134,21 @@ pub fn read<S: Source>(
 {
     let opened = open(alloc, source)?;
     let sections = sections_of(&opened, log, width, byte_order)?;
-    let needed = needed_of(&sections, which, selection)?;
+    let (headers, width, place) = (&sections.headers, sections.width, sections.place);
+    let names = slice_of(&sections.names);
+    let needed = needed_in(headers, width, place, names, which, selection)?;
     let table = read_placed(&opened, log, &sections, needed)?;
     let versions = read_versions(&opened, log, &sections, which)?;
-    let sizes = sizes_of(alloc, &sections, needed.taken, &table)?;
+    let rows = &table.rows;
+    let sizes = sizes_in(
+        alloc,
+        headers,
+        width,
+        place,
+        needed.taken,
+        rows,
+        &table.strings,
+    )?;
     Ok(Parts {
         sections,
         rows: table.rows,
@@ -147,48 +157,6 @@ pub fn read<S: Source>(
         taken: needed.taken,
         sizes,
     })
-}
-
-// For all sections, the sizes in memory of these rows.
-fn sizes_of(
-    alloc: Global,
-    sections: &SectionParts,
-    taken: Taken,
-    table: &TableParts,
-) -> Result<Vec<u64>, AllocError>
-    ensures { (versions : List ℕ) (version_name : ℕ → Option (List ℕ))
-        → let seen = sections_view sections.now in
-        IfOk result (λ v. symbols_by seen (taken_view taken) (rows_view table.now) versions v.items version_name
-        ≡ symbols_in seen (taken_view taken) (rows_view table.now) versions version_name) }
-{
-    sizes_in(
-        alloc,
-        &sections.headers,
-        sections.width,
-        sections.place,
-        taken,
-        &table.rows,
-        &table.strings,
-    )
-}
-
-// What a selection needs of these sections.
-fn needed_of(
-    sections: &SectionParts,
-    which: SymbolTable,
-    selection: Selection<'_>,
-) -> Result<Needed, ParseError>
-    ensures { let seen = sections_view sections.now in Gives refusal_of needed_view
-        (needed which seen.sections seen.names seen.count (section_of selection.entry)) result }
-{
-    needed_in(
-        &sections.headers,
-        sections.width,
-        sections.place,
-        slice_of(&sections.names),
-        which,
-        selection,
-    )
 }
 
 pub(crate) fn read_place<S: Source>(
@@ -221,28 +189,6 @@ pub(crate) fn slice_of(bytes: &Option<Vec<u8>>) -> Option<&[u8]>
         None => None,
         Some(bytes) => Some(bytes.as_slice()),
     }
-}
-
-// The section headers that are whole, up to the count.
-pub(crate) fn read_headers<S: Source>(
-    opened: &Opened<'_, S>,
-    log: &mut S::Log,
-    width: Width,
-    place: HeaderTable,
-) -> Result<Vec<u8>, ReadError>
-    ensures answer { (file : List ℕ) → Known (S.bytes opened.now.source.now) opened.now.len file
-        → place.shoff ≤ opened.now.len
-        → Reads (S.may_fail opened.now.source.now) (λ v. v.items)
-        (Ok (headers_of (class_of width) (table_at file place))) result }
-    ensures only { (file : List ℕ) → Known (S.bytes opened.now.source.now) opened.now.len file
-        → ReadsOnly (S.is_sure opened.now.source.now) (S.logs_only log.old) (S.logs_only log.new)
-        (part place.shoff (headers_size (class_of width) (table_at file place)) ∷ [])
-        (IfErr result (λ e. e ≢ Unreadable)) }
-{
-    let size = width.section_length() as u64;
-    let whole = opened.len.saturating_sub(place.shoff) / size;
-    let count = whole.min(place.shnum as u64);
-    opened.part(log, place.shoff, count * size)
 }
 
 // The section names, where the file has them.

@@ -6,7 +6,7 @@ use Rattle.binfarce_elf.specs.Classes.{class_of}
 use Rattle.binfarce_tables.specs.machine.Places.{table_at, headers_of}
 use Rattle.binfarce_tables.proofs.Contents.{part_long}
 use Rattle.binfarce_tables.proofs.ElfSure.{of_headers, of_no_header}
-use Rattle.binfarce_tables.proofs.HeadersAlone.{HasWithin, within_of, some_of, headers_walk}
+use Rattle.binfarce_tables.proofs.HeadersAlone.{HasWithin, within_of, some_of, headers_read, headers_walk}
 use Rattle.binfarce_tables.proofs.Located.{walk_outside, walk_of_none}
 use Rattle.binfarce_tables.proofs.SectionsRead.{seen_as}
 use Rattle.binfarce_tables.proofs.Sure.{one}
@@ -39,10 +39,11 @@ returns-clause-answer g c = λ file known.
     let some : 0 < class.section_length = some_of c.args.width in
     let inside : c.args.place.shoff < length file = omega (arith, known.1, c.if-place-opened.false) in
     let any : 0 < c.args.place.shnum = omega (arith, c.if-place-eq0.false) in
+    let size = headers_read (class_of c.args.width) (table_at file c.args.place) c.args.opened.now.len c.min-count.result c.section_length-size.result c.saturating_sub.result known.1 c.section_length-size.ensures.is c.saturating_sub.ensures c.min-count.ensures (omega (arith, c.if-place-opened.false)) in
     seen_as (g.S.Source.may_fail c.args.opened.now.source.now) (λ (v : Vec ℕ Global). v.items) (λ (v : Vec ℕ Global). walk class (headers_alone c.args.place.byte_order v.items c.args.place.shnum))
-    (headers_of class table) (walk class table) c.read_headers.result
+    (headers_of class table) (walk class table) c.part-2.result
     (λ v is. ap (λ (h : List ℕ). walk class (headers_alone c.args.place.byte_order h c.args.place.shnum)) is ∙ headers_walk class table within some inside any)
-    (c.read_headers.ensures.answer file known (omega (arith, c.if-place-opened.false)))
+    (rw size.0 at (c.part-2.ensures.part file known.0 size.1))
 
 pub returns-then-place-eq0-clause-only : goal.returns-then-place-eq0-clause-only
 returns-then-place-eq0-clause-only g c = λ file known.
@@ -50,4 +51,5 @@ returns-then-place-eq0-clause-only g c = λ file known.
 
 pub returns-clause-only : goal.returns-clause-only
 returns-clause-only g c = λ file known.
-    one (λ P. of_headers P (class_of c.args.width) (table_at file c.args.place) (omega (arith, known.1, c.if-place-opened.false)) (omega (arith, c.if-place-eq0.false))) (c.read_headers.ensures.only file known)
+    let size = headers_read (class_of c.args.width) (table_at file c.args.place) c.args.opened.now.len c.min-count.result c.section_length-size.result c.saturating_sub.result known.1 c.section_length-size.ensures.is c.saturating_sub.ensures c.min-count.ensures (omega (arith, c.if-place-opened.false)) in
+    one (λ P. of_headers P (class_of c.args.width) (table_at file c.args.place) (omega (arith, known.1, c.if-place-opened.false)) (omega (arith, c.if-place-eq0.false))) (rw size.0 at c.part-2.ensures.only)

@@ -51,43 +51,27 @@ fn main(rt: HostRuntime) -> ExitCode {
     ExitCode::from(status)
 }
 
-// How often the buffer for an argument grows to double its size.
-const GROWTHS: usize = 32;
-
-// The arguments after the program's own name; `None` for one that isn't UTF-8.
+// The arguments after the program's own name; `None` for one that isn't UTF-8. The buffer that they are read into grows
+// to double its size for one that is too long.
 fn texts(rt: &HostRuntime) -> Result<Vec<Option<String>>, AllocError> {
-    let mut texts = Vec::new(rt.alloc());
-    let mut buffer = Vec::new(rt.alloc());
-    buffer.resize(256, 0)?;
-    for at in 1..usize::MAX {
-        match argument(rt, at, &mut buffer)? {
-            Some(text) => texts.push(text)?,
-            None => break,
-        }
-    }
-    Ok(texts)
-}
-
-// The argument at this position, if there is one, read into the buffer, which grows; `None` of one that isn't UTF-8.
-fn argument(
-    rt: &HostRuntime,
-    at: usize,
-    buffer: &mut Vec<u8>,
-) -> Result<Option<Option<String>>, AllocError> {
     let alloc = rt.alloc();
-    for _ in 0..GROWTHS {
-        match rt.arg(at, buffer) {
+    let mut texts = Vec::new(alloc);
+    let mut buffer = Vec::new(alloc);
+    buffer.resize(256, 0)?;
+    for _ in 0..u64::MAX {
+        match rt.arg(texts.len() + 1, &mut buffer) {
             Ok(len) => {
-                return match std::str::from_utf8(&buffer[..len]) {
-                    Ok(text) => Ok(Some(Some(String::from_str(alloc, text)?))),
-                    Err(_) => Ok(Some(None)),
+                let text = match std::str::from_utf8(&buffer[..len]) {
+                    Ok(text) => Some(String::from_str(alloc, text)?),
+                    Err(_) => None,
                 };
+                texts.push(text)?;
             }
-            Err(FillError::NotPresent) => return Ok(None),
+            Err(FillError::NotPresent) => break,
             Err(FillError::TooLong) => buffer.resize(buffer.len().saturating_mul(2), 0)?,
         }
     }
-    Err(AllocError)
+    Ok(texts)
 }
 
 // Runs the call that the arguments mean, and returns the program's exit status.

@@ -1,6 +1,6 @@
 //! A symbol table, its strings and its rows: where they are in a file.
 
-ghost use Rattle.std.specs.Prelude.{◌≡◌, nat_eq};
+ghost use Rattle.std.specs.Prelude.{nat_eq};
 ghost use Rattle.std.specs.Option.{option_map};
 ghost use Rattle.binfarce_bytes.specs.Refusal.{Gives, refusal_of, unexpected_eof};
 ghost use Rattle.binfarce_bytes.specs.Walk.{first};

@@ -11,12 +11,10 @@ ghost use Rattle.binfarce_elf.specs.SymbolTables.{TableRows};
 ghost use Rattle.binfarce_elf.specs.machine.RawElf.{table_view};
 ghost use Rattle.binfarce_elf_memory.specs.ElfEnds.{has_modes};
 ghost use Rattle.binfarce_elf_memory.specs.ElfParts.{IsPlaceOf, headers_alone, sections_left};
-ghost use Rattle.binfarce_elf_memory.specs.ElfSelection.{name_of_index, needed, needed_descriptors, taken_from};
-ghost use Rattle.binfarce_elf_memory.specs.Descriptors.{rows_in_code};
+ghost use Rattle.binfarce_elf_memory.specs.ElfSelection.{name_of_index, needed, taken_from};
 ghost use Rattle.binfarce_elf_memory.specs.SelectionViews.{kind_view, needed_view, sized_from, taken_view};
 ghost use Rattle.binfarce_elf_memory.specs.Versions as versions;
 
-use crate::descriptors::{needed_descriptors, rows_in_code};
 use crate::ends::{FileKind, keys_of, kind_of, sizes_of};
 use crate::selection::{Needed, Taken, needed_of};
 use crate::versions::{DEFINITIONS, VERSIONS, whole_section_of_kind};
@@ -158,42 +156,6 @@ fn widened(section: Option<Section<u32>>) -> Option<Section<u64>>
     ensures { option_map (section_view (λ n. n)) result ≡ option_map (section_view (λ n. n)) section }
 {
     Some(section?.widened())
-}
-
-/// The section of the descriptors that the functions of a selection need, found in these section headers, whose names
-/// are in `names`: in 64-bit PowerPC files of ABI version 1, for all sections. Its bytes are needed where it is `stored`.
-pub fn descriptors_in(
-    headers: &[u8],
-    width: Width,
-    place: HeaderTable,
-    names: Option<&[u8]>,
-    taken: Taken,
-) -> Option<Section<u64>>
-    ensures { option_map (section_view (λ n. n)) result ≡ needed_descriptors (class_of width)
-        (walk (class_of width) (headers_alone place.byte_order headers.now place.shnum))
-        (option_map (λ b. b.now) names.entry) (kind_view place.kind) (taken_view taken) }
-{
-    let table = headers_alone(headers, place.byte_order, place.shnum);
-    needed_descriptors(table, names, width, place.kind, taken)
-}
-
-/// These rows, with the functions whose descriptors are in this section, of these bytes, where their code is. The only
-/// error is a failed allocation.
-pub fn rows_in(
-    alloc: Global,
-    headers: &[u8],
-    width: Width,
-    place: HeaderTable,
-    section: Section<u64>,
-    descriptors: &[u8],
-    rows: &[u8],
-) -> Result<Vec<u8>, AllocError>
-    ensures { IfOk result (λ v. v.items ≡ rows_in_code place.byte_order
-        (walk (class_of width) (headers_alone place.byte_order headers.now place.shnum))
-        (section_view (λ n. n) section) descriptors.now rows.now) }
-{
-    let table = headers_alone(headers, place.byte_order, place.shnum);
-    rows_in_code(alloc, table, width, section, descriptors, rows)
 }
 
 /// The sizes in memory of all rows of a symbol table, for a selection of all sections: for one section none. The rows'
@@ -343,8 +305,8 @@ pub fn name_of_index<'a>(
     }
 }
 
-// The section headers alone, as a table that begins at its first byte.
-fn headers_alone(headers: &[u8], byte_order: ByteOrder, count: Half) -> Table<'_>
+/// These section headers alone, as a table that begins at its first byte.
+pub fn headers_alone(headers: &[u8], byte_order: ByteOrder, count: Half) -> Table<'_>
     ensures { table_view result ≡ headers_alone byte_order headers.entry.now count }
 {
     Table {

@@ -1,6 +1,6 @@
 //! The function symbols of a selection: of one section, or of all sections with their addresses and sizes in memory.
 
-ghost use Rattle.std.specs.Prelude.{◌≡◌, List, [], ◌∷◌, length, map, nat_eq, Some, None, IfOk, MatchOption, MatchResult, slice_index_or};
+ghost use Rattle.std.specs.Prelude.{◌≡◌, List, [], ◌∷◌, length, map, nat_eq, Some, None, IfOk, MatchOption, MatchResult};
 ghost use Rattle.std.specs.Result.{IsOk};
 ghost use Rattle.std.specs.Option.{option_map};
 ghost use Rattle.std.specs.List.{range_with_len, filter_map};
@@ -15,7 +15,7 @@ ghost use Rattle.binfarce_elf.specs.Elf.{walk};
 ghost use Rattle.binfarce_elf.specs.ElfSymbols.{row_count, row_of};
 ghost use Rattle.binfarce_elf.specs.machine.RawElf.{symbol_view, table_view};
 ghost use Rattle.binfarce_elf_memory.specs.ElfEnds.{End, kind_of};
-ghost use Rattle.binfarce_elf_memory.specs.ElfSelection.{address_taken, elf_selected, entry_sized, entry_taken, function_name, has_indirect, is_of_section, is_taken, needed, size_in, size_taken, taken, taken_from};
+ghost use Rattle.binfarce_elf_memory.specs.ElfSelection.{elf_selected, entry_sized, entry_taken, function_name, is_of_section, is_taken, needed, size_taken, taken, taken_from};
 ghost use Rattle.binfarce_elf_memory.specs.SelectionViews.{HoldsAllFunctions, functions_left, kind_view, needed_view, selected_view, sized_from, taken_view};
 ghost use Rattle.binfarce_elf_memory.specs.Versions.{bytes_if, version_of, versions_section};
 ghost use Rattle.binfarce_elf_memory.specs.machine.RawSelection.{AreKeysOf, rows_or};

@@ -34,8 +34,10 @@ use binfarce_elf::class::{Half, Width, Word};
 use binfarce_elf::sections::Section;
 use binfarce_elf::symbol_table::SymbolTable;
 use binfarce_elf::symbols::{TableSections, whole_rows};
-use binfarce_elf_memory::descriptors::stored;
-use binfarce_elf_memory::parts::{self, HeaderTable, needed_in, place_in, section_at, sizes_in};
+use binfarce_elf_memory::descriptors::{needed_descriptors, rows_in_code, stored};
+use binfarce_elf_memory::parts::{
+    HeaderTable, headers_alone, needed_in, place_in, section_at, sizes_in, version_sections,
+};
 use binfarce_elf_memory::selection::{Functions, Needed, Taken, functions_in};
 use binfarce_elf_memory::versions::{VersionNames, name_offsets};
 use std::alloc::Global;
@@ -260,28 +262,16 @@ fn read_placed<S: Source>(
         (placed_parts file (sections_view sections.now) (needed_view needed)) (IfErr result (λ e. e ≢ Unreadable)) }
 {
     let table = read_rows(opened, log, sections.width, needed.table)?;
-    let headers = &sections.headers;
     let (width, place) = (sections.width, sections.place);
-    let found = parts::descriptors_in(
-        headers,
-        width,
-        place,
-        slice_of(&sections.names),
-        needed.taken,
-    );
+    let headers = headers_alone(&sections.headers, place.byte_order, place.shnum);
+    let names = slice_of(&sections.names);
+    let found = needed_descriptors(headers, names, width, place.kind, needed.taken);
     let Some(section) = found else {
         return Ok(table);
     };
     let descriptors = read_if(opened, log, stored(section))?;
-    let rows = parts::rows_in(
-        opened.alloc,
-        headers,
-        width,
-        place,
-        section,
-        &descriptors,
-        &table.rows,
-    )?;
+    let alloc = opened.alloc;
+    let rows = rows_in_code(alloc, headers, width, section, &descriptors, &table.rows)?;
     Ok(TableParts {
         strings: table.strings,
         rows,
@@ -314,7 +304,7 @@ fn read_versions<S: Source>(
         (version_parts which file (sections_view sections.now).sections) (IfErr result (λ e. e ≢ Unreadable)) }
 {
     let headers = &sections.headers;
-    let found = parts::version_sections(headers, sections.width, sections.place, which);
+    let found = version_sections(headers, sections.width, sections.place, which);
     let rows = read_if(opened, log, found.versions)?;
     let definitions = read_if(opened, log, found.definitions)?;
     let names = name_offsets(opened.alloc, &definitions, sections.place.byte_order)?;

@@ -1,6 +1,6 @@
 //! The options and operands that are given.
 
-ghost use Rattle.std.specs.Prelude.{◌≡◌, find, map, reverse, is_some, IfOk, Ok};
+ghost use Rattle.std.specs.Prelude.{◌≡◌, find, map, is_some, IfOk, Ok};
 ghost use Rattle.std.specs.List.{filter, slice_get};
 ghost use Rattle.std.specs.Option.{option_map};
 ghost use Rattle.std.specs.Str.{bytes_eq};

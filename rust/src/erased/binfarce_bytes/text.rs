@@ -4,7 +4,7 @@
 
 /// The bytes up to the first NUL, or all where there is none; a slice of `bytes`.
 pub fn up_to_nul(bytes: &[u8]) -> &[u8] {
-    match first_nul(bytes) {
+    match find_nul(bytes) {
         None => bytes,
         Some(len) => &bytes[..len],
     }
@@ -21,8 +21,8 @@ fn text_from(bytes: &[u8], start: usize) -> Option<&str> {
     match bytes.get(start..) {
         None => None,
         Some(rest) => match find_nul(rest) {
-            None => None,
-            Some(len) => first_text(rest, len),
+            None | Some(0) => None,
+            Some(len) => utf8_text(&rest[..len]),
         },
     }
 }
@@ -35,7 +35,7 @@ const LAST_STRIDE: usize = 8;
 fn find_nul(bytes: &[u8]) -> Option<usize> {
     let far = past_strides(bytes, 0, STRIDE);
     let at = past_strides(bytes, far, LAST_STRIDE);
-    match first_nul(&bytes[at..]) {
+    match bytes[at..].iter().position(|b| *b == 0) {
         None => None,
         Some(i) => Some(at + i),
     }
@@ -54,10 +54,6 @@ fn past_strides(bytes: &[u8], start: usize, stride: usize) -> usize {
     at
 }
 
-fn first_nul(bytes: &[u8]) -> Option<usize> {
-    bytes.iter().position(|b| *b == 0)
-}
-
 // Without an early exit, so that the comparisons are vectorized.
 #[cfg_attr(not(debug_assertions), inline(always))]
 fn has_nul(bytes: &[u8]) -> bool {
@@ -66,14 +62,6 @@ fn has_nul(bytes: &[u8]) -> bool {
         found |= *b == 0;
     }
     found
-}
-
-// The first `len` bytes.
-fn first_text(bytes: &[u8], len: usize) -> Option<&str> {
-    if len == 0 {
-        return None;
-    }
-    utf8_text(&bytes[..len])
 }
 
 /// The bytes as a text, without a copy; `None` where they aren't UTF-8.

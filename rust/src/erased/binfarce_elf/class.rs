@@ -3,7 +3,7 @@
 //! The two classes of ELF files: their words, and their different layouts.
 
 use crate::erased::binfarce_bytes::ByteOrder;
-use crate::erased::binfarce_bytes::parser::{RawNumber, Stream, UnexpectedEof, slice_at};
+use crate::erased::binfarce_bytes::parser::{RawNumber, UnexpectedEof, number_at, slice_at};
 
 // The standard's data types (gABI, "Data Representation"); addresses and offsets are words of the class.
 pub type Half = u16;
@@ -128,55 +128,29 @@ pub fn row_at(
     }
 }
 
-#[inline]
+// Of a slice of one row, whose length the compiler knows, no read of a field checks bounds.
+#[cfg_attr(not(debug_assertions), inline(always))]
 fn row_at_32(bytes: &[u8], start: usize, byte_order: ByteOrder) -> Result<SymbolRow, UnexpectedEof> {
     let row = slice_at(bytes, start, 16)?;
-    row_of_32(row, byte_order)
-}
-
-#[inline]
-fn row_at_64(bytes: &[u8], start: usize, byte_order: ByteOrder) -> Result<SymbolRow, UnexpectedEof> {
-    let row = slice_at(bytes, start, 24)?;
-    row_of_64(row, byte_order)
-}
-
-// The row of a 32-bit file at the front of these bytes; refused where it is truncated. For a slice of one row, whose
-// length the compiler knows, no read of a field checks bounds.
-#[cfg_attr(not(debug_assertions), inline(always))]
-fn row_of_32(bytes: &[u8], byte_order: ByteOrder) -> Result<SymbolRow, UnexpectedEof> {
-    let mut s = Stream::new(bytes, byte_order);
-    let name = s.read()?;
-    let value = s.read::<u32>()?;
-    let size = s.read::<u32>()?;
-    let info = s.read()?;
-    let other = s.read()?;
-    let section = s.read()?;
     Ok(SymbolRow {
-        name,
-        value: u64::from(value),
-        size: u64::from(size),
-        info,
-        other,
-        section,
+        name: number_at(row, 0, byte_order)?,
+        value: u64::from(number_at::<u32>(row, 4, byte_order)?),
+        size: u64::from(number_at::<u32>(row, 8, byte_order)?),
+        info: number_at(row, 12, byte_order)?,
+        other: number_at(row, 13, byte_order)?,
+        section: number_at(row, 14, byte_order)?,
     })
 }
 
-// The same for a 64-bit file.
 #[cfg_attr(not(debug_assertions), inline(always))]
-fn row_of_64(bytes: &[u8], byte_order: ByteOrder) -> Result<SymbolRow, UnexpectedEof> {
-    let mut s = Stream::new(bytes, byte_order);
-    let name = s.read()?;
-    let info = s.read()?;
-    let other = s.read()?;
-    let section = s.read()?;
-    let value = s.read()?;
-    let size = s.read()?;
+fn row_at_64(bytes: &[u8], start: usize, byte_order: ByteOrder) -> Result<SymbolRow, UnexpectedEof> {
+    let row = slice_at(bytes, start, 24)?;
     Ok(SymbolRow {
-        name,
-        value,
-        size,
-        info,
-        other,
-        section,
+        name: number_at(row, 0, byte_order)?,
+        info: number_at(row, 4, byte_order)?,
+        other: number_at(row, 5, byte_order)?,
+        section: number_at(row, 6, byte_order)?,
+        value: number_at(row, 8, byte_order)?,
+        size: number_at(row, 16, byte_order)?,
     })
 }

@@ -45,8 +45,9 @@ pub(crate) fn placed_rows(
     }
 }
 
-// The section of the descriptors that the functions of a selection need.
-pub(crate) fn needed_descriptors(
+/// The section of the descriptors that the functions of a selection need: in 64-bit PowerPC files of ABI version 1, for
+/// all sections. Its bytes are needed where it is `stored`.
+pub fn needed_descriptors(
     table: Table<'_>,
     names: Option<&[u8]>,
     width: Width,
@@ -87,8 +88,9 @@ pub fn stored(section: Section<u64>) -> Option<Section<u64>> {
     }
 }
 
-// These rows, with the functions whose descriptors are in this section, of these bytes, where their code is.
-pub(crate) fn rows_in_code(
+/// These rows, with the functions whose descriptors are in this section, of these bytes, where their code is. The only
+/// error is a failed allocation.
+pub fn rows_in_code(
     alloc: Global,
     table: Table<'_>,
     width: Width,

@@ -3,10 +3,9 @@
 //! The section header table of a file of either class, and the sections found in it alone.
 
 use crate::shim::Vec;
-use crate::erased::binfarce_elf_memory::descriptors::{needed_descriptors, rows_in_code};
 use crate::erased::binfarce_elf_memory::ends::{FileKind, keys_of, kind_of, sizes_of};
 use crate::erased::binfarce_elf_memory::selection::{Needed, Taken, needed_of};
-use crate::erased::binfarce_elf_memory::versions::{definitions_section, versions_section};
+use crate::erased::binfarce_elf_memory::versions::{DEFINITIONS, VERSIONS, whole_section_of_kind};
 use crate::erased::binfarce_bytes::functions::Selection;
 use crate::erased::binfarce_bytes::parser::UnexpectedEof;
 use crate::erased::binfarce_bytes::{ByteOrder, ParseError};
@@ -102,48 +101,24 @@ pub fn version_sections(
     which: SymbolTable,
 ) -> VersionSections {
     let table = headers_alone(headers, place.byte_order, place.shnum);
-    match width {
-        Width::Bits32 => VersionSections {
-            versions: widened(versions_section::<u32>(table, which)),
-            definitions: widened(definitions_section::<u32>(table, which)),
+    match (which, width) {
+        (SymbolTable::Symtab, _) => VersionSections {
+            versions: None,
+            definitions: None,
         },
-        Width::Bits64 => VersionSections {
-            versions: versions_section::<u64>(table, which),
-            definitions: definitions_section::<u64>(table, which),
+        (SymbolTable::Dynsym, Width::Bits32) => VersionSections {
+            versions: widened(whole_section_of_kind::<u32>(table, VERSIONS)),
+            definitions: widened(whole_section_of_kind::<u32>(table, DEFINITIONS)),
+        },
+        (SymbolTable::Dynsym, Width::Bits64) => VersionSections {
+            versions: whole_section_of_kind::<u64>(table, VERSIONS),
+            definitions: whole_section_of_kind::<u64>(table, DEFINITIONS),
         },
     }
 }
 
 fn widened(section: Option<Section<u32>>) -> Option<Section<u64>> {
     Some(section?.widened())
-}
-
-/// The section of the descriptors that the functions of a selection need, found in these section headers, whose names
-/// are in `names`: in 64-bit PowerPC files of ABI version 1, for all sections. Its bytes are needed where it is `stored`.
-pub fn descriptors_in(
-    headers: &[u8],
-    width: Width,
-    place: HeaderTable,
-    names: Option<&[u8]>,
-    taken: Taken,
-) -> Option<Section<u64>> {
-    let table = headers_alone(headers, place.byte_order, place.shnum);
-    needed_descriptors(table, names, width, place.kind, taken)
-}
-
-/// These rows, with the functions whose descriptors are in this section, of these bytes, where their code is. The only
-/// error is a failed allocation.
-pub fn rows_in(
-    alloc: Global,
-    headers: &[u8],
-    width: Width,
-    place: HeaderTable,
-    section: Section<u64>,
-    descriptors: &[u8],
-    rows: &[u8],
-) -> Result<Vec<u8>, AllocError> {
-    let table = headers_alone(headers, place.byte_order, place.shnum);
-    rows_in_code(alloc, table, width, section, descriptors, rows)
 }
 
 /// The sizes in memory of all rows of a symbol table, for a selection of all sections: for one section none. The rows'
@@ -260,8 +235,8 @@ pub fn name_of_index<'a>(
     }
 }
 
-// The section headers alone, as a table that begins at its first byte.
-fn headers_alone(headers: &[u8], byte_order: ByteOrder, count: Half) -> Table<'_> {
+/// These section headers alone, as a table that begins at its first byte.
+pub fn headers_alone(headers: &[u8], byte_order: ByteOrder, count: Half) -> Table<'_> {
     Table {
         data: headers,
         byte_order,

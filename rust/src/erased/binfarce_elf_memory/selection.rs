@@ -14,11 +14,9 @@ use crate::erased::binfarce_bytes::functions::{
 use crate::erased::binfarce_bytes::parser::{UnexpectedEof, parse_null_string};
 use crate::erased::binfarce_bytes::{ByteOrder, ParseError};
 use crate::erased::binfarce_elf::class::{Class, Half, SymbolRow, Width, row_at};
-use crate::erased::binfarce_elf::sections::{Table, index_of, names_bytes};
+use crate::erased::binfarce_elf::sections::{Table, index_of, names_bytes, section_named};
 use crate::erased::binfarce_elf::symbol_table::SymbolTable;
-use crate::erased::binfarce_elf::symbols::{
-    Rows, TableSections, named_section, rows_at, table_sections,
-};
+use crate::erased::binfarce_elf::symbols::{Rows, TableSections, rows_at, table_sections};
 use crate::shim::alloc::{AllocError, Global};
 
 // The index of no section, and the first of the reserved indices.
@@ -207,39 +205,27 @@ pub(crate) fn needed_of<C: Class>(
     which: SymbolTable,
     selection: Selection<'_>,
 ) -> Result<Needed, ParseError> {
-    let taken = taken_by::<C>(table, names, which, selection)?;
+    let taken = match selection {
+        Selection::Section(name) => {
+            let Some(section) = section_named::<C>(table, names, name)? else {
+                return Err(ParseError::SymbolsSectionIsMissing);
+            };
+            Taken::Section {
+                index: index_of(section),
+                size: section.size().widened(),
+                indirect: matches!(which, SymbolTable::Dynsym),
+            }
+        }
+        Selection::All => {
+            whole_sections::<C>(table)?;
+            Taken::All { count: table.shnum }
+        }
+    };
     let sections = table_sections::<C>(table, which)?;
     Ok(Needed {
         taken,
         table: sections,
     })
-}
-
-fn taken_by<C: Class>(
-    table: Table<'_>,
-    names: Option<&[u8]>,
-    which: SymbolTable,
-    selection: Selection<'_>,
-) -> Result<Taken, ParseError> {
-    match selection {
-        Selection::Section(name) => {
-            let section = named_section::<C>(table, names, name)?;
-            Ok(Taken::Section {
-                index: index_of(section),
-                size: section.size().widened(),
-                indirect: has_indirect(which),
-            })
-        }
-        Selection::All => {
-            whole_sections::<C>(table)?;
-            Ok(Taken::All { count: table.shnum })
-        }
-    }
-}
-
-// Whether indirect functions count among those of one section.
-fn has_indirect(which: SymbolTable) -> bool {
-    which == SymbolTable::Dynsym
 }
 
 // Refused where a section header is truncated.
@@ -310,7 +296,7 @@ impl<'a> Functions<'a> {
         for k in self.next..self.rows.len() / length {
             let row = row_at(width, self.rows, k * length, self.byte_order).unwrap();
             let version = version_at(self.versions, k, self.byte_order);
-            let size = size_at(self.sizes, k);
+            let size = self.sizes.get(k).copied().unwrap_or(0);
             match function_of(self.strings, self.taken, self.has_modes, row, version, size) {
                 None => continue,
                 Some(function) => return Some((function, k + 1)),
@@ -331,12 +317,6 @@ impl<'a> Iterator for Functions<'a> {
     }
 }
 
-// The size of row k among these; 0 where they have none.
-#[cfg_attr(not(debug_assertions), inline(always))]
-fn size_at(sizes: &[u64], k: usize) -> u64 {
-    if k < sizes.len() { sizes[k] } else { 0 }
-}
-
 // The function of a row of this version, and of this size in memory, with its section, where it is taken.
 #[cfg_attr(not(debug_assertions), inline(always))]
 fn function_of(
@@ -347,45 +327,24 @@ fn function_of(
     version: Half,
     size: u64,
 ) -> Option<SectionFunction<'_>> {
-    let name = function_name(strings, taken, row)?;
+    if !is_taken(taken, row) || row.name == 0 {
+        return None;
+    }
+    let name = parse_null_string(strings, to_usize(row.name))?;
+    let (address, size) = match taken {
+        Taken::Section { .. } => (row.value, row.size),
+        Taken::All { .. } => (address_of(has_modes, row), size),
+    };
     Some(SectionFunction {
         section: u32::from(row.section),
         info: row.info,
         version,
         function: FunctionSymbol {
             name,
-            address: address_taken(taken, has_modes, row),
-            size: size_in(taken, row, size),
+            address,
+            size,
         },
     })
-}
-
-// The address of a row's function, where it is taken.
-#[cfg_attr(not(debug_assertions), inline(always))]
-fn address_taken(taken: Taken, has_modes: bool, row: SymbolRow) -> u64 {
-    match taken {
-        Taken::Section { .. } => row.value,
-        Taken::All { .. } => address_of(has_modes, row),
-    }
-}
-
-// The size of a row's function, where it is taken; this one in memory.
-#[cfg_attr(not(debug_assertions), inline(always))]
-fn size_in(taken: Taken, row: SymbolRow, size: u64) -> u64 {
-    match taken {
-        Taken::Section { .. } => row.size,
-        Taken::All { .. } => size,
-    }
-}
-
-// The name of a row's function, where it is taken.
-#[cfg_attr(not(debug_assertions), inline(always))]
-fn function_name(strings: &[u8], taken: Taken, row: SymbolRow) -> Option<&str> {
-    if is_taken(taken, row) && row.name != 0 {
-        parse_null_string(strings, to_usize(row.name))
-    } else {
-        None
-    }
 }
 
 // Whether a row is of a function that is taken.

@@ -13,9 +13,9 @@ use crate::shim::alloc::{AllocError, Global};
 use crate::shim::collections::BTreeMap;
 
 // The types of the sections of versions, and of their definitions: `SHT_GNU_versym` and `SHT_GNU_verdef`.
-const VERSIONS: Word = 0x6fffffff;
+pub(crate) const VERSIONS: Word = 0x6fffffff;
 
-const DEFINITIONS: Word = 0x6ffffffd;
+pub(crate) const DEFINITIONS: Word = 0x6ffffffd;
 
 // An index is in the low 15 bits of a version; the high bit says that the symbol is hidden.
 const INDICES: Half = 1 << 15;
@@ -108,7 +108,10 @@ pub(crate) fn version_at(versions: &[u8], row: usize, byte_order: ByteOrder) -> 
 
 // The versions of all rows of this symbol table, where the file has them.
 pub(crate) fn row_versions<'a, C: Class>(table: Table<'a>, which: SymbolTable) -> &'a [u8] {
-    bytes_if(table.data, versions_section::<C>(table, which))
+    match which {
+        SymbolTable::Symtab => &[],
+        SymbolTable::Dynsym => { bytes_if(table.data, whole_section_of_kind::<C>(table, VERSIONS)) }
+    }
 }
 
 // The bytes of a section, where there is one and it lies in the file.
@@ -119,26 +122,7 @@ pub(crate) fn bytes_if<C: Class>(file: &[u8], section: Option<Section<C>>) -> &[
     }
 }
 
-// The section of the versions of this symbol table's rows.
-pub(crate) fn versions_section<C: Class>(table: Table<'_>, which: SymbolTable) -> Option<Section<C>> {
-    match which {
-        SymbolTable::Symtab => None,
-        SymbolTable::Dynsym => whole_section_of_kind::<C>(table, VERSIONS),
-    }
-}
-
-// The section of the definitions of its versions.
-pub(crate) fn definitions_section<C: Class>(
-    table: Table<'_>,
-    which: SymbolTable,
-) -> Option<Section<C>> {
-    match which {
-        SymbolTable::Symtab => None,
-        SymbolTable::Dynsym => whole_section_of_kind::<C>(table, DEFINITIONS),
-    }
-}
-
 // The first section of this type whose header is whole.
-fn whole_section_of_kind<C: Class>(table: Table<'_>, kind: Word) -> Option<Section<C>> {
+pub(crate) fn whole_section_of_kind<C: Class>(table: Table<'_>, kind: Word) -> Option<Section<C>> {
     section_of_kind::<C>(table, kind).unwrap_or(None)
 }

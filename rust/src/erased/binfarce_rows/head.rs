@@ -12,21 +12,15 @@ use crate::shim::alloc::AllocError;
 ///
 /// `AllocError` where an allocation failed. The text is then unspecified.
 pub fn push_head(text: &mut String, address: u64, size: u64) -> Result<(), AllocError> {
-    if size < 10_000_000_000 {
-        return push_head_of_28(text, address, size);
+    if size >= 10_000_000_000 {
+        return write!(text, "{address:016x} {size:>10} ");
     }
-    write!(text, "{address:016x} {size:>10} ")
-}
-
-// Writes the head of a size of at most 10 digits: it has 28 bytes.
-#[cfg_attr(not(debug_assertions), inline(always))]
-fn push_head_of_28(text: &mut String, address: u64, size: u64) -> Result<(), AllocError> {
     let mut head = [b' '; 28];
     put_head(&mut head, address, size);
     text.push_str(core::str::from_utf8(&head).unwrap())
 }
 
-// Puts an address and a size into 28 blanks.
+// Puts an address and a size of at most 10 digits into 28 blanks.
 #[cfg_attr(not(debug_assertions), inline(always))]
 fn put_head(head: &mut [u8], address: u64, size: u64) {
     put_address(&mut head[..16], address);

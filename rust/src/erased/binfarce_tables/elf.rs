@@ -14,13 +14,13 @@ use crate::erased::binfarce_elf::class::{Half, Width, Word};
 use crate::erased::binfarce_elf::sections::Section;
 use crate::erased::binfarce_elf::symbol_table::SymbolTable;
 use crate::erased::binfarce_elf::symbols::{TableSections, whole_rows};
-use crate::erased::binfarce_elf_memory::descriptors::stored;
+use crate::erased::binfarce_elf_memory::descriptors::{needed_descriptors, rows_in_code, stored};
 use crate::erased::binfarce_elf_memory::parts::{
-    self, HeaderTable, needed_in, place_in, section_at, sizes_in,
+    HeaderTable, headers_alone, needed_in, place_in, section_at, sizes_in, version_sections,
 };
 use crate::erased::binfarce_elf_memory::selection::{Functions, Needed, Taken, functions_in};
 use crate::erased::binfarce_elf_memory::versions::{VersionNames, name_offsets};
-use crate::shim::alloc::{AllocError, Global};
+use crate::shim::alloc::Global;
 use crate::shim::collections::BTreeMap;
 
 /// `ET_REL`, the type of an object file.
@@ -98,10 +98,21 @@ pub fn read<S: Source>(
 ) -> Result<Parts, ReadError> {
     let opened = open(alloc, source)?;
     let sections = sections_of(&opened, log, width, byte_order)?;
-    let needed = needed_of(&sections, which, selection)?;
+    let (headers, width, place) = (&sections.headers, sections.width, sections.place);
+    let names = slice_of(&sections.names);
+    let needed = needed_in(headers, width, place, names, which, selection)?;
     let table = read_placed(&opened, log, &sections, needed)?;
     let versions = read_versions(&opened, log, &sections, which)?;
-    let sizes = sizes_of(alloc, &sections, needed.taken, &table)?;
+    let rows = &table.rows;
+    let sizes = sizes_in(
+        alloc,
+        headers,
+        width,
+        place,
+        needed.taken,
+        rows,
+        &table.strings,
+    )?;
     Ok(Parts {
         sections,
         rows: table.rows,
@@ -110,40 +121,6 @@ pub fn read<S: Source>(
         taken: needed.taken,
         sizes,
     })
-}
-
-// For all sections, the sizes in memory of these rows.
-fn sizes_of(
-    alloc: Global,
-    sections: &SectionParts,
-    taken: Taken,
-    table: &TableParts,
-) -> Result<Vec<u64>, AllocError> {
-    sizes_in(
-        alloc,
-        &sections.headers,
-        sections.width,
-        sections.place,
-        taken,
-        &table.rows,
-        &table.strings,
-    )
-}
-
-// What a selection needs of these sections.
-fn needed_of(
-    sections: &SectionParts,
-    which: SymbolTable,
-    selection: Selection<'_>,
-) -> Result<Needed, ParseError> {
-    needed_in(
-        &sections.headers,
-        sections.width,
-        sections.place,
-        slice_of(&sections.names),
-        which,
-        selection,
-    )
 }
 
 pub(crate) fn read_place<S: Source>(
@@ -162,19 +139,6 @@ pub(crate) fn slice_of(bytes: &Option<Vec<u8>>) -> Option<&[u8]> {
         None => None,
         Some(bytes) => Some(bytes.as_slice()),
     }
-}
-
-// The section headers that are whole, up to the count.
-pub(crate) fn read_headers<S: Source>(
-    opened: &Opened<'_, S>,
-    log: &mut S::Log,
-    width: Width,
-    place: HeaderTable,
-) -> Result<Vec<u8>, ReadError> {
-    let size = width.section_length() as u64;
-    let whole = opened.len.saturating_sub(place.shoff) / size;
-    let count = whole.min(place.shnum as u64);
-    opened.part(log, place.shoff, count * size)
 }
 
 // The section names, where the file has them.
@@ -224,28 +188,16 @@ fn read_placed<S: Source>(
     needed: Needed,
 ) -> Result<TableParts, ReadError> {
     let table = read_rows(opened, log, sections.width, needed.table)?;
-    let headers = &sections.headers;
     let (width, place) = (sections.width, sections.place);
-    let found = parts::descriptors_in(
-        headers,
-        width,
-        place,
-        slice_of(&sections.names),
-        needed.taken,
-    );
+    let headers = headers_alone(&sections.headers, place.byte_order, place.shnum);
+    let names = slice_of(&sections.names);
+    let found = needed_descriptors(headers, names, width, place.kind, needed.taken);
     let Some(section) = found else {
         return Ok(table);
     };
     let descriptors = read_if(opened, log, stored(section))?;
-    let rows = parts::rows_in(
-        opened.alloc,
-        headers,
-        width,
-        place,
-        section,
-        &descriptors,
-        &table.rows,
-    )?;
+    let alloc = opened.alloc;
+    let rows = rows_in_code(alloc, headers, width, section, &descriptors, &table.rows)?;
     Ok(TableParts {
         strings: table.strings,
         rows,
@@ -266,7 +218,7 @@ fn read_versions<S: Source>(
     which: SymbolTable,
 ) -> Result<VersionParts, ReadError> {
     let headers = &sections.headers;
-    let found = parts::version_sections(headers, sections.width, sections.place, which);
+    let found = version_sections(headers, sections.width, sections.place, which);
     let rows = read_if(opened, log, found.versions)?;
     let definitions = read_if(opened, log, found.definitions)?;
     let names = name_offsets(opened.alloc, &definitions, sections.place.byte_order)?;

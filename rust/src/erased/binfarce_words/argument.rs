@@ -55,15 +55,11 @@ pub fn arguments_of<'a>(
     let mut arguments = Vec::new(alloc);
     for text in texts {
         let at = arguments.len() + 1;
-        arguments.push(argument_of(at, text))?;
+        let argument = match text {
+            Some(text) => Argument::Text(text.as_str()),
+            None => Argument::NotUtf8(at),
+        };
+        arguments.push(argument)?;
     }
     Ok(arguments)
-}
-
-// The argument at this position that has this text, or none.
-fn argument_of(at: usize, text: &Option<String>) -> Argument<'_> {
-    match text {
-        Some(text) => Argument::Text(text.as_str()),
-        None => Argument::NotUtf8(at),
-    }
 }

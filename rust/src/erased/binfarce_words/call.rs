@@ -7,7 +7,7 @@ use crate::erased::binfarce_words::checks::check;
 use crate::erased::binfarce_words::command::{COMMANDS, Command};
 use crate::erased::binfarce_words::flag::Flag;
 use crate::erased::binfarce_words::given::Arguments;
-use crate::erased::binfarce_words::named::{find_named, nearest};
+use crate::erased::binfarce_words::named::{Named, nearest};
 use crate::erased::binfarce_words::reading::read_given;
 use crate::erased::binfarce_words::wrong::Wrong;
 use crate::shim::alloc::Global;
@@ -69,21 +69,14 @@ fn goes_on(call: &Call<'_>) -> bool {
 
 // The call that these arguments mean, if one that isn't UTF-8 may be an operand of any command.
 fn read_arguments<'a>(alloc: Global, arguments: &[Argument<'a>]) -> Result<Call<'a>, Wrong<'a>> {
-    match arguments {
-        [] => Err(Wrong::NoCommand),
-        [first, others @ ..] => read_words(alloc, first.required()?, others),
-    }
-}
-
-fn read_words<'a>(
-    alloc: Global,
-    word: &'a str,
-    others: &[Argument<'a>],
-) -> Result<Call<'a>, Wrong<'a>> {
-    if asks_help(word) {
+    let [first, others @ ..] = arguments else {
+        return Err(Wrong::NoCommand);
+    };
+    let word = first.required()?;
+    if word == "help" || word == "--help" || word == "-h" {
         return read_help(others);
     }
-    if asks_version(word) {
+    if word == "--version" || word == "-V" {
         return Ok(Call::Version);
     }
     let command = command_named(word)?;
@@ -93,14 +86,6 @@ fn read_words<'a>(
     }
     check(command, &given)?;
     Ok(Call::Run(command, given))
-}
-
-fn asks_help(word: &str) -> bool {
-    word == "help" || word == "--help" || word == "-h"
-}
-
-fn asks_version(word: &str) -> bool {
-    word == "--version" || word == "-V"
 }
 
 // `help`, and the command that it is about.
@@ -113,7 +98,7 @@ fn read_help<'a>(others: &[Argument<'a>]) -> Result<Call<'a>, Wrong<'a>> {
 
 // The command of this name.
 fn command_named(word: &str) -> Result<Command, Wrong<'_>> {
-    match find_named(&COMMANDS, word) {
+    match COMMANDS.iter().copied().find(|it| it.name() == word) {
         Some(command) => Ok(command),
         None => Err(Wrong::UnknownCommand(word, nearest(&COMMANDS, word, 0))),
     }

@@ -98,19 +98,17 @@ fn are_given(given: &Arguments<'_>, one: Flag, other: Flag) -> bool {
 
 // Whether the bytes of a section are asked for.
 fn is_of_bytes(command: Command, operands: &[Argument<'_>]) -> bool {
-    command == Command::Section && operands.len() == 2
+    matches!((command, operands), (Command::Section, [_, _]))
 }
 
 // What is wrong with the operands of a command.
 fn check_operands<'a>(command: Command, operands: &[Argument<'a>]) -> Result<(), Wrong<'a>> {
-    match operands {
-        _ if command == Command::Filter => Ok(()),
-        [] => Err(Wrong::NoFile(command)),
-        [_] if command == Command::Diff => Err(Wrong::NoSecondFile),
-        [_, _, more, ..] if command == Command::Section || command == Command::Diff => {
-            exceeded(*more)
-        }
-        [_, more, ..] if command == Command::Map => exceeded(*more),
+    match (command, operands) {
+        (Command::Filter, _) => Ok(()),
+        (_, []) => Err(Wrong::NoFile(command)),
+        (Command::Diff, [_]) => Err(Wrong::NoSecondFile),
+        (Command::Section | Command::Diff, [_, _, more, ..]) => exceeded(*more),
+        (Command::Map, [_, more, ..]) => exceeded(*more),
         _ => Ok(()),
     }
 }

@@ -31,7 +31,9 @@ impl<'a> Arguments<'a> {
 
     /// The option's value, as it was given last.
     pub fn value(&self, flag: Flag) -> Option<&'a str> {
-        match last_given(self.options.as_slice(), flag.name()) {
+        let name = flag.name();
+        let options = self.options.as_slice();
+        match options.iter().rev().copied().find(|it| it.0.name() == name) {
             Some((_, value)) => Some(value),
             None => None,
         }
@@ -117,11 +119,6 @@ fn bad_value<'a>(flag: Flag, value: &'a str) -> Wrong<'a> {
         Takes::Page if parse_address(value.as_bytes()).is_none() => Wrong::NoAddress(value),
         _ => Wrong::BadValue(flag, value),
     }
-}
-
-// The last of these options that has this name.
-fn last_given<'a>(options: &[(Flag, &'a str)], name: &str) -> Option<(Flag, &'a str)> {
-    options.iter().rev().copied().find(|it| it.0.name() == name)
 }
 
 // The option at a place among those of this name.

@@ -8,11 +8,6 @@ pub trait Named: Copy {
     fn name(self) -> &'static str;
 }
 
-/// The first of these that has the name. Allocates nothing.
-pub fn find_named<T: Named>(known: &[T], name: &str) -> Option<T> {
-    known.iter().copied().find(|it| it.name() == name)
-}
-
 /// One of these with the longest common prefix with the name, if that has more than `least` bytes; otherwise `None`.
 /// Allocates nothing.
 pub fn nearest<T: Named>(known: &[T], name: &str, least: usize) -> Option<T> {

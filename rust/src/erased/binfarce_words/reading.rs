@@ -50,21 +50,17 @@ struct Reading<'a> {
 impl<'a> Reading<'a> {
     // Takes the next argument.
     fn take(&mut self, command: Command, argument: Argument<'a>) -> Result<(), Wrong<'a>> {
-        match (argument, self.waiting) {
-            (Argument::Text(word), _) => self.take_word(command, word),
-            (Argument::NotUtf8(at), Some(_)) => Err(Wrong::NotUtf8(at)),
-            (Argument::NotUtf8(_), None) => self.given.push(argument),
-        }
-    }
-
-    // Takes the next argument, which is this text.
-    fn take_word(&mut self, command: Command, word: &'a str) -> Result<(), Wrong<'a>> {
+        let word = match (argument, self.waiting) {
+            (Argument::Text(word), _) => word,
+            (Argument::NotUtf8(at), Some(_)) => return Err(Wrong::NotUtf8(at)),
+            (Argument::NotUtf8(_), None) => return self.given.push(argument),
+        };
         if let Some(flag) = self.waiting {
             self.waiting = None;
             return self.given.set(flag, word);
         }
         if self.are_operands || !is_option(word) {
-            return self.given.push(Argument::Text(word));
+            return self.given.push(argument);
         }
         if word == "--" {
             self.are_operands = true;

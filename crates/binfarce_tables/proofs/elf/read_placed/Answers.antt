@@ -1,10 +1,11 @@
 use Rattle.std.proofs.Common.{◌≡◌, ◌++◌, ℕ, Vec, Global, List, Option, Some, None, Result, Ok, Err, refl, ap, ap₂, sym, subst, ◌∙◌}
 use Rattle.std.specs.Prelude.{All}
 use Rattle.binfarce_bytes.specs.Part.{Part, parts_if}
+use Rattle.binfarce_bytes.specs.declared.ByteOrder.{ByteOrder}
 use Rattle.std.specs.Option.{option_map}
 use Rattle.binfarce_bytes.specs.Refusal.{◌>>=◌, Refusal}
 use Rattle.binfarce_elf.specs.Classes.{class_of}
-use Rattle.binfarce_elf.specs.Elf.{Section, walk}
+use Rattle.binfarce_elf.specs.Elf.{Section, SectionTable, walk}
 use Rattle.binfarce_elf.specs.ElfViews.{section_view}
 use Rattle.binfarce_elf.specs.SymbolTables.{TableRows, rows_at}
 use Rattle.binfarce_elf_memory.specs.Descriptors.{rows_by, rows_in_code, stored}
@@ -42,11 +43,21 @@ module _ (file : List ℕ) (seen : FileSections) (needs : NeededSections) (found
   by_section o same = from_rows ∙ ap (λ (o : Option Section). Ok (record { strings = found.strings; rows = rows_by seen.order seen.sections file o found.rows })) same
 
 -- the section that was found among the headers that were read
-wanted_is : (s : SectionParts) (needs : NeededSections) (headers : List ℕ) (names : Option (List ℕ)) (found : Option Section)
-    → found ≡ needed_descriptors (class_of s.width) (walk (class_of s.width) (headers_alone s.place.byte_order headers s.place.shnum)) names (kind_view s.place.kind) needs.taken
-    → headers ≡ s.headers.items → names ≡ option_map (λ v. v.items) s.names → wanted (sections_view s) needs ≡ found
-wanted_is s needs headers names found is same named =
-    sym (is ∙ ap₂ (λ (bytes : List ℕ) (names : Option (List ℕ)). needed_descriptors (class_of s.width) (walk (class_of s.width) (headers_alone s.place.byte_order bytes s.place.shnum)) names (kind_view s.place.kind) needs.taken) same named)
+wanted_is : (s : SectionParts) (needs : NeededSections) (headers : List ℕ) (names : Option (List ℕ)) (table : SectionTable) (found : Option Section)
+    → found ≡ needed_descriptors (class_of s.width) (walk (class_of s.width) table) names (kind_view s.place.kind) needs.taken
+    → table ≡ headers_alone s.place.byte_order headers s.place.shnum → headers ≡ s.headers.items → names ≡ option_map (λ v. v.items) s.names → wanted (sections_view s) needs ≡ found
+wanted_is s needs headers names table found is alone same named =
+    let by_table : SectionTable → Option (List ℕ) → Option Section = λ t names. needed_descriptors (class_of s.width) (walk (class_of s.width) t) names (kind_view s.place.kind) needs.taken in
+    sym (is ∙ ap₂ by_table (alone ∙ ap (λ (bytes : List ℕ). headers_alone s.place.byte_order bytes s.place.shnum) same) named)
+
+-- the rows that were made of them
+made_is : (s : SectionParts) (table : SectionTable) (order : ByteOrder) (headers : List ℕ) (section : Section) (descriptors kept rows found made : List ℕ)
+    → made ≡ rows_in_code order (walk (class_of s.width) table) section descriptors rows → order ≡ table.order → table ≡ headers_alone s.place.byte_order headers s.place.shnum
+    → headers ≡ s.headers.items → descriptors ≡ kept → rows ≡ found → made ≡ rows_in_code (sections_view s).order (sections_view s).sections section kept found
+made_is s table order headers section descriptors kept rows found made is in_order alone same as_kept as_found =
+    let alone_is : table ≡ headers_alone s.place.byte_order s.headers.items s.place.shnum = alone ∙ ap (λ (bytes : List ℕ). headers_alone s.place.byte_order bytes s.place.shnum) same in
+    is ∙ ap₂ (λ (o : ByteOrder) (t : SectionTable). rows_in_code o (walk (class_of s.width) t) section descriptors rows) (in_order ∙ ap (λ (t : SectionTable). t.order) alone_is) alone_is
+    ∙ ap₂ (λ (bytes rows : List ℕ). rows_in_code (sections_view s).order (sections_view s).sections section bytes rows) as_kept as_found
 
 -- of its bytes
 of_stored : (P : Part → Type 0) (file : List ℕ) (rows : List Part) (o : Option Section) (s : Section) (kept : Option Section) → o ≡ Some s → kept ≡ stored s → All P (rows ++ descriptor_parts file o)
@@ -68,7 +79,7 @@ pub returns-in_default-clause-answer : goal.returns-in_default-clause-answer
 returns-in_default-clause-answer g c = λ file known.
     let s = c.args.sections.now in
     let n = needed_view c.args.needed in
-    let is = wanted_is s n _ _ _ c.descriptors_in-found.ensures c.deref.ensures.value c.slice_of.ensures in
+    let is = wanted_is s n _ _ _ _ c.needed_descriptors-found.ensures c.headers_alone-headers.ensures c.deref.ensures.value c.slice_of-names.ensures in
     by_section file (sections_view s) n (rows_view c.in_ok-table.table) (c.in_ok-table.ensures.answer file known) None (is ∙ ap (option_map (section_view (λ n. n))) c.in_default.is)
 
 pub returns-in_err-descriptors-clause-answer : goal.returns-in_err-descriptors-clause-answer
@@ -79,7 +90,7 @@ returns-in_err-descriptors-clause-answer g c = λ file known.
     let n = needed_view c.args.needed in
     let found = rows_view c.in_ok-table.table in
     let section = section_view (λ n. n) c.in-Some.section in
-    let is = wanted_is s n _ _ _ c.descriptors_in-found.ensures c.deref.ensures.value c.slice_of.ensures ∙ ap (option_map (section_view (λ n. n))) c.in-Some.is in
+    let is = wanted_is s n _ _ _ _ c.needed_descriptors-found.ensures c.headers_alone-headers.ensures c.deref.ensures.value c.slice_of-names.ensures ∙ ap (option_map (section_view (λ n. n))) c.in-Some.is in
     let with_bytes : List ℕ → Result TableRows Refusal = λ bytes. Ok (record { strings = found.strings; rows = rows_in_code seen.order seen.sections section bytes found.rows }) in
     let e = c.in_err-descriptors.field-0.0 in
     passed fails rows_view _ e c.from_residual-in_err-descriptors.result c.from_residual-in_err-descriptors.ensures
@@ -99,9 +110,9 @@ returns-clause-answer g c = λ file known.
     let n = needed_view c.args.needed in
     let found = rows_view c.in_ok-table.table in
     let section = section_view (λ n. n) c.in-Some.section in
-    let is = wanted_is s n _ _ _ c.descriptors_in-found.ensures c.deref.ensures.value c.slice_of.ensures ∙ ap (option_map (section_view (λ n. n))) c.in-Some.is in
+    let is = wanted_is s n _ _ _ _ c.needed_descriptors-found.ensures c.headers_alone-headers.ensures c.deref.ensures.value c.slice_of-names.ensures ∙ ap (option_map (section_view (λ n. n))) c.in-Some.is in
     let bytes = taken (c.in_ok-descriptors.ensures.answer file known) ∙ ap (bytes_if file) c.stored.ensures in
-    let made = rw (c.deref-2.ensures.value, c.deref-3.ensures.value, c.deref-4.ensures.value) at c.in_ok-rows.ensures in
+    let made = made_is s _ _ _ section _ _ _ _ _ c.in_ok-rows.ensures refl c.headers_alone-headers.ensures c.deref.ensures.value c.deref-2.ensures.value c.deref-3.ensures.value in
     by_section file seen n found (c.in_ok-table.ensures.answer file known) (Some section) is
     ∙ ap (λ (rows : List ℕ). Ok (record { strings = found.strings; rows = rows })) (sym (made ∙ ap (λ (bytes : List ℕ). rows_in_code seen.order seen.sections section bytes found.rows) bytes))
 
@@ -123,7 +134,7 @@ returns-in_err-descriptors-clause-only g c = λ file known.
     let seen = sections_view s in
     let n = needed_view c.args.needed in
     let section = section_view (λ n. n) c.in-Some.section in
-    let is = wanted_is s n _ _ _ c.descriptors_in-found.ensures c.deref.ensures.value c.slice_of.ensures ∙ ap (option_map (section_view (λ n. n))) c.in-Some.is in
+    let is = wanted_is s n _ _ _ _ c.needed_descriptors-found.ensures c.headers_alone-headers.ensures c.deref.ensures.value c.slice_of-names.ensures ∙ ap (option_map (section_view (λ n. n))) c.in-Some.is in
     passed_only _ (next (within (λ P. front P (rows_parts file n.table) (descriptor_parts file (wanted seen n))) (c.in_ok-table.ensures.only file known))
     (within (λ P. of_stored P file (rows_parts file n.table) (wanted seen n) section _ is c.stored.ensures) (c.in_err-descriptors.ensures.only file known))) c.from_residual-in_err-descriptors.ensures
 
@@ -133,7 +144,7 @@ returns-in_err-rows-clause-only g c = λ file known.
     let seen = sections_view s in
     let n = needed_view c.args.needed in
     let section = section_view (λ n. n) c.in-Some.section in
-    let is = wanted_is s n _ _ _ c.descriptors_in-found.ensures c.deref.ensures.value c.slice_of.ensures ∙ ap (option_map (section_view (λ n. n))) c.in-Some.is in
+    let is = wanted_is s n _ _ _ _ c.needed_descriptors-found.ensures c.headers_alone-headers.ensures c.deref.ensures.value c.slice_of-names.ensures ∙ ap (option_map (section_view (λ n. n))) c.in-Some.is in
     ending (next (within (λ P. front P (rows_parts file n.table) (descriptor_parts file (wanted seen n))) (c.in_ok-table.ensures.only file known))
     (within (λ P. of_stored P file (rows_parts file n.table) (wanted seen n) section _ is c.stored.ensures) (c.in_ok-descriptors.ensures.only file known)))
     (out_surely c.from_residual-in_err-rows.result c.from_residual-in_err-rows.ensures)
@@ -144,6 +155,6 @@ returns-clause-only g c = λ file known.
     let seen = sections_view s in
     let n = needed_view c.args.needed in
     let section = section_view (λ n. n) c.in-Some.section in
-    let is = wanted_is s n _ _ _ c.descriptors_in-found.ensures c.deref.ensures.value c.slice_of.ensures ∙ ap (option_map (section_view (λ n. n))) c.in-Some.is in
+    let is = wanted_is s n _ _ _ _ c.needed_descriptors-found.ensures c.headers_alone-headers.ensures c.deref.ensures.value c.slice_of-names.ensures ∙ ap (option_map (section_view (λ n. n))) c.in-Some.is in
     next (within (λ P. front P (rows_parts file n.table) (descriptor_parts file (wanted seen n))) (c.in_ok-table.ensures.only file known))
     (within (λ P. of_stored P file (rows_parts file n.table) (wanted seen n) section _ is c.stored.ensures) (c.in_ok-descriptors.ensures.only file known))

@@ -19,7 +19,6 @@ use Rattle.binfarce_elf.specs.declared.class.Width.TheVariants.{Bits32, Bits64}
 use Rattle.binfarce_elf_memory.specs.declared.parts.HeaderTable.{HeaderTable}
 use Rattle.binfarce_elf.specs.machine.RawElf.{fields_of_header, fields_of_section}
 use Rattle.binfarce_tables.specs.ElfReads.{headers_size}
-use Rattle.binfarce_tables.specs.machine.Places.{headers_of}
 
 pub bytes_in : (file : List ℕ) (start len k width : ℕ) → k + width ≤ len → bytes_at (bytes_at file start len) k width ≡ bytes_at file (start + k) width
 bytes_in file start len k width h =
@@ -158,6 +157,10 @@ whole_is n size some =
 
 fits : (a b size rest : ℕ) → a ≤ b → b * size ≤ rest → a * size ≤ rest
 fits a b size rest le h = grind arith
+
+-- the section headers that are whole and below the count
+abbrev pub headers_of : ElfClass → SectionTable → List ℕ
+headers_of class table = bytes_at table.file table.shoff (headers_size class table)
 
 -- how many bytes are read of them
 pub headers_read : (class : ElfClass) (table : SectionTable) (len count size room : ℕ) → len ≡ length table.file → size ≡ class.section_length → room ≡ len - table.shoff

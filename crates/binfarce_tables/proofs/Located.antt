@@ -18,11 +18,11 @@ use Rattle.binfarce_elf_memory.specs.ElfEnds.{file_kind}
 use Rattle.binfarce_elf_memory.specs.Versions.{bytes_if, definitions_section, version_name, versions_section}
 use Rattle.binfarce_elf.specs.declared.symbol_table.SymbolTable.{SymbolTable}
 use Rattle.binfarce_elf_memory.proofs.Steps.{assoc}
-use Rattle.binfarce_tables.specs.ElfReading.{symbols_in}
 use Rattle.binfarce_tables.specs.ElfReads.{table_of, descriptor_parts, elf_parts, rows_parts}
 use Rattle.binfarce_tables.specs.SectionReading.{FileSections, file_sections}
 use Rattle.binfarce_tables.specs.machine.Places.{placed_parts, rows_in_file}
 use Rattle.binfarce_tables.proofs.ElfSure.{needed_table, of_needed_descriptors, of_rows}
+use Rattle.binfarce_tables.proofs.VersionsRead.{symbols_in}
 
 -- nothing is found after the file's end
 pub walk_outside : (class : ElfClass) (table : SectionTable) → length table.file ≤ table.shoff → walk class table ≡ ended (Some unexpected_eof)

@@ -7,12 +7,17 @@ use Rattle.std.proofs.Math.Nat.{mod-lt}
 use Rattle.std.proofs.Math.Path.{fun_ext}
 use Rattle.binfarce_bytes.specs.declared.ByteOrder.{ByteOrder}
 use Rattle.binfarce_bytes.specs.Text.{text_at}
-use Rattle.binfarce_elf_memory.specs.ElfSelection.{Taken}
+use Rattle.binfarce_bytes.specs.SectionEntries.{SelectedSymbols}
+use Rattle.binfarce_elf_memory.specs.ElfSelection.{Taken, selected_from, symbols_of}
 use Rattle.binfarce_elf.specs.SymbolTables.{TableRows}
 use Rattle.binfarce_elf_memory.specs.Versions.{bytes_if, definitions, definitions_section, index_of, name_by, name_offset, version_name, versions_section}
 use Rattle.binfarce_elf.specs.declared.symbol_table.SymbolTable.{SymbolTable}
-use Rattle.binfarce_tables.specs.ElfReading.{symbols_in}
 use Rattle.binfarce_tables.specs.SectionReading.{FileSections}
+
+-- what a selection takes of a file with these sections, by the rows of its symbol table with their versions, which have these names
+abbrev pub symbols_in : FileSections → Taken → TableRows → List ℕ → (ℕ → Option (List ℕ)) → SelectedSymbols
+symbols_in seen taken found versions version_name =
+    symbols_of (selected_from seen.class seen.order seen.sections seen.kind taken found versions) seen.names seen.sections seen.kind.elf_type version_name
 
 -- the names by the offsets that were kept
 names_read : (order : ByteOrder) (strings bytes : List ℕ) (offsets : BTreeMap ℕ ℕ) → ((index : ℕ) → index < 32768 → get nat_cmp offsets index ≡ name_offset (definitions order bytes) index)

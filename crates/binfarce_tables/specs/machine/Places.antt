@@ -1,13 +1,12 @@
 -- Views of a reading of a file's parts, for private clauses.
 use Rattle.std.specs.Prelude.{ℕ, List, ◌++◌, Result, Ok}
 use Rattle.binfarce_bytes.specs.declared.ByteOrder.{ByteOrder}
-use Rattle.binfarce_bytes.specs.Number.{bytes_at}
 use Rattle.binfarce_bytes.specs.Refusal.{Refusal, if_as_long_as}
 use Rattle.binfarce_elf.specs.Elf.{ElfClass, SectionTable}
 use Rattle.binfarce_elf.specs.SymbolTables.{TableRows}
 use Rattle.binfarce_bytes.specs.Part.{Part}
 use Rattle.binfarce_elf_memory.specs.ElfSelection.{NeededSections, needed_descriptors, rows_taken}
-use Rattle.binfarce_tables.specs.ElfReads.{table_of, headers_size, rows_parts, descriptor_parts}
+use Rattle.binfarce_tables.specs.ElfReads.{table_of, rows_parts, descriptor_parts}
 use Rattle.binfarce_tables.specs.SectionReading.{FileSections}
 use Rattle.binfarce_tables.specs.declared.elf.TableParts.{TableParts}
 use Rattle.binfarce_elf_memory.specs.declared.parts.HeaderTable.{HeaderTable}
@@ -19,10 +18,6 @@ table_at file place = record { order = place.byte_order; file = file; shoff = pl
 -- the file's table, where the file holds a header
 abbrev pub table_step : ElfClass → ByteOrder → List ℕ → Result SectionTable Refusal
 table_step class order file = if_as_long_as class.header_length file (Ok (table_of class order file))
-
--- the section headers that are whole and below the count
-abbrev pub headers_of : ElfClass → SectionTable → List ℕ
-headers_of class table = bytes_at table.file table.shoff (headers_size class table)
 
 -- the strings and the rows of a selection of a file with these sections, and the parts that have them
 abbrev pub rows_in_file : List ℕ → FileSections → NeededSections → Result TableRows Refusal

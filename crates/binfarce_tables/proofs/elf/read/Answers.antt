@@ -14,7 +14,7 @@ use Rattle.binfarce_elf_memory.specs.SelectionViews.{kind_view, needed_view, siz
 use Rattle.binfarce_elf_memory.specs.ElfSelection.{NeededSections, Taken, needed, selected_file_answer, symbols_of, taken_from}
 use Rattle.binfarce_elf.specs.SymbolTables.{TableRows}
 use Rattle.binfarce_elf_memory.specs.Versions.{bytes_if, name_by, versions_section}
-use Rattle.binfarce_tables.specs.ElfReading.{parts_view, symbols_by, symbols_in}
+use Rattle.binfarce_tables.specs.ElfReading.{parts_view, symbols_by}
 use Rattle.binfarce_tables.specs.Reading.{Reads}
 use Rattle.binfarce_tables.specs.declared.error.ReadError.TheVariants.{OutOfMemory}
 use Rattle.binfarce_tables.specs.declared.elf.VersionParts.{VersionParts}
@@ -24,7 +24,7 @@ use Rattle.binfarce_tables.specs.machine.Places.{rows_in_file, rows_view}
 use Rattle.binfarce_tables.proofs.ElfSure.{of_file_header, of_sections, of_versions}
 use Rattle.binfarce_tables.proofs.Located.{after_found, after_needed, after_sections, from_file, from_seen, from_needed, needed_of, of_placed, table_found, walk_is}
 use Rattle.binfarce_tables.proofs.Readings.{after_err, instead, converted, err_is, passed, taken}
-use Rattle.binfarce_tables.proofs.VersionsRead.{versions_read}
+use Rattle.binfarce_tables.proofs.VersionsRead.{symbols_in, versions_read}
 use Rattle.binfarce_tables.proofs.Sure.{unmeasured, within, next, ending, passed_only, converted_surely, out_surely}
 use Rattle.binfarce_tables.proofs.elf.read.Goals as goal
 

@@ -3,10 +3,10 @@ use Rattle.binfarce_bytes.specs.Number.{bytes_at}
 use Rattle.binfarce_elf.specs.Elf.{walk}
 use Rattle.binfarce_elf_memory.specs.ElfParts.{headers_alone}
 use Rattle.binfarce_elf.specs.Classes.{class_of}
-use Rattle.binfarce_tables.specs.machine.Places.{table_at, headers_of}
+use Rattle.binfarce_tables.specs.machine.Places.{table_at}
 use Rattle.binfarce_tables.proofs.Contents.{part_long}
 use Rattle.binfarce_tables.proofs.ElfSure.{of_headers, of_no_header}
-use Rattle.binfarce_tables.proofs.HeadersAlone.{HasWithin, within_of, some_of, headers_read, headers_walk}
+use Rattle.binfarce_tables.proofs.HeadersAlone.{HasWithin, within_of, some_of, headers_of, headers_read, headers_walk}
 use Rattle.binfarce_tables.proofs.Located.{walk_outside, walk_of_none}
 use Rattle.binfarce_tables.proofs.SectionsRead.{seen_as}
 use Rattle.binfarce_tables.proofs.Sure.{one}

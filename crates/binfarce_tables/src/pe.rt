@@ -20,7 +20,7 @@ ghost use Rattle.binfarce_tables.specs.machine.PePlaces.{headers_at, signature_s
 
 use crate::beginning::Beginning;
 use crate::error::ReadError;
-use crate::opened::{Opened, open, part};
+use crate::opened::{Opened, open};
 use binfarce_bytes::functions::{SectionFunction, Selection};
 use binfarce_bytes::parser::{number_at, to_index};
 use binfarce_bytes::source::Source;
@@ -229,31 +229,28 @@ pub fn read_sections<S: Source>(
         → ReadsOnly (S.is_sure source.now) (S.logs_only log.old) (S.logs_only log.new)
         (pe_section_parts file) (IfErr result (λ e. e ≢ Unreadable)) }
 {
-    let len = source.length()?;
-    let opened = Opened { alloc, source, len };
+    let opened = open(alloc, source)?;
     let places = read_places(&opened, log)?;
-    let beginning = read_beginning(alloc, source, log, len, places)?;
-    let strings = read_strings(alloc, source, log, len, places, beginning.bytes())?;
+    let beginning = read_beginning(&opened, log, places)?;
+    let strings = read_strings(&opened, log, places, beginning.bytes())?;
     Ok(SectionParts { beginning, strings })
 }
 
 // The beginning of a file whose tables are at these places, up to the end of the section headers.
 fn read_beginning<S: Source>(
-    alloc: Global,
-    source: &S,
+    opened: &Opened<'_, S>,
     log: &mut S::Log,
-    file_length: u64,
     places: TableOffsets,
 ) -> Result<Beginning, ReadError>
-    ensures answer { (file : List ℕ) → Known (S.bytes source.now) file_length file
+    ensures answer { (file : List ℕ) → Known (S.bytes opened.now.source.now) opened.now.len file
         → places_step file ≡ Ok (places_view places)
-        → ReadsBeginning (S.may_fail source.now) pe_sections file result }
-    ensures walk { (file : List ℕ) → Known (S.bytes source.now) file_length file
+        → ReadsBeginning (S.may_fail opened.now.source.now) pe_sections file result }
+    ensures walk { (file : List ℕ) → Known (S.bytes opened.now.source.now) opened.now.len file
         → places_step file ≡ Ok (places_view places)
         → IfOk result (λ b. table_walk (headers_at (bytes_of b) (places_view places)) ≡ walk file) }
-    ensures only { (file : List ℕ) → Known (S.bytes source.now) file_length file
+    ensures only { (file : List ℕ) → Known (S.bytes opened.now.source.now) opened.now.len file
         → places_step file ≡ Ok (places_view places)
-        → ReadsOnly (S.is_sure source.now) (S.logs_only log.old) (S.logs_only log.new)
+        → ReadsOnly (S.is_sure opened.now.source.now) (S.logs_only log.old) (S.logs_only log.new)
         (beginning_part file (places_view places) ∷ []) (IfErr result (λ e. e ≢ Unreadable)) }
 {
     let headers = places.section_count as u64 * SECTION_LENGTH as u64;
@@ -261,27 +258,26 @@ fn read_beginning<S: Source>(
         .sections
         .saturating_add(headers.max(1))
         .max(STUB_LENGTH);
-    let bytes = part(alloc, source, log, 0, end.min(file_length))?;
+    let file_length = opened.len;
+    let bytes = opened.part(log, 0, end.min(file_length))?;
     Ok(Beginning { bytes, file_length })
 }
 
 // The string table of a file that begins with these bytes, if the name of a section is in it; else nothing.
 fn read_strings<S: Source>(
-    alloc: Global,
-    source: &S,
+    opened: &Opened<'_, S>,
     log: &mut S::Log,
-    len: u64,
     places: TableOffsets,
     beginning: &[u8],
 ) -> Result<Vec<u8>, ReadError>
-    ensures answer { (file : List ℕ) → Known (S.bytes source.now) len file
+    ensures answer { (file : List ℕ) → Known (S.bytes opened.now.source.now) opened.now.len file
         → places_step file ≡ Ok (places_view places)
         → table_walk (headers_at beginning.now (places_view places)) ≡ walk file
-        → Reads (S.may_fail source.now) (λ v. v.items) (Ok (needed_strings file)) result }
-    ensures only { (file : List ℕ) → Known (S.bytes source.now) len file
+        → Reads (S.may_fail opened.now.source.now) (λ v. v.items) (Ok (needed_strings file)) result }
+    ensures only { (file : List ℕ) → Known (S.bytes opened.now.source.now) opened.now.len file
         → places_step file ≡ Ok (places_view places)
         → table_walk (headers_at beginning.now (places_view places)) ≡ walk file
-        → ReadsOnly (S.is_sure source.now) (S.logs_only log.old) (S.logs_only log.new)
+        → ReadsOnly (S.is_sure opened.now.source.now) (S.logs_only log.old) (S.logs_only log.new)
         (strings_parts file (places_view places)) (IfErr result (λ e. e ≢ Unreadable)) }
 {
     let table = Table {
@@ -290,11 +286,11 @@ fn read_strings<S: Source>(
         count: places.section_count,
     };
     if !has_long_names(table) {
-        return Ok(Vec::new(alloc));
+        return Ok(Vec::new(opened.alloc));
     }
-    match strings_at(len, places) {
-        None => Ok(Vec::new(alloc)),
-        Some(offset) => read_string_table(alloc, source, log, len, offset),
+    match strings_at(opened.len, places) {
+        None => Ok(Vec::new(opened.alloc)),
+        Some(offset) => read_string_table(opened, log, offset),
     }
 }
 
@@ -312,22 +308,20 @@ fn strings_at(len: u64, places: TableOffsets) -> Option<u64>
 
 // The string table that begins at this offset: as many bytes as its first 4 state, or up to the file's end.
 fn read_string_table<S: Source>(
-    alloc: Global,
-    source: &S,
+    opened: &Opened<'_, S>,
     log: &mut S::Log,
-    len: u64,
     offset: u64,
 ) -> Result<Vec<u8>, ReadError>
-    ensures answer { (file : List ℕ) → Known (S.bytes source.now) len file → offset + 4 ≤ length file
-        → Reads (S.may_fail source.now) (λ v. v.items) (Ok (string_table (drop offset file))) result }
-    ensures only { (file : List ℕ) → Known (S.bytes source.now) len file → offset + 4 ≤ length file
-        → ReadsOnly (S.is_sure source.now) (S.logs_only log.old) (S.logs_only log.new)
+    ensures answer { (file : List ℕ) → Known (S.bytes opened.now.source.now) opened.now.len file → offset + 4 ≤ length file
+        → Reads (S.may_fail opened.now.source.now) (λ v. v.items) (Ok (string_table (drop offset file))) result }
+    ensures only { (file : List ℕ) → Known (S.bytes opened.now.source.now) opened.now.len file → offset + 4 ≤ length file
+        → ReadsOnly (S.is_sure opened.now.source.now) (S.logs_only log.old) (S.logs_only log.new)
         (table_strings_parts file offset) (IfErr result (λ e. e ≢ Unreadable)) }
 {
-    let head = part(alloc, source, log, offset, STRINGS_LENGTH)?;
+    let head = opened.part(log, offset, STRINGS_LENGTH)?;
     let size: u32 = number_at(&head, 0, ByteOrder::LittleEndian).unwrap();
-    let rest = len.saturating_sub(offset);
-    part(alloc, source, log, offset, u64::from(size).min(rest))
+    let rest = opened.len.saturating_sub(offset);
+    opened.part(log, offset, u64::from(size).min(rest))
 }
 
 /// Where the file is loaded unless the loader chooses another address: its image base (`ImageBase`). `None` without one,

@@ -16,7 +16,7 @@ returns-clause-answer g c = λ file known room.
     let stated : c.unwrap-size.result ≡ number LittleEndian (bytes_at c.deref.result.now 0 4) = search rules in
     let size : c.unwrap-size.result ≡ number_in file offset (field 0 4) = stated ∙ size_read file c.deref.result.now offset bytes in
     let least : c.min.result ≡ min (number_in file offset (field 0 4)) (length file - offset) = omega (arith, c.min.ensures, c.from.ensures, size, c.saturating_sub-rest.ensures, known.1) in
-    instead (g.S.Source.may_fail c.args.source.now) (λ v. v.items) _ _ c.part-2.result (ap (λ (x : List ℕ). Ok x) (sym (table_read file offset c.min.result room least)))
+    instead (g.S.Source.may_fail c.args.opened.now.source.now) (λ v. v.items) _ _ c.part-2.result (ap (λ (x : List ℕ). Ok x) (sym (table_read file offset c.min.result room least)))
     (c.part-2.ensures.part file known.0 (omega (arith, least, room)))
 
 pub returns-clause-only : goal.returns-clause-only

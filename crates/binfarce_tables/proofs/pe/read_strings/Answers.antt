@@ -29,5 +29,5 @@ returns-in-Some-clause-answer g c = λ file known step walks.
     let places = places_read file (places_view c.args.places) step in
     let some : strings_at (length file) (places_of file) ≡ Some c.in-Some.offset = ap₂ strings_at (sym known.1) (sym places.0) ∙ sym c.strings_at.ensures ∙ c.in-Some.is in
     let found = some_at file c.in-Some.offset some in
-    instead (g.S.Source.may_fail c.args.source.now) (λ v. v.items) _ _ c.read_string_table.result (ap (λ (x : List ℕ). Ok x) (is_needed file long ∙ found.0))
+    instead (g.S.Source.may_fail c.args.opened.now.source.now) (λ v. v.items) _ _ c.read_string_table.result (ap (λ (x : List ℕ). Ok x) (is_needed file long ∙ found.0))
     (c.read_string_table.ensures.answer file known found.1)

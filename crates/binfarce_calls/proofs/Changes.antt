@@ -12,12 +12,12 @@ use Rattle.binfarce_tools.specs.Writing.{AppendsBeginning, IsDue, Takes, no_memo
 use Rattle.binfarce_tools.specs.ReportWords.{outcome_of}
 use Rattle.binfarce_tools.specs.declared.report.ReportError.{ReportError}
 use Rattle.binfarce_tools.specs.declared.report.ReportError.TheVariants as reports
-use Rattle.binfarce_jobs.specs.Faults.{failure}
+use Rattle.binfarce_io.specs.Faults.{failure}
 use Rattle.binfarce_jobs.specs.Files.{Grows, Reports, State, hinted}
 use Rattle.binfarce_jobs.specs.Hints.{IsOrNone, words_of}
 use Rattle.binfarce_jobs.specs.Limit.{grown}
-use Rattle.binfarce_jobs.specs.declared.fault.Fault.{Fault}
-use Rattle.binfarce_jobs.specs.declared.fault.Fault.TheVariants as faults
+use Rattle.binfarce_io.specs.declared.fault.Fault.{Fault}
+use Rattle.binfarce_io.specs.declared.fault.Fault.TheVariants as faults
 use Rattle.binfarce_jobs.proofs.FileLoop.{grows_none}
 use Rattle.binfarce_calls.specs.Compared.{BreaksOff, Comparison, Differ}
 use Rattle.binfarce_calls.specs.Summed.{Fate, refused, summed}

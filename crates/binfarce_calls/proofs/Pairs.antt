@@ -3,7 +3,7 @@ use Rattle.std.proofs.Common.{◌≡◌, ◌∙◌, Bool, true, false, ◌&&◌,
 use Rattle.binfarce_calls.specs.Compared.{ReportsOf, refusal}
 use Rattle.binfarce_calls.specs.machine.Reported.{ReportsRead, ReportsSummed, ReportsUnless}
 use Rattle.binfarce_jobs.specs.Files.{Refused, Reports, ReportsFault}
-use Rattle.binfarce_jobs.specs.declared.fault.Fault.{Fault}
+use Rattle.binfarce_io.specs.declared.fault.Fault.{Fault}
 use Rattle.binfarce_jobs.specs.declared.limit.Verdict.{Verdict}
 use Rattle.binfarce_jobs.proofs.FileLoop.{reports_more}
 

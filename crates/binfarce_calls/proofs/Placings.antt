@@ -6,7 +6,7 @@ use Rattle.std.specs.Str.{NoCharPasses}
 use Rattle.std.specs.Str.Pattern.{RFindsChar, SplitsAroundMatch}
 use Rattle.binfarce_words.specs.Words.{Arguments}
 use Rattle.binfarce_jobs.specs.Files.{Refused, Reports}
-use Rattle.binfarce_jobs.specs.declared.fault.Fault.{Fault}
+use Rattle.binfarce_io.specs.declared.fault.Fault.{Fault}
 use Rattle.binfarce_logs.specs.declared.maps.NoBase.{NoBase}
 use Rattle.binfarce_logs.specs.declared.maps.NoBase.TheVariants as reasons
 use Rattle.binfarce_calls.specs.declared.at.Place.TheVariants as places

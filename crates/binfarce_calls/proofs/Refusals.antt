@@ -24,13 +24,13 @@ use Rattle.binfarce_tools.specs.Writing.{EndsAs, Outcome, no_memory, write_faile
 use Rattle.binfarce_tools.specs.declared.report.ReportError.{ReportError}
 use Rattle.binfarce_tools.specs.declared.report.ReportError.TheVariants as reports
 use Rattle.binfarce_tools.specs.declared.tables.Tables.{Tables}
-use Rattle.binfarce_jobs.specs.Faults.{failure, is_of_file, read_fault}
+use Rattle.binfarce_io.specs.Faults.{failure, is_of_file, read_fault}
 use Rattle.binfarce_jobs.specs.Files.{Grows, Hinted, HintsFault, Refused as Reported, Reports, ReportsFault, hinted}
 use Rattle.binfarce_foreign.specs.Foreign.{foreign_in}
-use Rattle.binfarce_jobs.specs.Input.{IsForeign, IsReadOf, IsUnreadable}
+use Rattle.binfarce_io.specs.Input.{IsForeign, IsReadOf, IsUnreadable}
 use Rattle.binfarce_jobs.specs.Show.{AreTablesFor, answer_for}
-use Rattle.binfarce_jobs.specs.declared.fault.Fault.{Fault}
-use Rattle.binfarce_jobs.specs.declared.fault.Fault.TheVariants as faults
+use Rattle.binfarce_io.specs.declared.fault.Fault.{Fault}
+use Rattle.binfarce_io.specs.declared.fault.Fault.TheVariants as faults
 use Rattle.binfarce_jobs.specs.declared.limit.Verdict.{Verdict}
 use Rattle.binfarce_jobs.specs.declared.show.Symbols.{Symbols}
 use Rattle.binfarce_jobs.proofs.FileFates.{never_written, no_taken, said_of_file, unknown_too}

@@ -12,12 +12,12 @@ use Rattle.binfarce_sections.specs.Section.{Section, sections_of}
 use Rattle.binfarce_sections.specs.declared.error.SectionError.{SectionError}
 use Rattle.binfarce_sections.specs.declared.error.SectionError.TheVariants as errors
 use Rattle.binfarce_tools.specs.Writing.{AppendsBeginning, write_failed}
-use Rattle.binfarce_jobs.specs.Faults.{failure, is_of_file}
+use Rattle.binfarce_io.specs.Faults.{failure, is_of_file}
 use Rattle.binfarce_jobs.specs.Files.{Grows, HintsFault, Reports, ReportsFault, State}
-use Rattle.binfarce_jobs.specs.Input.{IsForeign, IsReadOf, IsUnreadable}
+use Rattle.binfarce_io.specs.Input.{IsForeign, IsReadOf, IsUnreadable}
 use Rattle.binfarce_jobs.specs.Section.{TakesAsked}
-use Rattle.binfarce_jobs.specs.declared.fault.Fault.{Fault}
-use Rattle.binfarce_jobs.specs.declared.fault.Fault.TheVariants as faults
+use Rattle.binfarce_io.specs.declared.fault.Fault.{Fault}
+use Rattle.binfarce_io.specs.declared.fault.Fault.TheVariants as faults
 use Rattle.binfarce_jobs.specs.declared.limit.Verdict.{Verdict}
 use Rattle.binfarce_jobs.specs.declared.section.Asked.{Asked}
 use Rattle.binfarce_jobs.specs.declared.section.Asked.TheVariants.{Bytes, Lines}

@@ -1,10 +1,10 @@
 -- What two files that are compared come to, step after step.
 use Rattle.std.proofs.Common.{◌≡◌, Bool, ◌&&◌, ℕ, List, [], ◌∷◌, ◌++◌, Option, Some, None, is_some, Result, Ok, Err, IsErrAnd, append-nil, refl, sym, subst}
 use Rattle.binfarce_tools.specs.Writing.{Outcome}
-use Rattle.binfarce_jobs.specs.Faults.{failure}
+use Rattle.binfarce_io.specs.Faults.{failure}
 use Rattle.binfarce_jobs.specs.Files.{Grows, Hinted, Refused, Reports, State, hinted}
 use Rattle.binfarce_foreign.specs.Foreign.{foreign_in}
-use Rattle.binfarce_jobs.specs.declared.fault.Fault.{Fault}
+use Rattle.binfarce_io.specs.declared.fault.Fault.{Fault}
 use Rattle.binfarce_jobs.specs.declared.limit.Verdict.{Verdict}
 use Rattle.binfarce_jobs.proofs.FileLoop.{grows_none, reports_more}
 use Rattle.binfarce_calls.specs.Compared.{BreaksOff, Compares, Comparison, EndsAs}

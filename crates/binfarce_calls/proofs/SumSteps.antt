@@ -7,18 +7,18 @@ use Rattle.binfarce_sections.specs.Sums.{FileSums, sums_text}
 use Rattle.binfarce_sections.specs.declared.error.SectionError.{SectionError}
 use Rattle.binfarce_sections.specs.declared.error.SectionError.TheVariants as errors
 use Rattle.binfarce_tools.specs.Writing.{AppendsBeginning, Outcome, write_failed}
-use Rattle.binfarce_jobs.specs.Faults.{failure, is_failed_write, is_of_call, is_of_file}
+use Rattle.binfarce_io.specs.Faults.{failure, is_failed_write, is_of_call, is_of_file}
 use Rattle.binfarce_words.specs.Words.{Argument}
 use Rattle.binfarce_jobs.specs.Files.{Files, Grows, HintsFault, IsHeld, Reports, ReportsFault, State, asked_files, heading, hinted}
 use Rattle.binfarce_foreign.specs.Foreign.{foreign_in}
 use Rattle.binfarce_jobs.specs.Hints.{words_of}
-use Rattle.binfarce_jobs.specs.Input.{IsForeign, IsReadOf, IsUnreadable}
+use Rattle.binfarce_io.specs.Input.{IsForeign, IsReadOf, IsUnreadable}
 use Rattle.binfarce_jobs.specs.Limit.{above}
-use Rattle.binfarce_jobs.specs.Output.{pending, taken, writer_of}
-use Rattle.binfarce_jobs.specs.declared.fault.Fault.{Fault}
-use Rattle.binfarce_jobs.specs.declared.fault.Fault.TheVariants as faults
+use Rattle.binfarce_io.specs.Output.{pending, taken, writer_of}
+use Rattle.binfarce_io.specs.declared.fault.Fault.{Fault}
+use Rattle.binfarce_io.specs.declared.fault.Fault.TheVariants as faults
 use Rattle.binfarce_jobs.specs.declared.limit.Verdict.{Verdict}
-use Rattle.binfarce_jobs.specs.declared.output.Output.{Output}
+use Rattle.binfarce_io.specs.declared.output.Output.{Output}
 use Rattle.binfarce_jobs.proofs.FileFates.{beginning_after, said_of_file, whole, whole_taken}
 use Rattle.binfarce_calls.specs.Sections.{InTurn, SumsArgument, SumsOne, not_done, style_at}
 use Rattle.binfarce_calls.specs.Summed.{HasNoSections, HasSections, MayBeRefused, refused, summed}

@@ -6,7 +6,7 @@ use Rattle.std.proofs.lemmas.List.FromFn.{map-range_with_len_more}
 use Rattle.std.specs.List.{flat_map, range_with_len}
 use Rattle.binfarce_words.specs.Words.{Arguments}
 use Rattle.binfarce_jobs.specs.Files.{Refused, Reports}
-use Rattle.binfarce_jobs.specs.declared.fault.Fault.{Fault}
+use Rattle.binfarce_io.specs.declared.fault.Fault.{Fault}
 use Rattle.binfarce_jobs.proofs.FileLoop.{reports_more}
 use Rattle.binfarce_calls.specs.Compared.{refusal}
 use Rattle.binfarce_calls.specs.Placing.{TakesFiles, file_at, left_of}

@@ -3,8 +3,8 @@ use Rattle.std.proofs.Common.{◌≡◌, ◌∙◌, ◌⊎◌, inl, inr, ℕ, Li
 use Rattle.std.specs.Io.KnownBytes.{Appends, Keeps}
 use Rattle.std.specs.Option.{option_map}
 use Rattle.binfarce_tools.specs.Writing.{AppendsBeginning}
-use Rattle.binfarce_jobs.specs.Output.{pending, taken, writer_of}
-use Rattle.binfarce_jobs.specs.declared.output.Output.{Output}
+use Rattle.binfarce_io.specs.Output.{pending, taken, writer_of}
+use Rattle.binfarce_io.specs.declared.output.Output.{Output}
 
 none_left : (bytes : Option (List ℕ)) (left : List ℕ) → left ≡ [] → option_map (λ b. b ++ left) bytes ≡ bytes
 none_left None left is = refl

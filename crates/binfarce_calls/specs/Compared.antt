@@ -10,11 +10,11 @@ use Rattle.binfarce_sections.specs.Changes.{AreChangesOf}
 use Rattle.binfarce_sections.specs.Sums.{FileSums}
 use Rattle.binfarce_tools.specs.Writing.{AppendsBeginning, Outcome, no_memory, write_failed}
 use Rattle.binfarce_words.specs.declared.takes.Limit.{Limit}
-use Rattle.binfarce_jobs.specs.Faults.{failure}
+use Rattle.binfarce_io.specs.Faults.{failure}
 use Rattle.binfarce_jobs.specs.Files.{Grows, Hinted, Refused, Reports, State, hinted}
 use Rattle.binfarce_jobs.specs.Hints.{IsOrNone, lack_in, words_of}
 use Rattle.binfarce_jobs.specs.Limit.{grown}
-use Rattle.binfarce_jobs.specs.declared.fault.Fault.{Fault}
+use Rattle.binfarce_io.specs.declared.fault.Fault.{Fault}
 use Rattle.binfarce_jobs.specs.declared.hint.Hint.{Hint}
 use Rattle.binfarce_jobs.specs.declared.limit.Verdict.{Verdict}
 use Rattle.binfarce_calls.specs.Summed.{Fate, HasNoSections, HasNoSum, HasSections, HasSymbols, MayComeTo, is_summed, reported, said_of, summed}

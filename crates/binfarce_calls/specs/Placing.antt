@@ -20,10 +20,10 @@ use Rattle.binfarce_tools.specs.declared.SymbolTable.{SymbolTable}
 use Rattle.binfarce_tools.specs.declared.SymbolTable.TheVariants as tables
 use Rattle.binfarce_jobs.specs.Files.{Hinted, Refused, Reports}
 use Rattle.binfarce_jobs.specs.Hints.{hint_words}
-use Rattle.binfarce_jobs.specs.FaultWords.{IsUnplaced, unplaced_words}
-use Rattle.binfarce_jobs.specs.declared.fault.Fault.{Fault}
-use Rattle.binfarce_jobs.specs.declared.message.Unplaced.{Unplaced}
-use Rattle.binfarce_jobs.specs.declared.message.Unplaced.TheVariants.{NotMapped, NoCode, Several, NoBytes}
+use Rattle.binfarce_io.specs.FaultWords.{IsUnplaced, unplaced_words}
+use Rattle.binfarce_io.specs.declared.fault.Fault.{Fault}
+use Rattle.binfarce_io.specs.declared.message.Unplaced.{Unplaced}
+use Rattle.binfarce_io.specs.declared.message.Unplaced.TheVariants.{NotMapped, NoCode, Several, NoBytes}
 use Rattle.binfarce_calls.specs.Asked.{has}
 use Rattle.binfarce_calls.specs.Compared.{refusal}
 use Rattle.binfarce_calls.specs.declared.at.Place.{Place}

@@ -7,16 +7,16 @@ use Rattle.binfarce_sections.specs.declared.error.SectionError.{SectionError}
 use Rattle.binfarce_sections.specs.declared.error.SectionError.TheVariants.{Write}
 use Rattle.binfarce_tools.specs.Writing.{AppendsBeginning, no_memory, write_failed}
 use Rattle.binfarce_words.specs.declared.takes.Limit.{Limit}
-use Rattle.binfarce_jobs.specs.Faults.{failure}
+use Rattle.binfarce_io.specs.Faults.{failure}
 use Rattle.binfarce_words.specs.Words.{Argument, no_utf8, utf8}
 use Rattle.binfarce_jobs.specs.Files.{Files, Grows, RefusesArgument, Reports, State, heading, hinted}
 use Rattle.binfarce_foreign.specs.Foreign.{foreign_in}
 use Rattle.binfarce_jobs.specs.Hints.{IsSaidOfRefused, words_of}
-use Rattle.binfarce_jobs.specs.Input.{IsForeign, IsUnreadable}
+use Rattle.binfarce_io.specs.Input.{IsForeign, IsUnreadable}
 use Rattle.binfarce_jobs.specs.Limit.{above, and_then}
 use Rattle.binfarce_jobs.specs.Section.{TakesAsked}
-use Rattle.binfarce_jobs.specs.declared.fault.Fault.{Fault}
-use Rattle.binfarce_jobs.specs.declared.fault.Fault.TheVariants.{Section}
+use Rattle.binfarce_io.specs.declared.fault.Fault.{Fault}
+use Rattle.binfarce_io.specs.declared.fault.Fault.TheVariants.{Section}
 use Rattle.binfarce_jobs.specs.declared.hint.Hint.{Hint}
 use Rattle.binfarce_jobs.specs.declared.limit.Verdict.{Verdict}
 use Rattle.binfarce_jobs.specs.declared.section.Asked.{Asked}

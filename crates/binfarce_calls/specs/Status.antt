@@ -2,10 +2,10 @@
 use Rattle.std.specs.Prelude.{ℕ, Bool, true, false, ◌&&◌, not, Option, Some, None, Result, Ok, Err, if◌then◌else◌}
 use Rattle.std.specs.declared.io.ErrorKind.{ErrorKind}
 use Rattle.std.specs.declared.io.ErrorKind.TheVariants.{BrokenPipe}
-use Rattle.binfarce_jobs.specs.declared.fault.Fault.{Fault}
+use Rattle.binfarce_io.specs.declared.fault.Fault.{Fault}
 use Rattle.binfarce_jobs.specs.declared.limit.Verdict.{Verdict}
-use Rattle.binfarce_jobs.specs.Faults.{is_write}
-use Rattle.binfarce_jobs.specs.declared.fault.Fault.TheVariants.{Missing}
+use Rattle.binfarce_io.specs.Faults.{is_write}
+use Rattle.binfarce_io.specs.declared.fault.Fault.TheVariants.{Missing}
 use Rattle.binfarce_words.specs.declared.wrong.Wrong.{Wrong}
 use Rattle.binfarce_words.specs.declared.wrong.Wrong.TheVariants.{OutOfMemory}
 

@@ -9,13 +9,13 @@ use Rattle.binfarce_sections.specs.Section.{Section, sections_of}
 use Rattle.binfarce_sections.specs.Sums.{AreSumsOf, FileSums}
 use Rattle.binfarce_tools.specs.Writing as writing
 use Rattle.binfarce_tools.specs.Writing.{Outcome, too_large, unknown_format}
-use Rattle.binfarce_jobs.specs.Faults.{failure}
+use Rattle.binfarce_io.specs.Faults.{failure}
 use Rattle.binfarce_jobs.specs.Files.{Refused}
 use Rattle.binfarce_foreign.specs.Foreign.{foreign_in}
 use Rattle.binfarce_jobs.specs.Hints.{IsSaidOfRefused}
-use Rattle.binfarce_jobs.specs.Input.{IsForeign, IsUnreadable}
+use Rattle.binfarce_io.specs.Input.{IsForeign, IsUnreadable}
 use Rattle.binfarce_jobs.specs.Show.{answer_for}
-use Rattle.binfarce_jobs.specs.declared.fault.Fault.{Fault}
+use Rattle.binfarce_io.specs.declared.fault.Fault.{Fault}
 use Rattle.binfarce_jobs.specs.declared.show.Symbols.{Symbols}
 
 -- what a file came to: it has these sums; or it was refused, and this was said of it

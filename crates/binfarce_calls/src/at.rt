@@ -9,12 +9,12 @@ ghost use Rattle.binfarce_calls.specs.Placing.{IsPlaced, IsReadFile, IsWhy, Open
 use crate::placing::{base_for, base_given, count_of_files, file_at, lacks_bytes, path_for};
 use binfarce_addresses::at::Places;
 use binfarce_bytes::source::Source;
+use binfarce_io::fault::Fault;
+use binfarce_io::input::OpenFile;
+use binfarce_io::message::{Unplaced, unplaced_fault};
 use binfarce_jobs::at::{load_addresses_of, places_of, tables_at};
-use binfarce_jobs::fault::Fault;
 use binfarce_jobs::files::{System, open_input, refuse};
 use binfarce_jobs::hint::Hint;
-use binfarce_jobs::input::OpenFile;
-use binfarce_jobs::message::{Unplaced, unplaced_fault};
 use binfarce_jobs::show::Symbols;
 use binfarce_logs::maps::NoBase;
 use binfarce_tables::ReadError;

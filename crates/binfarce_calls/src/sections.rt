@@ -2,19 +2,19 @@
 
 ghost use Rattle.std.specs.Prelude.{◌≡◌, ℕ, Bool, List, None, Some, length, map, nat_lt, true};
 ghost use Rattle.binfarce_rows.specs.Json.{style_of};
-ghost use Rattle.binfarce_jobs.specs.Files.{AreHeld, IsHeld, asked_files};
+ghost use Rattle.binfarce_jobs.specs.Files.{AreHeld, IsHeld, asked_files, state_of};
 ghost use Rattle.binfarce_foreign.specs.Foreign.{foreign_in};
-ghost use Rattle.binfarce_jobs.specs.Input.{IsReadOf};
-ghost use Rattle.binfarce_jobs.specs.Output.{pending, state_of, taken, writer_of};
+ghost use Rattle.binfarce_io.specs.Input.{IsReadOf};
+ghost use Rattle.binfarce_io.specs.Output.{pending, taken, writer_of};
 ghost use Rattle.binfarce_words.specs.WordViews.{argument_view};
 ghost use Rattle.binfarce_calls.specs.Sections.{InTurn, ShowsAsked, SumsArgument, SumsOne, style_at};
 ghost use Rattle.binfarce_calls.specs.machine.Steps.{SumsSource};
 
 use binfarce_bytes::source::Source;
-use binfarce_jobs::fault::Fault;
+use binfarce_io::fault::Fault;
+use binfarce_io::output::Output;
 use binfarce_jobs::files::{System, give, heading, open_input, refuse, refuse_argument};
 use binfarce_jobs::limit::{Verdict, above};
-use binfarce_jobs::output::Output;
 use binfarce_jobs::section::{Asked, write_sections};
 use binfarce_jobs::show::Request;
 use binfarce_rows::json::Form;

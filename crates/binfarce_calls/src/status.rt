@@ -5,7 +5,7 @@ ghost use Rattle.std.specs.IoError.{error_kind};
 ghost use Rattle.std.specs.Option.{option_map};
 ghost use Rattle.binfarce_calls.specs.Status.{fault_status, is_broken_pipe, status_of, wrong_status};
 
-use binfarce_jobs::fault::Fault;
+use binfarce_io::fault::Fault;
 use binfarce_jobs::limit::Verdict;
 use binfarce_words::wrong::Wrong;
 use std::io::{Error, ErrorKind};

@@ -1,9 +1,9 @@
 //! What `at` is asked for: addresses, and where its files are loaded.
 
 use crate::report::report;
+use binfarce_io::fault::Fault;
+use binfarce_io::message::{Message, message_of};
 use binfarce_jobs::at::read_addresses;
-use binfarce_jobs::fault::Fault;
-use binfarce_jobs::message::{Message, message_of};
 use binfarce_sections::error::SectionError;
 use binfarce_words::flag::Flag::{Annotate, Maps};
 use binfarce_words::given::Arguments;

@@ -17,14 +17,14 @@ use binfarce_calls::placing::{file_at, loaded_by, lookup_for, missed, unclear, u
 use binfarce_calls::request::{figures_of, form_of, request_of, symbols_of};
 use binfarce_calls::sections::{show_section, sum_files};
 use binfarce_filtering::stream::{StreamError, filter_stream};
+use binfarce_io::fault::Fault;
+use binfarce_io::input::{FileOrStdin, OpenFile};
+use binfarce_io::message::{Message, message_of, push_refusal};
+use binfarce_io::output::Output;
 use binfarce_jobs::at::{answer_all, answer_input};
-use binfarce_jobs::fault::Fault;
 use binfarce_jobs::files::{System, give, show_files};
 use binfarce_jobs::hint::{Hint, lack};
-use binfarce_jobs::input::{FileOrStdin, OpenFile};
 use binfarce_jobs::limit::Verdict;
-use binfarce_jobs::message::{Message, message_of, push_refusal};
-use binfarce_jobs::output::Output;
 use binfarce_jobs::section::Asked;
 use binfarce_jobs::show::Symbols;
 use binfarce_logs::Module;

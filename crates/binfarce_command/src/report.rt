@@ -6,9 +6,9 @@ ghost use Rattle.std.specs.Option.{option_map};
 ghost use Rattle.binfarce_calls.specs.Status.{status_of, wrong_status};
 
 use binfarce_calls::status::{status_of, wrong_status};
-use binfarce_jobs::fault::Fault;
+use binfarce_io::fault::Fault;
+use binfarce_io::message::{Message, line_of, message_of};
 use binfarce_jobs::limit::Verdict;
-use binfarce_jobs::message::{Message, line_of, message_of};
 use binfarce_words::wrong::Wrong;
 use std::fmt;
 use std::io::Error;

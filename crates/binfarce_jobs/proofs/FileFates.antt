@@ -16,21 +16,21 @@ use Rattle.binfarce_sections.specs.declared.error.SectionError.TheVariants as se
 use Rattle.binfarce_tools.specs.declared.report.ReportError.TheVariants as sums
 use Rattle.binfarce_tools.specs.Writing as writing
 use Rattle.binfarce_tools.specs.Writing.{AppendsBeginning, IsDue, Leaves, Outcome, EndsAs, wrong_usage}
-use Rattle.binfarce_jobs.specs.Faults.{failure, is_failed_write, is_of_call}
+use Rattle.binfarce_io.specs.Faults.{failure, is_failed_write, is_of_call}
 use Rattle.binfarce_jobs.specs.Files.{FailsAs, Files, Grows, HintsFault, IsFoundIn, MayBeRefused, RefusesArgument, Reports, ReportsFault, ShowsSource, ShowsOne, State, heading, hinted, refused, shown}
-use Rattle.binfarce_jobs.specs.At.{is_elf}
+use Rattle.binfarce_tools.specs.SectionAnswer.{is_elf}
 use Rattle.binfarce_jobs.specs.Hints.{IsOrNone, IsSaidOfRefused, IsSaidOfShown, all_words, count_of, debug_in, debug_of, dynamic_by, dynamic_for, dynamic_in, has_none, is_stripped, lack_in, stripped_for, stripped_words, unknown_for, words_of}
-use Rattle.binfarce_jobs.specs.Output.{pending, taken, writer_of}
+use Rattle.binfarce_io.specs.Output.{pending, taken, writer_of}
 use Rattle.binfarce_foreign.specs.Foreign.{first_bytes, foreign_in}
-use Rattle.binfarce_jobs.specs.Input.{IsForeign, IsReadOf, IsUnreadable}
-use Rattle.binfarce_jobs.proofs.Streams.{format_of_beginning}
+use Rattle.binfarce_io.specs.Input.{IsForeign, IsReadOf, IsUnreadable}
+use Rattle.binfarce_io.proofs.Streams.{format_of_beginning}
 use Rattle.binfarce_jobs.specs.Show.{Fits, HasSumsOf, IsAskedText, IsSeenOf, IsShownText, MayEnd, MemoryFor, TakesText, answer_for, answer_taken, answer_with, excess_of, exceeds, has_table, is_taken}
-use Rattle.binfarce_jobs.specs.declared.fault.Fault.{Fault}
-use Rattle.binfarce_jobs.specs.declared.fault.Fault.TheVariants.{Report, Section, Stream, Unsupported, NotUtf8, SharedAddresses, Unplaced, Missing}
+use Rattle.binfarce_io.specs.declared.fault.Fault.{Fault}
+use Rattle.binfarce_io.specs.declared.fault.Fault.TheVariants.{Report, Section, Stream, Unsupported, NotUtf8, SharedAddresses, Unplaced, Missing}
 use Rattle.binfarce_jobs.specs.declared.hint.Hint.{Hint}
 use Rattle.binfarce_jobs.specs.declared.hint.Hints.{Hints}
 use Rattle.binfarce_jobs.specs.declared.limit.Verdict.{Verdict}
-use Rattle.binfarce_jobs.specs.declared.output.Output.{Output}
+use Rattle.binfarce_io.specs.declared.output.Output.{Output}
 use Rattle.binfarce_jobs.specs.declared.show.Request.{Request}
 use Rattle.binfarce_jobs.specs.declared.show.Seen.{Seen}
 use Rattle.binfarce_figures.specs.declared.sums.Sums.{Sums}

@@ -12,7 +12,7 @@ use Rattle.binfarce_words.specs.WordViews.{argument_view}
 use Rattle.binfarce_words.specs.declared.argument.Argument.{Argument}
 use Rattle.binfarce_jobs.specs.Files.{AreHeld, Fate, Files, Grows, Hinted, IsHeld, MayCome, Refused, Reports, Shows, ShowsAll, ShowsOne, State, asked_files, hinted, is_above, is_shown, reported, said_of, written}
 use Rattle.binfarce_jobs.specs.Limit.{and_then}
-use Rattle.binfarce_jobs.specs.declared.fault.Fault.{Fault}
+use Rattle.binfarce_io.specs.declared.fault.Fault.{Fault}
 use Rattle.binfarce_jobs.specs.declared.limit.Verdict.{Verdict}
 
 -- the views of arguments

@@ -1,6 +1,3 @@
-pub mod Streams
-pub mod Holding
-pub mod Loading
 pub mod Shown
 pub mod Making
 pub mod Lines

@@ -13,10 +13,10 @@ use Rattle.binfarce_tools.specs.ListWords as list
 use Rattle.binfarce_tools.specs.declared.list.ListError.{ListError}
 use Rattle.binfarce_tools.specs.declared.list.ListError.TheVariants as errors
 use Rattle.binfarce_jobs.specs.At.{AnswersInput, HasPlaces, IsUntouched, lines_end}
-use Rattle.binfarce_jobs.specs.Faults.{failure, list_fault}
+use Rattle.binfarce_io.specs.Faults.{failure, list_fault}
 use Rattle.binfarce_jobs.specs.declared.at.Answered.{Answered}
-use Rattle.binfarce_jobs.specs.declared.fault.Fault.{Fault}
-use Rattle.binfarce_jobs.specs.declared.fault.Fault.TheVariants.{Stream}
+use Rattle.binfarce_io.specs.declared.fault.Fault.{Fault}
+use Rattle.binfarce_io.specs.declared.fault.Fault.TheVariants.{Stream}
 
 -- lines were answered by the entries of a file
 pub answered_lines : (share : Bool) (memory : Result SelectedSymbols Refusal → Type 0) (answer : Option (Result SelectedSymbols Refusal)) (entries : List Entry) (lookup : Lookup) (given left old new : Option (List ℕ)) (ended : Result Counts StreamError) → share ≡ false → IsMadeOf memory answer (Ok entries)

@@ -21,9 +21,9 @@ use Rattle.binfarce_tools.specs.Writing.{EndsAs, Fails, Takes}
 use Rattle.binfarce_tools.proofs.Lines.{nothing}
 use Rattle.binfarce_tools.proofs.Reports.{got}
 use Rattle.binfarce_tools.proofs.Selected.{sized_in}
-use Rattle.binfarce_jobs.specs.Faults.{failure, list_fault, no_memory_fault, outcome_of}
+use Rattle.binfarce_io.specs.Faults.{failure, list_fault, no_memory_fault, outcome_of}
 use Rattle.binfarce_jobs.specs.Hints.{count_of}
-use Rattle.binfarce_jobs.specs.declared.fault.Fault.{Fault}
+use Rattle.binfarce_io.specs.declared.fault.Fault.{Fault}
 use Rattle.binfarce_jobs.specs.declared.show.Seen.{Seen}
 
 -- as many function symbols are left as the answer has

@@ -9,9 +9,9 @@ use Rattle.binfarce_tools.specs.Answer.{addresses_are_shared}
 use Rattle.binfarce_tools.specs.declared.list.ListError.TheVariants as listing
 use Rattle.binfarce_tools.specs.Writing.{Fails, Outcome, written, write_failed, unknown_format, refused, no_memory, too_large, unreadable, wrong_usage}
 use Rattle.binfarce_jobs.specs.At.{HasPlaces, IsShared}
-use Rattle.binfarce_jobs.specs.Faults.{failure, list_fault, outcome_of}
+use Rattle.binfarce_io.specs.Faults.{failure, list_fault, outcome_of}
 use Rattle.binfarce_jobs.specs.declared.at.Answered.{Answered}
-use Rattle.binfarce_jobs.specs.declared.fault.Fault.{Fault}
+use Rattle.binfarce_io.specs.declared.fault.Fault.{Fault}
 
 -- an outcome other than a failed write leaves it as it was that a write has failed
 still : (failed : Bool) (o : Outcome) → o ≢ write_failed → Fails failed failed o

@@ -11,9 +11,9 @@ use Rattle.binfarce_tools.specs.Writing.{Outcome, EndsAs, ProgramEndsAs, refused
 use Rattle.binfarce_tools.specs.declared.list.ListError.{ListError}
 use Rattle.binfarce_tools.specs.declared.list.ListError.TheVariants as listing
 use Rattle.binfarce_tools.specs.declared.report.ReportError.{ReportError}
-use Rattle.binfarce_jobs.specs.Faults.{failure, list_fault, outcome_of, read_fault}
-use Rattle.binfarce_jobs.specs.declared.fault.Fault.{Fault}
-use Rattle.binfarce_jobs.specs.declared.fault.Fault.TheVariants.{Report}
+use Rattle.binfarce_io.specs.Faults.{failure, list_fault, outcome_of, read_fault}
+use Rattle.binfarce_io.specs.declared.fault.Fault.{Fault}
+use Rattle.binfarce_io.specs.declared.fault.Fault.TheVariants.{Report}
 use Rattle.binfarce_jobs.specs.declared.show.Kind.{Kind}
 use Rattle.binfarce_jobs.specs.declared.show.Seen.{Seen}
 

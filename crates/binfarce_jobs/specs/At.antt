@@ -2,8 +2,6 @@
 use Rattle.std.specs.Prelude.{◌≡◌, ◌⊎◌, ◌&&◌, ℕ, Bool, true, false, List, [], ◌∷◌, codes, length, nat_lt, Option, Some, None, is_some, unwrap_or, Result, Ok, Err, if◌then◌else◌}
 use Rattle.std.specs.Io.KnownBytes.{Appends, Consumes}
 use Rattle.binfarce.specs.Format.{format_of}
-use Rattle.binfarce_bytes.specs.declared.format.Format.{Format}
-use Rattle.binfarce_bytes.specs.declared.format.Format.TheVariants.{Elf32, Elf64}
 use Rattle.std.specs.Str.{bytes_eq}
 use Rattle.binfarce.specs.Refusal.{◌>>=◌, Refusal, section_is_missing}
 use Rattle.binfarce.specs.SectionEntries.{SelectedSymbols}
@@ -18,9 +16,10 @@ use Rattle.binfarce_addresses.specs.declared.stream.StreamError.{StreamError}
 use Rattle.binfarce_elf_memory.specs.declared.segments.LoadAddress.{LoadAddress}
 use Rattle.binfarce_tables.specs.Loading.{load_address}
 use Rattle.binfarce_tools.specs.ListWords as list
+use Rattle.binfarce_tools.specs.SectionAnswer.{is_elf}
 use Rattle.binfarce_tools.specs.declared.list.ListError.{ListError}
 use Rattle.binfarce_tools.specs.Writing.{no_memory}
-use Rattle.binfarce_jobs.specs.Faults.{failure, list_fault}
+use Rattle.binfarce_io.specs.Faults.{failure, list_fault}
 use Rattle.binfarce_tools.specs.declared.SymbolTable.{SymbolTable}
 use Rattle.binfarce_tools.specs.declared.SymbolTable.TheVariants.{Dynsym}
 use Rattle.binfarce_tools.specs.declared.tables.Tables.{Tables}
@@ -28,8 +27,8 @@ use Rattle.binfarce_jobs.specs.Show.{AreTablesFor, answer_for}
 use Rattle.binfarce_jobs.specs.declared.at.Answered.{Answered}
 use Rattle.binfarce_jobs.specs.declared.show.Symbols.{Symbols}
 use Rattle.binfarce_words.specs.Words.{Wrong, no_address}
-use Rattle.binfarce_jobs.specs.declared.fault.Fault.{Fault}
-use Rattle.binfarce_jobs.specs.declared.fault.Fault.TheVariants.{SharedAddresses, Stream}
+use Rattle.binfarce_io.specs.declared.fault.Fault.{Fault}
+use Rattle.binfarce_io.specs.declared.fault.Fault.TheVariants.{SharedAddresses, Stream}
 
 -- an address, and those of other words
 abbrev pub and_others : ℕ → Result (List ℕ) Wrong → Result (List ℕ) Wrong
@@ -44,12 +43,6 @@ first_and_others word (Some address) others = and_others address others
 unfoldable pub addresses_of : List (List ℕ) → Result (List ℕ) Wrong
 addresses_of [] = Ok []
 addresses_of (word ∷ others) = first_and_others word (address_of word) (addresses_of others)
-
--- an ELF file
-abbrev pub is_elf : Format → Bool
-is_elf (Elf32 order) = true
-is_elf (Elf64 order) = true
-is_elf format = false
 
 -- the answer is that the file has no `.symtab`: it is stripped
 abbrev pub is_no_symtab : Refusal → Bool

@@ -3,16 +3,18 @@ use Rattle.std.specs.Prelude.{◌≡◌, ◌≢◌, ◌⊎◌, ℕ, Bool, true, 
 use Rattle.std.specs.Io.KnownBytes.{Appends}
 use Rattle.std.specs.List.{flat_map, list_all, list_any}
 use Rattle.binfarce_tools.specs.Writing.{AppendsBeginning, Outcome, no_memory, write_failed}
-use Rattle.binfarce_jobs.specs.Faults.{failure}
+use Rattle.binfarce_io.specs.Faults.{failure}
 use Rattle.binfarce_foreign.specs.Foreign.{foreign_in}
-use Rattle.binfarce_jobs.specs.Input.{IsForeign, IsUnreadable}
-use Rattle.binfarce_jobs.specs.MessageLine.{escaped}
+use Rattle.binfarce_io.specs.Input.{IsForeign, IsUnreadable}
+use Rattle.binfarce_io.specs.MessageLine.{escaped}
+use Rattle.binfarce_io.specs.Output.{taken, writer_of}
 use Rattle.binfarce_jobs.specs.Hints.{IsSaidOfRefused, IsSaidOfShown, has_none}
 use Rattle.binfarce_jobs.specs.Show.{HasSumsOf, IsShownText, MayEnd, exceeds}
 use Rattle.binfarce_figures.specs.declared.sums.Sums.{Sums}
 use Rattle.binfarce_words.specs.Words.{Argument, name_of, no_utf8, utf8}
-use Rattle.binfarce_jobs.specs.declared.fault.Fault.{Fault}
-use Rattle.binfarce_jobs.specs.declared.fault.Fault.TheVariants.{NotUtf8}
+use Rattle.binfarce_io.specs.declared.fault.Fault.{Fault}
+use Rattle.binfarce_io.specs.declared.fault.Fault.TheVariants.{NotUtf8}
+use Rattle.binfarce_io.specs.declared.output.Output.{Output}
 use Rattle.binfarce_jobs.specs.declared.limit.Verdict.{Verdict}
 use Rattle.binfarce_jobs.specs.declared.show.Request.{Request}
 use Rattle.binfarce_jobs.specs.declared.show.Seen.{Seen}
@@ -108,6 +110,10 @@ pub record State : Type 0 where
   pub taken : Option (List ℕ)
   pub reports : Option (List Refused)
   pub hints : Option (List Hinted)
+
+-- what a call leaves: the bytes of the sink, the reports, and the hints
+abbrev pub state_of : {W : Type 0} → (W → Option (List ℕ)) → Output W → Option (List Refused) → Option (List Hinted) → State
+state_of contents sink reports hints = record { bytes = contents (writer_of sink); taken = taken contents sink; reports = reports; hints = hints }
 
 -- what an argument may come to: a path what the file there may; one that isn't UTF-8 is refused for that, and nothing is said of it
 abbrev pub MayCome : Files → Argument → Fate → Type 0

@@ -20,11 +20,12 @@ use Rattle.binfarce_sections.specs.Named.{Lack, bytes_named}
 use Rattle.binfarce_sections.specs.Section.{sections_of}
 use Rattle.binfarce_sections.specs.declared.error.SectionError.TheVariants as sections
 use Rattle.binfarce_words.specs.WordViews.{limit_words}
-use Rattle.binfarce_jobs.specs.At.{is_elf, is_no_symtab}
+use Rattle.binfarce_tools.specs.SectionAnswer.{is_elf}
+use Rattle.binfarce_jobs.specs.At.{is_no_symtab}
 use Rattle.binfarce_jobs.specs.Show.{answer_for, answer_taken, excess_of}
-use Rattle.binfarce_jobs.specs.MessageLine.{byte_text}
-use Rattle.binfarce_jobs.specs.declared.fault.Fault.{Fault}
-use Rattle.binfarce_jobs.specs.declared.fault.Fault.TheVariants.{Section}
+use Rattle.binfarce_io.specs.MessageLine.{byte_text}
+use Rattle.binfarce_io.specs.declared.fault.Fault.{Fault}
+use Rattle.binfarce_io.specs.declared.fault.Fault.TheVariants.{Section}
 use Rattle.binfarce_jobs.specs.declared.show.Kind.{Kind}
 use Rattle.binfarce_jobs.specs.declared.show.Kind.TheVariants.{Figures}
 use Rattle.binfarce_jobs.specs.declared.show.Request.{Request}

@@ -1,11 +1,6 @@
-pub mod Input
-pub mod Faults
-pub mod FaultWords
 pub mod Show
 pub mod Files
 pub mod Hints
-pub mod MessageLine
-pub mod Output
 pub mod Section
 pub mod At
 pub mod Limit

@@ -14,13 +14,13 @@ ghost use Rattle.binfarce_tools.specs.Answer.{addresses_are_shared, selected_ans
 ghost use Rattle.binfarce_tools.specs.Tables.{AreTablesOf, ReadsAs};
 ghost use Rattle.binfarce_tools.specs.declared.SymbolTable.{SymbolTable};
 ghost use Rattle.binfarce_tools.specs.Writing.{EndsAs, Takes, Fails, Leaves, write_failed};
-ghost use Rattle.binfarce_jobs.specs.At.{AnswersInput, AreTablesAt, HasPlaces, IsShared, addresses_of, answer_at, has_functions, is_behind, is_elf, loaded_and_origin};
+ghost use Rattle.binfarce_tools.specs.SectionAnswer.{is_elf};
+ghost use Rattle.binfarce_jobs.specs.At.{AnswersInput, AreTablesAt, HasPlaces, IsShared, addresses_of, answer_at, has_functions, is_behind, loaded_and_origin};
 ghost use Rattle.binfarce_jobs.specs.machine.Dynamic.{IsDynamic, is_refused_so};
-ghost use Rattle.binfarce_jobs.specs.Faults.{failure, outcome_of};
+ghost use Rattle.binfarce_io.specs.Faults.{failure, outcome_of};
 ghost use Rattle.binfarce_jobs.specs.Show.{AreTablesFor, answer_for};
 ghost use Rattle.binfarce_words.specs.WordViews.{Gives};
 
-use crate::fault::Fault;
 use crate::show::{Symbols, tables_of};
 use binfarce_addresses::at::{Places, write_lines};
 use binfarce_addresses::stream::answer_lines;
@@ -28,6 +28,7 @@ use binfarce_addresses::{Counts, Lookup, parse_address};
 use binfarce_bytes::ParseError;
 use binfarce_bytes::format::Format;
 use binfarce_bytes::source::Source;
+use binfarce_io::fault::Fault;
 use binfarce_tables::ReadError;
 use binfarce_tables::format::read_format;
 use binfarce_tables::loading::{LoadAddress, read_load_address};

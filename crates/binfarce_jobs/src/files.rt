@@ -1,22 +1,22 @@
 //! Runs a command on files, one after the other.
 
 ghost use Rattle.std.specs.Prelude.{◌≡◌, ◌⊎◌, [], ◌∷◌, ℕ, Bool, List, true, Option, Some, None, map, nat_lt, length, IfErr, IfOk, IfSome, MatchOption};
-ghost use Rattle.binfarce_jobs.specs.Faults.{is_of_file};
-ghost use Rattle.binfarce_jobs.specs.Files.{Grows, Hinted, HintsFault, Refused, RefusesArgument, Reports, ReportsFault, AreHeld, IsHeld, asked_files, ShowsAll, ShowsSource, ShowsOne, heading, hinted};
+ghost use Rattle.binfarce_io.specs.Faults.{is_of_file};
+ghost use Rattle.binfarce_jobs.specs.Files.{Grows, Hinted, HintsFault, Refused, RefusesArgument, Reports, ReportsFault, AreHeld, IsHeld, asked_files, ShowsAll, ShowsSource, ShowsOne, heading, hinted, state_of};
 ghost use Rattle.binfarce_jobs.specs.Hints.{all_words, hint_words, words_of};
-ghost use Rattle.binfarce_jobs.specs.Output.{pending, state_of, taken, writer_of};
+ghost use Rattle.binfarce_io.specs.Output.{pending, taken, writer_of};
 ghost use Rattle.binfarce_foreign.specs.Foreign.{foreign_in};
-ghost use Rattle.binfarce_jobs.specs.Input.{IsForeign, IsReadOf, IsUnreadable, bytes_of, may_fail_of};
+ghost use Rattle.binfarce_io.specs.Input.{IsForeign, IsReadOf, IsUnreadable, bytes_of, may_fail_of};
 ghost use Rattle.binfarce_words.specs.WordViews.{argument_view};
 
-use crate::fault::Fault;
 use crate::hint::{Hint, Hints, hints_on, refusal_hints};
-use crate::input::OpenFile;
 use crate::limit::Verdict;
-use crate::message::push_escaped;
-use crate::output::Output;
 use crate::show::{Request, Seen, show};
 use binfarce_bytes::source::Source;
+use binfarce_io::fault::Fault;
+use binfarce_io::input::OpenFile;
+use binfarce_io::message::push_escaped;
+use binfarce_io::output::Output;
 use binfarce_sections::error::SectionError;
 use binfarce_words::argument::Argument;
 use std::alloc::{AllocError, Global};

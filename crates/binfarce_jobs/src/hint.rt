@@ -8,9 +8,7 @@ ghost use Rattle.binfarce_jobs.specs.Hints.{IsOrNone, count_of, debug_in, debug_
 ghost use Rattle.binfarce_jobs.specs.Show.{answer_taken, excess_of};
 
 use crate::at::is_elf;
-use crate::fault::Fault;
 use crate::limit::above;
-use crate::message::push_byte;
 use crate::show::{Kind, Request, Seen, Symbols, tables_of};
 use binfarce_bytes::ParseError;
 use binfarce_bytes::format::Format;
@@ -19,6 +17,8 @@ use binfarce_bytes::parser::up_to_nul;
 use binfarce_bytes::source::Source;
 use binfarce_figures::key::Key;
 use binfarce_figures::sums::Sums;
+use binfarce_io::fault::Fault;
+use binfarce_io::message::push_byte;
 use binfarce_sections::bytes::write_section_of;
 use binfarce_sections::error::SectionError;
 use binfarce_tables::format::read_format;

@@ -2,12 +2,8 @@
 #![tactic(auto)]
 
 pub mod at;
-pub mod fault;
 pub mod files;
 pub mod hint;
-pub mod input;
 pub mod limit;
-pub mod message;
-pub mod output;
 pub mod section;
 pub mod show;

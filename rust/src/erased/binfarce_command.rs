@@ -23,14 +23,14 @@ use crate::erased::binfarce_calls::placing::{
 use crate::erased::binfarce_calls::request::{figures_of, form_of, request_of, symbols_of};
 use crate::erased::binfarce_calls::sections::{show_section, sum_files};
 use crate::erased::binfarce_filtering::stream::{StreamError, filter_stream};
+use crate::erased::binfarce_io::fault::Fault;
+use crate::erased::binfarce_io::input::{FileOrStdin, OpenFile};
+use crate::erased::binfarce_io::message::{Message, message_of, push_refusal};
+use crate::erased::binfarce_io::output::Output;
 use crate::erased::binfarce_jobs::at::{answer_all, answer_input};
-use crate::erased::binfarce_jobs::fault::Fault;
 use crate::erased::binfarce_jobs::files::{System, give, show_files};
 use crate::erased::binfarce_jobs::hint::{Hint, lack};
-use crate::erased::binfarce_jobs::input::{FileOrStdin, OpenFile};
 use crate::erased::binfarce_jobs::limit::Verdict;
-use crate::erased::binfarce_jobs::message::{Message, message_of, push_refusal};
-use crate::erased::binfarce_jobs::output::Output;
 use crate::erased::binfarce_jobs::section::Asked;
 use crate::erased::binfarce_jobs::show::Symbols;
 use crate::erased::binfarce_logs::Module;

@@ -33,6 +33,8 @@ pub mod binfarce_addresses;
 pub mod binfarce_logs;
 pub mod binfarce_sections;
 #[cfg(any(test, feature = "programs"))]
+pub mod binfarce_io;
+#[cfg(any(test, feature = "programs"))]
 pub mod binfarce_jobs;
 #[cfg(any(test, feature = "programs"))]
 pub mod binfarce_calls;

@@ -1,7 +1,7 @@
 -- What the steps of a comparison report.
 use Rattle.std.specs.Prelude.{◌≡◌, ℕ, Bool, true, false, not, List, [], Option, is_some, Result, Ok, Err}
 use Rattle.binfarce_jobs.specs.Files.{Refused, Reports}
-use Rattle.binfarce_jobs.specs.declared.fault.Fault.{Fault}
+use Rattle.binfarce_io.specs.declared.fault.Fault.{Fault}
 use Rattle.binfarce_calls.specs.Compared.{refusal}
 
 -- a file is reported where it isn't had, by its path

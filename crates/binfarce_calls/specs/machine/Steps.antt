@@ -8,13 +8,13 @@ use Rattle.binfarce_rows.specs.Json.{Style}
 use Rattle.binfarce_sections.specs.Sums.{FileSums, sums_text}
 use Rattle.binfarce_tools.specs.Answer.{selected_answer}
 use Rattle.binfarce_tools.specs.Writing.{AppendsBeginning, write_failed}
-use Rattle.binfarce_jobs.specs.Faults.{failure, is_of_file}
+use Rattle.binfarce_io.specs.Faults.{failure, is_of_file}
 use Rattle.binfarce_jobs.specs.Files.{Grows, Hinted, Refused, Reports, State, hinted}
 use Rattle.binfarce_foreign.specs.Foreign.{foreign_in}
 use Rattle.binfarce_jobs.specs.Hints.{IsSaidOfRefused}
-use Rattle.binfarce_jobs.specs.Input.{IsReadOf, bytes_of}
+use Rattle.binfarce_io.specs.Input.{IsReadOf, bytes_of}
 use Rattle.binfarce_jobs.specs.Show.{answer_for}
-use Rattle.binfarce_jobs.specs.declared.fault.Fault.{Fault}
+use Rattle.binfarce_io.specs.declared.fault.Fault.{Fault}
 use Rattle.binfarce_jobs.specs.declared.show.Symbols.{Symbols}
 use Rattle.binfarce_calls.specs.Compared.{BreaksOff, Comparison, Differ}
 use Rattle.binfarce_calls.specs.Summed.{Fate, HasNoSections, HasSections, MayBeRefused, refused, summed}

@@ -8,12 +8,12 @@ use crate::erased::binfarce_calls::placing::{
 };
 use crate::erased::binfarce_addresses::at::Places;
 use crate::erased::binfarce_bytes::source::Source;
+use crate::erased::binfarce_io::fault::Fault;
+use crate::erased::binfarce_io::input::OpenFile;
+use crate::erased::binfarce_io::message::{Unplaced, unplaced_fault};
 use crate::erased::binfarce_jobs::at::{load_addresses_of, places_of, tables_at};
-use crate::erased::binfarce_jobs::fault::Fault;
 use crate::erased::binfarce_jobs::files::{System, open_input, refuse};
 use crate::erased::binfarce_jobs::hint::Hint;
-use crate::erased::binfarce_jobs::input::OpenFile;
-use crate::erased::binfarce_jobs::message::{Unplaced, unplaced_fault};
 use crate::erased::binfarce_jobs::show::Symbols;
 use crate::erased::binfarce_logs::maps::NoBase;
 use crate::erased::binfarce_tables::ReadError;

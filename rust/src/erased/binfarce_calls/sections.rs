@@ -4,12 +4,12 @@
 
 use crate::shim::Vec;
 use crate::erased::binfarce_bytes::source::Source;
-use crate::erased::binfarce_jobs::fault::Fault;
+use crate::erased::binfarce_io::fault::Fault;
+use crate::erased::binfarce_io::output::Output;
 use crate::erased::binfarce_jobs::files::{
     System, give, heading, open_input, refuse, refuse_argument,
 };
 use crate::erased::binfarce_jobs::limit::{Verdict, above};
-use crate::erased::binfarce_jobs::output::Output;
 use crate::erased::binfarce_jobs::section::{Asked, write_sections};
 use crate::erased::binfarce_jobs::show::Request;
 use crate::erased::binfarce_rows::json::Form;

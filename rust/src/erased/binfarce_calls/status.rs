@@ -2,7 +2,7 @@
 
 //! The program's exit status, by what its work came to.
 
-use crate::erased::binfarce_jobs::fault::Fault;
+use crate::erased::binfarce_io::fault::Fault;
 use crate::erased::binfarce_jobs::limit::Verdict;
 use crate::erased::binfarce_words::wrong::Wrong;
 use crate::shim::io::{Error, ErrorKind};

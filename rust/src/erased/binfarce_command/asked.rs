@@ -4,9 +4,9 @@
 
 use crate::shim::{HostRuntime, String, Vec};
 use crate::erased::binfarce_command::report::report;
+use crate::erased::binfarce_io::fault::Fault;
+use crate::erased::binfarce_io::message::{Message, message_of};
 use crate::erased::binfarce_jobs::at::read_addresses;
-use crate::erased::binfarce_jobs::fault::Fault;
-use crate::erased::binfarce_jobs::message::{Message, message_of};
 use crate::erased::binfarce_sections::error::SectionError;
 use crate::erased::binfarce_words::flag::Flag::{Annotate, Maps};
 use crate::erased::binfarce_words::given::Arguments;

@@ -4,9 +4,9 @@
 
 use crate::shim::{HostRuntime, String};
 use crate::erased::binfarce_calls::status::{status_of, wrong_status};
-use crate::erased::binfarce_jobs::fault::Fault;
+use crate::erased::binfarce_io::fault::Fault;
+use crate::erased::binfarce_io::message::{Message, line_of, message_of};
 use crate::erased::binfarce_jobs::limit::Verdict;
-use crate::erased::binfarce_jobs::message::{Message, line_of, message_of};
 use crate::erased::binfarce_words::wrong::Wrong;
 use core::fmt;
 use crate::shim::io::Error;

@@ -3,7 +3,6 @@
 //! `binfarce at [OPTION..] FILE [ADDRESS..]`: the function symbol at each address.
 
 use crate::shim::Vec;
-use crate::erased::binfarce_jobs::fault::Fault;
 use crate::erased::binfarce_jobs::show::{Symbols, tables_of};
 use crate::erased::binfarce_addresses::at::{Places, write_lines};
 use crate::erased::binfarce_addresses::stream::answer_lines;
@@ -11,6 +10,7 @@ use crate::erased::binfarce_addresses::{Counts, Lookup, parse_address};
 use crate::erased::binfarce_bytes::ParseError;
 use crate::erased::binfarce_bytes::format::Format;
 use crate::erased::binfarce_bytes::source::Source;
+use crate::erased::binfarce_io::fault::Fault;
 use crate::erased::binfarce_tables::ReadError;
 use crate::erased::binfarce_tables::format::read_format;
 use crate::erased::binfarce_tables::loading::{LoadAddress, read_load_address};

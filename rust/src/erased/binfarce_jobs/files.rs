@@ -3,14 +3,14 @@
 //! Runs a command on files, one after the other.
 
 use crate::shim::{String, Vec};
-use crate::erased::binfarce_jobs::fault::Fault;
 use crate::erased::binfarce_jobs::hint::{Hint, Hints, hints_on, refusal_hints};
-use crate::erased::binfarce_jobs::input::OpenFile;
 use crate::erased::binfarce_jobs::limit::Verdict;
-use crate::erased::binfarce_jobs::message::push_escaped;
-use crate::erased::binfarce_jobs::output::Output;
 use crate::erased::binfarce_jobs::show::{Request, Seen, show};
 use crate::erased::binfarce_bytes::source::Source;
+use crate::erased::binfarce_io::fault::Fault;
+use crate::erased::binfarce_io::input::OpenFile;
+use crate::erased::binfarce_io::message::push_escaped;
+use crate::erased::binfarce_io::output::Output;
 use crate::erased::binfarce_sections::error::SectionError;
 use crate::erased::binfarce_words::argument::Argument;
 use crate::shim::alloc::{AllocError, Global};

@@ -5,9 +5,7 @@
 
 use crate::shim::{CollectIn, String, Vec};
 use crate::erased::binfarce_jobs::at::is_elf;
-use crate::erased::binfarce_jobs::fault::Fault;
 use crate::erased::binfarce_jobs::limit::above;
-use crate::erased::binfarce_jobs::message::push_byte;
 use crate::erased::binfarce_jobs::show::{Kind, Request, Seen, Symbols, tables_of};
 use crate::erased::binfarce_bytes::ParseError;
 use crate::erased::binfarce_bytes::format::Format;
@@ -16,6 +14,8 @@ use crate::erased::binfarce_bytes::parser::up_to_nul;
 use crate::erased::binfarce_bytes::source::Source;
 use crate::erased::binfarce_figures::key::Key;
 use crate::erased::binfarce_figures::sums::Sums;
+use crate::erased::binfarce_io::fault::Fault;
+use crate::erased::binfarce_io::message::push_byte;
 use crate::erased::binfarce_sections::bytes::write_section_of;
 use crate::erased::binfarce_sections::error::SectionError;
 use crate::erased::binfarce_tables::format::read_format;

@@ -3,7 +3,6 @@
 //! Shows the function symbols of a file: as a listing, as sums, or as a picture.
 
 use crate::shim::{CollectIn, Vec};
-use crate::erased::binfarce_jobs::fault::Fault;
 use crate::erased::binfarce_bytes::ParseError;
 use crate::erased::binfarce_bytes::format::Format;
 use crate::erased::binfarce_bytes::functions::SectionFunction;
@@ -14,6 +13,7 @@ use crate::erased::binfarce_figures::map::map_by;
 use crate::erased::binfarce_figures::rows::{Shown, list_by};
 use crate::erased::binfarce_figures::stacks::fold_claims;
 use crate::erased::binfarce_figures::sums::{Figures, Sums, sum_by};
+use crate::erased::binfarce_io::fault::Fault;
 use crate::erased::binfarce_rows::json::Form;
 use crate::erased::binfarce_tables::ReadError;
 use crate::erased::binfarce_tables::format::read_format;

@@ -1,6 +1,6 @@
 use Rattle.std.proofs.Common.{Some, refl, subst, sym}
 use Rattle.binfarce_logs.specs.declared.maps.NoBase.{NoBase}
-use Rattle.binfarce_jobs.specs.declared.message.Unplaced.TheVariants.{NotMapped}
+use Rattle.binfarce_io.specs.declared.message.Unplaced.TheVariants.{NotMapped}
 use Rattle.binfarce_calls.specs.Placing.{IsWhy}
 use Rattle.binfarce_calls.proofs.Placings.{name_in}
 use Rattle.binfarce_calls.proofs.at.why_unplaced.Goals as goal

@@ -1,6 +1,5 @@
 use Rattle.std.proofs.Common.{◌∙◌, ◌&&◌, ℕ, Bool, Option, List, Ok, ap, ap₂, is_some, subst, sym}
-use Rattle.binfarce_jobs.specs.Files.{Refused}
-use Rattle.binfarce_jobs.specs.Output.{state_of}
+use Rattle.binfarce_jobs.specs.Files.{Refused, state_of}
 use Rattle.binfarce_jobs.specs.Show.{AreTablesFor}
 use Rattle.binfarce_bytes.specs.SectionEntries.{SelectedSymbols}
 use Rattle.binfarce_jobs.specs.declared.limit.Verdict.{Verdict}

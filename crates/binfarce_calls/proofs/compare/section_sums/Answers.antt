@@ -1,6 +1,6 @@
 use Rattle.std.proofs.Common.{◌∙◌, ◌≡◌, Bool, None, Ok, Some, true, ap, is_some, refl, subst, sym}
-use Rattle.binfarce_jobs.specs.Faults.{is_of_file}
-use Rattle.binfarce_jobs.specs.declared.fault.Fault.{Fault}
+use Rattle.binfarce_io.specs.Faults.{is_of_file}
+use Rattle.binfarce_io.specs.declared.fault.Fault.{Fault}
 use Rattle.binfarce_jobs.proofs.FileLoop.{grows_none}
 use Rattle.binfarce_sections.specs.Sums.{FileSums}
 use Rattle.binfarce_sections.specs.Tables.{AreTablesOf}

@@ -1,8 +1,8 @@
 use Rattle.std.proofs.Common.{◌∙◌, ◌≡◌, List, [], ◌∷◌, Option, Some, true, ap, refl, subst, sym}
-use Rattle.binfarce_jobs.specs.Faults.{is_of_file}
+use Rattle.binfarce_io.specs.Faults.{is_of_file}
 use Rattle.binfarce_jobs.specs.Files.{Refused, Reports}
-use Rattle.binfarce_jobs.specs.Input.{may_fail_of}
-use Rattle.binfarce_jobs.specs.declared.fault.Fault.{Fault}
+use Rattle.binfarce_io.specs.Input.{may_fail_of}
+use Rattle.binfarce_io.specs.declared.fault.Fault.{Fault}
 use Rattle.binfarce_jobs.proofs.FileLoop.{grows_unless}
 use Rattle.binfarce_calls.specs.Summed.{HasNoSections, MayBeRefused}
 use Rattle.binfarce_calls.specs.machine.Steps.{messages}

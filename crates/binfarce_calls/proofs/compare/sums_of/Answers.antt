@@ -1,9 +1,9 @@
 use Rattle.std.proofs.Common.{◌∙◌, ◌≡◌, Bool, None, Ok, Some, true, ap, is_some, refl, subst, sym}
 use Rattle.binfarce_bytes.specs.SectionEntries.{SelectedSymbols}
 use Rattle.binfarce_bytes.specs.Selection.{section_of}
-use Rattle.binfarce_jobs.specs.Faults.{is_of_file}
+use Rattle.binfarce_io.specs.Faults.{is_of_file}
 use Rattle.binfarce_jobs.specs.Show.{AreTablesFor}
-use Rattle.binfarce_jobs.specs.declared.fault.Fault.{Fault}
+use Rattle.binfarce_io.specs.declared.fault.Fault.{Fault}
 use Rattle.binfarce_jobs.proofs.FileLoop.{grows_none}
 use Rattle.binfarce_calls.specs.Summed.{HasNoSum, MayBeRefused}
 use Rattle.binfarce_calls.specs.declared.compare.Summed.{Summed}

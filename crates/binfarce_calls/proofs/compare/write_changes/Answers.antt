@@ -3,12 +3,12 @@ use Rattle.binfarce_bytes.specs.Selection.{section_of}
 use Rattle.binfarce_figures.specs.Changes.{AreChangesBy, Asked, answer_for, both}
 use Rattle.binfarce_rows.specs.Json.{style_of}
 use Rattle.binfarce_tools.specs.Writing.{no_memory, write_failed}
-use Rattle.binfarce_jobs.specs.Faults.{failure}
-use Rattle.binfarce_jobs.specs.Files.{hinted}
+use Rattle.binfarce_io.specs.Faults.{failure}
+use Rattle.binfarce_jobs.specs.Files.{hinted, state_of}
 use Rattle.binfarce_jobs.specs.Hints.{words_of}
 use Rattle.binfarce_jobs.specs.Limit.{grown}
-use Rattle.binfarce_jobs.specs.Output.{state_of, taken}
-use Rattle.binfarce_jobs.specs.declared.fault.Fault.TheVariants.{Report}
+use Rattle.binfarce_io.specs.Output.{taken}
+use Rattle.binfarce_io.specs.declared.fault.Fault.TheVariants.{Report}
 use Rattle.binfarce_jobs.proofs.FileLoop.{grows_none, grows_unless, reports_more}
 use Rattle.binfarce_calls.specs.Compared.{by_sizes}
 use Rattle.binfarce_calls.specs.machine.Steps.{HasSummed}

@@ -3,9 +3,10 @@ use Rattle.binfarce_rows.specs.Json.{style_of}
 use Rattle.binfarce_sections.specs.Changes.{AreChangesOf}
 use Rattle.binfarce_tools.specs.Writing.{no_memory, write_failed}
 use Rattle.binfarce_figures.specs.declared.diff.Growth.{Growth}
-use Rattle.binfarce_jobs.specs.Faults.{failure}
-use Rattle.binfarce_jobs.specs.Output.{state_of, taken}
-use Rattle.binfarce_jobs.specs.declared.fault.Fault.TheVariants.{Section}
+use Rattle.binfarce_io.specs.Faults.{failure}
+use Rattle.binfarce_io.specs.Output.{taken}
+use Rattle.binfarce_jobs.specs.Files.{state_of}
+use Rattle.binfarce_io.specs.declared.fault.Fault.TheVariants.{Section}
 use Rattle.binfarce_jobs.proofs.FileLoop.{grows_none, grows_unless}
 use Rattle.binfarce_calls.specs.Compared.{by_sections}
 use Rattle.binfarce_calls.specs.Summed.{summed}

@@ -1,8 +1,8 @@
 use Rattle.std.proofs.Common.{◌∙◌, Ok, Err, List, Option, inl, ap, subst, sym}
 use Rattle.binfarce_rows.specs.Json.{style_of}
-use Rattle.binfarce_jobs.specs.Files.{Hinted, Refused}
-use Rattle.binfarce_jobs.specs.Input.{may_fail_of}
-use Rattle.binfarce_jobs.specs.Output.{state_of, taken}
+use Rattle.binfarce_jobs.specs.Files.{Hinted, Refused, state_of}
+use Rattle.binfarce_io.specs.Input.{may_fail_of}
+use Rattle.binfarce_io.specs.Output.{taken}
 use Rattle.binfarce_jobs.specs.declared.limit.Verdict.{Verdict}
 use Rattle.binfarce_jobs.proofs.FileLoop.{grows_unless}
 use Rattle.binfarce_calls.specs.Sections.{ShowsAsked}

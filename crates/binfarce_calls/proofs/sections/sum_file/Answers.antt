@@ -1,9 +1,9 @@
 use Rattle.std.proofs.Common.{◌∙◌, ℕ, true, List, Option, Ok, Err, ap, is_some, subst, sym}
 use Rattle.binfarce_rows.specs.Json.{Style}
-use Rattle.binfarce_jobs.specs.Faults.{is_of_file}
-use Rattle.binfarce_jobs.specs.Files.{Grows, Hinted, Refused, asked_files, hinted}
+use Rattle.binfarce_io.specs.Faults.{is_of_file}
+use Rattle.binfarce_jobs.specs.Files.{Grows, Hinted, Refused, asked_files, hinted, state_of}
 use Rattle.binfarce_jobs.specs.Hints.{words_of}
-use Rattle.binfarce_jobs.specs.Output.{pending, state_of, taken, writer_of}
+use Rattle.binfarce_io.specs.Output.{pending, taken, writer_of}
 use Rattle.binfarce_jobs.specs.declared.hint.Hint.{Hint}
 use Rattle.binfarce_jobs.specs.declared.limit.Verdict.{Verdict}
 use Rattle.binfarce_jobs.proofs.FileLoop.{grows_unless}

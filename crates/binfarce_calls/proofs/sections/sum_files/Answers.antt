@@ -4,9 +4,8 @@ use Rattle.binfarce_words.specs.Words as words
 use Rattle.binfarce_words.specs.WordViews.{argument_view}
 use Rattle.binfarce_words.specs.declared.argument.Argument.{Argument}
 use Rattle.binfarce_words.specs.declared.argument.Argument.TheVariants.{Text}
-use Rattle.binfarce_jobs.specs.Files.{asked_files}
+use Rattle.binfarce_jobs.specs.Files.{asked_files, state_of}
 use Rattle.binfarce_jobs.specs.Limit.{and_then}
-use Rattle.binfarce_jobs.specs.Output.{state_of}
 use Rattle.binfarce_jobs.specs.declared.limit.Verdict.{Verdict}
 use Rattle.binfarce_jobs.proofs.FileLoop.{held_there, views, views_more, views_split}
 use Rattle.binfarce_calls.specs.Sections.{InTurn, SumsArgument}

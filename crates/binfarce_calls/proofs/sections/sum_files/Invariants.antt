@@ -1,6 +1,5 @@
 use Rattle.std.proofs.Common.{◌≡◌, ℕ, List, Ok, take, length, ltb}
-use Rattle.binfarce_jobs.specs.Files.{AreHeld, asked_files}
-use Rattle.binfarce_jobs.specs.Output.{state_of}
+use Rattle.binfarce_jobs.specs.Files.{AreHeld, asked_files, state_of}
 use Rattle.binfarce_jobs.proofs.FileLoop.{views}
 use Rattle.binfarce_calls.specs.Sections.{InTurn, SumsArgument}
 use Rattle.binfarce_calls.proofs.sections.sum_files.Given as goal

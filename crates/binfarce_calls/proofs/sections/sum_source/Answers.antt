@@ -1,6 +1,6 @@
 use Rattle.binfarce_rows.specs.Json.{style_of}
-use Rattle.binfarce_jobs.specs.Faults.{read_fault}
-use Rattle.binfarce_jobs.specs.declared.fault.Fault.TheVariants.{Section}
+use Rattle.binfarce_io.specs.Faults.{read_fault}
+use Rattle.binfarce_io.specs.declared.fault.Fault.TheVariants.{Section}
 use Rattle.binfarce_calls.proofs.Refusals.{read_of_file, section_of_file, sections_summed, sections_unread, sections_unsummed}
 use Rattle.binfarce_calls.proofs.SumSteps.{heading_broke, held_on, held_refused, rows_broke, rows_written}
 use Rattle.binfarce_calls.proofs.sections.sum_source.Goals as goal

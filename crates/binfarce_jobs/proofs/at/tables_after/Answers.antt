@@ -1,6 +1,6 @@
 use Rattle.std.proofs.Common.{◌≡◌, ◌∙◌, true, Option, Ok, ap, subst, sym}
 use Rattle.binfarce_tools.specs.declared.tables.Tables.{Tables}
-use Rattle.binfarce_jobs.specs.At.{is_elf}
+use Rattle.binfarce_tools.specs.SectionAnswer.{is_elf}
 use Rattle.binfarce_jobs.specs.machine.Dynamic.{IsDynamic}
 use Rattle.binfarce_jobs.proofs.Dynamic.{by_dynsym}
 use Rattle.binfarce_jobs.proofs.at.tables_after.Goals as goal

@@ -1,9 +1,9 @@
 use Rattle.std.proofs.Common.{◌≡◌, ◌∙◌, ℕ, true, List, Option, Ok, ap, is_some, refl, subst, sym}
-use Rattle.binfarce_jobs.specs.Files.{Hinted, IsHeld, Refused, ShowsOne, asked_files}
+use Rattle.binfarce_jobs.specs.Files.{Hinted, IsHeld, Refused, ShowsOne, asked_files, state_of}
 use Rattle.binfarce_jobs.specs.Hints.{all_words}
-use Rattle.binfarce_jobs.specs.Faults.{failure, is_of_call}
-use Rattle.binfarce_jobs.specs.Output.{pending, state_of, taken, writer_of}
-use Rattle.binfarce_jobs.specs.Input.{may_fail_of}
+use Rattle.binfarce_io.specs.Faults.{failure, is_of_call}
+use Rattle.binfarce_io.specs.Output.{pending, taken, writer_of}
+use Rattle.binfarce_io.specs.Input.{may_fail_of}
 use Rattle.binfarce_jobs.specs.declared.limit.Verdict.{Verdict}
 use Rattle.binfarce_jobs.specs.declared.hint.Hint.{Hint}
 use Rattle.binfarce_words.specs.Words as words

@@ -3,8 +3,7 @@ use Rattle.std.proofs.lemmas.List.{take_all}
 use Rattle.binfarce_words.specs.WordViews.{argument_view}
 use Rattle.binfarce_words.specs.declared.argument.Argument.{Argument}
 use Rattle.binfarce_words.specs.declared.argument.Argument.TheVariants.{Text}
-use Rattle.binfarce_jobs.specs.Files.{Shows, asked_files}
-use Rattle.binfarce_jobs.specs.Output.{state_of}
+use Rattle.binfarce_jobs.specs.Files.{Shows, asked_files, state_of}
 use Rattle.binfarce_jobs.specs.declared.limit.Verdict.{Verdict}
 use Rattle.binfarce_jobs.proofs.FileLoop.{none_shown, goes_on, ends, held_there, one_at, passed_on, views}
 use Rattle.binfarce_jobs.proofs.files.show_files.Goals as goal

@@ -1,6 +1,5 @@
 use Rattle.std.proofs.Common.{◌≡◌, ℕ, List, take, length, ltb}
-use Rattle.binfarce_jobs.specs.Files.{AreHeld, Shows, asked_files}
-use Rattle.binfarce_jobs.specs.Output.{state_of}
+use Rattle.binfarce_jobs.specs.Files.{AreHeld, Shows, asked_files, state_of}
 use Rattle.binfarce_jobs.proofs.FileLoop.{views}
 use Rattle.binfarce_jobs.proofs.files.show_files.Given as goal
 

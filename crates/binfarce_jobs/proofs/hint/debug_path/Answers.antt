@@ -2,7 +2,7 @@ use Rattle.std.proofs.Common.{◌≡◌, ◌∙◌, ◌++◌, ◌∷◌, ℕ, �
 use Rattle.std.proofs.lemmas.List.{take_all}
 use Rattle.std.specs.List.{flat_map}
 use Rattle.std.specs.String.{string_bytes}
-use Rattle.binfarce_jobs.specs.MessageLine.{byte_text}
+use Rattle.binfarce_io.specs.MessageLine.{byte_text}
 use Rattle.binfarce_jobs.specs.Hints.{debug_path}
 use Rattle.binfarce_jobs.proofs.Links.{five_joined}
 use Rattle.binfarce_jobs.proofs.hint.debug_path.Goals as goal

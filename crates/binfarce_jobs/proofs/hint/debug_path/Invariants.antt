@@ -1,7 +1,7 @@
 use Rattle.std.proofs.Common.{◌≡◌, ◌++◌, take}
 use Rattle.std.specs.List.{flat_map}
 use Rattle.std.specs.String.{string_bytes}
-use Rattle.binfarce_jobs.specs.MessageLine.{byte_text}
+use Rattle.binfarce_io.specs.MessageLine.{byte_text}
 use Rattle.binfarce_jobs.proofs.hint.debug_path.Given as goal
 
 -- the bytes so far

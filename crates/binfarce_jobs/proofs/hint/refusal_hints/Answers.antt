@@ -1,6 +1,6 @@
 use Rattle.std.proofs.Common.{◌≡◌, [], Option, None, Result, Ok, Err, IfOk, Bool, true, ap, if◌then◌else◌, rules, subst, sym}
 use Rattle.binfarce_jobs.specs.Hints.{IsOrNone, debug_of, dynamic_in, is_stripped, stripped_words, words_of}
-use Rattle.binfarce_jobs.specs.declared.fault.Fault.{Fault}
+use Rattle.binfarce_io.specs.declared.fault.Fault.{Fault}
 use Rattle.binfarce_jobs.specs.declared.hint.Hint.{Hint}
 use Rattle.binfarce_jobs.proofs.Said.{said_or_none}
 use Rattle.binfarce_jobs.proofs.hint.refusal_hints.Goals as goal

@@ -2,7 +2,7 @@ use Rattle.std.proofs.Common.{◌≡◌, ◌∙◌, Bool, true, Option, Some, If
 use Rattle.binfarce_bytes.specs.Format.{format_of}
 use Rattle.binfarce_bytes.specs.Refusal.{Refusal}
 use Rattle.binfarce_bytes.specs.declared.format.Format.{Format}
-use Rattle.binfarce_jobs.specs.At.{is_elf}
+use Rattle.binfarce_tools.specs.SectionAnswer.{is_elf}
 use Rattle.binfarce_jobs.specs.Hints.{debug_in, stripped_words, words_of}
 use Rattle.binfarce_jobs.specs.declared.hint.Hint.{Hint}
 use Rattle.binfarce_jobs.proofs.hint.stripped.Goals as goal

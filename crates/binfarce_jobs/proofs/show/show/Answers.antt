@@ -6,7 +6,7 @@ use Rattle.binfarce_rows.specs.Json.{Style, style_of}
 use Rattle.binfarce_tools.specs.Answer.{MemoryIn, selected_answer}
 use Rattle.binfarce_tools.specs.Tables.{AreTablesOf}
 use Rattle.binfarce_tools.specs.Writing.{EndsAs, Takes}
-use Rattle.binfarce_jobs.specs.Faults.{outcome_of}
+use Rattle.binfarce_io.specs.Faults.{outcome_of}
 use Rattle.binfarce_jobs.specs.Show.{AreTablesFor, Fits, IsSeenOf, IsTextOf, MemoryFor, answer_for, style_for}
 use Rattle.binfarce_jobs.proofs.Shown.{unread}
 use Rattle.binfarce_jobs.proofs.show.show.Goals as goal

@@ -1,0 +1,84 @@
+-- The words of a fault.
+use Rattle.std.specs.Prelude.{◌≡◌, ◌||◌, ℕ, Bool, true, false, List, [], ◌∷◌, ◌++◌, codes, nat_eq, Some, None, if◌then◌else◌}
+use Rattle.std.specs.Fmt.{decimal}
+use Rattle.std.specs.List.{concat}
+use Rattle.std.specs.Str.{bytes_eq}
+use Rattle.std.specs.String.{string_bytes}
+use Rattle.binfarce_bytes.specs.Refusal.{Refusal, refusal_of, section_is_missing, symbols_section_is_missing, words}
+use Rattle.binfarce_sections.specs.Results.{section_words}
+use Rattle.binfarce_sections.specs.declared.error.SectionError.TheVariants as sections
+use Rattle.binfarce_text.specs.Streams.{stream_words}
+use Rattle.binfarce_rows.specs.Json.{object_start, text_member}
+use Rattle.binfarce_tools.specs.ReportWords.{report_words}
+use Rattle.binfarce_tools.specs.declared.report.ReportError.TheVariants as sums
+use Rattle.binfarce_foreign.specs.Foreign.{foreign_words}
+use Rattle.binfarce_io.specs.declared.fault.Fault.{Fault}
+use Rattle.binfarce_io.specs.declared.fault.Fault.TheVariants.{Report, Section, Stream, Unsupported, NotUtf8, SharedAddresses, Unplaced, Missing}
+use Rattle.binfarce_io.specs.Faults.{is_write, no_memory_fault}
+use Rattle.binfarce_io.specs.declared.message.Message.{Message}
+use Rattle.binfarce_io.specs.declared.message.Message.TheVariants as messages
+use Rattle.binfarce_io.specs.declared.message.Unplaced as message
+use Rattle.binfarce_io.specs.declared.message.Unplaced.TheVariants.{NotMapped, NoCode, Several, NoBytes}
+
+-- of a refusal: an ELF file without a symbol table may have a dynamic one
+abbrev pub refused_words : Refusal → List ℕ
+refused_words (section_is_missing name) =
+    if bytes_eq name (codes ".symtab") then codes "no symbol table (.symtab): it is stripped"
+    else if bytes_eq name (codes ".dynsym") then codes "no dynamic symbol table (.dynsym)"
+    else words (section_is_missing name)
+refused_words symbols_section_is_missing = codes "no such section; binfarce section lists those of an ELF file; in others .text is the code"
+refused_words refusal = words refusal
+
+-- of so many lines without an address
+abbrev pub missing_words : ℕ → List ℕ
+missing_words count = if nat_eq count 1 then codes "1 line without an address" else decimal count ++ codes " lines without an address"
+
+-- the printed text; but for refusals that of the error in it
+abbrev pub fault_words : Fault → List ℕ
+fault_words (Report (sums.Parse e)) = refused_words (refusal_of e)
+fault_words (Report e) = report_words e
+fault_words (Section (sections.Parse e)) = refused_words (refusal_of e)
+fault_words (Section e) = section_words e
+fault_words (Stream e) = stream_words e
+fault_words (Unsupported kind) = foreign_words kind
+fault_words NotUtf8 = codes "not UTF-8"
+fault_words SharedAddresses = codes "its sections share addresses; --section=NAME takes one of them"
+fault_words (Unplaced words) = string_bytes words
+fault_words (Missing count) = missing_words count
+
+-- of a message: a fault, or the system's reason
+abbrev pub message_words : Message → List ℕ
+message_words (messages.Fault fault) = fault_words fault
+message_words (messages.Reason words) = string_bytes words
+
+-- the system has a reason for a fault: a failed write, or a file that can't be read
+abbrev pub is_unreadable : Fault → Bool
+is_unreadable (Section sections.Unreadable) = true
+is_unreadable fault = false
+
+abbrev pub has_reason : Fault → Bool
+has_reason fault = is_write fault || is_unreadable fault
+
+-- what a message says of a fault: the system's reason where it is given, or that there is no memory for it; and else the fault
+abbrev pub IsMessageOf : Fault → (is_given : Bool) → Message → Type 0
+IsMessageOf fault true (messages.Reason words) = Unit {0}
+IsMessageOf fault true (messages.Fault f) = f ≡ no_memory_fault
+IsMessageOf fault false (messages.Reason words) = ⊥
+IsMessageOf fault false (messages.Fault f) = f ≡ fault
+
+-- of a file that isn't placed
+abbrev pub unplaced_words : message.Unplaced → List ℕ
+unplaced_words (NotMapped path None) = codes "the maps have no file " ++ (path.now ++ codes "; --as=NAME takes another name")
+unplaced_words (NotMapped path (Some name)) = codes "the maps have no file " ++ (path.now ++ (codes " or " ++ (name.now ++ codes "; --as=NAME takes another name")))
+unplaced_words (NoCode path) = codes "the maps don't say where the code of " ++ (path.now ++ codes " is; give --base, or more of the maps")
+unplaced_words (Several path) = path.now ++ codes " is at several addresses in the maps; give --base in place of --maps, or --as=PATH for one of several paths"
+unplaced_words NoBytes = codes "no code segment with bytes; --offsets takes ELF programs and shared objects, and not their debug files"
+
+-- the fault of a file that isn't placed has these words, or there is no memory for them
+abbrev pub IsUnplaced : (words : List ℕ) → Fault → Type 0
+IsUnplaced words (Unplaced text) = string_bytes text ≡ words
+IsUnplaced words fault = fault ≡ no_memory_fault
+
+-- the refusal of a file as a JSON object: its file, and the printed text
+abbrev pub refusal_object : (file message : List ℕ) → List ℕ
+refusal_object file message = concat (object_start file ∷ text_member (codes "error") (Some message) ∷ codes "}\n" ∷ [])

@@ -1,0 +1,186 @@
+//! Why a file's result was not written, or not all of it.
+
+ghost use Rattle.std.specs.Prelude.{◌≡◌};
+ghost use Rattle.std.specs.IoError.{error_kind};
+ghost use Rattle.binfarce_io.specs.Faults.{is_of_file, is_write};
+
+use binfarce_bytes::ParseError;
+use binfarce_filtering::stream::StreamError;
+use binfarce_foreign::Foreign;
+use binfarce_sections::error::SectionError;
+use binfarce_tables::ReadError;
+use binfarce_tools::list::ListError;
+use binfarce_tools::report::ReportError;
+use std::alloc::AllocError;
+use std::error::Error;
+use std::{fmt, io};
+
+/// Why a file's result was not written, or not all of it.
+#[derive(Debug, PartialEq, Drop)]
+pub enum Fault {
+    /// The function symbols were not listed or summed.
+    Report(ReportError),
+    /// The file was not read, or its sections were not written.
+    Section(SectionError),
+    /// Standard input was not passed on.
+    Stream(StreamError),
+    /// The file is recognized, and no reader reads it.
+    Unsupported(Foreign),
+    /// The name of the file isn't UTF-8.
+    NotUtf8,
+    /// The sections of an object file share addresses, so one has to be named.
+    SharedAddresses,
+    /// Where the file is loaded isn't known, and why in words.
+    Unplaced(String),
+    /// This many lines of standard input have no address; all lines were answered.
+    Missing(u64),
+}
+
+impl Fault {
+    /// Whether a write failed.
+    pub fn is_write(&self) -> bool
+        ensures { result ≡ is_write self.now }
+    {
+        matches!(
+            self,
+            Fault::Report(ReportError::Write)
+                | Fault::Section(SectionError::Write)
+                | Fault::Stream(StreamError::Write)
+        )
+    }
+
+    /// Whether a file is refused for it: not a failed write, and no fault of the whole call.
+    pub fn is_of_file(&self) -> bool
+        ensures { result ≡ is_of_file self.now }
+    {
+        !self.is_write() && !matches!(self, Fault::Missing(_))
+    }
+}
+
+impl fmt::Display for Fault {
+    ghost use Rattle.std.specs.Prelude.{Some};
+    ghost use Rattle.binfarce_io.specs.FaultWords.{fault_words};
+
+    ghost output = { λ e. Some (fault_words e) };
+
+    fn fmt<W: fmt::Write>(&self, f: &mut fmt::Formatter<W>) -> fmt::Result {
+        match self {
+            Fault::Report(ReportError::Parse(e)) => write!(f, "{}", Refused(*e)),
+            Fault::Section(SectionError::Parse(e)) => write!(f, "{}", Refused(*e)),
+            Fault::Report(e) => write!(f, "{e}"),
+            Fault::Section(e) => write!(f, "{e}"),
+            Fault::Stream(e) => write!(f, "{e}"),
+            Fault::Unsupported(kind) => write!(f, "{kind}"),
+            Fault::NotUtf8 => write!(f, "not UTF-8"),
+            Fault::SharedAddresses => write!(
+                f,
+                "its sections share addresses; --section=NAME takes one of them"
+            ),
+            Fault::Unplaced(words) => write!(f, "{words}"),
+            Fault::Missing(1) => write!(f, "1 line without an address"),
+            Fault::Missing(count) => write!(f, "{count} lines without an address"),
+        }
+    }
+}
+
+impl Error for Fault {}
+
+// A refusal of a reader, in words that say what would help.
+#[derive(Debug, Clone, Copy)]
+struct Refused(ParseError);
+
+impl fmt::Display for Refused {
+    ghost use Rattle.std.specs.Prelude.{Some};
+    ghost use Rattle.binfarce_bytes.specs.Refusal.{refusal_of};
+    ghost use Rattle.binfarce_io.specs.FaultWords.{refused_words};
+
+    ghost output = { λ r. Some (refused_words (refusal_of r.0)) };
+
+    fn fmt<W: fmt::Write>(&self, f: &mut fmt::Formatter<W>) -> fmt::Result {
+        match self.0 {
+            ParseError::SectionIsMissing(".symtab") => write!(
+                f,
+                "no symbol table (.symtab): it is stripped"
+            ),
+            ParseError::SectionIsMissing(".dynsym") => write!(
+                f,
+                "no dynamic symbol table (.dynsym)"
+            ),
+            ParseError::SymbolsSectionIsMissing => write!(
+                f,
+                "no such section; binfarce section lists those of an ELF file; in others .text is the code"
+            ),
+            e => write!(f, "{e}"),
+        }
+    }
+}
+
+impl From<AllocError> for Fault {
+    ghost use Rattle.binfarce_io.specs.Faults.{no_memory_fault};
+
+    ghost from_gives = { λ _ f. f ≡ no_memory_fault };
+
+    fn from(e: AllocError) -> Self {
+        Fault::Report(ReportError::from(e))
+    }
+}
+
+impl From<io::Error> for Fault {
+    ghost use Rattle.binfarce_io.specs.Faults.{io_fault};
+
+    ghost from_gives = { λ e f. f ≡ io_fault (error_kind e) };
+
+    fn from(e: io::Error) -> Self {
+        Fault::from(ReadError::from(e))
+    }
+}
+
+impl From<ReadError> for Fault {
+    ghost use Rattle.binfarce_io.specs.Faults.{read_fault};
+
+    ghost from_gives = { λ e f. f ≡ read_fault e };
+
+    fn from(e: ReadError) -> Self {
+        Fault::Section(SectionError::from(e))
+    }
+}
+
+impl From<ListError> for Fault {
+    ghost use Rattle.binfarce_io.specs.Faults.{list_fault};
+
+    ghost from_gives = { λ e f. f ≡ list_fault e };
+
+    fn from(e: ListError) -> Self {
+        Fault::Report(ReportError::from(e))
+    }
+}
+
+impl From<ReportError> for Fault {
+    ghost use Rattle.binfarce_io.specs.declared.fault.Fault.TheVariants.{Report};
+
+    ghost from_gives = { λ e f. f ≡ Report e };
+
+    fn from(e: ReportError) -> Self {
+        Fault::Report(e)
+    }
+}
+
+impl From<SectionError> for Fault {
+    ghost use Rattle.binfarce_io.specs.declared.fault.Fault.TheVariants.{Section};
+
+    ghost from_gives = { λ e f. f ≡ Section e };
+
+    fn from(e: SectionError) -> Self {
+        Fault::Section(e)
+    }
+}
+
+impl From<StreamError> for Fault {
+    ghost use Rattle.binfarce_io.specs.declared.fault.Fault.TheVariants.{Stream};
+
+    ghost from_gives = { λ e f. f ≡ Stream e };
+
+    fn from(e: StreamError) -> Self {
+        Fault::Stream(e)
+    }
+}

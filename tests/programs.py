@@ -558,19 +558,30 @@ ends(0, f"{0x1045:016x} c+0x5\n", "", "binfarce", "at", path, "1045")
 hint = f"binfarce: {file}: no function symbols in the section; --all takes 3"
 for command, output in (("list", "text 0\n"), ("size", "sum 0\ntext 0\n")):
     ends(0, output, hint, "binfarce", command, file)
-# Of files without a function symbol: an object file, a program by its dynamic symbols, a Mach-O and a PE file without symbols.
+# Of files without code and without a function symbol: an object file of data, by either symbol table.
 printed("gcc", "-c", "-o", empty := f"{scratch}/empty.o", "-x", "c", "-", given="int x = 3;")
-others = [("no function symbols", empty), ("no function symbols in .dynsym", program, "--dynamic")]
-for name, hint, places in (("macho", "those of a stripped program may be in its .dSYM bundle", [0xc4]), ("pe-image", "those of a stripped program may be in a .pdb file", [0xae, 0xc0])):
+for words, output in ((["list", "--all"], ""), (["list", "--json", "--all"], ""), (["size", "--all"], "sum 0\n"), (["size", "--by=function-section"], "sum 0\n"),
+                      (["map", "--folded", "--all"], ""), (["list", "-n", "0"], ""), (["list", "--json"], "")):
+    ends(0, output, f"binfarce: {empty}: no function symbols", "binfarce", *words, empty)
+# A file with code and without a function symbol is refused: a program by its dynamic symbols, a Mach-O and a PE file, of which `nm` and `llvm-nm` show none, and assembly without types.
+printed("gcc", "-c", "-o", untyped := f"{scratch}/untyped.o", "-x", "assembler", "-", given="f: nop\n.section .text.g,\"ax\"\ng: nop\n")
+lacking = [("no function symbols", untyped), ("no function symbols in .dynsym", program, "--dynamic")]
+for name, hint, places in (("macho", "its .dSYM bundle", [0xc4]), ("pe-image", "a .pdb file, if it is an MSVC program", [0xae, 0xc0])):
     image = bytearray(pathlib.Path(f"rust/samples/{name}.bin").read_bytes())
     for place in places:
         image[place] = 0
+    if name == "pe-image":
+        image[image.index(b".text\0") + 36] = 0x20
     pathlib.Path(path := f"{scratch}/{name}").write_bytes(image)
-    others.append((f"no function symbols; {hint}", path))
-for hint, path, *option in others:
-    for words, output in ((["list", "--all"], ""), (["list", "--json", "--all"], ""), (["size", "--all"], "sum 0\n"), (["size", "--by=function-section"], "sum 0\n"),
-                          (["map", "--folded", "--all"], ""), (["list", "-n", "0"], ""), (["list", "--json"], "")):
-        ends(0, output, f"binfarce: {path}: {hint}", "binfarce", *words, *option, path)
+    lacking.append((f"no function symbols\nbinfarce: {path}: its debug symbols may be in {hint}", path))
+for hint, path, *option in lacking:
+    for words in (["list", "--all"], ["list"], ["list", "-n", "0"], ["size", "--all"], ["size", "--by=function-section"], ["size", "--fail-above=9"], ["map"], ["map", "--folded", "--all"],
+                  ["at", "--section=.text"], ["at", "--annotate", "--section=.text"], ["at", "--section=.text", "--base=0"]):
+        ends(1, "", f"binfarce: {path}: {hint}", "binfarce", *words, *option, path)
+    ends(1, f'{{"file":"{path}","error":"{hint.splitlines()[0]}"}}\n', f"binfarce: {path}: {hint}", "binfarce", "list", "--json", "--all", *option, path)
+    ends(1, "", "\n".join([f"binfarce: {path}: {hint}"] * 2), "binfarce", "diff", *option, path, path)
+# A section without function symbols isn't refused in a file that has others, nor one whose function symbols are in it alone.
+ends(1, "", f"binfarce: {untyped}: no function symbols", "binfarce", "list", "--section=.text.g", untyped)
 line = f"binfarce: {empty}, {sample}: 0 of 1 addresses are in a function symbol; --base or --maps is needed for addresses in memory"
 ends(0, "0x3000\n", line, *at, "--annotate", empty, sample, given=b"0x3000\n")
 ends(0, "0x3000\n", f"binfarce: {empty}: no function symbols", *at, "--annotate", empty, given=b"0x3000\n")
@@ -580,7 +591,7 @@ ends(0, f"{0:10} {0:10} {'+0':>11} [total]\n", f"binfarce: {empty}: no function 
 # Debug symbols are looked for where .symtab is missing, and not for .dynsym.
 printed("gcc", "-static", "-nostdlib", "-Wl,--build-id=0x0102030405", "-o", f"{scratch}/static", "-x", "assembler", "-", given=".globl _start\n_start: nop\n")
 ends(1, "", f"binfarce: {scratch}/static: no dynamic symbol table (.dynsym)", "binfarce", "list", "--dynamic", f"{scratch}/static")
-ends(0, f"{1:016x} ??\n", f"binfarce: {program}: no function symbols in .dynsym", "binfarce", "at", "--dynamic", program, "1")
+ends(1, "", f"binfarce: {program}: no function symbols in .dynsym", "binfarce", "at", "--dynamic", program, "1")
 # A message is one line, and has no control character of a name or a word.
 forged = f"{scratch}/o\nbinfarce: o: no such file\x1b[2J\x7f\x9b"
 shown = forged.replace("\n", "\\u000a").replace("\x1b", "\\u001b").replace("\x7f", "\\u007f").replace("\x9b", "\\u009b")

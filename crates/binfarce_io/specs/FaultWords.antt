@@ -25,6 +25,8 @@ abbrev pub refused_words : Refusal → List ℕ
 refused_words (section_is_missing name) =
     if bytes_eq name (codes ".symtab") then codes "no symbol table (.symtab): it is stripped"
     else if bytes_eq name (codes ".dynsym") then codes "no dynamic symbol table (.dynsym)"
+    else if bytes_eq name (codes "function symbols") then codes "no function symbols"
+    else if bytes_eq name (codes "function symbols in .dynsym") then codes "no function symbols in .dynsym"
     else words (section_is_missing name)
 refused_words symbols_section_is_missing = codes "no such section; binfarce section lists those of an ELF file; in others .text is the code"
 refused_words refusal = words refusal

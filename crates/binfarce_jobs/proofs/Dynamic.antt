@@ -10,8 +10,8 @@ use Rattle.binfarce_tools.specs.declared.SymbolTable.TheVariants.{Dynsym}
 use Rattle.binfarce_tools.specs.declared.tables.Tables.{Tables}
 use Rattle.binfarce_tools.specs.declared.tables.Tables.TheVariants as variants
 use Rattle.binfarce_tools.specs.SectionAnswer.{is_elf}
-use Rattle.binfarce_jobs.specs.At.{AreTablesAt, dynamic, has_functions, is_no_symtab, lacks_symtab, symbols_at}
-use Rattle.binfarce_jobs.specs.Show.{AreTablesFor, answer_for}
+use Rattle.binfarce_jobs.specs.At.{AreTablesAt, dynamic, is_no_symtab, lacks_symtab, symbols_at}
+use Rattle.binfarce_jobs.specs.Show.{AreTablesFor, answer_for, has_functions}
 use Rattle.binfarce_jobs.specs.machine.Dynamic.{IsDynamic, is_refused_so}
 use Rattle.binfarce_jobs.specs.declared.show.Symbols.{Symbols}
 

@@ -18,16 +18,18 @@ use Rattle.binfarce_tools.specs.Writing as writing
 use Rattle.binfarce_tools.specs.Writing.{AppendsBeginning, IsDue, Leaves, Outcome, EndsAs, wrong_usage}
 use Rattle.binfarce_io.specs.Faults.{failure, is_failed_write, is_of_call}
 use Rattle.binfarce_jobs.specs.Files.{FailsAs, Files, Grows, HintsFault, IsFoundIn, MayBeRefused, RefusesArgument, Reports, ReportsFault, ShowsSource, ShowsOne, State, heading, hinted, refused, shown}
-use Rattle.binfarce_tools.specs.SectionAnswer.{is_elf}
-use Rattle.binfarce_jobs.specs.Hints.{IsOrNone, IsSaidOfRefused, IsSaidOfShown, all_words, count_of, debug_in, debug_of, dynamic_by, dynamic_for, dynamic_in, has_none, is_stripped, lack_in, stripped_for, stripped_words, unknown_for, words_of}
+use Rattle.binfarce_sections.specs.Named.{bytes_named}
+use Rattle.binfarce_sections.specs.Section.{sections_of}
+use Rattle.binfarce_jobs.specs.Hints.{IsOrNone, IsSaidOfRefused, IsSaidOfShown, all_words, count_of, debug_as, debug_of, dynamic_by, dynamic_for, dynamic_in, has_no_bytes, has_none, hint_words, is_bare_fault, is_stripped, lack_in, lacks_descriptors, stripped_for, stripped_in, stripped_words, unknown_for, words_of}
 use Rattle.binfarce_io.specs.Output.{pending, taken, writer_of}
 use Rattle.binfarce_foreign.specs.Foreign.{first_bytes, foreign_in}
 use Rattle.binfarce_io.specs.Input.{IsForeign, IsReadOf, IsUnreadable}
 use Rattle.binfarce_io.proofs.Streams.{format_of_beginning}
-use Rattle.binfarce_jobs.specs.Show.{Fits, HasSumsOf, IsAskedText, IsSeenOf, IsShownText, MayEnd, MemoryFor, TakesText, answer_for, answer_taken, answer_with, excess_of, exceeds, has_table, is_taken}
+use Rattle.binfarce_jobs.specs.Show.{Fits, HasSumsOf, IsAskedText, IsSeenOf, IsShownText, MayEnd, MemoryFor, TakesText, answer_for, answer_taken, answer_unless, answer_with, excess_of, exceeds, has_table, is_bare, is_taken}
 use Rattle.binfarce_io.specs.declared.fault.Fault.{Fault}
 use Rattle.binfarce_io.specs.declared.fault.Fault.TheVariants.{Report, Section, Stream, Unsupported, NotUtf8, SharedAddresses, Unplaced, Missing}
 use Rattle.binfarce_jobs.specs.declared.hint.Hint.{Hint}
+use Rattle.binfarce_jobs.specs.declared.hint.Hint.TheVariants.{Descriptors}
 use Rattle.binfarce_jobs.specs.declared.hint.Hints.{Hints}
 use Rattle.binfarce_jobs.specs.declared.limit.Verdict.{Verdict}
 use Rattle.binfarce_io.specs.declared.output.Output.{Output}
@@ -58,11 +60,16 @@ unknown_table : (which : SymbolTable) (file : List ℕ) → has_table which form
 unknown_table Symtab file = refl
 unknown_table Dynsym file = refl
 
+unless_none : (bare : Bool) (which : SymbolTable) → answer_unless bare which None ≡ None
+unless_none true which = refl
+unless_none false which = refl
+
 pub no_taken : (which : SymbolTable) (file : List ℕ) (section : Option (List ℕ)) → format_of file ≡ formats.Unknown → answer_taken which file section ≡ None
 no_taken which file section is =
-    ap (λ (b : Bool). if b then answer_with (has_table which (format_of file) file) (selected_answer which section file) else Some (Err symbols_section_is_missing)) (ap (is_taken section) is ∙ unknown_taken section)
-    ∙ ap (λ (has : Result Bool Refusal). answer_with has (selected_answer which section file)) (ap (λ (f : Format). has_table which f file) is ∙ unknown_table which file)
-    ∙ no_answer which file section is
+    let bare = is_bare which file section in
+    ap (λ (b : Bool). if b then answer_with (has_table which (format_of file) file) (answer_unless bare which (selected_answer which section file)) else Some (Err symbols_section_is_missing)) (ap (is_taken section) is ∙ unknown_taken section)
+    ∙ ap (λ (has : Result Bool Refusal). answer_with has (answer_unless bare which (selected_answer which section file))) (ap (λ (f : Format). has_table which f file) is ∙ unknown_table which file)
+    ∙ ap (answer_unless bare which) (no_answer which file section is) ∙ unless_none bare which
 
 no_shown : (asked : Request) (file : List ℕ) → format_of file ≡ formats.Unknown → answer_for asked.symbols file ≡ None
 no_shown asked file is = no_taken asked.symbols.which file (section_of asked.symbols.selection) is
@@ -103,7 +110,17 @@ no_dynamic : (file : List ℕ) → format_of file ≡ formats.Unknown → dynami
 no_dynamic file is = ap (λ (answer : Option (Result SelectedSymbols Refusal)). dynamic_by (count_of answer)) (no_taken Dynsym file None is)
 
 no_debug : (file : List ℕ) → format_of file ≡ formats.Unknown → debug_of file ≡ Some (codes "a .pdb file, if it is an MSVC program")
-no_debug file is = ap (λ (f : Format). if is_elf f then debug_in file else Some (codes "a .pdb file, if it is an MSVC program")) is
+no_debug file is = ap (λ (f : Format). debug_as f file) is
+
+-- nor a section of function descriptors
+no_descriptors : (file : List ℕ) → format_of file ≡ formats.Unknown → lacks_descriptors file ≡ false
+unfolding sections_of bytes_named
+no_descriptors file is = ap (λ (f : Format). has_no_bytes (bytes_named (sections_of f file) file (codes ".opd"))) is
+
+no_stripped : (bare : Bool) (file : List ℕ) → format_of file ≡ formats.Unknown → stripped_in bare file ≡ stripped_words (Some (codes "a .pdb file, if it is an MSVC program"))
+no_stripped true file is =
+    ap (λ (b : Bool). if b then hint_words Descriptors ∷ [] else stripped_words (debug_of file)) (no_descriptors file is) ∙ ap stripped_words (no_debug file is)
+no_stripped false file is = ap stripped_words (no_debug file is)
 
 -- what is said of what was read of a file that is refused is what is said of the file
 pub said_of_file : (fault : Fault) (file bytes : List ℕ) (said : List (List ℕ)) → IsReadOf file bytes → IsSaidOfRefused fault bytes said → IsSaidOfRefused fault file said
@@ -111,11 +128,12 @@ said_of_file fault file bytes said (inl same) says = subst (λ (f : List ℕ). I
 said_of_file fault file bytes said (inr (unknown, first)) (dynamic, debug, one, other, is) =
     let less = unknown_too file bytes unknown first in
     let same_dynamic : dynamic_in bytes ≡ dynamic_in file = no_dynamic bytes less ∙ sym (no_dynamic file unknown) in
-    let same_debug : debug_of bytes ≡ debug_of file = no_debug bytes less ∙ sym (no_debug file unknown) in (
+    let bare = is_bare_fault fault in
+    let same_debug : stripped_in bare bytes ≡ stripped_in bare file = no_stripped bare bytes less ∙ sym (no_stripped bare file unknown) in (
       dynamic,
       debug,
       subst (λ (d : Option Hint). IsOrNone (words_of (if is_stripped fault then d else None)) dynamic) same_dynamic one,
-      subst (λ (d : Option (List ℕ)). IsOrNone (if is_stripped fault then stripped_words d else []) debug) same_debug other,
+      subst (λ (said : List (List ℕ)). IsOrNone (if is_stripped fault then said else []) debug) same_debug other,
       is,
     )
 

@@ -6,5 +6,6 @@ mod Dynamic
 mod Outcomes
 pub mod FileLoop
 pub mod FileFates
+mod Bare
 mod Links
 mod Said

@@ -1,5 +1,5 @@
 -- The requested addresses, and the answers to those of standard input.
-use Rattle.std.specs.Prelude.{◌≡◌, ◌⊎◌, ◌&&◌, ℕ, Bool, true, false, List, [], ◌∷◌, codes, length, nat_lt, Option, Some, None, is_some, unwrap_or, Result, Ok, Err, if◌then◌else◌}
+use Rattle.std.specs.Prelude.{◌≡◌, ◌⊎◌, ◌&&◌, ℕ, Bool, true, false, List, [], ◌∷◌, codes, length, Option, Some, None, is_some, unwrap_or, Result, Ok, Err, if◌then◌else◌}
 use Rattle.std.specs.Io.KnownBytes.{Appends, Consumes}
 use Rattle.binfarce.specs.Format.{format_of}
 use Rattle.std.specs.Str.{bytes_eq}
@@ -23,7 +23,7 @@ use Rattle.binfarce_io.specs.Faults.{failure, list_fault}
 use Rattle.binfarce_tools.specs.declared.SymbolTable.{SymbolTable}
 use Rattle.binfarce_tools.specs.declared.SymbolTable.TheVariants.{Dynsym}
 use Rattle.binfarce_tools.specs.declared.tables.Tables.{Tables}
-use Rattle.binfarce_jobs.specs.Show.{AreTablesFor, answer_for}
+use Rattle.binfarce_jobs.specs.Show.{AreTablesFor, answer_for, has_functions}
 use Rattle.binfarce_jobs.specs.declared.at.Answered.{Answered}
 use Rattle.binfarce_jobs.specs.declared.show.Symbols.{Symbols}
 use Rattle.binfarce_words.specs.Words.{Wrong, no_address}
@@ -52,11 +52,6 @@ is_no_symtab refusal = false
 abbrev pub lacks_symtab : Option (Result SelectedSymbols Refusal) → Bool
 lacks_symtab (Some (Err refusal)) = is_no_symtab refusal
 lacks_symtab answer = false
-
--- the answer has a function symbol
-abbrev pub has_functions : Option (Result SelectedSymbols Refusal) → Bool
-has_functions (Some (Ok selected)) = nat_lt 0 (length selected.entries)
-has_functions answer = false
 
 -- these function symbols by the dynamic symbol table
 abbrev pub dynamic : Symbols → Symbols

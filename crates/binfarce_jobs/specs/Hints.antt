@@ -1,11 +1,12 @@
 -- Hints on files.
-use Rattle.std.specs.Prelude.{◌≡◌, ◌⊎◌, ℕ, zero, suc, ◌*◌, ◌/◌, ◌%◌, Bool, true, false, ◌&&◌, List, [], ◌∷◌, ◌++◌, drop, length, codes, nat_eq, nat_le, nat_lt, Option, Some, None, Result, Ok, Err, if◌then◌else◌}
+use Rattle.std.specs.Prelude.{◌≡◌, ◌⊎◌, ℕ, zero, suc, ◌*◌, ◌/◌, ◌%◌, Bool, true, false, ◌&&◌, ◌||◌, List, [], ◌∷◌, ◌++◌, drop, length, codes, nat_eq, nat_le, nat_lt, Option, Some, None, Result, Ok, Err, if◌then◌else◌}
 use Rattle.std.specs.Char.{is_ascii_graphic}
 use Rattle.std.specs.Fmt.{decimal}
 use Rattle.std.specs.List.{flat_map, list_all}
 use Rattle.std.specs.Option.{option_map}
 use Rattle.std.specs.String.{string_bytes}
-use Rattle.binfarce.specs.Refusal.{Refusal, refusal_of}
+use Rattle.std.specs.Str.{bytes_eq}
+use Rattle.binfarce.specs.Refusal.{Refusal, refusal_of, section_is_missing}
 use Rattle.binfarce.specs.SectionEntries.{SelectedSymbols}
 use Rattle.binfarce.specs.declared.SymbolTable.{SymbolTable}
 use Rattle.binfarce.specs.declared.SymbolTable.TheVariants.{Symtab, Dynsym}
@@ -16,13 +17,11 @@ use Rattle.binfarce_bytes.specs.declared.format.Format.TheVariants as formats
 use Rattle.binfarce_figures.specs.declared.key.Key.{Key}
 use Rattle.binfarce_figures.specs.declared.key.Key.TheVariants.{Crate}
 use Rattle.binfarce_figures.specs.declared.sums.Sums.{Sums}
-use Rattle.binfarce_sections.specs.Named.{Lack, bytes_named}
+use Rattle.binfarce_sections.specs.Named.{Lack, bytes_named, no_bytes}
 use Rattle.binfarce_sections.specs.Section.{sections_of}
 use Rattle.binfarce_sections.specs.declared.error.SectionError.TheVariants as sections
 use Rattle.binfarce_words.specs.WordViews.{limit_words}
-use Rattle.binfarce_tools.specs.SectionAnswer.{is_elf}
-use Rattle.binfarce_jobs.specs.At.{is_no_symtab}
-use Rattle.binfarce_jobs.specs.Show.{answer_for, answer_taken, excess_of}
+use Rattle.binfarce_jobs.specs.Show.{answer_for, answer_taken, excess_of, functions_name}
 use Rattle.binfarce_io.specs.MessageLine.{byte_text}
 use Rattle.binfarce_io.specs.declared.fault.Fault.{Fault}
 use Rattle.binfarce_io.specs.declared.fault.Fault.TheVariants.{Section}
@@ -48,12 +47,11 @@ loaded_words loads.Offsets = codes "are they offsets in the file?"
 abbrev pub hint_words : Hint → List ℕ
 hint_words hints.None = codes "no function symbols"
 hint_words hints.NoneDynamic = codes "no function symbols in .dynsym"
-hint_words hints.NoneOfPe = codes "no function symbols; those of a stripped program may be in a .pdb file"
-hint_words hints.NoneOfMacho = codes "no function symbols; those of a stripped program may be in its .dSYM bundle"
 hint_words (hints.Others count) = codes "no function symbols in the section; --all takes " ++ decimal count
 hint_words (hints.Dynamic count) = codes "--dynamic --all takes " ++ (decimal count ++ codes " function symbols")
 hint_words hints.Instead = codes "no symbol table (.symtab): names are those of .dynsym"
 hint_words (hints.Stripped places) = codes "its debug symbols may be in " ++ string_bytes places
+hint_words hints.Descriptors = codes "its function descriptors (.opd) are in the program itself"
 hint_words (hints.Missed count loaded) = codes "0 of " ++ (decimal count ++ (codes " addresses are in a function symbol; " ++ loaded_words loaded))
 hint_words (hints.Unknown bytes sum) = decimal bytes ++ (codes " of " ++ (decimal sum ++ codes " bytes have no crate, as those of C, C++ and assembly; --by=function shows whose they are"))
 hint_words (hints.Above sum most) = codes "has " ++ (decimal sum ++ (codes " bytes, and --fail-above allows " ++ decimal most))
@@ -86,21 +84,15 @@ count_of None = 0
 abbrev pub has_none : Symbols → (file : List ℕ) → Bool
 has_none symbols file = nat_eq (count_of (answer_for symbols file)) 0
 
--- why a file of this format has no function symbol
-abbrev pub lack_of : SymbolTable → Format → Hint
-lack_of which formats.PE = hints.NoneOfPe
-lack_of which formats.Macho = hints.NoneOfMacho
-lack_of Dynsym format = hints.NoneDynamic
-lack_of Symtab format = hints.None
-
--- why there is none of the function symbols that are taken, by how many all sections have
-abbrev pub lack_by : SymbolTable → Format → (all : ℕ) → Hint
-lack_by which format zero = lack_of which format
-lack_by which format (suc n) = hints.Others (suc n)
+-- why there is none of the function symbols that are taken, by how many all sections have: a file without any has no code
+abbrev pub lack_by : SymbolTable → (all : ℕ) → Hint
+lack_by Dynsym zero = hints.NoneDynamic
+lack_by Symtab zero = hints.None
+lack_by which (suc n) = hints.Others (suc n)
 
 -- the hint where a file has none of the function symbols that are taken
 abbrev pub lack_in : Symbols → (file : List ℕ) → Option Hint
-lack_in symbols file = if has_none symbols file then Some (lack_by symbols.which (format_of file) (count_of (answer_taken symbols.which file None))) else None
+lack_in symbols file = if has_none symbols file then Some (lack_by symbols.which (count_of (answer_taken symbols.which file None))) else None
 
 -- the hint where a file has dynamic function symbols
 abbrev pub dynamic_by : (count : ℕ) → Option Hint
@@ -139,9 +131,15 @@ debug_by None link = None
 abbrev pub debug_in : (file : List ℕ) → Option (List ℕ)
 debug_in file = debug_by (section_in file (codes ".note.gnu.build-id")) (section_in file (codes ".gnu_debuglink"))
 
--- so of an ELF file; of another, which is a PE file, a program of MSVC has them in a file of its own
+-- so of an ELF file; a Mach-O program has them in a bundle beside it, and a PE program of MSVC in a file of its own
+abbrev pub debug_as : Format → (file : List ℕ) → Option (List ℕ)
+debug_as (formats.Elf32 order) file = debug_in file
+debug_as (formats.Elf64 order) file = debug_in file
+debug_as formats.Macho file = Some (codes "its .dSYM bundle")
+debug_as format file = Some (codes "a .pdb file, if it is an MSVC program")
+
 abbrev pub debug_of : (file : List ℕ) → Option (List ℕ)
-debug_of file = if is_elf (format_of file) then debug_in file else Some (codes "a .pdb file, if it is an MSVC program")
+debug_of file = debug_as (format_of file) file
 
 -- the words of a hint, if there is one
 abbrev pub words_of : Option Hint → List (List ℕ)
@@ -152,17 +150,40 @@ abbrev pub stripped_words : (places : Option (List ℕ)) → List (List ℕ)
 stripped_words (Some places) = (codes "its debug symbols may be in " ++ places) ∷ []
 stripped_words None = []
 
--- a file is refused since it has no symbol table
-abbrev pub is_stripped : Fault → Bool
-is_stripped (Section (sections.Parse e)) = is_no_symtab (refusal_of e)
-is_stripped fault = false
+-- the section of the function descriptors has no bytes, as in a debug file of 64-bit PowerPC: they are in the program
+abbrev pub has_no_bytes : Result (List ℕ) Lack → Bool
+has_no_bytes (Err no_bytes) = true
+has_no_bytes answer = false
 
--- the hints on a file that is refused: on one without a symbol table
+abbrev pub lacks_descriptors : (file : List ℕ) → Bool
+lacks_descriptors file = has_no_bytes (bytes_named (sections_of (format_of file) file) file (codes ".opd"))
+
+-- where the function descriptors are of a bare file, which has a symbol table without function symbols; else where its debug symbols may be
+abbrev pub stripped_in : (bare : Bool) → (file : List ℕ) → List (List ℕ)
+stripped_in bare file = if bare && lacks_descriptors file then hint_words hints.Descriptors ∷ [] else stripped_words (debug_of file)
+
+-- a file is refused since it has no such thing
+abbrev pub is_missing : Refusal → (thing : List ℕ) → Bool
+is_missing (section_is_missing name) thing = bytes_eq name thing
+is_missing refusal thing = false
+
+abbrev pub lacks : Fault → (thing : List ℕ) → Bool
+lacks (Section (sections.Parse e)) thing = is_missing (refusal_of e) thing
+lacks fault thing = false
+
+-- it has no function symbols in its symbol table, or no such table
+abbrev pub is_bare_fault : Fault → Bool
+is_bare_fault fault = lacks fault (functions_name Symtab)
+
+abbrev pub is_stripped : Fault → Bool
+is_stripped fault = is_bare_fault fault || lacks fault (codes ".symtab")
+
+-- the hints on a file that is refused: on one without these
 abbrev pub dynamic_for : Fault → (file : List ℕ) → Option Hint
 dynamic_for fault file = if is_stripped fault then dynamic_in file else None
 
 abbrev pub stripped_for : Fault → (file : List ℕ) → List (List ℕ)
-stripped_for fault file = if is_stripped fault then stripped_words (debug_of file) else []
+stripped_for fault file = if is_stripped fault then stripped_in (is_bare_fault fault) file else []
 
 -- this is said; or nothing, where the file can't be read for it, or an allocation failed
 abbrev pub IsOrNone : (due said : List (List ℕ)) → Type 0

@@ -1,3 +1,4 @@
+pub mod Code
 pub mod Show
 pub mod Files
 pub mod Hints

@@ -1,5 +1,5 @@
 -- How function symbols are shown.
-use Rattle.std.specs.Prelude.{◌≡◌, ℕ, Bool, true, false, List, [], codes, length, nat_eq, Option, Some, None, is_some, Result, Ok, Err, if◌then◌else◌}
+use Rattle.std.specs.Prelude.{◌≡◌, ℕ, Bool, true, false, not, ◌&&◌, List, [], codes, length, nat_eq, nat_lt, Option, Some, None, is_some, Result, Ok, Err, if◌then◌else◌}
 use Rattle.std.specs.Str.{bytes_eq}
 use Rattle.binfarce.specs.Format.{format_of}
 use Rattle.binfarce.specs.declared.Format.{Format}
@@ -19,8 +19,9 @@ use Rattle.binfarce_tools.specs.Tables.{AreTablesOf}
 use Rattle.binfarce_tools.specs.Writing.{Outcome, IsDue, ProgramEndsAs, Takes}
 use Rattle.binfarce_tables.specs.PeReading.{file_has_symbols}
 use Rattle.binfarce_tools.specs.declared.SymbolTable.{SymbolTable}
-use Rattle.binfarce_tools.specs.declared.SymbolTable.TheVariants.{Symtab}
+use Rattle.binfarce_tools.specs.declared.SymbolTable.TheVariants.{Dynsym, Symtab}
 use Rattle.binfarce_tools.specs.declared.tables.Tables.{Tables}
+use Rattle.binfarce_jobs.specs.Code.{has_code}
 use Rattle.binfarce_jobs.specs.declared.hint.Hint.{Hint}
 use Rattle.binfarce_jobs.specs.declared.show.Request.{Request}
 use Rattle.binfarce_jobs.specs.declared.show.Kind.{Kind}
@@ -82,10 +83,33 @@ answer_with (Err refusal) answer = Some (Err refusal)
 answer_with (Ok true) answer = answer
 answer_with (Ok false) answer = Some (Err (section_is_missing (codes ".symtab")))
 
--- what a file answers for a selection: a section that can't be selected is missing, and so may the symbol table be
+-- the answer has a function symbol
+abbrev pub has_functions : Option (Result SelectedSymbols Refusal) → Bool
+has_functions (Some (Ok selected)) = nat_lt 0 (length selected.entries)
+has_functions answer = false
+
+-- a file has code, but no function symbol by this symbol table: neither what is selected, nor any section
+abbrev pub is_bare : SymbolTable → (file : List ℕ) → (section : Option (List ℕ)) → Bool
+is_bare which file section = not (has_functions (selected_answer which section file)) && (not (has_functions (selected_answer which None file)) && has_code file)
+
+-- the refusal of such a file: its function symbols are missing
+abbrev pub functions_name : SymbolTable → List ℕ
+functions_name Symtab = codes "function symbols"
+functions_name Dynsym = codes "function symbols in .dynsym"
+
+abbrev pub no_functions : SymbolTable → Refusal
+no_functions which = section_is_missing (functions_name which)
+
+-- an answer, unless it is that of such a file
+abbrev pub answer_unless : (bare : Bool) → SymbolTable → Option (Result SelectedSymbols Refusal) → Option (Result SelectedSymbols Refusal)
+answer_unless false which answer = answer
+answer_unless true which (Some (Ok selected)) = Some (Err (no_functions which))
+answer_unless true which answer = answer
+
+-- what a file answers for a selection: a section that can't be selected is missing, and so may the symbol table be, and the function symbols of a file with code
 abbrev pub answer_taken : SymbolTable → (file : List ℕ) → (section : Option (List ℕ)) → Option (Result SelectedSymbols Refusal)
 answer_taken which file section =
-    if is_taken section (format_of file) then answer_with (has_table which (format_of file) file) (selected_answer which section file)
+    if is_taken section (format_of file) then answer_with (has_table which (format_of file) file) (answer_unless (is_bare which file section) which (selected_answer which section file))
     else Some (Err symbols_section_is_missing)
 
 -- so for the function symbols that are taken

@@ -8,20 +8,19 @@ ghost use Rattle.binfarce_addresses.specs.Lines.{AreLinesAt};
 ghost use Rattle.binfarce_addresses.specs.Lookup.{places_in};
 ghost use Rattle.binfarce.specs.Format.{format_of};
 ghost use Rattle.binfarce_tables.specs.Reading.{Reads};
-ghost use Rattle.binfarce_tables.specs.declared.error.ReadError.TheVariants.{OutOfMemory};
 ghost use Rattle.binfarce_tools.specs.Listing.{ListingFits};
 ghost use Rattle.binfarce_tools.specs.Answer.{addresses_are_shared, selected_answer, MemoryIn};
 ghost use Rattle.binfarce_tools.specs.Tables.{AreTablesOf, ReadsAs};
 ghost use Rattle.binfarce_tools.specs.declared.SymbolTable.{SymbolTable};
 ghost use Rattle.binfarce_tools.specs.Writing.{EndsAs, Takes, Fails, Leaves, write_failed};
 ghost use Rattle.binfarce_tools.specs.SectionAnswer.{is_elf};
-ghost use Rattle.binfarce_jobs.specs.At.{AnswersInput, AreTablesAt, HasPlaces, IsShared, addresses_of, answer_at, has_functions, is_behind, loaded_and_origin};
+ghost use Rattle.binfarce_jobs.specs.At.{AnswersInput, AreTablesAt, HasPlaces, IsShared, addresses_of, answer_at, is_behind, loaded_and_origin};
 ghost use Rattle.binfarce_jobs.specs.machine.Dynamic.{IsDynamic, is_refused_so};
 ghost use Rattle.binfarce_io.specs.Faults.{failure, outcome_of};
 ghost use Rattle.binfarce_jobs.specs.Show.{AreTablesFor, answer_for};
 ghost use Rattle.binfarce_words.specs.WordViews.{Gives};
 
-use crate::show::{Symbols, tables_of};
+use crate::show::{Symbols, has_functions, tables_of};
 use binfarce_addresses::at::{Places, write_lines};
 use binfarce_addresses::stream::answer_lines;
 use binfarce_addresses::{Counts, Lookup, parse_address};
@@ -33,7 +32,7 @@ use binfarce_tables::ReadError;
 use binfarce_tables::format::read_format;
 use binfarce_tables::loading::{LoadAddress, read_load_address};
 use binfarce_tools::SymbolTable;
-use binfarce_tools::list::{ListError, Sink};
+use binfarce_tools::list::Sink;
 use binfarce_tools::tables::Tables;
 use binfarce_words::wrong::Wrong;
 use std::alloc::Global;
@@ -149,20 +148,6 @@ fn dynamic_tables<S: Source<Log = ()>>(
     }
 }
 
-// Whether tables have a function symbol.
-fn has_functions(alloc: Global, tables: &Tables<'_>) -> Result<bool, ReadError>
-    ensures has { (which : SymbolTable) (file : List ℕ) (section : Option (List ℕ))
-        → AreTablesOf which file section tables.now
-        → IfOk result (λ has. has ≡ has_functions (selected_answer which section file)) }
-    ensures memory { IfErr result (λ e. e ≡ OutOfMemory) }
-{
-    match tables.functions(alloc) {
-        Ok(selected) => Ok(!selected.functions.is_empty()),
-        Err(ListError::OutOfMemory) => Err(ReadError::OutOfMemory),
-        Err(_) => Ok(false),
-    }
-}
-
 /// Symbolizes the addresses, by this lookup and the function symbols of these tables, and counts them.
 ///
 /// # Errors
@@ -246,7 +231,7 @@ pub fn load_addresses_of<S: Source<Log = ()>>(
     Ok((loaded, if elf { 0 } else { loaded.address }))
 }
 
-pub(crate) fn is_elf(format: &Format) -> bool
+fn is_elf(format: &Format) -> bool
     ensures { result ≡ is_elf format.now }
 {
     match format {

@@ -4,10 +4,9 @@
 ghost use Rattle.std.specs.Prelude.{◌≡◌, ◌++◌, ℕ, List, None, Some, IfOk, OnOk, drop};
 ghost use Rattle.std.specs.Option.{option_map};
 ghost use Rattle.std.specs.String.{string_bytes};
-ghost use Rattle.binfarce_jobs.specs.Hints.{IsOrNone, count_of, debug_in, debug_of, debug_path, dynamic_for, dynamic_in, has_none, lack_by, lack_in, link_text, loaded_words, section_in, stripped_for, stripped_words, unknown_for, unknown_in, words_of};
+ghost use Rattle.binfarce_jobs.specs.Hints.{IsOrNone, count_of, debug_in, debug_of, debug_path, dynamic_for, dynamic_in, has_none, lack_by, lack_in, lacks, lacks_descriptors, link_text, loaded_words, section_in, stripped_for, stripped_in, stripped_words, unknown_for, unknown_in, words_of};
 ghost use Rattle.binfarce_jobs.specs.Show.{answer_taken, excess_of};
 
-use crate::at::is_elf;
 use crate::limit::above;
 use crate::show::{Kind, Request, Seen, Symbols, tables_of};
 use binfarce_bytes::ParseError;
@@ -36,10 +35,6 @@ pub enum Hint {
     None,
     /// The dynamic symbol table of the file has no function symbol.
     NoneDynamic,
-    /// The PE file has no function symbol.
-    NoneOfPe,
-    /// The Mach-O file has no function symbol.
-    NoneOfMacho,
     /// The section has no function symbol, and all sections have so many.
     Others(usize),
     /// The dynamic symbol table has so many function symbols.
@@ -48,6 +43,8 @@ pub enum Hint {
     Instead,
     /// The file is stripped, and its debug symbols may be there.
     Stripped(String),
+    /// The descriptors of the functions of this file are in the program.
+    Descriptors,
     /// None of so many addresses is in a function symbol.
     Missed(u64, Loaded),
     /// There is no address in a text, in which bare words may be some or are not.
@@ -103,14 +100,6 @@ impl fmt::Display for Hint {
         match self {
             Hint::None => write!(f, "no function symbols"),
             Hint::NoneDynamic => write!(f, "no function symbols in .dynsym"),
-            Hint::NoneOfPe => write!(
-                f,
-                "no function symbols; those of a stripped program may be in a .pdb file"
-            ),
-            Hint::NoneOfMacho => write!(
-                f,
-                "no function symbols; those of a stripped program may be in its .dSYM bundle"
-            ),
             Hint::Others(count) => write!(
                 f,
                 "no function symbols in the section; --all takes {count}"
@@ -118,6 +107,10 @@ impl fmt::Display for Hint {
             Hint::Dynamic(count) => write!(f, "--dynamic --all takes {count} function symbols"),
             Hint::Instead => write!(f, "no symbol table (.symtab): names are those of .dynsym"),
             Hint::Stripped(places) => write!(f, "its debug symbols may be in {places}"),
+            Hint::Descriptors => write!(
+                f,
+                "its function descriptors (.opd) are in the program itself"
+            ),
             Hint::Missed(count, loaded) => {
                 let why = loaded.words();
                 write!(f, "0 of {count} addresses are in a function symbol; {why}")
@@ -239,20 +232,17 @@ pub fn lack<S: Source<Log = ()>>(
         Selection::All => 0,
         Selection::Section(_) => count_of_all(alloc, source, symbols.which)?,
     };
-    let format = read_format(alloc, source, &mut ())?;
-    Ok(Some(lack_by(symbols.which, &format, all)))
+    Ok(Some(lack_by(symbols.which, all)))
 }
 
-// The reason of a file of this format, by how many function symbols all sections have.
-fn lack_by(which: SymbolTable, format: &Format, all: usize) -> Hint
-    ensures { result ≡ lack_by which format.now all }
+// The reason, by how many function symbols all sections have.
+fn lack_by(which: SymbolTable, all: usize) -> Hint
+    ensures { result ≡ lack_by which all }
 {
-    match (format, which) {
+    match which {
         _ if all > 0 => Hint::Others(all),
-        (Format::PE, _) => Hint::NoneOfPe,
-        (Format::Macho, _) => Hint::NoneOfMacho,
-        (_, SymbolTable::Dynsym) => Hint::NoneDynamic,
-        _ => Hint::None,
+        SymbolTable::Dynsym => Hint::NoneDynamic,
+        SymbolTable::Symtab => Hint::None,
     }
 }
 
@@ -275,8 +265,8 @@ fn count_of_all<S: Source<Log = ()>>(
     Ok(list.len())
 }
 
-/// The hints on a file that is refused for this reason: of a stripped one how many dynamic function symbols it has, and
-/// where its debug symbols may be, each only where the file can be read for it.
+/// The hints on a file that is refused for this reason: of one without a symbol table or without function symbols how many
+/// dynamic ones it has, and where its debug symbols may be, each only where the file can be read for it.
 pub fn refusal_hints<S: Source<Log = ()>>(alloc: Global, source: &S, fault: &Fault) -> Hints
     ensures first { (file : List ℕ) → S.bytes source.now ≡ Some file
         → IsOrNone (words_of (dynamic_for fault.now file)) (words_of result.first) }
@@ -284,17 +274,28 @@ pub fn refusal_hints<S: Source<Log = ()>>(alloc: Global, source: &S, fault: &Fau
         → IsOrNone (stripped_for fault.now file) (words_of result.second) }
     ensures excess { result.excess ≡ None }
 {
-    match fault {
-        Fault::Section(SectionError::Parse(ParseError::SectionIsMissing(".symtab"))) => Hints {
+    let is_bare = lacks(fault, "function symbols");
+    if is_bare || lacks(fault, ".symtab") {
+        return Hints {
             first: dynamic(alloc, source).unwrap_or(None),
-            second: stripped(alloc, source).unwrap_or(None),
+            second: stripped(alloc, source, is_bare).unwrap_or(None),
             excess: None,
-        },
-        _ => Hints {
-            first: None,
-            second: None,
-            excess: None,
-        },
+        };
+    }
+    Hints {
+        first: None,
+        second: None,
+        excess: None,
+    }
+}
+
+// Whether a file is refused since it has no such thing.
+fn lacks(fault: &Fault, thing: &str) -> bool
+    ensures { result ≡ lacks fault.now thing.now }
+{
+    match fault {
+        Fault::Section(SectionError::Parse(ParseError::SectionIsMissing(name))) => *name == thing,
+        _ => false,
     }
 }
 
@@ -309,16 +310,50 @@ fn dynamic<S: Source<Log = ()>>(alloc: Global, source: &S) -> Result<Option<Hint
     }
 }
 
-// Where the debug symbols of a stripped file may be.
-fn stripped<S: Source<Log = ()>>(alloc: Global, source: &S) -> Result<Option<Hint>, Fault>
+// Where the debug symbols of a stripped file may be, or the function descriptors of a bare one, which has a symbol table.
+fn stripped<S: Source<Log = ()>>(
+    alloc: Global,
+    source: &S,
+    is_bare: bool,
+) -> Result<Option<Hint>, Fault>
+    ensures { (file : List ℕ) → S.bytes source.now ≡ Some file
+        → IfOk result (λ hint. words_of hint ≡ stripped_in is_bare file) }
+{
+    if is_bare && lacks_descriptors(alloc, source)? {
+        return Ok(Some(Hint::Descriptors));
+    }
+    debug_of(alloc, source)
+}
+
+// Whether the section of the function descriptors has no bytes.
+fn lacks_descriptors<S: Source<Log = ()>>(alloc: Global, source: &S) -> Result<bool, Fault>
+    ensures { (file : List ℕ) → S.bytes source.now ≡ Some file
+        → IfOk result (λ lacks. lacks ≡ lacks_descriptors file) }
+{
+    let mut out = Out::new(Vec::new(alloc));
+    match write_section_of(alloc, source, &mut (), ".opd", &mut out) {
+        Ok(()) => Ok(false),
+        Err(e) => match e {
+            SectionError::NoBytes => Ok(true),
+            SectionError::Unreadable | SectionError::OutOfMemory | SectionError::Write => {
+                Err(Fault::from(e))
+            }
+            _ => Ok(false),
+        },
+    }
+}
+
+// Where the debug symbols of a file may be.
+fn debug_of<S: Source<Log = ()>>(alloc: Global, source: &S) -> Result<Option<Hint>, Fault>
     ensures { (file : List ℕ) → S.bytes source.now ≡ Some file
         → IfOk result (λ hint. words_of hint ≡ stripped_words (debug_of file)) }
 {
     let format = read_format(alloc, source, &mut ())?;
-    if is_elf(&format) {
-        return debug_files(alloc, source);
-    }
-    let place = String::from_str(alloc, "a .pdb file, if it is an MSVC program")?;
+    let place = match format {
+        Format::Elf32 { .. } | Format::Elf64 { .. } => return debug_files(alloc, source),
+        Format::Macho => String::from_str(alloc, "its .dSYM bundle")?,
+        _ => String::from_str(alloc, "a .pdb file, if it is an MSVC program")?,
+    };
     Ok(Some(Hint::Stripped(place)))
 }
 

@@ -2,6 +2,7 @@
 #![tactic(auto)]
 
 pub mod at;
+mod code;
 pub mod files;
 pub mod hint;
 pub mod limit;

@@ -1,17 +1,20 @@
 //! Shows the function symbols of a file: as a listing, as sums, or as a picture.
 
-ghost use Rattle.std.specs.Prelude.{◌≡◌, ℕ, List, Option, true, false, Ok, Some, IfOk};
+ghost use Rattle.std.specs.Prelude.{◌≡◌, ℕ, List, Option, true, false, Ok, None, Some, IfErr, IfOk};
+ghost use Rattle.binfarce_bytes.specs.Refusal.{refusal_of};
 ghost use Rattle.binfarce_bytes.specs.Selection.{section_of};
 ghost use Rattle.binfarce_rows.specs.Json.{style_of};
 ghost use Rattle.binfarce.specs.SectionEntries.{SelectedSymbols};
 ghost use Rattle.binfarce_tables.specs.Reading.{Reads};
+ghost use Rattle.binfarce_tables.specs.declared.error.ReadError.TheVariants.{OutOfMemory};
 ghost use Rattle.binfarce_tools.specs.Answer.{selected_answer, MemoryIn};
 ghost use Rattle.binfarce_tools.specs.Tables.{AreTablesOf, ReadsAs, is_whole};
 ghost use Rattle.binfarce_tools.specs.declared.SymbolTable.{SymbolTable};
 ghost use Rattle.binfarce_tools.specs.Writing.{EndsAs, Takes, Fails, Leaves};
 ghost use Rattle.binfarce_io.specs.Faults.{outcome_of};
-ghost use Rattle.binfarce_jobs.specs.Show.{AreTablesFor, Fits, IsSeenOf, IsTextOf, MayEnd, TakesText, answer_for, has_table, is_taken, style_for};
+ghost use Rattle.binfarce_jobs.specs.Show.{AreTablesFor, Fits, IsSeenOf, IsTextOf, MayEnd, TakesText, answer_for, has_functions, has_table, is_bare, is_taken, no_functions, style_for};
 
+use crate::code::has_code;
 use binfarce_bytes::ParseError;
 use binfarce_bytes::format::Format;
 use binfarce_bytes::functions::SectionFunction;
@@ -28,8 +31,8 @@ use binfarce_tables::ReadError;
 use binfarce_tables::format::read_format;
 use binfarce_tables::pe::has_symbols;
 use binfarce_tools::SymbolTable;
-use binfarce_tools::list::{Sink, list_selected};
-use binfarce_tools::tables::{Selection, Tables, read_tables};
+use binfarce_tools::list::{ListError, Sink, list_selected};
+use binfarce_tools::tables::{Selection, Tables, read, read_tables};
 use binfarce_words::takes::Limit;
 use std::alloc::Global;
 
@@ -84,7 +87,8 @@ pub struct Seen {
 /// # Errors
 ///
 /// Those of `read`. Of a Mach-O or PE file `.text` is the code section, and `SymbolsSectionIsMissing` refuses any other
-/// name. A PE file without a symbol table is refused as an ELF file without one, by `SectionIsMissing` of `.symtab`.
+/// name. A PE file without a symbol table is refused as an ELF file without one, by `SectionIsMissing` of `.symtab`, and a
+/// file with code that has no function symbol by `SectionIsMissing` of these.
 pub fn tables_of<S: Source<Log = ()>>(
     alloc: Global,
     source: &S,
@@ -101,14 +105,76 @@ pub fn tables_of<S: Source<Log = ()>>(
     if !has_table(alloc, source, &format, symbols.which)? {
         return Err(ReadError::Refused(ParseError::SectionIsMissing(".symtab")));
     }
-    read_tables(
+    let tables = read_tables(
         alloc,
         source,
         &mut (),
         format,
         symbols.which,
         symbols.selection,
-    )
+    )?;
+    if is_bare(alloc, source, symbols, &tables)? {
+        return Err(ReadError::Refused(no_functions(symbols.which)));
+    }
+    Ok(tables)
+}
+
+// Whether the file, of which these are the tables, has code and no function symbol.
+fn is_bare<S: Source<Log = ()>>(
+    alloc: Global,
+    source: &S,
+    symbols: &Symbols<'_>,
+    tables: &Tables<'_>,
+) -> Result<bool, ReadError>
+    ensures { (file : List ℕ) → S.bytes source.now ≡ Some file
+        → AreTablesOf symbols.now.which file (section_of symbols.now.selection) tables.now
+        → Reads (S.may_fail source.now) (λ bare. bare)
+        (Ok (is_bare symbols.now.which file (section_of symbols.now.selection))) result }
+{
+    if has_functions(alloc, tables)? || has_any(alloc, source, symbols.which)? {
+        return Ok(false);
+    }
+    has_code(alloc, source)
+}
+
+// Whether the sections of the file have a function symbol.
+fn has_any<S: Source<Log = ()>>(
+    alloc: Global,
+    source: &S,
+    which: SymbolTable,
+) -> Result<bool, ReadError>
+    ensures { (file : List ℕ) → S.bytes source.now ≡ Some file → Reads (S.may_fail source.now) (λ has. has)
+        (Ok (has_functions (selected_answer which None file))) result }
+{
+    match read(alloc, source, &mut (), which, Selection::All) {
+        Ok(tables) => has_functions(alloc, &tables),
+        Err(ReadError::Refused(_)) => Ok(false),
+        Err(e) => Err(e),
+    }
+}
+
+/// Whether tables have a function symbol.
+pub(crate) fn has_functions(alloc: Global, tables: &Tables<'_>) -> Result<bool, ReadError>
+    ensures has { (which : SymbolTable) (file : List ℕ) (section : Option (List ℕ))
+        → AreTablesOf which file section tables.now
+        → IfOk result (λ has. has ≡ has_functions (selected_answer which section file)) }
+    ensures memory { IfErr result (λ e. e ≡ OutOfMemory) }
+{
+    match tables.functions(alloc) {
+        Ok(selected) => Ok(!selected.functions.is_empty()),
+        Err(ListError::OutOfMemory) => Err(ReadError::OutOfMemory),
+        Err(_) => Ok(false),
+    }
+}
+
+// The refusal of a file with code that has no function symbol by this symbol table.
+fn no_functions(which: SymbolTable) -> ParseError
+    ensures { refusal_of result ≡ no_functions which }
+{
+    match which {
+        SymbolTable::Symtab => ParseError::SectionIsMissing("function symbols"),
+        SymbolTable::Dynsym => ParseError::SectionIsMissing("function symbols in .dynsym"),
+    }
 }
 
 // Whether the file has this symbol table: a PE file may have none. That of another file is found when its tables are

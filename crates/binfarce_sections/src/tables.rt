@@ -32,8 +32,12 @@ pub enum Tables {
 }
 
 impl Tables {
-    // The sections of the file.
-    pub(crate) fn sections(&self) -> Result<Sections<'_>, SectionError>
+    /// The sections of the file that the tables were read of, in file order. Nothing is read.
+    ///
+    /// # Errors
+    ///
+    /// `Unknown` where the format isn't supported; `Parse` where the file is too short for its header.
+    pub fn sections(&self) -> Result<Sections<'_>, SectionError>
         ensures opens { (file : List ℕ) → AreTablesOf file self.entry.now
             → Opens (sections_of (format_of file) file) result }
         ensures unwritten { IfErr result (λ e. e ≢ Write) }

@@ -4,8 +4,8 @@ use Rattle.binfarce.specs.Refusal.{refusal_of}
 use Rattle.binfarce_tables.specs.declared.error.ReadError.{ReadError}
 use Rattle.binfarce_tables.specs.declared.error.ReadError.TheVariants.{Refused, Unreadable, OutOfMemory}
 use Rattle.binfarce_tools.specs.declared.tables.Tables.{Tables}
-use Rattle.binfarce_jobs.specs.At.{dynamic, has_functions, is_no_symtab}
-use Rattle.binfarce_jobs.specs.Show.{AreTablesFor, answer_for}
+use Rattle.binfarce_jobs.specs.At.{dynamic, is_no_symtab}
+use Rattle.binfarce_jobs.specs.Show.{AreTablesFor, answer_for, has_functions}
 use Rattle.binfarce_jobs.specs.declared.show.Symbols.{Symbols}
 
 -- it is refused since it has no `.symtab`

@@ -91,6 +91,11 @@ impl fmt::Display for Refused {
                 f,
                 "no dynamic symbol table (.dynsym)"
             ),
+            ParseError::SectionIsMissing("function symbols") => write!(f, "no function symbols"),
+            ParseError::SectionIsMissing("function symbols in .dynsym") => write!(
+                f,
+                "no function symbols in .dynsym"
+            ),
             ParseError::SymbolsSectionIsMissing => write!(
                 f,
                 "no such section; binfarce section lists those of an ELF file; in others .text is the code"

@@ -3,7 +3,7 @@
 //! `binfarce at [OPTION..] FILE [ADDRESS..]`: the function symbol at each address.
 
 use crate::shim::Vec;
-use crate::erased::binfarce_jobs::show::{Symbols, tables_of};
+use crate::erased::binfarce_jobs::show::{Symbols, has_functions, tables_of};
 use crate::erased::binfarce_addresses::at::{Places, write_lines};
 use crate::erased::binfarce_addresses::stream::answer_lines;
 use crate::erased::binfarce_addresses::{Counts, Lookup, parse_address};
@@ -15,7 +15,7 @@ use crate::erased::binfarce_tables::ReadError;
 use crate::erased::binfarce_tables::format::read_format;
 use crate::erased::binfarce_tables::loading::{LoadAddress, read_load_address};
 use crate::erased::binfarce_tools::SymbolTable;
-use crate::erased::binfarce_tools::list::{ListError, Sink};
+use crate::erased::binfarce_tools::list::Sink;
 use crate::erased::binfarce_tools::tables::Tables;
 use crate::erased::binfarce_words::wrong::Wrong;
 use crate::shim::alloc::Global;
@@ -116,15 +116,6 @@ fn dynamic_tables<S: Source<Log = ()>>(
     }
 }
 
-// Whether tables have a function symbol.
-fn has_functions(alloc: Global, tables: &Tables<'_>) -> Result<bool, ReadError> {
-    match tables.functions(alloc) {
-        Ok(selected) => Ok(!selected.functions.is_empty()),
-        Err(ListError::OutOfMemory) => Err(ReadError::OutOfMemory),
-        Err(_) => Ok(false),
-    }
-}
-
 /// Symbolizes the addresses, by this lookup and the function symbols of these tables, and counts them.
 ///
 /// # Errors
@@ -179,7 +170,7 @@ pub fn load_addresses_of<S: Source<Log = ()>>(
     Ok((loaded, if elf { 0 } else { loaded.address }))
 }
 
-pub(crate) fn is_elf(format: &Format) -> bool {
+fn is_elf(format: &Format) -> bool {
     match format {
         Format::Elf32 { .. } | Format::Elf64 { .. } => true,
         _ => false,

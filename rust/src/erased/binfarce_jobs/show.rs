@@ -3,6 +3,7 @@
 //! Shows the function symbols of a file: as a listing, as sums, or as a picture.
 
 use crate::shim::{CollectIn, Vec};
+use crate::erased::binfarce_jobs::code::has_code;
 use crate::erased::binfarce_bytes::ParseError;
 use crate::erased::binfarce_bytes::format::Format;
 use crate::erased::binfarce_bytes::functions::SectionFunction;
@@ -19,8 +20,8 @@ use crate::erased::binfarce_tables::ReadError;
 use crate::erased::binfarce_tables::format::read_format;
 use crate::erased::binfarce_tables::pe::has_symbols;
 use crate::erased::binfarce_tools::SymbolTable;
-use crate::erased::binfarce_tools::list::{Sink, list_selected};
-use crate::erased::binfarce_tools::tables::{Selection, Tables, read_tables};
+use crate::erased::binfarce_tools::list::{ListError, Sink, list_selected};
+use crate::erased::binfarce_tools::tables::{Selection, Tables, read, read_tables};
 use crate::erased::binfarce_words::takes::Limit;
 use crate::shim::alloc::Global;
 
@@ -75,7 +76,8 @@ pub struct Seen {
 /// # Errors
 ///
 /// Those of `read`. Of a Mach-O or PE file `.text` is the code section, and `SymbolsSectionIsMissing` refuses any other
-/// name. A PE file without a symbol table is refused as an ELF file without one, by `SectionIsMissing` of `.symtab`.
+/// name. A PE file without a symbol table is refused as an ELF file without one, by `SectionIsMissing` of `.symtab`, and a
+/// file with code that has no function symbol by `SectionIsMissing` of these.
 pub fn tables_of<S: Source<Log = ()>>(
     alloc: Global,
     source: &S,
@@ -88,14 +90,61 @@ pub fn tables_of<S: Source<Log = ()>>(
     if !has_table(alloc, source, &format, symbols.which)? {
         return Err(ReadError::Refused(ParseError::SectionIsMissing(".symtab")));
     }
-    read_tables(
+    let tables = read_tables(
         alloc,
         source,
         &mut (),
         format,
         symbols.which,
         symbols.selection,
-    )
+    )?;
+    if is_bare(alloc, source, symbols, &tables)? {
+        return Err(ReadError::Refused(no_functions(symbols.which)));
+    }
+    Ok(tables)
+}
+
+// Whether the file, of which these are the tables, has code and no function symbol.
+fn is_bare<S: Source<Log = ()>>(
+    alloc: Global,
+    source: &S,
+    symbols: &Symbols<'_>,
+    tables: &Tables<'_>,
+) -> Result<bool, ReadError> {
+    if has_functions(alloc, tables)? || has_any(alloc, source, symbols.which)? {
+        return Ok(false);
+    }
+    has_code(alloc, source)
+}
+
+// Whether the sections of the file have a function symbol.
+fn has_any<S: Source<Log = ()>>(
+    alloc: Global,
+    source: &S,
+    which: SymbolTable,
+) -> Result<bool, ReadError> {
+    match read(alloc, source, &mut (), which, Selection::All) {
+        Ok(tables) => has_functions(alloc, &tables),
+        Err(ReadError::Refused(_)) => Ok(false),
+        Err(e) => Err(e),
+    }
+}
+
+/// Whether tables have a function symbol.
+pub(crate) fn has_functions(alloc: Global, tables: &Tables<'_>) -> Result<bool, ReadError> {
+    match tables.functions(alloc) {
+        Ok(selected) => Ok(!selected.functions.is_empty()),
+        Err(ListError::OutOfMemory) => Err(ReadError::OutOfMemory),
+        Err(_) => Ok(false),
+    }
+}
+
+// The refusal of a file with code that has no function symbol by this symbol table.
+fn no_functions(which: SymbolTable) -> ParseError {
+    match which {
+        SymbolTable::Symtab => ParseError::SectionIsMissing("function symbols"),
+        SymbolTable::Dynsym => ParseError::SectionIsMissing("function symbols in .dynsym"),
+    }
 }
 
 // Whether the file has this symbol table: a PE file may have none. That of another file is found when its tables are

@@ -24,8 +24,12 @@ pub enum Tables {
 }
 
 impl Tables {
-    // The sections of the file.
-    pub(crate) fn sections(&self) -> Result<Sections<'_>, SectionError> {
+    /// The sections of the file that the tables were read of, in file order. Nothing is read.
+    ///
+    /// # Errors
+    ///
+    /// `Unknown` where the format isn't supported; `Parse` where the file is too short for its header.
+    pub fn sections(&self) -> Result<Sections<'_>, SectionError> {
         match self {
             Tables::Elf(parts) => Ok(elf_sections_of(parts)),
             Tables::Macho(beginning) => Ok(open_macho(beginning.bytes())?),

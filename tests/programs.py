@@ -124,7 +124,7 @@ same = (sample, large, blanks, of_proc)
 answered = pathlib.Path("crates/test_formats/stdout").read_text()
 outputs = {command: pathlib.Path(f"crates/binfarce_{command}/stdout").read_text() for command in ("list", "size")}
 unknown, ended, unread, exhausted = "unknown file format", "unexpected end of file", "cannot read file", "out of memory"
-no_section = "no such section; binfarce section lists those of an ELF file; in others .text is the code"
+no_section = "no section {}; binfarce section lists those of an ELF file; in others .text is the code"
 nameless = "have no crate, as those of C, C++ and assembly; --by=function shows whose they are"
 lacks, not_there, is_folder = "symbols section is missing", "No such file or directory", "Is a directory"
 is_text, is_empty = "a text; `binfarce filter <FILE` shows it with readable names", "an empty file"
@@ -167,7 +167,7 @@ for command, output in outputs.items():
     assert re.search(f"^usage: binfarce {command} ", usage, re.M), usage
     if command != "section":
         ends(0, output, "", *call, "--section", ".text", sample)
-        ends(1, "", f"binfarce: {sample}: {no_section}", *call, sample, "--section=.data")
+        ends(1, "", f"binfarce: {sample}: {no_section.format('.data')}", *call, sample, "--section=.data")
     if command in ("list", "size"):
         shown = f"\n{sample}:\n{output}"
         ends(0, shown * 2, "", *call, sample, sample)
@@ -226,7 +226,7 @@ for path in (sample, large, of_proc, "-"):
     ends(0, "\0_ZN3foo3barE\0bad\0", "", "binfarce", "section", path, ".strtab", given=sample)
 lines = f"{0:016x} {64:10} {0:10} \n{0:016x} {64:10} {32:10} \n"
 ends(1, lines, f"binfarce: {truncated}: {ended}", "binfarce", "section", truncated)
-ends(1, "", f"binfarce: {sample}: no section of this name", "binfarce", "section", sample, ".data")
+ends(1, "", f"binfarce: {sample}: no section .data", "binfarce", "section", sample, ".data")
 total = f"{587:10} {587:10} {'+0':>11} {'+0':>11} [total]\n"
 for count, output, *words in ((8, "\0_ZN3foo3barE\0bad\0", "section", sample, ".strtab"), (18, f"{16:10} {16:10} {'+0':>11} [total]\n", "diff", sample, sample),
                               (14, total, "diff", "--by=section", sample, sample), (9, f"{0x1000:016x} foo+0x0\n", "at", "--section=.text", sample, "1000"),
@@ -914,7 +914,7 @@ def long_named(path, *sections):
 was, length = long_named(f"{scratch}/was.exe", (".exactly", 8), (".debug_loclists", 16), (".debug_line_str", 24))
 now, longer = long_named(f"{scratch}/now.exe", (".exactly", 8), (".debug_line_str", 28), (".debug_loclists", 16), (".gnu_debuglink", 4))
 ends(0, "B" * 28, "", "binfarce", "section", now, ".debug_line_str")
-ends(1, "", f"binfarce: {now}: no section of this name", "binfarce", "section", now, "/4")
+ends(1, "", f"binfarce: {now}: no section /4", "binfarce", "section", now, "/4")
 lines = "".join(f"{0x1000 * at:016x} {0x200 * at:10} {size:10} {name}\n" for at, (name, size) in enumerate(((".exactly", 8), (".debug_loclists", 16), (".debug_line_str", 24)), 1))
 ends(0, lines, "", "binfarce", "section", was)
 lines = "".join(f"{(1 << 32) + 0x1000 * at:016x} {size:10} {name} f{at}\n" for at, (name, size) in enumerate(((".exactly", 8), (".debug_loclists", 16), (".debug_line_str", 24)), 1))
@@ -953,7 +953,7 @@ ends(0, "       256 100.00% [unknown]\nsum 256\ntext 256\n", f"binfarce: {path}:
 ends(0, f"{0x40:016x} {448:10} c\ntext 256\n", "", "binfarce-list", path)
 for path, *words in ((image, "list"), (image, "map"), ("rust/samples/macho.bin", "size"), (image, "at", "0")):
     words[1:1] = ["--section=__text", path]
-    ends(1, "", f"binfarce: {path}: {no_section}", "binfarce", *words)
+    ends(1, "", f"binfarce: {path}: {no_section.format('__text')}", "binfarce", *words)
 print(f"programs.py: {folder}: as they must be", flush=True)
 
 if not folders[1:]:

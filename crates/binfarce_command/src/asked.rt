@@ -82,13 +82,13 @@ pub fn asked_of<'a>(
         Ok(Some(maps)) => maps,
         Ok(None) => {
             let words = String::from_str(alloc, TOO_LONG).map_err(|_| Wrong::OutOfMemory)?;
-            report(rt, "standard input", &Message::Reason(words));
+            report(rt, "standard input", &Message::Words(words));
             return Ok(None);
         }
         Err(e) => {
             let name = if is_input { "standard input" } else { path };
             let fault = Fault::Section(SectionError::Unreadable);
-            report(rt, name, &message_of(alloc, fault, Some(e)));
+            report(rt, name, &message_of(alloc, fault, Some(e), None));
             return Ok(None);
         }
     };

@@ -31,6 +31,7 @@ use binfarce_logs::Module;
 use binfarce_logs::annotate::annotate_stream;
 use binfarce_sections::error::SectionError;
 use binfarce_tools::report::ReportError;
+use binfarce_tools::tables::Selection;
 use binfarce_words::argument::arguments_of;
 use binfarce_words::call::{Call, read_call};
 use binfarce_words::command::Command;
@@ -123,7 +124,12 @@ fn answer<W: Write>(
         }
         Call::Run(command, given) => {
             let refusals = String::new(rt.alloc());
-            let host = Host { rt, refusals };
+            let section = section_of(*command, given);
+            let host = Host {
+                rt,
+                refusals,
+                section,
+            };
             let mut work = Work { host, given, out };
             let done = work.run(*command, asked)?;
             work.print_refusals()?;
@@ -388,6 +394,20 @@ fn lack_of(
     }
 }
 
+// The name of the only section that is asked for, if one is.
+fn section_of<'a>(command: Command, given: &Arguments<'a>) -> Option<&'a str> {
+    let symbols = match command {
+        Command::Section => return given.operand(1),
+        Command::At => symbols_of(given, true),
+        Command::Diff => symbols_of(given, false),
+        _ => request_of(command, given).symbols,
+    };
+    match symbols.selection {
+        Selection::Section(name) => Some(name),
+        Selection::All => None,
+    }
+}
+
 // The words, with commas between them.
 fn joined(alloc: Global, words: &[&str]) -> Result<String, AllocError> {
     let mut text = String::new(alloc);
@@ -405,6 +425,8 @@ fn joined(alloc: Global, words: &[&str]) -> Result<String, AllocError> {
 struct Host<'a> {
     rt: &'a HostRuntime,
     refusals: String,
+    // The name of the only section that is asked for.
+    section: Option<&'a str>,
 }
 
 impl Host<'_> {
@@ -439,7 +461,7 @@ impl System<FileOrStdin<File, Stdin>> for Host<'_> {
 
     fn report(&mut self, path: &str, fault: Fault, reason: Option<Error>) {
         let alloc = self.rt.alloc();
-        self.refuse(path, &message_of(alloc, fault, reason));
+        self.refuse(path, &message_of(alloc, fault, reason, self.section));
     }
 
     fn hint(&mut self, path: &str, hint: Hint) {

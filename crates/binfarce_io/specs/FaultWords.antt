@@ -1,5 +1,5 @@
 -- The words of a fault.
-use Rattle.std.specs.Prelude.{◌≡◌, ◌||◌, ℕ, Bool, true, false, List, [], ◌∷◌, ◌++◌, codes, nat_eq, Some, None, if◌then◌else◌}
+use Rattle.std.specs.Prelude.{◌≡◌, ◌&&◌, ◌||◌, ℕ, Bool, true, false, List, [], ◌∷◌, ◌++◌, codes, nat_eq, Option, Some, None, if◌then◌else◌}
 use Rattle.std.specs.Fmt.{decimal}
 use Rattle.std.specs.List.{concat}
 use Rattle.std.specs.Str.{bytes_eq}
@@ -48,10 +48,10 @@ fault_words SharedAddresses = codes "its sections share addresses; --section=NAM
 fault_words (Unplaced words) = string_bytes words
 fault_words (Missing count) = missing_words count
 
--- of a message: a fault, or the system's reason
+-- of a message: a fault, or these words
 abbrev pub message_words : Message → List ℕ
 message_words (messages.Fault fault) = fault_words fault
-message_words (messages.Reason words) = string_bytes words
+message_words (messages.Words words) = string_bytes words
 
 -- the system has a reason for a fault: a failed write, or a file that can't be read
 abbrev pub is_unreadable : Fault → Bool
@@ -63,10 +63,30 @@ has_reason fault = is_write fault || is_unreadable fault
 
 -- what a message says of a fault: the system's reason where it is given, or that there is no memory for it; and else the fault
 abbrev pub IsMessageOf : Fault → (is_given : Bool) → Message → Type 0
-IsMessageOf fault true (messages.Reason words) = Unit {0}
+IsMessageOf fault true (messages.Words words) = Unit {0}
 IsMessageOf fault true (messages.Fault f) = f ≡ no_memory_fault
-IsMessageOf fault false (messages.Reason words) = ⊥
+IsMessageOf fault false (messages.Words words) = ⊥
 IsMessageOf fault false (messages.Fault f) = f ≡ fault
+
+-- what follows the name of a section that a file lacks for this fault: of one whose function symbols are asked for, where its sections are listed
+abbrev pub lacked_in : Refusal → Option (List ℕ)
+lacked_in symbols_section_is_missing = Some (codes "; binfarce section lists those of an ELF file; in others .text is the code")
+lacked_in refusal = None
+
+abbrev pub lacked : Fault → Option (List ℕ)
+lacked (Section sections.NoSection) = Some []
+lacked (Section (sections.Parse e)) = lacked_in (refusal_of e)
+lacked (Report (sums.Parse e)) = lacked_in (refusal_of e)
+lacked fault = None
+
+-- a message says that there is no section of a name, if a section is asked for and the file lacks it, or that there is no memory for these words; and else what is said of the fault
+abbrev pub IsMessageBy : Fault → (section rest : Option (List ℕ)) → (given : Bool) → Message → Type 0
+IsMessageBy fault (Some name) (Some rest) given (messages.Words words) = string_bytes words ≡ codes "no section " ++ (name ++ rest)
+IsMessageBy fault (Some name) (Some rest) given (messages.Fault f) = f ≡ no_memory_fault
+IsMessageBy fault section rest given message = IsMessageOf fault (given && has_reason fault) message
+
+abbrev pub IsMessageFor : Fault → (section : Option (List ℕ)) → (given : Bool) → Message → Type 0
+IsMessageFor fault section given message = IsMessageBy fault section (lacked fault) given message
 
 -- of a file that isn't placed
 abbrev pub unplaced_words : message.Unplaced → List ℕ

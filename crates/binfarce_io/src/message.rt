@@ -3,13 +3,15 @@
 ghost use Rattle.std.specs.Prelude.{◌≡◌, ◌++◌, ◌&&◌, IfOk, OnOk, encode_utf8_all, is_some};
 ghost use Rattle.std.specs.Option.{option_map};
 ghost use Rattle.std.specs.String.{string_bytes};
-ghost use Rattle.binfarce_io.specs.FaultWords.{IsMessageOf, IsUnplaced, has_reason, refusal_object, unplaced_words};
+ghost use Rattle.binfarce_io.specs.FaultWords.{IsMessageFor, IsMessageOf, IsUnplaced, has_reason, lacked, refusal_object, unplaced_words};
 ghost use Rattle.binfarce_io.specs.MessageLine.{byte_text, escaped, line_char, line_of};
 
 use crate::fault::Fault;
+use binfarce_bytes::ParseError;
 use binfarce_rows::json::{push_start, push_text_member};
 use binfarce_sections::error::SectionError;
 use binfarce_text::digits::hex_digit;
+use binfarce_tools::report::ReportError;
 use std::alloc::{AllocError, Global};
 use std::fmt;
 use std::io::Error;
@@ -19,8 +21,8 @@ use std::io::Error;
 pub enum Message {
     /// Its fault.
     Fault(Fault),
-    /// The system's reason.
-    Reason(String),
+    /// Words: the system's reason, or that there is no section of a name.
+    Words(String),
 }
 
 impl fmt::Display for Message {
@@ -32,7 +34,7 @@ impl fmt::Display for Message {
     fn fmt<W: fmt::Write>(&self, f: &mut fmt::Formatter<W>) -> fmt::Result {
         match self {
             Message::Fault(fault) => write!(f, "{fault}"),
-            Message::Reason(words) => write!(f, "{words}"),
+            Message::Words(words) => write!(f, "{words}"),
         }
     }
 }
@@ -92,13 +94,46 @@ pub fn unplaced_fault(alloc: Global, why: &Unplaced<'_>) -> Fault
     }
 }
 
-/// Why a file is refused: the system's reason, where a read or a write failed, or that there is no memory for its words.
-pub fn message_of(alloc: Global, fault: Fault, reason: Option<Error>) -> Message
+/// Why a file is refused: that it has no section of the name that is asked for; the system's reason, where a read or a
+/// write failed; or that there is no memory for these words.
+pub fn message_of(
+    alloc: Global,
+    fault: Fault,
+    reason: Option<Error>,
+    section: Option<&str>,
+) -> Message
+    ensures { IsMessageFor fault (option_map (λ s. s.now) section.entry) (is_some reason) result }
+{
+    match (section, lacked(&fault)) {
+        (Some(name), Some(rest)) => match format!(in alloc; "no section {name}{rest}") {
+            Ok(words) => Message::Words(words),
+            Err(e) => Message::Fault(Fault::from(e)),
+        },
+        _ => reason_of(alloc, fault, reason),
+    }
+}
+
+// What follows the name of a section that a file lacks for this fault. `None` if it lacks none.
+fn lacked(fault: &Fault) -> Option<&'static str>
+    ensures { option_map (λ t. t.now) result ≡ lacked fault.now }
+{
+    match fault {
+        Fault::Section(SectionError::NoSection) => Some(""),
+        Fault::Section(SectionError::Parse(ParseError::SymbolsSectionIsMissing))
+        | Fault::Report(ReportError::Parse(ParseError::SymbolsSectionIsMissing)) => Some(
+            "; binfarce section lists those of an ELF file; in others .text is the code",
+        ),
+        _ => None,
+    }
+}
+
+// The system's reason for this fault, if there is one.
+fn reason_of(alloc: Global, fault: Fault, reason: Option<Error>) -> Message
     ensures { IsMessageOf fault (is_some reason && has_reason fault) result }
 {
     match reason {
         Some(e) if is_of_system(&fault) => match words_of(alloc, &e) {
-            Ok(words) => Message::Reason(words),
+            Ok(words) => Message::Words(words),
             Err(e) => Message::Fault(Fault::from(e)),
         },
         _ => Message::Fault(fault),

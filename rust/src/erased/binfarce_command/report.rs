@@ -28,7 +28,7 @@ pub fn ended(
     match done {
         Err(fault) if !fault.is_write() => say(rt, None, &fault),
         Err(fault) if status != 0 => {
-            let message = message_of(rt.alloc(), fault, reason);
+            let message = message_of(rt.alloc(), fault, reason, None);
             report(rt, "standard output", &message);
         }
         _ => {}

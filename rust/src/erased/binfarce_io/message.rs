@@ -4,9 +4,11 @@
 
 use crate::shim::String;
 use crate::erased::binfarce_io::fault::Fault;
+use crate::erased::binfarce_bytes::ParseError;
 use crate::erased::binfarce_rows::json::{push_start, push_text_member};
 use crate::erased::binfarce_sections::error::SectionError;
 use crate::erased::binfarce_text::digits::hex_digit;
+use crate::erased::binfarce_tools::report::ReportError;
 use crate::shim::alloc::{AllocError, Global};
 use core::fmt;
 use crate::shim::io::Error;
@@ -16,15 +18,15 @@ use crate::shim::io::Error;
 pub enum Message {
     /// Its fault.
     Fault(Fault),
-    /// The system's reason.
-    Reason(String),
+    /// Words: the system's reason, or that there is no section of a name.
+    Words(String),
 }
 
 impl fmt::Display for Message {
     fn fmt(&self, f: &mut fmt::Formatter<'_>) -> fmt::Result {
         match self {
             Message::Fault(fault) => write!(f, "{fault}"),
-            Message::Reason(words) => write!(f, "{words}"),
+            Message::Words(words) => write!(f, "{words}"),
         }
     }
 }
@@ -77,11 +79,40 @@ pub fn unplaced_fault(alloc: Global, why: &Unplaced<'_>) -> Fault {
     }
 }
 
-/// Why a file is refused: the system's reason, where a read or a write failed, or that there is no memory for its words.
-pub fn message_of(alloc: Global, fault: Fault, reason: Option<Error>) -> Message {
+/// Why a file is refused: that it has no section of the name that is asked for; the system's reason, where a read or a
+/// write failed; or that there is no memory for these words.
+pub fn message_of(
+    alloc: Global,
+    fault: Fault,
+    reason: Option<Error>,
+    section: Option<&str>,
+) -> Message {
+    match (section, lacked(&fault)) {
+        (Some(name), Some(rest)) => match String::formatted(alloc, format_args!("no section {name}{rest}")) {
+            Ok(words) => Message::Words(words),
+            Err(e) => Message::Fault(Fault::from(e)),
+        },
+        _ => reason_of(alloc, fault, reason),
+    }
+}
+
+// What follows the name of a section that a file lacks for this fault. `None` if it lacks none.
+fn lacked(fault: &Fault) -> Option<&'static str> {
+    match fault {
+        Fault::Section(SectionError::NoSection) => Some(""),
+        Fault::Section(SectionError::Parse(ParseError::SymbolsSectionIsMissing))
+        | Fault::Report(ReportError::Parse(ParseError::SymbolsSectionIsMissing)) => Some(
+            "; binfarce section lists those of an ELF file; in others .text is the code",
+        ),
+        _ => None,
+    }
+}
+
+// The system's reason for this fault, if there is one.
+fn reason_of(alloc: Global, fault: Fault, reason: Option<Error>) -> Message {
     match reason {
         Some(e) if is_of_system(&fault) => match words_of(alloc, &e) {
-            Ok(words) => Message::Reason(words),
+            Ok(words) => Message::Words(words),
             Err(e) => Message::Fault(Fault::from(e)),
         },
         _ => Message::Fault(fault),

@@ -437,6 +437,15 @@ ends(0, f"{0x800:016x} foo+0x2\n{0x1002:016x} ??\n", "", *offsets, linked, given
 in_text = b"0x0800 linked+0x800 (linked+0x803) linked+0x1002 0x1002\n"
 ends(0, in_text.replace(b"800", b"800 <foo+0x2>").replace(b"803", b"803 <foo+0x5>"), "", *offsets, "--annotate", linked, given=in_text)
 ends(0, f"{0x1002:016x} ??\n", f"binfarce: {linked}: 0 of 1 addresses are in a function symbol; are they offsets in the file?", *offsets, linked, "1002")
+# So perf writes a call chain: the offset comes behind the file, if that is one of these, and its symbol behind it; also at the end of the text, and once alone in a second call.
+chain = "a 12 [001] 2.5:  1f cycles:P: \n\t             800 [unknown] ({}/linked{})\n\t             803 n(int)+0x3 (/x/linked{})\n\t           2724a n+0x7a (/lib/c.so)\n\t             800 foo (inlined)\n\n"
+for last in ("", ")", "\t800 linked (linked", "\t800\tlinked (linked)(", " 800 x (linked)\n", "\t800x y (linked)\n", "\t12345678901234567 y (linked)\n", "\t800 (linked)\r\n", "\t800 " + "x" * 4096 + " (linked)\n", "\t(linked)\n"):
+    text, answer = ((chain + last).replace("{}", "%s") % (scratch, *marks) for marks in (("", ""), ("+0x800 <foo+0x2>", "+0x803 <foo+0x5>")))
+    ends(0, answer, "", *offsets, "--annotate", linked, given=text.encode())
+ends(0, answer, "", *offsets, "--annotate", linked, given=re.sub(" <.*?>", "", answer).encode())
+ends(0, b"\t800 x (linked+0x800 <foo+0x2>)", "", *offsets, "--annotate", linked, given=b"\t800 x (linked)")
+ends(0, b"\t \t0800\t(y/linked+0x0800 <foo+0x2>)\n)\n", "", *offsets, "--annotate", linked, given=b"\t \t0800\t(y/linked)\n)\n")
+ends(0, b"\t800 x (linked)\n", "binfarce: standard input: no address in the text; --bare takes those without 0x, too", *at, "--annotate", linked, given=b"\t800 x (linked)\n")
 # A file of another format, an object file and a debug file have no code with bytes.
 pathlib.Path(debug).write_bytes(data[:-24] + bytes(8) + data[-16:])
 no_code = "no code segment with bytes; --offsets takes ELF programs and shared objects, and not their debug files"

@@ -127,7 +127,8 @@ offset in it. Without an ADDRESS the addresses are the lines of standard input.
                    Linux's line on a fault; - is standard input, with
                    --annotate the text itself, which is then read to its end
   --offsets        addresses are offsets in the code of FILE, an ELF file, as
-                   perf script writes those of call chains
+                   perf script writes those of call chains; with --annotate
+                   such a line has the symbol behind its file
   --as=NAME        the file's name or path in the maps and in a text (of
                    several files --base and --as come once for each, in order)
   --dynamic        by the dynamic symbol table of an ELF file (.dynsym)

@@ -29,13 +29,14 @@ use binfarce_jobs::section::Asked;
 use binfarce_jobs::show::Symbols;
 use binfarce_logs::Module;
 use binfarce_logs::annotate::annotate_stream;
+use binfarce_logs::framed::annotate_frames;
 use binfarce_sections::error::SectionError;
 use binfarce_tools::report::ReportError;
 use binfarce_tools::tables::Selection;
 use binfarce_words::argument::arguments_of;
 use binfarce_words::call::{Call, read_call};
 use binfarce_words::command::Command;
-use binfarce_words::flag::Flag::{Annotate, Bare, FailAbove, First, Full, Json, Maps};
+use binfarce_words::flag::Flag::{Annotate, Bare, FailAbove, First, Full, Json, Maps, Offsets};
 use binfarce_words::given::Arguments;
 use binfarce_words::wrong::Wrong;
 use std::alloc::{AllocError, Global};
@@ -312,11 +313,10 @@ impl<'a, W: Write> Work<'a, '_, W> {
                 return Err(Fault::Report(ReportError::OutOfMemory));
             }
         }
-        let is_bare = words.has(Bare);
         let input = &mut OpenFile::new(self.host.rt.reader());
         let done = match asked.text() {
-            Some(mut text) => annotate_stream(alloc, &modules, is_bare, &mut text, self.out),
-            None => annotate_stream(alloc, &modules, is_bare, input, self.out),
+            Some(mut text) => annotated(words, alloc, &modules, &mut text, self.out),
+            None => annotated(words, alloc, &modules, input, self.out),
         };
         match done {
             Ok(counts) => {
@@ -374,6 +374,22 @@ impl<'a, W: Write> Work<'a, '_, W> {
             form,
             self.out,
         )
+    }
+}
+
+// Annotates a text; where addresses are offsets, also frames of perf-script(1).
+fn annotated<R: Read, W: Write>(
+    given: &Arguments<'_>,
+    alloc: Global,
+    modules: &[Module<'_>],
+    input: &mut R,
+    out: &mut Output<W>,
+) -> Result<Counts, StreamError> {
+    let is_bare = given.has(Bare);
+    if given.has(Offsets) {
+        annotate_frames(alloc, modules, is_bare, input, out)
+    } else {
+        annotate_stream(alloc, modules, is_bare, input, out)
     }
 }
 

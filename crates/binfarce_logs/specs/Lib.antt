@@ -1,6 +1,7 @@
 pub mod Annotated
 pub mod Bias
 pub mod Faults
+pub mod Framed
 pub mod Maps
 pub mod Module
 pub mod Pages

@@ -4,6 +4,7 @@
 
 pub mod annotate;
 mod faults;
+pub mod framed;
 pub mod laws;
 pub mod maps;
 mod module;

@@ -35,13 +35,16 @@ use crate::erased::binfarce_jobs::section::Asked;
 use crate::erased::binfarce_jobs::show::Symbols;
 use crate::erased::binfarce_logs::Module;
 use crate::erased::binfarce_logs::annotate::annotate_stream;
+use crate::erased::binfarce_logs::framed::annotate_frames;
 use crate::erased::binfarce_sections::error::SectionError;
 use crate::erased::binfarce_tools::report::ReportError;
 use crate::erased::binfarce_tools::tables::Selection;
 use crate::erased::binfarce_words::argument::arguments_of;
 use crate::erased::binfarce_words::call::{Call, read_call};
 use crate::erased::binfarce_words::command::Command;
-use crate::erased::binfarce_words::flag::Flag::{Annotate, Bare, FailAbove, First, Full, Json, Maps};
+use crate::erased::binfarce_words::flag::Flag::{
+    Annotate, Bare, FailAbove, First, Full, Json, Maps, Offsets,
+};
 use crate::erased::binfarce_words::given::Arguments;
 use crate::erased::binfarce_words::wrong::Wrong;
 use crate::shim::alloc::{AllocError, Global};
@@ -317,11 +320,10 @@ impl<'a, W: Write> Work<'a, '_, W> {
                 return Err(Fault::Report(ReportError::OutOfMemory));
             }
         }
-        let is_bare = words.has(Bare);
         let input = &mut OpenFile::new(self.host.rt.reader());
         let done = match asked.text() {
-            Some(mut text) => annotate_stream(alloc, &modules, is_bare, &mut text, self.out),
-            None => annotate_stream(alloc, &modules, is_bare, input, self.out),
+            Some(mut text) => annotated(words, alloc, &modules, &mut text, self.out),
+            None => annotated(words, alloc, &modules, input, self.out),
         };
         match done {
             Ok(counts) => {
@@ -379,6 +381,22 @@ impl<'a, W: Write> Work<'a, '_, W> {
             form,
             self.out,
         )
+    }
+}
+
+// Annotates a text; where addresses are offsets, also frames of perf-script(1).
+fn annotated<R: Read, W: Write>(
+    given: &Arguments<'_>,
+    alloc: Global,
+    modules: &[Module<'_>],
+    input: &mut R,
+    out: &mut Output<W>,
+) -> Result<Counts, StreamError> {
+    let is_bare = given.has(Bare);
+    if given.has(Offsets) {
+        annotate_frames(alloc, modules, is_bare, input, out)
+    } else {
+        annotate_stream(alloc, modules, is_bare, input, out)
     }
 }
 

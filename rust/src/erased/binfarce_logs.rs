@@ -5,6 +5,7 @@
 
 pub mod annotate;
 pub(crate) mod faults;
+pub mod framed;
 pub mod maps;
 pub(crate) mod module;
 pub mod modules;

@@ -30,6 +30,7 @@ pub mod binfarce_chart;
 pub mod binfarce_tools;
 pub mod binfarce_figures;
 pub mod binfarce_addresses;
+pub mod binfarce_frames;
 pub mod binfarce_logs;
 pub mod binfarce_sections;
 #[cfg(any(test, feature = "programs"))]

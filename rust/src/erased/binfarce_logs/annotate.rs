@@ -72,25 +72,30 @@ pub fn annotate_stream<R: Read, S: Sink>(
 }
 
 // The files that addresses are looked up in, with the names that were needed, and what was counted.
-struct Files<'a> {
+pub(crate) struct Files<'a> {
     names: Vec<File<'a>>,
     is_bare: bool,
-    counts: Counts,
+    pub(crate) counts: Counts,
 }
 
 // What annotates a text that comes in parts.
-struct Annotating<'a> {
-    alloc: Global,
-    files: Files<'a>,
+pub(crate) struct Annotating<'a> {
+    pub(crate) alloc: Global,
+    pub(crate) files: Files<'a>,
     // The end of the text: what may matter of what was shown, and an address that may go on.
-    kept: Vec<u8>,
+    pub(crate) kept: Vec<u8>,
     // How much of it was shown.
-    from: usize,
+    pub(crate) from: usize,
 }
 
 impl Annotating<'_> {
     // Annotates the kept text and the next part, and keeps an address at its end that may go on, unless the text ends.
-    fn push(&mut self, is_last: bool, part: &[u8], out: &mut Vec<u8>) -> Result<(), AllocError> {
+    pub(crate) fn push(
+        &mut self,
+        is_last: bool,
+        part: &[u8],
+        out: &mut Vec<u8>,
+    ) -> Result<(), AllocError> {
         let from = self.from.min(self.kept.len());
         self.kept.extend_from_slice(part)?;
         let at = self.files.push_decided(is_last, &self.kept, from, out)?;
@@ -215,7 +220,7 @@ fn find_among(names: &[File<'_>], address: u64) -> Option<(usize, Found)> {
 }
 
 // These files, without a name so far.
-fn new_files<'a>(
+pub(crate) fn new_files<'a>(
     alloc: Global,
     modules: &[Module<'a>],
     is_bare: bool,

@@ -1,0 +1,9 @@
+pub mod Reading
+pub mod Identity
+pub mod Notes
+pub mod ElfIdentity
+pub mod MachoIdentity
+pub mod PeIdentity
+pub mod FileIdentity
+pub mod Texts
+pub mod machine

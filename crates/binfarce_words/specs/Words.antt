@@ -41,7 +41,7 @@ flags_of Map = flags.First ∷ flags.Std ∷ flags.Folded ∷ flags.Section ∷ 
 flags_of Diff = flags.By ∷ flags.First ∷ flags.Percent ∷ flags.Std ∷ flags.Json ∷ flags.FailAbove ∷ flags.Section ∷ flags.Dynamic ∷ flags.All ∷ flags.Help ∷ []
 flags_of Filter = flags.Full ∷ flags.Help ∷ []
 flags_of At = flags.Return ∷ flags.Annotate ∷ flags.Bare ∷ flags.Base ∷ flags.Maps ∷ flags.Offsets ∷ flags.As ∷ flags.Json ∷ flags.Section ∷ flags.Dynamic ∷ flags.All ∷ flags.Help ∷ []
-flags_of Section = flags.Json ∷ flags.Help ∷ []
+flags_of Section = flags.Id ∷ flags.Json ∷ flags.Help ∷ []
 
 -- how an option is written: its name, its short name if it has one, and what it takes
 abbrev pub form_of : Flag → List ℕ × List ℕ × Takes
@@ -67,6 +67,7 @@ form_of flags.Std = (codes "--std", [], Nothing)
 form_of flags.Json = (codes "--json", [], Nothing)
 form_of flags.FailAbove = (codes "--fail-above", [], TakesLimit)
 form_of flags.Folded = (codes "--folded", [], Nothing)
+form_of flags.Id = (codes "--id", [], Nothing)
 
 -- the order of lines that a name names
 abbrev pub order_named : List ℕ → Option Order
@@ -373,15 +374,15 @@ help_call (topic ∷ others) = required_text topic >>= λ word. command_named wo
 abbrev pub exceeded : (more : Argument) → Result (Unit {0}) Wrong
 exceeded more = required_text more >>= λ word. Err (too_many word)
 
--- the operands of a command: it needs a file, or it takes no more than two
-abbrev pub operands_checked : Command → List Argument → Result (Unit {0}) Wrong
-operands_checked Filter operands = Ok tt
-operands_checked command [] = Err (no_file command)
-operands_checked Diff (file ∷ []) = Err no_second_file
-operands_checked Diff (old ∷ new ∷ more ∷ others) = exceeded more
-operands_checked Section (file ∷ section ∷ more ∷ others) = exceeded more
-operands_checked Map (file ∷ more ∷ others) = exceeded more
-operands_checked command operands = Ok tt
+-- the operands of a command: it needs a file, or it takes no more than two; those of `section --id` are all files
+abbrev pub operands_checked : Command → (has_id : Bool) → List Argument → Result (Unit {0}) Wrong
+operands_checked Filter has_id operands = Ok tt
+operands_checked command has_id [] = Err (no_file command)
+operands_checked Diff has_id (file ∷ []) = Err no_second_file
+operands_checked Diff has_id (old ∷ new ∷ more ∷ others) = exceeded more
+operands_checked Section false (file ∷ section ∷ more ∷ others) = exceeded more
+operands_checked Map has_id (file ∷ more ∷ others) = exceeded more
+operands_checked command has_id operands = Ok tt
 
 -- how often an option is given
 abbrev pub times_given : Flag → Arguments → ℕ
@@ -396,9 +397,9 @@ abbrev pub are_given : (one other : Flag) → Arguments → Bool
 are_given one other given = is_some (value_given one given) && is_some (value_given other given)
 
 -- the bytes of a section are asked for
-abbrev pub is_of_bytes : Command → (operands : List Argument) → Bool
-is_of_bytes Section operands = nat_eq (length operands) 2
-is_of_bytes command operands = false
+abbrev pub is_of_bytes : Command → Arguments → Bool
+is_of_bytes Section given = not (is_some (value_given flags.Id given)) && nat_eq (length given.operands) 2
+is_of_bytes command given = false
 
 -- the bytes of sections are summed
 abbrev pub is_section : Option (List ℕ) → Bool
@@ -441,14 +442,14 @@ abbrev pub checked : Command → Arguments → Result (Unit {0}) Wrong
 checked command given = if are_given flags.All flags.Section given then Err (exclusive flags.All flags.Section)
     else if are_given flags.Raw flags.Full given then Err (exclusive flags.Raw flags.Full)
     else if are_given flags.Annotate flags.Json given then Err (exclusive flags.Annotate flags.Json)
-    else if is_of_bytes command given.operands && is_some (value_given flags.Json given) then Err bytes_as_json
+    else if is_of_bytes command given && is_some (value_given flags.Json given) then Err bytes_as_json
     else if are_given flags.Base flags.Maps given then Err (exclusive flags.Base flags.Maps)
     else if are_given flags.Base flags.Offsets given then Err (exclusive flags.Base flags.Offsets)
     else if are_given flags.Maps flags.Offsets given then Err (exclusive flags.Maps flags.Offsets)
     else if is_some (value_given flags.Bare given) && not (is_some (value_given flags.Annotate given)) then Err (needs flags.Bare flags.Annotate)
     else if is_some (value_given flags.Annotate given) && not (is_each flags.Base given) then Err (not_each flags.Base)
     else if is_some (value_given flags.Annotate given) && not (is_each flags.As given) then Err (not_each flags.As)
-    else sums_checked command given >>= λ x. operands_checked command given.operands
+    else sums_checked command given >>= λ x. operands_checked command (is_some (value_given flags.Id given)) given.operands
 
 -- the command, or help on it, where that is requested
 abbrev pub call_with : Command → Arguments → Result Call Wrong

@@ -5,8 +5,8 @@ ghost use Rattle.binfarce_words.specs.Words.{flags_of};
 
 use crate::flag::Flag;
 use crate::flag::Flag::{
-    All, Annotate, As, Bare, Base, By, Dynamic, FailAbove, First, Folded, Full, Help, Json, Maps,
-    NoTotal, Offsets, Percent, Raw, Return, Section, Sort, Std,
+    All, Annotate, As, Bare, Base, By, Dynamic, FailAbove, First, Folded, Full, Help, Id, Json,
+    Maps, NoTotal, Offsets, Percent, Raw, Return, Section, Sort, Std,
 };
 use crate::named::Named;
 
@@ -25,7 +25,7 @@ pub enum Command {
     Filter,
     /// Symbolizes addresses.
     At,
-    /// Writes a section's bytes, or lists sections.
+    /// Writes a section's bytes, lists sections, or says from which build files are.
     Section,
 }
 
@@ -78,7 +78,7 @@ impl Command {
             Command::At => &[
                 Return, Annotate, Bare, Base, Maps, Offsets, As, Json, Section, Dynamic, All, Help,
             ],
-            Command::Section => &[Json, Help],
+            Command::Section => &[Id, Json, Help],
         }
     }
 }

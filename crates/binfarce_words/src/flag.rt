@@ -4,8 +4,8 @@ ghost use Rattle.std.specs.Prelude.{◌≡◌};
 ghost use Rattle.binfarce_words.specs.Words.{form_of, is_named};
 
 use crate::flag::Flag::{
-    All, Annotate, As, Bare, Base, By, Dynamic, FailAbove, First, Folded, Full, Help, Json, Maps,
-    NoTotal, Offsets, Percent, Raw, Return, Section, Sort, Std,
+    All, Annotate, As, Bare, Base, By, Dynamic, FailAbove, First, Folded, Full, Help, Id, Json,
+    Maps, NoTotal, Offsets, Percent, Raw, Return, Section, Sort, Std,
 };
 use crate::named::Named;
 use crate::takes::Takes;
@@ -57,6 +57,8 @@ pub enum Flag {
     FailAbove,
     /// Writes stacks.
     Folded,
+    /// Writes what says from which build files are.
+    Id,
 }
 
 impl Flag {
@@ -87,6 +89,7 @@ impl Flag {
             Json => ("--json", "", Takes::Nothing),
             FailAbove => ("--fail-above", "", Takes::Limit),
             Folded => ("--folded", "", Takes::Nothing),
+            Id => ("--id", "", Takes::Nothing),
         }
     }
 

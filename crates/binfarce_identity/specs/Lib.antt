@@ -5,5 +5,6 @@ pub mod ElfIdentity
 pub mod MachoIdentity
 pub mod PeIdentity
 pub mod FileIdentity
+pub mod Line
 pub mod Texts
 pub mod machine

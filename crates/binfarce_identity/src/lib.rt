@@ -4,10 +4,12 @@
 
 mod elf;
 mod identity;
+mod line;
 mod macho;
 mod notes;
 mod pe;
 mod reading;
 
 pub use crate::identity::{Identity, Kind};
+pub use crate::line::{Lack, Style, identity_line, lacked};
 pub use crate::reading::read_identity;

@@ -30,7 +30,7 @@ pub enum Fault {
     NotUtf8,
     /// The sections of an object file share addresses, so one has to be named.
     SharedAddresses,
-    /// Where the file is loaded isn't known, and why in words.
+    /// What is asked for isn't known of the file, as where it is loaded, and why in words.
     Unplaced(String),
     /// This many lines of standard input have no address; all lines were answered.
     Missing(u64),

@@ -23,14 +23,14 @@ use crate::erased::binfarce_calls::placing::{
 use crate::erased::binfarce_calls::request::{figures_of, form_of, request_of, symbols_of};
 use crate::erased::binfarce_calls::sections::{show_section, sum_files};
 use crate::erased::binfarce_filtering::stream::{StreamError, filter_stream};
-use crate::erased::binfarce_io::fault::Fault;
-use crate::erased::binfarce_io::input::{FileOrStdin, OpenFile};
-use crate::erased::binfarce_io::message::{Message, message_of, push_refusal};
-use crate::erased::binfarce_io::output::Output;
+use crate::erased::binfarce_identity::{Lack, Style, identity_line, lacked};
 use crate::erased::binfarce_jobs::at::{answer_all, answer_input};
-use crate::erased::binfarce_jobs::files::{System, give, show_files};
+use crate::erased::binfarce_jobs::fault::Fault;
+use crate::erased::binfarce_jobs::files::{System, give, open_input, refuse, show_files};
 use crate::erased::binfarce_jobs::hint::{Hint, lack};
 use crate::erased::binfarce_jobs::limit::Verdict;
+use crate::erased::binfarce_jobs::message::{Message, message_of, push_escaped, push_refusal};
+use crate::erased::binfarce_jobs::output::Output;
 use crate::erased::binfarce_jobs::section::Asked;
 use crate::erased::binfarce_jobs::show::Symbols;
 use crate::erased::binfarce_logs::Module;
@@ -43,7 +43,7 @@ use crate::erased::binfarce_words::argument::arguments_of;
 use crate::erased::binfarce_words::call::{Call, read_call};
 use crate::erased::binfarce_words::command::Command;
 use crate::erased::binfarce_words::flag::Flag::{
-    Annotate, Bare, FailAbove, First, Full, Json, Maps, Offsets,
+    Annotate, Bare, FailAbove, First, Full, Id, Json, Maps,
 };
 use crate::erased::binfarce_words::given::Arguments;
 use crate::erased::binfarce_words::wrong::Wrong;
@@ -170,6 +170,7 @@ impl<'a, W: Write> Work<'a, '_, W> {
             Command::At => return self.symbolize(asked),
             Command::Diff => self.compare()?,
             Command::Filter => self.filter()?,
+            Command::Section if given.has(Id) => self.write_identities()?,
             Command::Section => self.write_section()?,
             Command::List | Command::Size | Command::Map => self.show_all(command)?,
         };
@@ -365,6 +366,47 @@ impl<'a, W: Write> Work<'a, '_, W> {
         }
     }
 
+    // Writes what says from which build each file is, a line each.
+    fn write_identities(&mut self) -> Result<Verdict, Fault> {
+        let given = self.given;
+        let paths = given.operand_texts(self.host.rt.alloc())?;
+        let are_several = paths.len() > 1;
+        let mut all = Verdict::done();
+        for path in paths {
+            let done = self.write_identity(path, are_several)?;
+            self.print_refusals()?;
+            all = all.and_then(done);
+        }
+        Ok(all)
+    }
+
+    // Writes it of the file at this path, of several before the path, or reports why the file is refused.
+    fn write_identity(&mut self, path: &str, are_several: bool) -> Result<Verdict, Fault> {
+        let alloc = self.host.rt.alloc();
+        let Some(input) = open_input(alloc, &mut self.host, path) else {
+            return Ok(Verdict::refused());
+        };
+        let mut name = String::new(alloc);
+        push_escaped(&mut name, path)?;
+        let style = if self.given.has(Json) {
+            Style::Object(path)
+        } else if are_several {
+            Style::Named(name.as_str())
+        } else {
+            Style::Alone
+        };
+        match identity_line(alloc, &input, &mut (), style) {
+            Ok(line) => {
+                print(line.as_str(), self.out)?;
+                Ok(Verdict::done())
+            }
+            Err(lack) => {
+                let fault = fault_of(alloc, lack);
+                refuse(alloc, &mut self.host, path, &input, fault)
+            }
+        }
+    }
+
     // Writes the bytes of the section that is named, or a line for each section.
     fn write_section(&mut self) -> Result<Verdict, Fault> {
         let asked = match self.given.operand(1) {
@@ -384,19 +426,15 @@ impl<'a, W: Write> Work<'a, '_, W> {
     }
 }
 
-// Annotates a text; where addresses are offsets, also frames of perf-script(1).
-fn annotated<R: Read, W: Write>(
-    given: &Arguments<'_>,
-    alloc: Global,
-    modules: &[Module<'_>],
-    input: &mut R,
-    out: &mut Output<W>,
-) -> Result<Counts, StreamError> {
-    let is_bare = given.has(Bare);
-    if given.has(Offsets) {
-        annotate_frames(alloc, modules, is_bare, input, out)
-    } else {
-        annotate_stream(alloc, modules, is_bare, input, out)
+// The fault of a file that has no line with its identity.
+fn fault_of(alloc: Global, lack: Lack) -> Fault {
+    match lack {
+        Lack::UnknownFormat => Fault::Section(SectionError::Unknown),
+        Lack::NoIdentity(kind) => match String::from_str(alloc, lacked(kind)) {
+            Ok(words) => Fault::Unplaced(words),
+            Err(e) => Fault::from(e),
+        },
+        Lack::Read(e) => Fault::from(e),
     }
 }
 

@@ -26,6 +26,7 @@ pub mod binfarce_image;
 pub mod binfarce_rows;
 #[cfg(any(test, feature = "programs"))]
 pub mod binfarce_words;
+pub mod binfarce_identity;
 pub mod binfarce_chart;
 pub mod binfarce_tools;
 pub mod binfarce_figures;

@@ -143,11 +143,16 @@ offset in it. Without an ADDRESS the addresses are the lines of standard input.
 
 const SECTION: &str = "\
 usage: binfarce section FILE [SECTION]
+       binfarce section --id FILE..
 
 Writes the bytes of the section, or without SECTION a line for each section. A
 section of a Mach-O file is named SECTION or SEGMENT,SECTION.
 
-  --json           an object for each section, with its type and flags
+  --id             the build ID of an ELF file, the UUID of a Mach-O file, the
+                   GUID and age of a PE file's PDB file; of several files a
+                   line for each, with its name
+  --json           an object for each section, with its type and flags; with
+                   --id for each file
 ";
 
 // The options of all commands that take function symbols of `.text` by default.

@@ -144,7 +144,7 @@ pub fn line_of(alloc: Global, path: Option<&str>, words: &str) -> Result<String,
     Ok(line)
 }
 
-/// Appends a text with its control characters escaped.
+/// Appends a text with its control characters escaped, as in messages.
 pub fn push_escaped(line: &mut String, text: &str) -> Result<(), AllocError> {
     for c in text.chars() {
         push_char(line, c)?;

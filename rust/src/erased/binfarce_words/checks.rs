@@ -21,7 +21,7 @@ pub(crate) fn check<'a>(command: Command, given: &Arguments<'a>) -> Result<(), W
     if are_given(given, Flag::Annotate, Flag::Json) {
         return Err(Wrong::Exclusive(Flag::Annotate, Flag::Json));
     }
-    if is_of_bytes(command, given.operands.as_slice()) && given.has(Flag::Json) {
+    if is_of_bytes(command, given) && given.has(Flag::Json) {
         return Err(Wrong::BytesAsJson);
     }
     if are_given(given, Flag::Base, Flag::Maps) {
@@ -43,7 +43,7 @@ pub(crate) fn check<'a>(command: Command, given: &Arguments<'a>) -> Result<(), W
         return Err(Wrong::NotEach(Flag::As));
     }
     check_sums(command, given)?;
-    check_operands(command, given.operands.as_slice())
+    check_operands(command, given.has(Flag::Id), given.operands.as_slice())
 }
 
 // What is wrong with how sums are asked for.
@@ -97,18 +97,23 @@ fn are_given(given: &Arguments<'_>, one: Flag, other: Flag) -> bool {
 }
 
 // Whether the bytes of a section are asked for.
-fn is_of_bytes(command: Command, operands: &[Argument<'_>]) -> bool {
-    matches!((command, operands), (Command::Section, [_, _]))
+fn is_of_bytes(command: Command, given: &Arguments<'_>) -> bool {
+    command == Command::Section && !given.has(Flag::Id) && given.operands.len() == 2
 }
 
-// What is wrong with the operands of a command.
-fn check_operands<'a>(command: Command, operands: &[Argument<'a>]) -> Result<(), Wrong<'a>> {
-    match (command, operands) {
-        (Command::Filter, _) => Ok(()),
-        (_, []) => Err(Wrong::NoFile(command)),
-        (Command::Diff, [_]) => Err(Wrong::NoSecondFile),
-        (Command::Section | Command::Diff, [_, _, more, ..]) => exceeded(*more),
-        (Command::Map, [_, more, ..]) => exceeded(*more),
+// What is wrong with the operands of a command, which may ask for the identities of files.
+fn check_operands<'a>(
+    command: Command,
+    has_id: bool,
+    operands: &[Argument<'a>],
+) -> Result<(), Wrong<'a>> {
+    match operands {
+        _ if command == Command::Filter => Ok(()),
+        [] => Err(Wrong::NoFile(command)),
+        [_] if command == Command::Diff => Err(Wrong::NoSecondFile),
+        [_, _, more, ..] if command == Command::Diff => exceeded(*more),
+        [_, _, more, ..] if command == Command::Section && !has_id => exceeded(*more),
+        [_, more, ..] if command == Command::Map => exceeded(*more),
         _ => Ok(()),
     }
 }

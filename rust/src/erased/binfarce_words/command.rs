@@ -4,8 +4,8 @@
 
 use crate::erased::binfarce_words::flag::Flag;
 use crate::erased::binfarce_words::flag::Flag::{
-    All, Annotate, As, Bare, Base, By, Dynamic, FailAbove, First, Folded, Full, Help, Json, Maps,
-    NoTotal, Offsets, Percent, Raw, Return, Section, Sort, Std,
+    All, Annotate, As, Bare, Base, By, Dynamic, FailAbove, First, Folded, Full, Help, Id, Json,
+    Maps, NoTotal, Offsets, Percent, Raw, Return, Section, Sort, Std,
 };
 use crate::erased::binfarce_words::named::Named;
 
@@ -24,7 +24,7 @@ pub enum Command {
     Filter,
     /// Symbolizes addresses.
     At,
-    /// Writes a section's bytes, or lists sections.
+    /// Writes a section's bytes, lists sections, or says from which build files are.
     Section,
 }
 
@@ -71,7 +71,7 @@ impl Command {
             Command::At => &[
                 Return, Annotate, Bare, Base, Maps, Offsets, As, Json, Section, Dynamic, All, Help,
             ],
-            Command::Section => &[Json, Help],
+            Command::Section => &[Id, Json, Help],
         }
     }
 }

@@ -3,8 +3,8 @@
 //! Options.
 
 use crate::erased::binfarce_words::flag::Flag::{
-    All, Annotate, As, Bare, Base, By, Dynamic, FailAbove, First, Folded, Full, Help, Json, Maps,
-    NoTotal, Offsets, Percent, Raw, Return, Section, Sort, Std,
+    All, Annotate, As, Bare, Base, By, Dynamic, FailAbove, First, Folded, Full, Help, Id, Json,
+    Maps, NoTotal, Offsets, Percent, Raw, Return, Section, Sort, Std,
 };
 use crate::erased::binfarce_words::named::Named;
 use crate::erased::binfarce_words::takes::Takes;
@@ -56,6 +56,8 @@ pub enum Flag {
     FailAbove,
     /// Writes stacks.
     Folded,
+    /// Writes what says from which build files are.
+    Id,
 }
 
 impl Flag {
@@ -84,6 +86,7 @@ impl Flag {
             Json => ("--json", "", Takes::Nothing),
             FailAbove => ("--fail-above", "", Takes::Limit),
             Folded => ("--folded", "", Takes::Nothing),
+            Id => ("--id", "", Takes::Nothing),
         }
     }
 

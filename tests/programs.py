@@ -932,6 +932,89 @@ assert {it["section"] for it in objects("list", "--all", was)} == {".exactly", "
 rest = longer - length - 8
 rows = ("[headers and gaps]", length - 48, 0, length - 48 + rest, 0), (".debug_line_str", 24, 24, 28, 28), (".gnu_debuglink", 0, 0, 4, 4), ("[total]", length, 48, longer, 56)
 ends(0, changed(rows), "", "binfarce", "diff", "--by=section", was, now)
+# The identities of files: of programs as readelf prints them; of files made here, by the documents of their formats, with notes of words of 4 and 8 bytes.
+def identified(ending, wanted, said, *files, json=()):
+    ends(ending, wanted, said, "binfarce", "section", "--id", *json, *files)
+def note(name, kind, text, word=4, order="<"):
+    padded = lambda part: part.ljust(-(-len(part) // word) * word, b"\0")
+    return padded(padded(struct.pack(order + "3I", len(name), len(text), kind) + name) + text)
+def noted(path, notes, align=4, order="<", wide=True, are_sections=True, cut=0, size=None):
+    # One table: a section header without a type and one of the type SHT_NOTE (7), or a program header of the type PT_NOTE (4).
+    size = len(notes) if size is None else size
+    start, count, length = (64, 2, 64) if wide else (52, 2, 40)
+    if not are_sections:
+        count, length = 1, 56 if wide else 32
+    at = start + count * length
+    if are_sections:
+        table = bytes(length) + struct.pack(order + ("2I4Q2I2Q" if wide else "10I"), 0, 7, 0, 0, at, size, 0, 0, align, 0)
+    else:
+        table = struct.pack(order + "2I6Q", 4, 0, at, 0, 0, size, 0, align) if wide else struct.pack(order + "8I", 4, at, 0, 0, size, 0, 0, align)
+    places, counts = ((0, start), (0, count)) if are_sections else ((start, 0), (count, 0))
+    word = "Q" if wide else "I"
+    header = b"\x7fELF" + bytes([2 if wide else 1, 1 if order == "<" else 2, 1]).ljust(12, b"\0") + struct.pack(order + f"2HI3{word}I6H", 1, 62, 1, 0, *places, 0, start, length, counts[0], length, counts[1], 0)
+    file = header + table + notes
+    pathlib.Path(path).write_bytes(file[:len(file) - cut])
+    return path
+built = bytes(range(0x9, 0x1D))
+gnu, other = note(b"GNU\0", 3, built), note(b"Linux\0", 3, b"12345")
+ids, alone = [], f"{built.hex()}\n"
+for order in "<>":
+    for wide in (True, False):
+        for are_sections in (True, False):
+            path = noted(f"{scratch}/noted{len(ids)}", note(b"Linux\0", 3, b"12345", order=order) + note(b"GNU\0", 3, built, order=order) + note(b"GNU\0", 3, b"x", order=order), 4, order, wide, are_sections)
+            ids.append(path)
+            identified(0, alone, "", path)
+            # Words of 8 bytes: the descriptor of the first note begins at 24, and the next note at 32.
+            eight = noted(path + "-8", note(b"Linux\0", 3, b"12345", 8, order) + note(b"GNU\0", 3, built, 8, order), 8, order, wide, are_sections)
+            identified(0, alone, "", eight)
+identified(0, "".join(f"{built.hex()}  {path}\n" for path in ids), "", *ids)
+lacks_id, malformed = "no build ID", "malformed input file"
+# No note is one, one of another type, without bytes, or of another name; a note that ends past its section; a section that does past the file; of notes behind an ID nothing is said.
+for at, (ending, wanted, said, notes, more) in enumerate((
+        (1, "", lacks_id, b"", {}), (1, "", lacks_id, note(b"GNU\0", 1, built), {}), (1, "", lacks_id, note(b"GNU\0", 3, b""), {}), (1, "", lacks_id, note(b"GNV\0", 3, built), {}),
+        (1, "", lacks_id, note(b"GNU", 3, built), {}), (1, "", lacks_id, gnu[:11], {}), (1, "", malformed, gnu[:-1], {}), (1, "", malformed, other + gnu[:-1], {}), (0, alone, "", gnu + other[:-4], {}),
+        (1, "", malformed, struct.pack("<3I", 0xFFFFFFFF, 0xFFFFFFFF, 3) + gnu, {}), (1, "", malformed, struct.pack("<3I", 4, 0xFFFFFFF0, 3) + b"GNU\0" + built, {}),
+        (1, "", ended, gnu, {"cut": 1}), (1, "", ended, gnu, {"size": 1 << 62}), (1, "", ended, gnu, {"cut": len(gnu) + 1}), (0, alone, "", gnu, {"align": 0}), (0, alone, "", gnu, {"align": 3 << 62}))):
+    path = noted(f"{scratch}/note{at}", notes, **more)
+    identified(ending, wanted, said and f"binfarce: {path}: {said}", path)
+# Mach-O: LC_UUID is 0x1B; the size of its command is 24, and no command has fewer bytes than 8.
+def commanded(name, *commands, more=0):
+    body = b"".join(commands)
+    file = struct.pack("<8I", 0xFEEDFACF, 0x1000007, 3, 2, len(commands), len(body) + more, 0, 0) + body
+    pathlib.Path(name).write_bytes(file)
+    return name
+uuid, symtab = bytes(range(0xE0, 0xF0)), struct.pack("<6I", 2, 24, 0, 0, 0, 0)
+with_uuid = struct.pack("<2I", 0x1B, 24) + uuid
+apple = commanded(f"{scratch}/uuid.macho", symtab, with_uuid, struct.pack("<2I", 0x1B, 24) + built[:16])
+identified(0, "E0E1E2E3-E4E5-E6E7-E8E9-EAEBECEDEEEF\n", "", apple)
+for at, (said, commands, more) in enumerate((("no UUID", (symtab,), 0), (malformed, (struct.pack("<2I", 0x1B, 25) + uuid,), 0), (malformed, (struct.pack("<2I", 1, 7), with_uuid), 0), (ended, (with_uuid,), 1))):
+    path = commanded(f"{scratch}/no-uuid{at}.macho", *commands, more=more)
+    identified(1, "", f"binfarce: {path}: {said}", path)
+# PE: data directory 6, at 112 + 48 of an optional header that begins with 0x20B and at 96 + 48 of one with 0x10B, is at 0x1010 in memory, and so at 0x410 in the file.
+def debugged(path, magic=0x20B, directories=16, size=56, address=0x1010, kind=2, length=40, record=b"RSDS" + uuid + struct.pack("<I", 0x1A)):
+    start = 112 if magic == 0x20B else 96
+    optional = struct.pack("<H", magic).ljust(start - 4, b"\0") + struct.pack("<I", directories) + bytes(48) + struct.pack("<2I", address, size) + bytes(72)
+    header = b"MZ".ljust(60, b"\0") + struct.pack("<I4s2H3I2H", 64, b"PE", 0x8664, 1, 0, 0, 0, len(optional), 34) + optional
+    header += struct.pack("<8s4I", b".rdata", 0x100, 0x1000, 0x100, 0x400) + bytes(16)
+    entries = b"".join(struct.pack("<12x4I", it, length, 0x2000, 0x480) for it in (13, kind))
+    file = header.ljust(0x410, b"\0") + entries
+    pathlib.Path(path).write_bytes((file.ljust(0x480, b"\0") + record).ljust(0x500, b"\0"))
+    return path
+guid = "E3E2E1E0E5E4E7E6E8E9EAEBECEDEEEF1a\n"
+windows = debugged(f"{scratch}/guid.exe")
+identified(0, guid, "", windows)
+identified(0, guid, "", debugged(f"{scratch}/guid32.exe", magic=0x10B))
+for at, (said, more) in enumerate((("no GUID of a PDB file", {"directories": 6}), ("no GUID of a PDB file", {"size": 0}), ("no GUID of a PDB file", {"magic": 0x107}), ("no GUID of a PDB file", {"kind": 4}),
+                                   ("no GUID of a PDB file", {"record": b"NB10" + uuid}), (malformed, {"length": 23}), (malformed, {"address": 0xFFF}), (malformed, {"size": 0x100 - 15}), (malformed, {"size": 0xFFFFFFFF}))):
+    path = debugged(f"{scratch}/no-guid{at}.exe", **more)
+    identified(1, "", f"binfarce: {path}: {said}", path)
+kinds = ((ids[0], "build-id", built.hex()), (apple, "uuid", "E0E1E2E3-E4E5-E6E7-E8E9-EAEBECEDEEEF"), (windows, "codeview", guid[:-1]))
+identified(0, "".join(f'{{"file":"{path}","id_kind":"{kind}","id":"{it}"}}\n' for path, kind, it in kinds), "", *(path for path, *_ in kinds), json=["--json"])
+identified(1, f'{{"file":"{sample}","error":"no build ID"}}\n', f"binfarce: {sample}: no build ID", sample, json=["--json"])
+identified(1, f"{built.hex()}  {ids[0]}\n", f"{lost}\nbinfarce: {sample}: no build ID", missing, sample, ids[0])
+program = f"{scratch}/built"
+printed("gcc", "-static", "-nostdlib", "-Wl,--build-id", "-o", program, "-x", "c", "-", given="int _start() { return 0; }")
+identified(0, re.search("Build ID: (.*)", printed("readelf", "-n", program))[1] + "\n", "", program)
 # A section without a name has none in JSON: section 0 of this file, whose header isn't inactive, and which the other file lacks.
 data = bytearray(pathlib.Path(sample).read_bytes())
 table = int.from_bytes(data[40:48], "little")

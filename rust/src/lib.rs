@@ -10,6 +10,7 @@
 //!   [`macho`], [`pe`].
 //! - Function symbols of all sections, dynamic ones, sums of their sizes, and files that are read at offsets: [`Tables`] and
 //!   [`read_section`](crate#functions).
+//! - From which build a file is: [`identity`].
 //! - The function at an address: [`Symbolizer`], and [`Process`](crate#structs) for all files of a running program.
 //!
 //! # Examples
@@ -124,6 +125,7 @@ mod error;
 pub mod figures;
 mod filter;
 use erased::binfarce_foreign as foreign;
+mod identity;
 pub mod macho;
 pub mod pe;
 #[cfg(feature = "std")]
@@ -156,6 +158,9 @@ pub use error::{Error, ErrorKind, Foreign, OutOfMemory, ParseError, UnexpectedEo
 #[cfg(feature = "std")]
 pub use filter::filter_stream;
 pub use filter::{Form, filter};
+#[cfg(feature = "std")]
+pub use identity::read_identity;
+pub use identity::{Identity, IdentityKind, identity};
 #[cfg(feature = "std")]
 pub use process::{Frame, Process};
 #[cfg(feature = "std")]

@@ -40,7 +40,7 @@ kind_name CodeView = codes "codeview"
 -- an object of the name of a file, and of the kind and the text of its identity
 abbrev pub object_of : (name : List ℕ) → Kind → (id : List ℕ) → List ℕ
 object_of name kind id =
-    object_start name ++ (text_member (codes "kind") (Some (kind_name kind)) ++ (text_member (codes "id") (Some id) ++ codes "}\n"))
+    object_start name ++ (text_member (codes "id_kind") (Some (kind_name kind)) ++ (text_member (codes "id") (Some id) ++ codes "}\n"))
 
 -- the line of an identity; two blanks come before a name, as in the output of `sha256sum`
 abbrev pub line_of : Style → Identity → List ℕ

@@ -121,7 +121,7 @@ fn line_of(alloc: Global, identity: &Identity, style: Style<'_>) -> Result<Strin
 fn object_of(alloc: Global, name: &str, kind: Kind, id: &str) -> Result<String, AllocError> {
     let mut text = String::new(alloc);
     push_start(&mut text, name)?;
-    push_text_member(&mut text, "kind", Some(kind_name(kind)))?;
+    push_text_member(&mut text, "id_kind", Some(kind_name(kind)))?;
     push_text_member(&mut text, "id", Some(id))?;
     text.push_str("}\n")?;
     Ok(text)

@@ -59,6 +59,9 @@ pub mod test_image_samples;
 pub mod test_reading;
 #[cfg(test)]
 #[cfg(feature = "stored")]
+pub mod test_identities;
+#[cfg(test)]
+#[cfg(feature = "stored")]
 pub mod test_lookups;
 #[cfg(test)]
 #[cfg(feature = "stored")]
@@ -73,6 +76,7 @@ pub mod test_formats;
 #[cfg(test)]
 #[cfg(feature = "stored")]
 pub const TEST_PROGRAMS: &[(&str, crate::shim::test::Main)] = &[
+    ("test_identities", test_identities::main),
     ("test_lookups", test_lookups::main),
     ("test_memory", test_memory::main),
     ("test_names", test_names::main),

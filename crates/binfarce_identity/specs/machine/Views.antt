@@ -1,7 +1,5 @@
 -- What private clauses see of the types of the readings.
 use Rattle.std.specs.Prelude.{ℕ}
-use Rattle.binfarce_elf.specs.declared.class.Width.{Width}
-use Rattle.binfarce_elf.specs.declared.class.Width.TheVariants.{Bits32, Bits64}
 use Rattle.binfarce_identity.specs.ElfIdentity as elf
 use Rattle.binfarce_identity.specs.Notes.{Head}
 use Rattle.binfarce_identity.specs.PeIdentity as pe
@@ -15,11 +13,6 @@ use Rattle.binfarce_identity.specs.declared.pe.Place.{Place}
 -- a `NoteHead`
 abbrev pub head_view : NoteHead → Head ℕ
 head_view h = record { namesz = h.namesz; descsz = h.descsz; kind = h.kind }
-
--- how many bytes an offset has in a class
-abbrev pub word_width : Width → ℕ
-word_width Bits32 = 4
-word_width Bits64 = 8
 
 -- a `Form`
 abbrev pub shape_of : Form → elf.Shape

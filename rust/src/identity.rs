@@ -1,12 +1,12 @@
 //! What says from which build a file is.
 
+use crate::Error;
 use crate::any::known_format;
 use crate::erased::binfarce_identity::{self as erased, read_identity as read};
 use crate::shim::String as Text;
 use crate::shim::alloc::Global;
 #[cfg(feature = "std")]
 use crate::streams::read_by_format;
-use crate::Error;
 use alloc::string::String;
 use alloc::vec::Vec;
 use core::fmt;

@@ -297,9 +297,22 @@ fn errors_of_each_call(file: &[u8]) -> Vec<Error> {
 #[test]
 fn a_file_has_its_identity() {
     // A header without section headers, a program header of notes, and a note of 8 bytes.
-    let header = |program: [u8; 6]| [b"\x7fELF\x02\x01\x01", &[0; 25][..], &[64, 0, 0, 0, 0, 0, 0, 0], &[0; 14], &program, &[0; 4]].concat();
+    let header = |program: [u8; 6]| {
+        [b"\x7fELF\x02\x01\x01", &[0; 25][..], &[64, 0, 0, 0, 0, 0, 0, 0], &[0; 14], &program, &[0; 4]].concat()
+    };
     let mut file = header([56, 0, 1, 0, 0, 0]);
-    file.extend([[4, 0, 0, 0, 4, 0, 0, 0], [120, 0, 0, 0, 0, 0, 0, 0], [0; 8], [0; 8], [24, 0, 0, 0, 0, 0, 0, 0], [0; 8], [4, 0, 0, 0, 0, 0, 0, 0]].concat());
+    file.extend(
+        [
+            [4, 0, 0, 0, 4, 0, 0, 0],
+            [120, 0, 0, 0, 0, 0, 0, 0],
+            [0; 8],
+            [0; 8],
+            [24, 0, 0, 0, 0, 0, 0, 0],
+            [0; 8],
+            [4, 0, 0, 0, 0, 0, 0, 0],
+        ]
+        .concat(),
+    );
     file.extend(b"\x04\0\0\0\x08\0\0\0\x03\0\0\0GNU\0\x01\x23\x45\x67\x89\xab\xcd\xef");
     let found = identity(&file).unwrap().unwrap();
     assert_eq!((found.kind(), found.to_string().as_str()), (IdentityKind::BuildId, "0123456789abcdef"));

@@ -26,7 +26,14 @@ pub record Shape : Type 0 where
 abbrev pub section_shape : Width → Shape
 section_shape width =
     let class = class_of width in
-    record { length = class.section_length; kind = class.section.kind; notes = 7; offset = class.section.offset; size = class.section.size; align = class.section.addralign }
+    record {
+      length = class.section_length;
+      kind = class.section.kind;
+      notes = 7;
+      offset = class.section.offset;
+      size = class.section.size;
+      align = class.section.addralign;
+    }
 
 -- program headers: PT_NOTE is 4
 abbrev pub program_shape : Width → Shape
@@ -76,7 +83,8 @@ place_reading order (Some place) = with_part place.offset place.size (λ notes. 
 -- the first one at the places of n headers from this index on
 unfoldable pub headers_reading : ByteOrder → Shape → (headers : List ℕ) → (n index : ℕ) → Reading
 headers_reading order shape headers zero index = answered (Ok None)
-headers_reading order shape headers (suc n) index = or_else (place_reading order (header_place order shape headers (index * shape.length))) (headers_reading order shape headers n (index + 1))
+headers_reading order shape headers (suc n) index =
+    or_else (place_reading order (header_place order shape headers (index * shape.length))) (headers_reading order shape headers n (index + 1))
 
 -- the first one at the places of a table
 unfoldable pub table_reading : ByteOrder → Table → Reading

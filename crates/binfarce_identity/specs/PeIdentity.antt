@@ -103,12 +103,14 @@ entries_reading size (Some offset) = with_part offset size (λ entries. record_r
 unfoldable pub directory_reading : TablePlaces → Option Place → Reading
 directory_reading places None = answered (Ok None)
 directory_reading places (Some place) =
-    with_part places.sections (places.section_count * section_length) (λ headers. entries_reading place.size (offset_from headers place places.section_count 0))
+    with_part places.sections (places.section_count * section_length)
+    (λ headers. entries_reading place.size (offset_from headers place places.section_count 0))
 
 -- of a file with tables at these places
 unfoldable pub places_reading : TablePlaces → Reading
 places_reading places =
-    with_part places.optional_header (min (places.sections - places.optional_header) optional_header_read) (λ header. directory_reading places (debug_directory header))
+    with_part places.optional_header (min (places.sections - places.optional_header) optional_header_read)
+    (λ header. directory_reading places (debug_directory header))
 
 -- of a file: the offset of the signature, the signature and the file header state these places
 unfoldable pub pe_reading : Reading

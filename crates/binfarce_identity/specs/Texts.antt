@@ -23,13 +23,15 @@ upper_at bytes offset size = hex true (bytes_at bytes offset size)
 unfoldable pub uuid_text : (bytes : List ℕ) → List ℕ
 uuid_text bytes =
     upper_at bytes 0 4
-    ++ (codes "-" ++ (upper_at bytes 4 2 ++ (codes "-" ++ (upper_at bytes 6 2 ++ (codes "-" ++ (upper_at bytes 8 2 ++ (codes "-" ++ upper_at bytes 10 6)))))))
+    ++ (codes "-" ++ (upper_at bytes 4 2 ++ (codes "-" ++ (upper_at bytes 6 2
+    ++ (codes "-" ++ (upper_at bytes 8 2 ++ (codes "-" ++ upper_at bytes 10 6)))))))
 
 -- a GUID: its first three numbers, of 4, 2 and 2 bytes, are little endian
 unfoldable pub guid_text : (bytes : List ℕ) → List ℕ
 guid_text bytes =
     upper_at bytes 3 1
-    ++ (upper_at bytes 2 1 ++ (upper_at bytes 1 1 ++ (upper_at bytes 0 1 ++ (upper_at bytes 5 1 ++ (upper_at bytes 4 1 ++ (upper_at bytes 7 1 ++ (upper_at bytes 6 1 ++ upper_at bytes 8 8)))))))
+    ++ (upper_at bytes 2 1 ++ (upper_at bytes 1 1 ++ (upper_at bytes 0 1
+    ++ (upper_at bytes 5 1 ++ (upper_at bytes 4 1 ++ (upper_at bytes 7 1 ++ (upper_at bytes 6 1 ++ upper_at bytes 8 8)))))))
 
 -- the age behind it, in hexadecimal digits without zeros before them
 abbrev pub age_text : (bytes : List ℕ) → List ℕ

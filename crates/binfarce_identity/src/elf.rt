@@ -16,13 +16,12 @@ ghost use Rattle.binfarce_identity.specs.machine.Views.{note_place_view, shape_o
 
 use crate::identity::{Identity, Kind};
 use crate::notes::build_id;
-use crate::reading::within;
 use binfarce_bytes::ByteOrder;
 use binfarce_bytes::parser::number_at;
 use binfarce_bytes::source::Source;
 use binfarce_elf_memory::parts::{HeaderTable, place_in};
 use binfarce_elf_memory::segments::program_length;
-use binfarce_tables::{ReadError, Width};
+use binfarce_tables::{Opened, ReadError, Width};
 use std::alloc::Global;
 
 // Headers of places in a file, of this class.
@@ -51,21 +50,20 @@ pub(crate) struct NotePlace {
 // Reads the first build ID of a file of this class.
 #[tactic(auto, unfolding(crate::specs::ElfIdentity::elf_reading))]
 pub(crate) fn read_elf<S: Source>(
-    alloc: Global,
-    source: &S,
+    opened: &Opened<'_, S>,
     log: &mut S::Log,
-    len: u64,
     width: Width,
     byte_order: ByteOrder,
 ) -> Result<Option<Identity>, ReadError>
-    ensures { (file : List ℕ) → Known (S.bytes source.now) len file
-        → Does (S.may_fail source.now) (S.is_sure source.now) (S.logs_only log.old) (S.logs_only log.new) file
+    ensures { (file : List ℕ) → Known (S.bytes opened.now.source.now) opened.now.len file
+        → Does (S.may_fail opened.now.source.now) (S.is_sure opened.now.source.now) (S.logs_only log.old)
+        (S.logs_only log.new) file
         (elf_reading width byte_order) result }
 {
-    let head = within(alloc, source, log, len, 0, width.header_length() as u64)?;
+    let head = opened.within(log, 0, width.header_length() as u64)?;
     let place = place_in(&head, width, byte_order)?;
     let table = table_of(width, place);
-    read_table(alloc, source, log, len, byte_order, table)
+    read_table(opened, log, byte_order, table)
 }
 
 // The section headers of a file, or where it has none its program headers.
@@ -105,41 +103,39 @@ impl Form {
 // Reads the first build ID at the places of a table's headers.
 #[tactic(auto, unfolding(crate::specs::ElfIdentity::table_reading))]
 fn read_table<S: Source>(
-    alloc: Global,
-    source: &S,
+    opened: &Opened<'_, S>,
     log: &mut S::Log,
-    len: u64,
     byte_order: ByteOrder,
     table: Table,
 ) -> Result<Option<Identity>, ReadError>
-    ensures { (file : List ℕ) → Known (S.bytes source.now) len file
-        → Does (S.may_fail source.now) (S.is_sure source.now) (S.logs_only log.old) (S.logs_only log.new) file
+    ensures { (file : List ℕ) → Known (S.bytes opened.now.source.now) opened.now.len file
+        → Does (S.may_fail opened.now.source.now) (S.is_sure opened.now.source.now) (S.logs_only log.old)
+        (S.logs_only log.new) file
         (table_reading byte_order (table_view table)) result }
 {
     let size = u64::from(table.count) * table.form.length() as u64;
-    let headers = within(alloc, source, log, len, table.offset, size)?;
-    read_headers(alloc, source, log, len, byte_order, table, &headers)
+    let headers = opened.within(log, table.offset, size)?;
+    read_headers(opened, log, byte_order, table, &headers)
 }
 
 // Reads the first build ID at the places of these headers.
 fn read_headers<S: Source>(
-    alloc: Global,
-    source: &S,
+    opened: &Opened<'_, S>,
     log: &mut S::Log,
-    len: u64,
     byte_order: ByteOrder,
     table: Table,
     headers: &[u8],
 ) -> Result<Option<Identity>, ReadError>
     requires { length headers.now ≡ table.count * (shape_of table.form).length }
-    ensures { (file : List ℕ) → Known (S.bytes source.now) len file
-        → Does (S.may_fail source.now) (S.is_sure source.now) (S.logs_only log.old) (S.logs_only log.new) file
+    ensures { (file : List ℕ) → Known (S.bytes opened.now.source.now) opened.now.len file
+        → Does (S.may_fail opened.now.source.now) (S.is_sure opened.now.source.now) (S.logs_only log.old)
+        (S.logs_only log.new) file
         (headers_reading byte_order (shape_of table.form) headers.now table.count 0) result }
 {
     let length = table.form.length();
     for index in 0..table.count {
         let place = place_at(headers, index as usize * length, table.form, byte_order);
-        let found = read_place(alloc, source, log, len, byte_order, place)?;
+        let found = read_place(opened, log, byte_order, place)?;
         if found.is_some() {
             return Ok(found);
         }
@@ -149,22 +145,21 @@ fn read_headers<S: Source>(
 
 // Reads the first build ID of the notes at a place, if there is one.
 fn read_place<S: Source>(
-    alloc: Global,
-    source: &S,
+    opened: &Opened<'_, S>,
     log: &mut S::Log,
-    len: u64,
     byte_order: ByteOrder,
     place: Option<NotePlace>,
 ) -> Result<Option<Identity>, ReadError>
-    ensures { (file : List ℕ) → Known (S.bytes source.now) len file
-        → Does (S.may_fail source.now) (S.is_sure source.now) (S.logs_only log.old) (S.logs_only log.new) file
+    ensures { (file : List ℕ) → Known (S.bytes opened.now.source.now) opened.now.len file
+        → Does (S.may_fail opened.now.source.now) (S.is_sure opened.now.source.now) (S.logs_only log.old)
+        (S.logs_only log.new) file
         (place_reading byte_order (option_map note_place_view place)) result }
 {
     let Some(place) = place else {
         return Ok(None);
     };
-    let notes = within(alloc, source, log, len, place.offset, place.size)?;
-    identity_in(alloc, &notes, byte_order, place.align)
+    let notes = opened.within(log, place.offset, place.size)?;
+    identity_in(opened.alloc, &notes, byte_order, place.align)
 }
 
 // The first build ID among notes of this alignment.

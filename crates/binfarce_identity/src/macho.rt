@@ -11,11 +11,10 @@ ghost use Rattle.binfarce_identity.specs.Reading.{Does};
 ghost use Rattle.binfarce_identity.specs.declared.identity.Kind.TheVariants.{Uuid};
 
 use crate::identity::{Identity, Kind};
-use crate::reading::within;
 use binfarce_bytes::parser::{number_at, slice_at, to_index};
 use binfarce_bytes::source::Source;
 use binfarce_bytes::{ByteOrder, ParseError};
-use binfarce_tables::ReadError;
+use binfarce_tables::{Opened, ReadError};
 use std::alloc::Global;
 
 // How many bytes of the header are read, and how many it has.
@@ -36,20 +35,19 @@ const UUID_LENGTH: usize = 16;
 // Reads the UUID of a file.
 #[tactic(auto, unfolding(crate::specs::MachoIdentity::macho_reading))]
 pub(crate) fn read_macho<S: Source>(
-    alloc: Global,
-    source: &S,
+    opened: &Opened<'_, S>,
     log: &mut S::Log,
-    len: u64,
 ) -> Result<Option<Identity>, ReadError>
-    ensures { (file : List ℕ) → Known (S.bytes source.now) len file
-        → Does (S.may_fail source.now) (S.is_sure source.now) (S.logs_only log.old) (S.logs_only log.new) file
+    ensures { (file : List ℕ) → Known (S.bytes opened.now.source.now) opened.now.len file
+        → Does (S.may_fail opened.now.source.now) (S.is_sure opened.now.source.now) (S.logs_only log.old)
+        (S.logs_only log.new) file
         macho_reading result }
 {
-    let head = within(alloc, source, log, len, 0, HEADER_READ)?;
+    let head = opened.within(log, 0, HEADER_READ)?;
     let size: u32 = number_at(&head, 20, ByteOrder::LittleEndian).unwrap();
     let end = HEADER_LENGTH as u64 + u64::from(size);
-    let bytes = within(alloc, source, log, len, 0, end)?;
-    identity_in(alloc, &bytes)
+    let bytes = opened.within(log, 0, end)?;
+    identity_in(opened.alloc, &bytes)
 }
 
 // The UUID in these first bytes of a file, up to the end of its load commands.

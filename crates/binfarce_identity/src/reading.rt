@@ -19,7 +19,7 @@ use crate::pe::read_pe;
 use binfarce_bytes::ParseError;
 use binfarce_bytes::format::Format;
 use binfarce_bytes::source::Source;
-use binfarce_tables::{ReadError, Width, part};
+use binfarce_tables::{Opened, ReadError, Width, open};
 use std::alloc::Global;
 
 /// What says from which build a file of this format is: of ELF the first build ID among the notes of its sections, or of
@@ -48,54 +48,26 @@ pub fn read_identity<S: Source>(
     if let Format::Unknown = format {
         return Ok(None);
     }
-    let len = source.length()?;
-    read_as(alloc, source, log, len, format)
+    let opened = open(alloc, source)?;
+    read_as(&opened, log, format)
 }
 
 // The identity of a file of this length.
 fn read_as<S: Source>(
-    alloc: Global,
-    source: &S,
+    opened: &Opened<'_, S>,
     log: &mut S::Log,
-    len: u64,
     format: Format,
 ) -> Result<Option<Identity>, ReadError>
-    ensures { (file : List ℕ) → Known (S.bytes source.now) len file
-        → Does (S.may_fail source.now) (S.is_sure source.now) (S.logs_only log.old) (S.logs_only log.new) file
+    ensures { (file : List ℕ) → Known (S.bytes opened.now.source.now) opened.now.len file
+        → Does (S.may_fail opened.now.source.now) (S.is_sure opened.now.source.now) (S.logs_only log.old)
+        (S.logs_only log.new) file
         (identity_reading format) result }
 {
     match format {
-        Format::Elf32 { byte_order } => {
-            read_elf(alloc, source, log, len, Width::Bits32, byte_order)
-        }
-        Format::Elf64 { byte_order } => {
-            read_elf(alloc, source, log, len, Width::Bits64, byte_order)
-        }
-        Format::Macho => read_macho(alloc, source, log, len),
-        Format::PE => read_pe(alloc, source, log, len),
+        Format::Elf32 { byte_order } => { read_elf(opened, log, Width::Bits32, byte_order) }
+        Format::Elf64 { byte_order } => { read_elf(opened, log, Width::Bits64, byte_order) }
+        Format::Macho => read_macho(opened, log),
+        Format::PE => read_pe(opened, log),
         Format::Unknown => Ok(None),
     }
-}
-
-/// The bytes of a range that has to lie in a file of this length.
-pub(crate) fn within<S: Source>(
-    alloc: Global,
-    source: &S,
-    log: &mut S::Log,
-    len: u64,
-    offset: u64,
-    size: u64,
-) -> Result<Vec<u8>, ReadError>
-    ensures answer { (file : List ℕ) → Known (S.bytes source.now) len file
-        → Reads (S.may_fail source.now) (λ v. v.items)
-        (if_as_long_as (offset + size) file (Ok (bytes_at file offset size))) result }
-    ensures size { IfOk result (λ v. length v.items ≡ size) }
-    ensures only { (file : List ℕ) → Known (S.bytes source.now) len file
-        → ReadsOnly (S.is_sure source.now) (S.logs_only log.old) (S.logs_only log.new)
-        (whole_part file offset size) (IfErr result (λ e. e ≢ Unreadable)) }
-{
-    if offset > len || size > len - offset {
-        return Err(ReadError::Refused(ParseError::UnexpectedEof));
-    }
-    part(alloc, source, log, offset, size)
 }

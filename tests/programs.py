@@ -764,7 +764,7 @@ for rows, *words in (("0 8 a::i|5 0 b::f::<u16>|4 0 b::f::<u8>|2 0 c|39 36 [tota
     lines = "".join(f"{was:>10} {now:>10} {int(now) - int(was):+11} {name}\n" for was, now, name in (it.split(" ", 2) for it in rows.split("|")))
     ends(0, lines, "", "binfarce", "diff", *words)
 lines = f"{0:10} {9:10} {'+9':>11} b\n{32:10} {26:10} {'-6':>11} [2 others]\n{36:10} {39:10} {'+3':>11} [total]\n"
-for limit, status, share in (("3", 0, ""), ("2", 3, ""), ("9%", 0, ""), ("8%", 3, " (8.33%)")):
+for limit, status, share in (("3", 0, ""), ("2", 3, ""), ("9%", 0, ""), ("8%", 3, " (8.33%)"), ("1k", 0, ""), ("1M", 0, "")):
     line = f"binfarce: {old}: grew by 3 bytes{share}, and --fail-above allows {limit}" if status else ""
     ends(status, lines, line, "binfarce", "diff", "-n", "1", "--fail-above", limit, new, old)
 # Without function symbols there is no growth, which a line says; and a reader that closes the output leaves the verdict unknown.
@@ -802,8 +802,14 @@ for *words, limit, hint in (("size", wide, 20, f"{wide}: has {(1 << 32) + 16}"),
 line = f"binfarce: {empty}: no function symbols\nbinfarce: {old}: grew by 39 bytes, and --fail-above allows 9000%"
 ends(3, printed(folder / "binfarce", "diff", empty, old), line, "binfarce", "diff", "--fail-above=9000%", empty, old)
 for line, *words in (("--fail-above=2% is for diff; size takes a number of bytes", "size", "--fail-above=2%", old), ("--folded and --first exclude each other", "map", "--folded", "-n2", old),
-                     ("--fail-above takes a number of bytes, or of per cent as 2%, and not 2.5%", "diff", "--fail-above=2.5%", old, new)):
+                     *((f"--fail-above takes a number of bytes, also as 600k or 2M, or of per cent as 2%, and not {it}", "diff", f"--fail-above={it}", old, new)
+                       for it in ("2.5%", "k", "1kB", "1KB", "1kiB", "1Ki", "1 k", "1kk", "1.5k", "1k%", "1%k", "1G", f"{1 << 54}k", f"{1 << 44}M"))):
     ends(2, "", f"binfarce: {line}", "binfarce", *words)
+# Units: 2^32 bytes are 4,194,304 KiB and 4,096 MiB; the greatest number of each unit that is below 2^64 bytes is a limit, too.
+for limit, unit in ((f"{n}{name}", (n, size)) for n, size, names in ((4194304, 1024, ("k", "K", "KiB")), (4096, 1048576, ("m", "M", "MiB"))) for name in names for n in (n, n - 1, 2**64 // size - 1)):
+    most = unit[0] * unit[1]
+    line = f"binfarce: {wide}: grew by {1 << 32} bytes, and --fail-above allows {most}" if most < 1 << 32 else ""
+    ends(3 if line else 0, printed(folder / "binfarce", "diff", narrow, wide), line, "binfarce", "diff", f"--fail-above={limit}", narrow, wide)
 # Both files that are refused are reported, in their order.
 for *paths, lines in ((missing, of_sys, f"{lost}\nbinfarce: {of_sys}: {is_text}"), ("/dev/null", missing, f"binfarce: /dev/null: {is_empty}\n{lost}"),
                       ("/dev/null", byte, f"binfarce: /dev/null: {is_empty}\nbinfarce: {byte}: {unknown}")):

@@ -1,9 +1,9 @@
 -- The call that the arguments mean: `COMMAND [OPTION..] [OPERAND..]`.
-use Rattle.std.specs.Prelude.{◌==◌, count_by, ◌^◌, ◌%◌, ◌++◌, ◌&&◌, ◌||◌, ℕ, Bool, true, false, not, List, [], ◌∷◌, codes, drop, find, map, reverse, length, nat_eq, nat_lt, suc, slice_get, slice_index, Option, Some, None, is_some, Result, Ok, Err, if◌then◌else◌}
+use Rattle.std.specs.Prelude.{◌==◌, count_by, ◌^◌, ◌%◌, ◌-◌, ◌*◌, ◌++◌, ◌&&◌, ◌||◌, ℕ, Bool, true, false, not, List, [], ◌∷◌, codes, drop, take, find, map, reverse, length, nat_eq, nat_lt, suc, slice_get, slice_index, Option, Some, None, is_some, Result, Ok, Err, if◌then◌else◌}
 use Rattle.std.specs.Char.{digit_value}
 use Rattle.std.specs.Fmt.{decimal}
 use Rattle.std.specs.Option.{option_map, option_and_then}
-use Rattle.std.specs.List.{filter, filter_map, list_all, starts_with, position_or_len, before_first, after_first}
+use Rattle.std.specs.List.{filter, filter_map, list_all, starts_with, ends_with, position_or_len, before_first, after_first}
 use Rattle.std.specs.Str.{byte, bytes_eq}
 use Rattle.std.specs.Str.Parse.{digits_value, without_leading_plus}
 use Rattle.binfarce_rows.specs.Address.{address_of}
@@ -196,9 +196,36 @@ count_in value = count_of (without_leading_plus value)
 abbrev pub count_given : Flag → Arguments → Option ℕ
 count_given flag given = option_and_then count_in (value_given flag given)
 
+-- the unit that a number of bytes ends with, if it does, and how many bytes it has: K and M, in either case, as in linker scripts (GNU ld, "Constants");
+-- KiB and MiB, as in IEC 80000-13
+abbrev pub unit_of : (value : List ℕ) → List ℕ × ℕ
+unit_of value = if ends_with nat_eq value (codes "k") then (codes "k", 1024)
+    else if ends_with nat_eq value (codes "K") then (codes "K", 1024)
+    else if ends_with nat_eq value (codes "KiB") then (codes "KiB", 1024)
+    else if ends_with nat_eq value (codes "m") then (codes "m", 1048576)
+    else if ends_with nat_eq value (codes "M") then (codes "M", 1048576)
+    else if ends_with nat_eq value (codes "MiB") then (codes "MiB", 1048576)
+    else ([], 1)
+
+-- what comes before a unit that a value ends with
+abbrev pub before_unit : (unit value : List ℕ) → Option (List ℕ)
+before_unit unit value = if ends_with nat_eq value unit then Some (take (length value - length unit) value) else None
+
+-- a number, if it is below 2^64
+abbrev pub word : ℕ → Option ℕ
+word n = if nat_lt n (2 ^ 64) then Some n else None
+
+-- the number of bytes that a number before a unit is
+abbrev pub size_with : (unit : List ℕ × ℕ) → (value : List ℕ) → Option ℕ
+size_with unit value = option_and_then (λ number. option_and_then (λ n. word (n * unit.1)) (count_in number)) (before_unit unit.0 value)
+
+-- the number of bytes that a value is
+abbrev pub size_in : (value : List ℕ) → Option ℕ
+size_in value = size_with (unit_of value) value
+
 -- the limit that a value is: a number of per cent before `%`, or else a number of bytes
 abbrev pub limit_in : (value : List ℕ) → Option Limit
-limit_in value = if position_or_len (λ b. b == byte "%") value == length value then option_map (λ n. Bytes n) (count_in value)
+limit_in value = if position_or_len (λ b. b == byte "%") value == length value then option_map (λ n. Bytes n) (size_in value)
     else if length (after_first (λ b. b == byte "%") value) == 0 then option_map (λ n. Percent n) (count_in (before_first (λ b. b == byte "%") value))
     else None
 
@@ -228,7 +255,7 @@ values_of Nothing = codes "no value"
 values_of Text = codes "a text"
 values_of Page = codes "the address of a page, a multiple of 0x1000"
 values_of Count = codes "a number"
-values_of TakesLimit = codes "a number of bytes, or of per cent as 2%"
+values_of TakesLimit = codes "a number of bytes, also as 600k or 2M, or of per cent as 2%"
 values_of TakesOrder = codes "address, size or name"
 values_of TakesKey = codes "crate, function, function-section, generic or section"
 

@@ -1,13 +1,20 @@
 //! Values of options.
 
-ghost use Rattle.std.specs.Prelude.{◌≡◌, Some};
-ghost use Rattle.binfarce_words.specs.Words.{count_in, is_met_by, is_page, is_relative, key_named, limit_in, order_named, values_of};
+ghost use Rattle.std.specs.Prelude.{◌≡◌, ◌*◌, Some};
+ghost use Rattle.std.specs.Option.{option_map};
+ghost use Rattle.binfarce_words.specs.Words.{before_unit, count_in, is_met_by, is_page, is_relative, key_named, limit_in, order_named, size_in, unit_of, values_of, word};
 
 use binfarce_rows::address::parse_address;
 use std::fmt;
 
 // The size of a page, or a part of it: pages are larger on some machines.
 const PAGE: u64 = 0x1000;
+
+// A unit of sizes.
+const KIB: usize = 0x400;
+
+// A larger one.
+const MIB: usize = 0x10_0000;
 
 /// The most that is allowed.
 #[derive(Debug, Clone, Copy, PartialEq)]
@@ -110,7 +117,7 @@ impl Takes {
             Takes::Text => "a text",
             Takes::Page => "the address of a page, a multiple of 0x1000",
             Takes::Count => "a number",
-            Takes::Limit => "a number of bytes, or of per cent as 2%",
+            Takes::Limit => "a number of bytes, also as 600k or 2M, or of per cent as 2%",
             Takes::Order => "address, size or name",
             Takes::Key => "crate, function, function-section, generic or section",
         }
@@ -145,12 +152,57 @@ pub(crate) fn count_in(value: &str) -> Option<usize>
     value.parse::<usize>().ok()
 }
 
+// The number of bytes: a number, perhaps before a unit.
+fn size_in(value: &str) -> Option<usize>
+    ensures { result ≡ size_in value.now }
+{
+    let (unit, bytes) = unit_of(value);
+    let number = before_unit(value, unit)?;
+    times(count_in(number)?, bytes)
+}
+
+// So many times a unit, if that is a number.
+fn times(n: usize, bytes: usize) -> Option<usize>
+    ensures { result ≡ word (n * bytes) }
+{
+    n.checked_mul(bytes)
+}
+
+// The unit that a value ends with, and how many bytes it has.
+fn unit_of(value: &str) -> (&'static str, usize)
+    ensures { (result.0.now, result.1) ≡ unit_of value.now }
+{
+    let bytes = value.as_bytes();
+    if bytes.ends_with(b"k") {
+        ("k", KIB)
+    } else if bytes.ends_with(b"K") {
+        ("K", KIB)
+    } else if bytes.ends_with(b"KiB") {
+        ("KiB", KIB)
+    } else if bytes.ends_with(b"m") {
+        ("m", MIB)
+    } else if bytes.ends_with(b"M") {
+        ("M", MIB)
+    } else if bytes.ends_with(b"MiB") {
+        ("MiB", MIB)
+    } else {
+        ("", 1)
+    }
+}
+
+// What comes before a unit that a value ends with.
+fn before_unit<'a>(value: &'a str, unit: &str) -> Option<&'a str>
+    ensures { option_map (λ t. t.now) result ≡ before_unit unit.now value.entry.now }
+{
+    value.strip_suffix(unit)
+}
+
 // The limit: a number of bytes, or of per cent before `%`.
 pub(crate) fn limit_in(value: &str) -> Option<Limit>
     ensures { result ≡ limit_in value.now }
 {
     match value.split_once('%') {
-        None => Some(Limit::Bytes(count_in(value)?)),
+        None => Some(Limit::Bytes(size_in(value)?)),
         Some((front, "")) => Some(Limit::Percent(count_in(front)?)),
         Some(_) => None,
     }

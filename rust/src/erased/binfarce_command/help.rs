@@ -65,7 +65,7 @@ A byte that several function symbols have counts once, for the innermost.
   --percent        each sum's share of the section, or of all sections' sum
   -n N, --first=N  the N largest sums, and one of all others
   --fail-above=N   status 3 where the sum of all, by section the size of the
-                   file, is more than N bytes
+                   file, is more than N bytes, as 600k or 2M (k is 1,024)
   --json           each sum as a JSON object, and one of the sum of all
 ";
 
@@ -82,8 +82,8 @@ byte counts once.
   --std            the crates of Rust's standard library as one, [std]
   --percent        each change in per cent of the old sum
   -n N, --first=N  the N largest changes, and one of all others
-  --fail-above=N   status 3 where the sum of all grew by more than N bytes, or
-                   by more than N per cent (2%)
+  --fail-above=N   status 3 where the sum of all grew by more than N bytes, as
+                   600k or 2M (k is 1,024), or by more than N per cent (2%)
   --json           each change as a JSON object
 ";
 

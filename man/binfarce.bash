@@ -12,7 +12,7 @@ _binfarce() {
     esac
     case $before in
         --sort) values="address size name" ;;
-        --by) values="crate function function-section generic section" ;;
+        --by) values="crate function function-section generic module section" ;;
         -?*) [[ $before != -n && " "${options//$'\n'/ } != *" $before="[^F]* ]] || return ;;
     esac
     case $word in

@@ -13,7 +13,7 @@ for command in $commands
             case 'sort *'
                 set -a option -x -a "address size name"
             case 'by *'
-                set -a option -x -a "crate function function-section generic section"
+                set -a option -x -a "crate function function-section generic module section"
             case '* FILE'
                 set -a option -r -F
             case '* ?*'

@@ -17,7 +17,7 @@ else
         option=${line%% *} text=${${line#* }//(#m)[\[\]:\\]/\\$MATCH}
         case $option in
             --sort=*) values='(address size name)' ;;
-            --by=*) values='(crate function function-section generic section)' ;;
+            --by=*) values='(crate function function-section generic module section)' ;;
             *=FILE) values=_files ;;
             *) values=' ' ;;
         esac

@@ -70,6 +70,7 @@ binfarce --v|--version
 binfarce diff --fail|--fail-above
 binfarce list --sort=na|name
 binfarce size --by=gen|generic
+binfarce diff --by=mod|module
 binfarce at --ann|--annotate
 binfarce size --json --st|--std
 binfarce section $sample .te|.text

@@ -216,7 +216,7 @@ for line, *words in (("no command lst; the nearest is list", "lst", sample), ("a
                      ("--base takes the address of a page, a multiple of 0x1000, and not 0x800", "at", "--annotate", "--base=0", "--base=0x800", sample, sample),
                      ("not an address: 40000g", "at", "--base=40000g", sample, "401005"),
                      ("not an address: 10g", "at", sample, "1000", "10g"), ("no option --srot of list; the nearest is --sort", "list", "--srot", sample),
-                     ("--by takes crate, function, function-section, generic or section, and not crates", "size", "--by=crates", sample),
+                     ("--by takes crate, function, function-section, generic, module or section, and not crates", "size", "--by=crates", sample),
                      ("--first takes a number, and not x", "list", "-nx", sample), ("no option -é of list; binfarce list --help shows them", "list", "-é", sample),
                      ("--json lists sections, and has no form for the bytes of one", "section", "--json", sample, ".text")):
     ends(2, "", f"binfarce: {line}", "binfarce", *words)
@@ -667,8 +667,8 @@ ends(1, "", f"binfarce: {scratch}/names: {is_text}", "binfarce", "list", "--all"
 # Sums by a key, in which each byte counts once, for the innermost function: of functions that overlap, and of a generic function.
 rows = [("_RNvC1a1f", 0, 16), ("_RNvC1a1g", 8, 16), ("_RNvC3std1h", 24, 4), ("c", 28, 2), ("_RINvC1b1fhE", 30, 4), ("_RINvC1b1ftE", 34, 5)]
 old, new = assembled("old", 40, *rows), assembled("new", 40, *rows[:3], ("_RNvC1a1i", 28, 8))
-for lines, *words in (("24 a|9 b|4 std|2 [unknown]",), ("24 a|9 b|4 std|2 [unknown]", "--by=crate"), ("39 text", "--by=function-section", "--section=.text"),
-                      ("16 a::g|8 a::f|5 b::f::<u16>|4 b::f::<u8>|4 std::h|2 c", "--by=function"), ("24 a|9 b|4 [std]|2 [unknown]", "--std"), ("24 a|9 b|4 [std]|2 [unknown]", "--by=crate", "--std"),
+for lines, *words in (("24 a|9 b|4 std|2 [unknown]",), ("24 a|9 b|4 std|2 [unknown]", "--by=crate"), ("24 a|9 b|4 std|2 [unknown]", "--by=module"), ("39 text", "--by=function-section", "--section=.text"),
+                      ("16 a::g|8 a::f|5 b::f::<u16>|4 b::f::<u8>|4 std::h|2 c", "--by=function"), ("24 a|9 b|4 [std]|2 [unknown]", "--std"), ("24 a|9 b|4 [std]|2 [unknown]", "--by=crate", "--std"), ("24 a|9 b|4 [std]|2 [unknown]", "--by=module", "--std"),
                       ("16      1 a::g|9      2 b::f::<..>|14      3 [3 others]", "--by=generic", "-n", "2"),
                       ("24  60.00% a|15  37.50% [3 others]", "--percent", "--first=1")):
     lines = "".join(f"{size:>10} {name}\n" for size, name in (it.split(" ", 1) for it in lines.split("|")))
@@ -696,9 +696,35 @@ for call in (("size",), ("map",), ("map", "--folded")):
     ends(1, "", f"binfarce: {apart}: sizes are too large", "binfarce", *call, apart)
 ends(1, "", f"binfarce: {apart}: sizes are too large", "binfarce", "diff", pair, apart)
 ends(1, "", f"binfarce: {apart}: sizes are too large\n{lost}", "binfarce", "diff", apart, missing)
-# Where half of the bytes or more have no crate, a line says how many, by crate alone.
+# Modules: functions, closures, instances and functions within functions; methods of types and traits, in either mangling, whose names c++filt reads so.
+modules = [("_RNvNtC1a1b1f", "a::b"), ("_RNvC1a1f", "a"), ("_RNCNvNtC1a1b1f0", "a::b"), ("_RINvNtC1a1b1fhE", "a::b"), ("_RNvNvNtC1a1b1f1g", "a::b::f"),  # a::b::f, a::f, a::b::f::{closure#0}, a::b::f::<u8>, a::b::f::g
+           ("_RNvMNtC1a1bNtB2_1T1g", "a::b"), ("_RNvXNtC1a1cNtNtB4_1b1TNtC1d2Tr1h", "a::b"), ("_RNvXC1aNtC1d1VNtNtB2_1b2Tr1h", "a::b"),  # <a::b::T>::g, <a::b::T as d::Tr>::h, <d::V as a::b::Tr>::h
+           ("_RNvXC1aRNtNtC2ba1b1TNtB2_2Tr1h", "a"), ("_RNvMC4coree4find", "core"), ("_RNvNtC1a9___private1f", "a::__private"), ("_RNvNtC1a1b1T", "a::b"),  # <&ba::b::T as a::Tr>::h, <str>::find, a::__private::f, a::b::T
+           ("_RNvNtNtC1au3_4ca1b1f", "a::\u00e4::b"), ("_RNvMNtC1a3___TNtB2_1T1g", "a"), ("c", "[unknown]"), ("_Z1fv", "[unknown]"),  # a::ä::b::f, <a::__T::T>::g
+           *((f"_ZN{it}17h0123456789abcdefE", name) for it, name in (
+               ("1a1b1f", "a::b"), ("1a1f", "a"), ("1a1b11T$LT$u8$GT$1g", "a::b"), ("1a1b1f28_$u7b$$u7b$closure$u7d$$u7d$", "a::b"),  # a::b::f, a::f, a::b::T<u8>::g, a::b::f::{{closure}}
+               ("4core3str21_$LT$impl$u20$str$GT$4find", "core::str"), ("33_$LT$a..b..T$u20$as$u20$d..Tr$GT$1h", "a::b"),  # core::str::<impl str>::find, <a::b::T as d::Tr>::h
+               ("1a1b1_43_$LT$impl$u20$d..Tr$u20$for$u20$a..b..T$GT$1h", "a::b"), ("31_$LT$$RF$T$u20$as$u20$a..Tr$GT$1h", "a"),  # a::b::_::<impl d::Tr for a::b::T>::h, <&T as a::Tr>::h
+               ("4core3ptr28drop_in_place$LT$a..b..T$GT$", "core::ptr")))]  # core::ptr::drop_in_place<a::b::T>
+sums = {}
+for at, (stored, name) in enumerate(modules):
+    sums[name] = sums.get(name, 0) + at + 1
+whole = sum(sums.values())
+modular = assembled("modules", whole, *((stored, at * (at + 1) // 2, at + 1) for at, (stored, name) in enumerate(modules)))
+for joins in (False, True):
+    rows = {}
+    for name, size in sums.items():
+        name = "[std]" if joins and name.split("::")[0] == "core" else name
+        rows[name] = rows.get(name, 0) + size
+    rows = sorted(rows.items(), key=lambda it: (-it[1], it[0].encode()))
+    for words, others in (((), rows), (("-n3",), [*rows[:3], (f"[{len(rows) - 3} others]", sum(size for name, size in rows[3:]))])):
+        lines = "".join(f"{size:10} {name}\n" for name, size in others)
+        ends(0, lines + f"sum {whole}\ntext {whole}\n", "", "binfarce", "size", "--by=module", *["--std"] * joins, *words, modular)
+    lines = "".join(f"{0:10} {size:10} {size:+11} {name}\n" for name, size in rows)
+    ends(0, lines + f"{0:10} {whole:10} {whole:+11} [total]\n", f"binfarce: {empty}: no function symbols", "binfarce", "diff", "--by=module", *["--std"] * joins, empty, modular)
+# Where half of the bytes or more have no crate, a line says how many, by crate and by module.
 half, less = assembled("half", 20, ("_RNvC1a1f", 0, 10), ("c", 10, 10)), assembled("less", 21, ("_RNvC1a1f", 0, 11), ("c", 11, 10))
-for words, line in (((), f"binfarce: {half}: 10 of 20 bytes {nameless}"), (("--by=function",), "")):
+for words, line in (((), f"binfarce: {half}: 10 of 20 bytes {nameless}"), (("--by=module",), f"binfarce: {half}: 10 of 20 bytes {nameless}"), (("--by=function",), "")):
     ends(0, printed(folder / "binfarce", "size", *words, half), line, "binfarce", "size", *words, half)
 lines = "".join(f'{{"file":"{half}",{it}}}\n' for it in ('"name":"[unknown]","size":10,"copies":1', '"name":"a","size":10,"copies":1', '"sum":20,"text":20'))
 ends(0, lines, f"binfarce: {half}: 10 of 20 bytes {nameless}", "binfarce", "size", "--json", half)

@@ -113,7 +113,7 @@ fn tables_in_memory_and_read_at_offsets() {
             }
             let text = written(|output| tables.list_to(output));
             assert_eq!(written(|output| read.list_to(output)), text);
-            for key in [Key::Crate, Key::Function, Key::Generic, Key::Section] {
+            for key in [Key::Crate, Key::Module, Key::Function, Key::Generic, Key::Section] {
                 let figures = Figures::by(key);
                 let sums = tables.sums_by_key(figures.grouping).unwrap();
                 assert_eq!(read.sums_by_key(figures.grouping).unwrap(), sums);

@@ -47,6 +47,7 @@ abbrev pub key_for : key_words.Key → Key
 key_for named_keys.Crate = keys.Crate
 key_for named_keys.Function = keys.Function
 key_for named_keys.Generic = keys.Generic
+key_for named_keys.Module = keys.Module
 key_for named_keys.Section = keys.Section
 
 abbrev pub key_asked : Arguments → Option Key

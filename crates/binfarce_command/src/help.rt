@@ -54,8 +54,8 @@ Writes a line for each crate: the sum of the sizes of its function symbols, and
 its name, the largest first; last the sum of all, and the size of the section.
 A byte that several function symbols have counts once, for the innermost.
 
-  --by=KEY         sums by crate, function, generic (functions that differ by
-                   their generic arguments, with their number), or
+  --by=KEY         sums by crate, module, function, generic (functions that
+                   differ by their generic arguments, with their number), or
                    function-section (of all sections); or by section: the bytes
                    of each section in the file and in memory, headers and gaps,
                    and the file's size
@@ -74,9 +74,9 @@ Writes a line for each crate whose sum differs: its size in OLD and in NEW, the
 change, and its name; the largest change first, and last the sums of all. Each
 byte counts once.
 
-  --by=KEY         sums by crate, function, generic or function-section; or by
-                   section: the bytes of each section in the file, and how
-                   those in the file and in memory changed
+  --by=KEY         sums by crate, module, function, generic or
+                   function-section; or by section: the bytes of each section
+                   in the file, and how those in the file and in memory changed
   --std            the crates of Rust's standard library as one, [std]
   --percent        each change in per cent of the old sum
   -n N, --first=N  the N largest changes, and one of all others

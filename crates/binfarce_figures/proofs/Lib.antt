@@ -20,3 +20,5 @@ pub mod Got
 pub mod Figured
 pub mod Changed
 pub mod Compared
+pub mod Paths
+pub mod ModuleCrates

@@ -10,7 +10,7 @@ use Rattle.std.specs.Prelude.{encode_utf8, encode_utf8_all}
 use Rattle.std.specs.Str.{IsCharBoundary, IsUtf8, chars}
 use Rattle.binfarce_figures.specs.declared.generic.Shape.{Shape}
 use Rattle.binfarce_figures.specs.declared.generic.Shape.TheVariants.{Generic, Stack}
-use Rattle.binfarce_figures.specs.Generic.{closes, depth_after, may_have_arguments, opens, shown, shown_after}
+use Rattle.binfarce_figures.specs.Generic.{closes, depth_after, is_of_path, opens, shown, shown_after}
 use Rattle.binfarce_figures.specs.machine.Runs.{IsRun, is_mark, last_of, run_shown}
 
 -- a mark is ASCII
@@ -81,7 +81,7 @@ AreAlike a b = (a ≡ b) ⊎ ((128 ≤ a) × (128 ≤ b))
 past : (c mark : ℕ) → 128 ≤ c → mark < 128 → eqb c mark ≡ false
 past c mark l small = ne_eqb c mark (λ e. absurd (omega arith))
 
-has_arguments : (c : ℕ) → 128 ≤ c → may_have_arguments c ≡ true
+has_arguments : (c : ℕ) → 128 ≤ c → is_of_path c ≡ true
 has_arguments c l = grind (arith, tests)
 
 shown_past : (shape : Shape) (depth before c : ℕ) → 128 ≤ before → shown shape depth before c ≡ shown shape depth 128 c

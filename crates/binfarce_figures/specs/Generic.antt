@@ -8,13 +8,13 @@ use Rattle.binfarce_figures.specs.declared.generic.Shape.TheVariants.{Generic, S
 abbrev pub is_of_name : (c : ℕ) → Bool
 is_of_name c = nat_eq c 95 || (nat_le 48 c && nat_le c 57) || (nat_le 65 c && nat_le c 90) || (nat_le 97 c && nat_le c 122) || nat_le 128 c
 
--- generic arguments may follow a name, or a colon
-abbrev pub may_have_arguments : (c : ℕ) → Bool
-may_have_arguments c = nat_eq c 58 || is_of_name c
+-- a character of a path: one of a name, or a colon; generic arguments may follow it
+abbrev pub is_of_path : (c : ℕ) → Bool
+is_of_path c = nat_eq c 58 || is_of_name c
 
 -- a bracket that counts, after a character: one that opens generic arguments, or in a stack any
 abbrev pub opens : Shape → (before c : ℕ) → Bool
-opens Generic before c = nat_eq c 60 && may_have_arguments before
+opens Generic before c = nat_eq c 60 && is_of_path before
 opens Stack before c = nat_eq c 60
 
 -- a bracket that closes others: not that of `->`

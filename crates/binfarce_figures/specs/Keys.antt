@@ -12,9 +12,10 @@ use Rattle.binfarce_tools.specs.SelectedTexts.{section_text}
 use Rattle.binfarce_tools.specs.Report.{unknown_crate}
 use Rattle.binfarce_figures.specs.declared.key.Grouping.{Grouping}
 use Rattle.binfarce_figures.specs.declared.key.Key.{Key}
-use Rattle.binfarce_figures.specs.declared.key.Key.TheVariants.{Crate, Function, Generic, Section, Stack}
+use Rattle.binfarce_figures.specs.declared.key.Key.TheVariants.{Crate, Function, Generic, Module, Section, Stack}
 use Rattle.binfarce_figures.specs.declared.generic.Shape.TheVariants as shapes
 use Rattle.binfarce_figures.specs.Generic.{is_of_name, rewritten}
+use Rattle.binfarce_figures.specs.Modules.{module_of}
 use Rattle.binfarce_figures.specs.Stacks.{stack}
 
 -- the crates of Rust's standard library that no other program has: no package can have their names, or none does
@@ -71,6 +72,7 @@ section_keys names (Some size) number = codes "text"
 -- text is the key of an entry, where these are the keys of the sections
 abbrev pub IsOwnKey : Key → (ℕ → List ℕ) → SectionEntry → (text : List ℕ) → Type 0
 IsOwnKey Crate sections e text = IsCrateOf e.entry.name text
+IsOwnKey Module sections e text = (crate_name : List ℕ) × (trimmed : List ℕ) × IsCrateOf e.entry.name crate_name × IsTrimmedOf e.entry.name trimmed × (text ≡ module_of crate_name trimmed)
 IsOwnKey Function sections e text = IsTrimmedOf e.entry.name text
 IsOwnKey Generic sections e text = (trimmed : List ℕ) × IsTrimmedOf e.entry.name trimmed × (text ≡ rewritten shapes.Generic trimmed)
 IsOwnKey Section sections e text = text ≡ sections e.section

@@ -4,6 +4,7 @@ pub mod RowListing
 pub mod Claims
 pub mod Claimed
 pub mod Generic
+pub mod Modules
 pub mod Keys
 pub mod Stacks
 pub mod Picture

@@ -153,14 +153,14 @@ fn depth_after(shape: Shape, depth: usize, before: char, c: char) -> usize
 fn opens(shape: Shape, before: char, c: char) -> bool
     ensures { result ≡ Rattle.binfarce_figures.specs.Generic.opens shape before c }
 {
-    c == '<' && (shape == Shape::Stack || may_have_arguments(before))
+    c == '<' && (shape == Shape::Stack || is_of_path(before))
 }
 
-// Whether generic arguments may follow this character.
-fn may_have_arguments(before: char) -> bool
-    ensures { result ≡ Rattle.binfarce_figures.specs.Generic.may_have_arguments before }
+/// Whether a character is one of a path: one of a name, or a colon. Generic arguments may follow it.
+pub(crate) fn is_of_path(c: char) -> bool
+    ensures { result ≡ Rattle.binfarce_figures.specs.Generic.is_of_path c }
 {
-    before == ':' || is_of_name(before)
+    c == ':' || is_of_name(c)
 }
 
 /// Whether a character is one of a name.

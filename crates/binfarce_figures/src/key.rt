@@ -10,10 +10,12 @@ ghost use Rattle.binfarce_names.specs.Named.{IsNamed};
 ghost use Rattle.binfarce_tools.specs.Tables.{section_names};
 ghost use Rattle.binfarce_figures.specs.Generic.{rewritten};
 ghost use Rattle.binfarce_figures.specs.Keys.{IsCrateOf, IsKeyOf, IsTrimmedOf, inner_crate_of, last_name, section_keys};
+ghost use Rattle.binfarce_figures.specs.Modules.{module_of};
 ghost use Rattle.binfarce_figures.specs.Stacks.{stack};
 ghost use Rattle.binfarce_figures.specs.declared.generic.Shape.TheVariants.{Generic};
 
 use crate::generic::{Shape, is_of_name, push_rewritten};
+use crate::module::push_module;
 use crate::stacks::push_stack;
 use binfarce::SectionFunction;
 use binfarce_legacy::legacy;
@@ -29,6 +31,9 @@ use std::alloc::{AllocError, Global};
 pub enum Key {
     /// The crate: that of `crate_of`, and for a legacy name that begins with `<` the name before its first `::`.
     Crate,
+    /// The module: the crate, and the modules of the first path in the trimmed name that begins with it. The last name of
+    /// a path is no module, nor is one whose first letter is upper-case, as those of types, and what comes after that.
+    Module,
     /// The trimmed name.
     Function,
     /// The trimmed name with `<..>` in place of its generic arguments.
@@ -53,7 +58,7 @@ pub struct Grouping {
 pub(crate) struct KeyMaker {
     alloc: Global,
     demangler: Demangler,
-    // The crate of a stack.
+    // The crate of a module or a stack.
     crate_name: String,
     // That as it is shown.
     root: String,
@@ -153,6 +158,16 @@ fn put_crate_of(
     }
 }
 
+// Appends the module of a stored name. Its answer is made once.
+fn push_module_of(maker: &mut KeyMaker, text: &mut String, name: &str) -> Result<(), AllocError>
+    ensures { OnOk result ((crate_name : List ℕ) × (trimmed : List ℕ) × IsCrateOf name.now crate_name
+        × IsTrimmedOf name.now trimmed × (string_bytes text.new ≡ string_bytes text.old ++ module_of crate_name trimmed)) }
+{
+    let answer = maker.demangler.demangle(name)?;
+    put_crate_of(maker.alloc, &mut maker.crate_name, name, &answer)?;
+    push_module(text, maker.crate_name.as_str(), answer.trimmed.as_str())
+}
+
 // Appends the stack of a stored name. Its answer is made once: its trimmed text, and the crate of a v0 name.
 fn push_stack_of(maker: &mut KeyMaker, text: &mut String, name: &str) -> Result<(), AllocError>
     ensures { OnOk result ((crate_name : List ℕ) × (trimmed : List ℕ) × IsCrateOf name.now crate_name
@@ -205,6 +220,7 @@ pub(crate) fn put_key(
     text.clear();
     match grouping.key {
         Key::Crate => put_crate(maker.alloc, text, name),
+        Key::Module => push_module_of(maker, text, name),
         Key::Function => maker.demangler.push_trimmed(text, name),
         Key::Generic => push_generic(maker, text, name),
         Key::Section if size.is_some() => text.push_str("text"),

@@ -7,6 +7,7 @@ mod figures;
 mod generic;
 pub mod key;
 pub mod map;
+mod module;
 pub mod order;
 pub mod rows;
 pub mod stacks;

@@ -15,7 +15,7 @@ use Rattle.binfarce_bytes.specs.Text.{up_to_nul}
 use Rattle.binfarce_bytes.specs.declared.format.Format.{Format}
 use Rattle.binfarce_bytes.specs.declared.format.Format.TheVariants as formats
 use Rattle.binfarce_figures.specs.declared.key.Key.{Key}
-use Rattle.binfarce_figures.specs.declared.key.Key.TheVariants.{Crate}
+use Rattle.binfarce_figures.specs.declared.key.Key.TheVariants.{Crate, Module}
 use Rattle.binfarce_figures.specs.declared.sums.Sums.{Sums}
 use Rattle.binfarce_sections.specs.Named.{Lack, bytes_named, no_bytes}
 use Rattle.binfarce_sections.specs.Section.{sections_of}
@@ -64,9 +64,14 @@ hint_words (hints.NoAddress false) = codes "no address in the text; --bare takes
 hint_words (hints.Offsets count) = codes "offsets (" ++ (decimal count ++ codes ") behind other names than the file's; if the file has one of them, --as=NAME says so")
 hint_words (hints.Unclear count) = codes "offsets (" ++ (decimal count ++ codes ") behind a name that several files have; --as=PATH tells them apart")
 
--- the hint on sums by crate: at least half of the bytes have none
+-- the hint on sums where at least half of the bytes have no crate
+abbrev pub unknown_of : Sums → Option Hint
+unknown_of sums = if nat_lt 0 sums.unknown && nat_le sums.total (2 * sums.unknown) then Some (hints.Unknown sums.unknown sums.total) else None
+
+-- so by crate or by module
 abbrev pub unknown_in : Key → Sums → Option Hint
-unknown_in Crate sums = if nat_lt 0 sums.unknown && nat_le sums.total (2 * sums.unknown) then Some (hints.Unknown sums.unknown sums.total) else None
+unknown_in Crate sums = unknown_of sums
+unknown_in Module sums = unknown_of sums
 unknown_in key sums = None
 
 -- the hint on the sums that are shown, if sums are

@@ -173,7 +173,7 @@ pub(crate) fn unknown_in(key: Key, sums: Sums) -> Option<Hint>
     let Sums { total, unknown } = sums;
     let is_half = 2 * u128::from(unknown) >= u128::from(total);
     match key {
-        Key::Crate if unknown > 0 && is_half => Some(Hint::Unknown(unknown, total)),
+        Key::Crate | Key::Module if unknown > 0 && is_half => Some(Hint::Unknown(unknown, total)),
         _ => None,
     }
 }

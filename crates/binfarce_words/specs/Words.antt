@@ -82,6 +82,7 @@ key_named name = if bytes_eq name (codes "crate") then Some keys.Crate
     else if bytes_eq name (codes "function") then Some keys.Function
     else if bytes_eq name (codes "function-section") then Some keys.Section
     else if bytes_eq name (codes "generic") then Some keys.Generic
+    else if bytes_eq name (codes "module") then Some keys.Module
     else if bytes_eq name (codes "section") then Some keys.Section
     else None
 
@@ -257,7 +258,7 @@ values_of Page = codes "the address of a page, a multiple of 0x1000"
 values_of Count = codes "a number"
 values_of TakesLimit = codes "a number of bytes, also as 600k or 2M, or of per cent as 2%"
 values_of TakesOrder = codes "address, size or name"
-values_of TakesKey = codes "crate, function, function-section, generic or section"
+values_of TakesKey = codes "crate, function, function-section, generic, module or section"
 
 -- an address is that of a page
 abbrev pub is_page : Option ℕ → Bool

@@ -8,6 +8,7 @@ pub(crate) mod figures;
 pub(crate) mod generic;
 pub mod key;
 pub mod map;
+pub(crate) mod module;
 pub mod order;
 pub mod rows;
 pub mod stacks;

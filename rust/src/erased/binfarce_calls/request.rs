@@ -67,6 +67,7 @@ fn order_of(given: &Arguments<'_>) -> Option<Order> {
 fn key_of(given: &Arguments<'_>) -> Option<Key> {
     match given.key()? {
         takes::Key::Crate => Some(Key::Crate),
+        takes::Key::Module => Some(Key::Module),
         takes::Key::Function => Some(Key::Function),
         takes::Key::Generic => Some(Key::Generic),
         takes::Key::Section => Some(Key::Section),

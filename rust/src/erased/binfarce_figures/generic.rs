@@ -127,12 +127,12 @@ fn depth_after(shape: Shape, depth: usize, before: char, c: char) -> usize {
 
 // Whether a character opens brackets: in a stack any `<`, otherwise one after the end of a name, or of `::`.
 fn opens(shape: Shape, before: char, c: char) -> bool {
-    c == '<' && (shape == Shape::Stack || may_have_arguments(before))
+    c == '<' && (shape == Shape::Stack || is_of_path(before))
 }
 
-// Whether generic arguments may follow this character.
-fn may_have_arguments(before: char) -> bool {
-    before == ':' || is_of_name(before)
+/// Whether a character is one of a path: one of a name, or a colon. Generic arguments may follow it.
+pub(crate) fn is_of_path(c: char) -> bool {
+    c == ':' || is_of_name(c)
 }
 
 /// Whether a character is one of a name.

@@ -4,6 +4,7 @@
 
 use crate::shim::String;
 use crate::erased::binfarce_figures::generic::{Shape, is_of_name, push_rewritten};
+use crate::erased::binfarce_figures::module::push_module;
 use crate::erased::binfarce_figures::stacks::push_stack;
 use crate::erased::binfarce::SectionFunction;
 use crate::erased::binfarce_legacy::legacy;
@@ -19,6 +20,9 @@ use crate::shim::alloc::{AllocError, Global};
 pub enum Key {
     /// The crate: that of `crate_of`, and for a legacy name that begins with `<` the name before its first `::`.
     Crate,
+    /// The module: the crate, and the modules of the first path in the trimmed name that begins with it. The last name of
+    /// a path is no module, nor is one whose first letter is upper-case, as those of types, and what comes after that.
+    Module,
     /// The trimmed name.
     Function,
     /// The trimmed name with `<..>` in place of its generic arguments.
@@ -42,7 +46,7 @@ pub struct Grouping {
 pub(crate) struct KeyMaker {
     alloc: Global,
     demangler: Demangler,
-    // The crate of a stack.
+    // The crate of a module or a stack.
     crate_name: String,
     // That as it is shown.
     root: String,
@@ -128,6 +132,13 @@ fn put_crate_of(
     }
 }
 
+// Appends the module of a stored name. Its answer is made once.
+fn push_module_of(maker: &mut KeyMaker, text: &mut String, name: &str) -> Result<(), AllocError> {
+    let answer = maker.demangler.demangle(name)?;
+    put_crate_of(maker.alloc, &mut maker.crate_name, name, &answer)?;
+    push_module(text, maker.crate_name.as_str(), answer.trimmed.as_str())
+}
+
 // Appends the stack of a stored name. Its answer is made once: its trimmed text, and the crate of a v0 name.
 fn push_stack_of(maker: &mut KeyMaker, text: &mut String, name: &str) -> Result<(), AllocError> {
     let answer = maker.demangler.demangle(name)?;
@@ -171,6 +182,7 @@ pub(crate) fn put_key(
     text.clear();
     match grouping.key {
         Key::Crate => put_crate(maker.alloc, text, name),
+        Key::Module => push_module_of(maker, text, name),
         Key::Function => maker.demangler.push_trimmed(text, name),
         Key::Generic => push_generic(maker, text, name),
         Key::Section if size.is_some() => text.push_str("text"),

@@ -28,7 +28,7 @@ pub struct Figures {
 pub struct Sums {
     /// The sum of all sizes, each byte counted once.
     pub total: u64,
-    /// That of the key `[unknown]`; by crate, of the function symbols without one.
+    /// That of the key `[unknown]`; by crate or module, of the function symbols without a crate.
     pub unknown: u64,
 }
 

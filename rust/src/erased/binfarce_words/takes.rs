@@ -67,6 +67,8 @@ pub enum Order {
 pub enum Key {
     /// By crate.
     Crate,
+    /// By module.
+    Module,
     /// By function.
     Function,
     /// By function, without generic arguments.
@@ -92,6 +94,7 @@ pub(crate) fn key_named(name: &str) -> Option<Key> {
         "function" => Some(Key::Function),
         "function-section" => Some(Key::Section),
         "generic" => Some(Key::Generic),
+        "module" => Some(Key::Module),
         "section" => Some(Key::Section),
         _ => None,
     }
@@ -107,7 +110,7 @@ impl Takes {
             Takes::Count => "a number",
             Takes::Limit => "a number of bytes, also as 600k or 2M, or of per cent as 2%",
             Takes::Order => "address, size or name",
-            Takes::Key => "crate, function, function-section, generic or section",
+            Takes::Key => "crate, function, function-section, generic, module or section",
         }
     }
 

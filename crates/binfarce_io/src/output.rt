@@ -1,6 +1,6 @@
 //! The output of a command: a sink that writes a heading before the first byte that follows it.
 
-ghost use Rattle.std.specs.Prelude.{◌≡◌, [], true, false, IfErr, IfSome, IfNone, OnOk};
+ghost use Rattle.std.specs.Prelude.{◌≡◌, [], true, false, IfErr, OnOk};
 ghost use Rattle.std.specs.Io.KnownBytes.{Keeps};
 ghost use Rattle.binfarce_io.specs.Output.{writer_of, pending, has_failed, taken};
 ghost use Rattle.binfarce_io.specs.Faults.{failure};
@@ -58,31 +58,20 @@ impl<W: Write> Output<W> {
         ensures written { OnOk result ((pending self.new ≡ []) × (has_failed self.new ≡ has_failed self.old)) }
         ensures fails { IfErr result (λ e. (failure e ≡ write_failed) × (has_failed self.new ≡ true)) }
     {
-        self.write_heading()
-            .ok_or(Fault::Report(ReportError::Write))
-    }
-
-    // Writes the rest of the heading.
-    fn write_heading(&mut self) -> Option<()>
-        ensures kept { Keeps (taken W.contents self.old) (taken W.contents self.new) }
-        ensures written { IfSome result (λ _. (pending self.new ≡ [])
-            × (has_failed self.new ≡ has_failed self.old)) }
-        ensures fails { IfNone result (has_failed self.new ≡ true) }
-    {
         while self.done < self.heading.len() {
             match self.writer.write(&self.heading[self.done..]) {
                 Ok(n) if n > 0 => self.done += n,
                 Ok(_) => {
                     self.reason = Some(Error::from(ErrorKind::WriteZero));
-                    return None;
+                    return Err(Fault::Report(ReportError::Write));
                 }
                 Err(e) => {
                     self.reason = Some(e);
-                    return None;
+                    return Err(Fault::Report(ReportError::Write));
                 }
             }
         }
-        Some(())
+        Ok(())
     }
 
     /// The writer, and the reason of the last failed write, if any.
@@ -101,7 +90,7 @@ impl<W: Write> Sink for Output<W> {
     ghost has_failed = { has_failed };
 
     fn write(&mut self, bytes: &[u8]) -> Option<usize> {
-        self.write_heading()?;
+        self.end().ok()?;
         match self.writer.write(bytes) {
             Ok(n) if n > 0 => Some(n),
             Ok(_) => {

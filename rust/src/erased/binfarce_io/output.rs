@@ -42,26 +42,20 @@ impl<W: Write> Output<W> {
     ///
     /// `Write` where a write fails.
     pub fn end(&mut self) -> Result<(), Fault> {
-        self.write_heading()
-            .ok_or(Fault::Report(ReportError::Write))
-    }
-
-    // Writes the rest of the heading.
-    fn write_heading(&mut self) -> Option<()> {
         while self.done < self.heading.len() {
             match self.writer.write(&self.heading[self.done..]) {
                 Ok(n) if n > 0 => self.done += n,
                 Ok(_) => {
                     self.reason = Some(Error::from(ErrorKind::WriteZero));
-                    return None;
+                    return Err(Fault::Report(ReportError::Write));
                 }
                 Err(e) => {
                     self.reason = Some(e);
-                    return None;
+                    return Err(Fault::Report(ReportError::Write));
                 }
             }
         }
-        Some(())
+        Ok(())
     }
 
     /// The writer, and the reason of the last failed write, if any.
@@ -72,7 +66,7 @@ impl<W: Write> Output<W> {
 
 impl<W: Write> Sink for Output<W> {
     fn write(&mut self, bytes: &[u8]) -> Option<usize> {
-        self.write_heading()?;
+        self.end().ok()?;
         match self.writer.write(bytes) {
             Ok(n) if n > 0 => Some(n),
             Ok(_) => {

@@ -1,7 +1,7 @@
 use Rattle.std.proofs.Common.{◌≡◌, ◌-◌, length}
 use Rattle.std.specs.Io.KnownBytes.{Keeps}
 use Rattle.binfarce_io.specs.Output.{taken, has_failed}
-use Rattle.binfarce_io.proofs.output.Output.write_heading.Given as goal
+use Rattle.binfarce_io.proofs.output.Output.end.Given as goal
 
 -- what was taken stays, and no write has failed
 abbrev pub invariant-loop-self : goal.invariant-loop-self

@@ -1,6 +1,6 @@
 use Rattle.std.proofs.KnownBytes.{Keeps-trans}
 use Rattle.binfarce_io.proofs.Streams.{moved_part}
-use Rattle.binfarce_io.proofs.output.Output.write_heading.Goals as goal
+use Rattle.binfarce_io.proofs.output.Output.end.Goals as goal
 
 pub loop-self-preserved : goal.loop-self-preserved
 loop-self-preserved g c =

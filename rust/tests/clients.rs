@@ -56,11 +56,11 @@ fn text(name: &str, words: &[&str]) -> String {
 #[test]
 #[cfg(target_os = "linux")]
 fn a_backtrace_names_its_functions() {
-    // The second one runs after its file is deleted.
+    // The second one runs after its file is deleted. The shell copies it: a file that this process has open for writing may be
+    // busy when it is run, since the other tests start programs.
     let copy = env::temp_dir().join(format!("binfarce-backtrace-{}", std::process::id()));
-    fs::copy(example("backtrace"), &copy).unwrap();
-    let script = "exec 3<\"$0\"; rm \"$0\"; exec /proc/self/fd/3";
-    let deleted = Command::new("sh").args(["-c", script]).arg(&copy).output().unwrap();
+    let script = "cp \"$1\" \"$0\" && exec 3<\"$0\" && rm \"$0\" && exec /proc/self/fd/3";
+    let deleted = Command::new("sh").args(["-c", script]).arg(&copy).arg(example("backtrace")).output().unwrap();
     assert!(!copy.exists() && deleted.stderr.is_empty(), "{deleted:?}");
     for text in [text("backtrace", &[]), String::from_utf8(deleted.stdout).unwrap()] {
         names_its_functions(&text);

@@ -583,6 +583,17 @@ for name, hint, places in (("macho", "its .dSYM bundle", [0xc4]), ("pe-image", "
         image[image.index(b".text\0") + 36] = 0x20
     pathlib.Path(path := f"{scratch}/{name}").write_bytes(image)
     lacking.append((f"no function symbols\nbinfarce: {path}: its debug symbols may be in {hint}", path))
+# 64-bit PowerPC of ABI version 1: a program has the descriptor of its function in `.opd`, and its debug file has no bytes there.
+def described(path, kind):
+    words, row = b"\0.opd\0.text\0.symtab\0.strtab\0f\0", struct.pack(">I2BH2Q", 28, 0x12, 0, 1, 0x2000, 16)
+    body = struct.pack(">3Q", 0x1000, 0, 0) + bytes(24) + row + words
+    table = ((1, kind, 3, 0x2000, 64, 24, 0, 0, 8, 0), (6, kind, 6, 0x1000, 64, 64, 0, 0, 4, 0), (12, 2, 0, 0, 88, 48, 4, 0, 8, 24), (20, 3, 0, 0, 136, len(words), 0, 0, 1, 0))
+    header = b"\x7fELF\2\2\1".ljust(16, b"\0") + struct.pack(">2HI3QI6H", 3, 21, 1, 0, 0, 64 + len(body), 1, 64, 0, 0, 64, 5, 4)
+    pathlib.Path(path).write_bytes(header + body + bytes(64) + b"".join(struct.pack(">2I4Q2I2Q", *it) for it in table))
+    return path
+ends(0, f"{0x1000:016x} {16:10} .text f\n", "", "binfarce", "list", "--all", described(f"{scratch}/opd", 1))
+debug = described(f"{scratch}/opd.debug", 8)
+lacking.append((f"no function symbols\nbinfarce: {debug}: its function descriptors (.opd) are in the program itself", debug))
 for hint, path, *option in lacking:
     for words in (["list", "--all"], ["list"], ["list", "-n", "0"], ["size", "--all"], ["size", "--by=function-section"], ["size", "--fail-above=9"], ["map"], ["map", "--folded", "--all"],
                   ["at", "--section=.text"], ["at", "--annotate", "--section=.text"], ["at", "--section=.text", "--base=0"]):

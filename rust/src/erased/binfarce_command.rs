@@ -133,7 +133,10 @@ fn answer<W: Write>(
         }
         Call::Run(command, given) => {
             let refusals = String::new(rt.alloc());
-            let section = section_of(*command, given);
+            let section = match section_of(*command, given) {
+                Some(name) => Some(String::from_str(rt.alloc(), name)?),
+                None => None,
+            };
             let host = Host {
                 rt,
                 refusals,
@@ -486,7 +489,7 @@ struct Host<'a> {
     rt: &'a HostRuntime,
     refusals: String,
     // The name of the only section that is asked for.
-    section: Option<&'a str>,
+    section: Option<String>,
 }
 
 impl Host<'_> {
@@ -521,7 +524,12 @@ impl System<FileOrStdin<File, Stdin>> for Host<'_> {
 
     fn report(&mut self, path: &str, fault: Fault, reason: Option<Error>) {
         let alloc = self.rt.alloc();
-        self.refuse(path, &message_of(alloc, fault, reason, self.section));
+        let section = match &self.section {
+            Some(name) => Some(name.as_str()),
+            None => None,
+        };
+        let message = message_of(alloc, fault, reason, section);
+        self.refuse(path, &message);
     }
 
     fn hint(&mut self, path: &str, hint: Hint) {

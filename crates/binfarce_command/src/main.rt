@@ -18,13 +18,14 @@ use binfarce_calls::request::{figures_of, form_of, request_of, symbols_of};
 use binfarce_calls::sections::{show_section, sum_files};
 use binfarce_filtering::stream::{StreamError, filter_stream};
 use binfarce_identity::{Lack, Style, identity_line, lacked};
+use binfarce_io::fault::Fault;
+use binfarce_io::input::{FileOrStdin, OpenFile};
+use binfarce_io::message::{Message, message_of, push_escaped, push_refusal};
+use binfarce_io::output::Output;
 use binfarce_jobs::at::{answer_all, answer_input};
-use binfarce_jobs::fault::Fault;
 use binfarce_jobs::files::{System, give, open_input, refuse, show_files};
 use binfarce_jobs::hint::{Hint, lack};
 use binfarce_jobs::limit::Verdict;
-use binfarce_jobs::message::{Message, message_of, push_escaped, push_refusal};
-use binfarce_jobs::output::Output;
 use binfarce_jobs::section::Asked;
 use binfarce_jobs::show::Symbols;
 use binfarce_logs::Module;
@@ -36,7 +37,7 @@ use binfarce_tools::tables::Selection;
 use binfarce_words::argument::arguments_of;
 use binfarce_words::call::{Call, read_call};
 use binfarce_words::command::Command;
-use binfarce_words::flag::Flag::{Annotate, Bare, FailAbove, First, Full, Id, Json, Maps};
+use binfarce_words::flag::Flag::{Annotate, Bare, FailAbove, First, Full, Id, Json, Maps, Offsets};
 use binfarce_words::given::Arguments;
 use binfarce_words::wrong::Wrong;
 use std::alloc::{AllocError, Global};
@@ -419,6 +420,22 @@ impl<'a, W: Write> Work<'a, '_, W> {
             form,
             self.out,
         )
+    }
+}
+
+// Annotates a text; where addresses are offsets, also frames of perf-script(1).
+fn annotated<R: Read, W: Write>(
+    given: &Arguments<'_>,
+    alloc: Global,
+    modules: &[Module<'_>],
+    input: &mut R,
+    out: &mut Output<W>,
+) -> Result<Counts, StreamError> {
+    let is_bare = given.has(Bare);
+    if given.has(Offsets) {
+        annotate_frames(alloc, modules, is_bare, input, out)
+    } else {
+        annotate_stream(alloc, modules, is_bare, input, out)
     }
 }
 

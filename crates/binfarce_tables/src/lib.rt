@@ -14,6 +14,6 @@ mod segments;
 
 pub use crate::beginning::Beginning;
 pub use crate::error::ReadError;
-pub use crate::opened::{Opened, open};
+pub use crate::opened::{Opened, open, part};
 pub use binfarce_elf::class::Width;
 pub use binfarce_elf_memory::versions::VersionNames;

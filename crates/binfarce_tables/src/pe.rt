@@ -312,9 +312,11 @@ fn read_string_table<S: Source>(
     log: &mut S::Log,
     offset: u64,
 ) -> Result<Vec<u8>, ReadError>
-    ensures answer { (file : List ℕ) → Known (S.bytes opened.now.source.now) opened.now.len file → offset + 4 ≤ length file
+    ensures answer { (file : List ℕ) → Known (S.bytes opened.now.source.now) opened.now.len file
+        → offset + 4 ≤ length file
         → Reads (S.may_fail opened.now.source.now) (λ v. v.items) (Ok (string_table (drop offset file))) result }
-    ensures only { (file : List ℕ) → Known (S.bytes opened.now.source.now) opened.now.len file → offset + 4 ≤ length file
+    ensures only { (file : List ℕ) → Known (S.bytes opened.now.source.now) opened.now.len file
+        → offset + 4 ≤ length file
         → ReadsOnly (S.is_sure opened.now.source.now) (S.logs_only log.old) (S.logs_only log.new)
         (table_strings_parts file offset) (IfErr result (λ e. e ≢ Unreadable)) }
 {

@@ -115,7 +115,10 @@ fn are_given(given: &Arguments<'_>, one: Flag, other: Flag) -> bool
 fn is_of_bytes(command: Command, given: &Arguments<'_>) -> bool
     ensures { result ≡ is_of_bytes command (given_view given.now) }
 {
-    command == Command::Section && !given.has(Flag::Id) && given.operands.len() == 2
+    match command {
+        Command::Section => !given.has(Flag::Id) && given.operands.len() == 2,
+        _ => false,
+    }
 }
 
 // What is wrong with the operands of a command, which may ask for the identities of files.
@@ -126,13 +129,13 @@ fn check_operands<'a>(
 ) -> Result<(), Wrong<'a>>
     ensures { Gives (λ x. x) (operands_checked command has_id (map argument_view operands.entry.now)) result }
 {
-    match operands {
-        _ if command == Command::Filter => Ok(()),
-        [] => Err(Wrong::NoFile(command)),
-        [_] if command == Command::Diff => Err(Wrong::NoSecondFile),
-        [_, _, more, ..] if command == Command::Diff => exceeded(*more),
-        [_, _, more, ..] if command == Command::Section && !has_id => exceeded(*more),
-        [_, more, ..] if command == Command::Map => exceeded(*more),
+    match (command, operands) {
+        (Command::Filter, _) => Ok(()),
+        (_, []) => Err(Wrong::NoFile(command)),
+        (Command::Diff, [_]) => Err(Wrong::NoSecondFile),
+        (Command::Diff, [_, _, more, ..]) => exceeded(*more),
+        (Command::Section, [_, _, more, ..]) if !has_id => exceeded(*more),
+        (Command::Map, [_, more, ..]) => exceeded(*more),
         _ => Ok(()),
     }
 }

@@ -24,13 +24,14 @@ use crate::erased::binfarce_calls::request::{figures_of, form_of, request_of, sy
 use crate::erased::binfarce_calls::sections::{show_section, sum_files};
 use crate::erased::binfarce_filtering::stream::{StreamError, filter_stream};
 use crate::erased::binfarce_identity::{Lack, Style, identity_line, lacked};
+use crate::erased::binfarce_io::fault::Fault;
+use crate::erased::binfarce_io::input::{FileOrStdin, OpenFile};
+use crate::erased::binfarce_io::message::{Message, message_of, push_escaped, push_refusal};
+use crate::erased::binfarce_io::output::Output;
 use crate::erased::binfarce_jobs::at::{answer_all, answer_input};
-use crate::erased::binfarce_jobs::fault::Fault;
 use crate::erased::binfarce_jobs::files::{System, give, open_input, refuse, show_files};
 use crate::erased::binfarce_jobs::hint::{Hint, lack};
 use crate::erased::binfarce_jobs::limit::Verdict;
-use crate::erased::binfarce_jobs::message::{Message, message_of, push_escaped, push_refusal};
-use crate::erased::binfarce_jobs::output::Output;
 use crate::erased::binfarce_jobs::section::Asked;
 use crate::erased::binfarce_jobs::show::Symbols;
 use crate::erased::binfarce_logs::Module;
@@ -43,7 +44,7 @@ use crate::erased::binfarce_words::argument::arguments_of;
 use crate::erased::binfarce_words::call::{Call, read_call};
 use crate::erased::binfarce_words::command::Command;
 use crate::erased::binfarce_words::flag::Flag::{
-    Annotate, Bare, FailAbove, First, Full, Id, Json, Maps,
+    Annotate, Bare, FailAbove, First, Full, Id, Json, Maps, Offsets,
 };
 use crate::erased::binfarce_words::given::Arguments;
 use crate::erased::binfarce_words::wrong::Wrong;
@@ -426,6 +427,22 @@ impl<'a, W: Write> Work<'a, '_, W> {
             form,
             self.out,
         )
+    }
+}
+
+// Annotates a text; where addresses are offsets, also frames of perf-script(1).
+fn annotated<R: Read, W: Write>(
+    given: &Arguments<'_>,
+    alloc: Global,
+    modules: &[Module<'_>],
+    input: &mut R,
+    out: &mut Output<W>,
+) -> Result<Counts, StreamError> {
+    let is_bare = given.has(Bare);
+    if given.has(Offsets) {
+        annotate_frames(alloc, modules, is_bare, input, out)
+    } else {
+        annotate_stream(alloc, modules, is_bare, input, out)
     }
 }
 

@@ -15,6 +15,6 @@ pub(crate) mod segments;
 
 pub use crate::erased::binfarce_tables::beginning::Beginning;
 pub use crate::erased::binfarce_tables::error::ReadError;
-pub use crate::erased::binfarce_tables::opened::part;
+pub use crate::erased::binfarce_tables::opened::{Opened, open, part};
 pub use crate::erased::binfarce_elf::class::Width;
 pub use crate::erased::binfarce_elf_memory::versions::VersionNames;

@@ -5,13 +5,12 @@
 use crate::shim::Vec;
 use crate::erased::binfarce_identity::identity::{Identity, Kind};
 use crate::erased::binfarce_identity::notes::build_id;
-use crate::erased::binfarce_identity::reading::within;
 use crate::erased::binfarce_bytes::ByteOrder;
 use crate::erased::binfarce_bytes::parser::number_at;
 use crate::erased::binfarce_bytes::source::Source;
 use crate::erased::binfarce_elf_memory::parts::{HeaderTable, place_in};
 use crate::erased::binfarce_elf_memory::segments::program_length;
-use crate::erased::binfarce_tables::{ReadError, Width};
+use crate::erased::binfarce_tables::{Opened, ReadError, Width};
 use crate::shim::alloc::Global;
 
 // Headers of places in a file, of this class.
@@ -39,17 +38,15 @@ pub(crate) struct NotePlace {
 
 // Reads the first build ID of a file of this class.
 pub(crate) fn read_elf<S: Source>(
-    alloc: Global,
-    source: &S,
+    opened: &Opened<'_, S>,
     log: &mut S::Log,
-    len: u64,
     width: Width,
     byte_order: ByteOrder,
 ) -> Result<Option<Identity>, ReadError> {
-    let head = within(alloc, source, log, len, 0, width.header_length() as u64)?;
+    let head = opened.within(log, 0, width.header_length() as u64)?;
     let place = place_in(&head, width, byte_order)?;
     let table = table_of(width, place);
-    read_table(alloc, source, log, len, byte_order, table)
+    read_table(opened, log, byte_order, table)
 }
 
 // The section headers of a file, or where it has none its program headers.
@@ -81,24 +78,20 @@ impl Form {
 
 // Reads the first build ID at the places of a table's headers.
 fn read_table<S: Source>(
-    alloc: Global,
-    source: &S,
+    opened: &Opened<'_, S>,
     log: &mut S::Log,
-    len: u64,
     byte_order: ByteOrder,
     table: Table,
 ) -> Result<Option<Identity>, ReadError> {
     let size = u64::from(table.count) * table.form.length() as u64;
-    let headers = within(alloc, source, log, len, table.offset, size)?;
-    read_headers(alloc, source, log, len, byte_order, table, &headers)
+    let headers = opened.within(log, table.offset, size)?;
+    read_headers(opened, log, byte_order, table, &headers)
 }
 
 // Reads the first build ID at the places of these headers.
 fn read_headers<S: Source>(
-    alloc: Global,
-    source: &S,
+    opened: &Opened<'_, S>,
     log: &mut S::Log,
-    len: u64,
     byte_order: ByteOrder,
     table: Table,
     headers: &[u8],
@@ -106,7 +99,7 @@ fn read_headers<S: Source>(
     let length = table.form.length();
     for index in 0..table.count {
         let place = place_at(headers, usize::from(index) * length, table.form, byte_order);
-        let found = read_place(alloc, source, log, len, byte_order, place)?;
+        let found = read_place(opened, log, byte_order, place)?;
         if found.is_some() {
             return Ok(found);
         }
@@ -116,18 +109,16 @@ fn read_headers<S: Source>(
 
 // Reads the first build ID of the notes at a place, if there is one.
 fn read_place<S: Source>(
-    alloc: Global,
-    source: &S,
+    opened: &Opened<'_, S>,
     log: &mut S::Log,
-    len: u64,
     byte_order: ByteOrder,
     place: Option<NotePlace>,
 ) -> Result<Option<Identity>, ReadError> {
     let Some(place) = place else {
         return Ok(None);
     };
-    let notes = within(alloc, source, log, len, place.offset, place.size)?;
-    identity_in(alloc, &notes, byte_order, place.align)
+    let notes = opened.within(log, place.offset, place.size)?;
+    identity_in(opened.alloc, &notes, byte_order, place.align)
 }
 
 // The first build ID among notes of this alignment.

@@ -4,11 +4,10 @@
 
 use crate::shim::Vec;
 use crate::erased::binfarce_identity::identity::{Identity, Kind};
-use crate::erased::binfarce_identity::reading::within;
 use crate::erased::binfarce_bytes::parser::{number_at, slice_at, to_index};
 use crate::erased::binfarce_bytes::source::Source;
 use crate::erased::binfarce_bytes::{ByteOrder, ParseError};
-use crate::erased::binfarce_tables::ReadError;
+use crate::erased::binfarce_tables::{Opened, ReadError};
 use crate::shim::alloc::Global;
 
 // How many bytes of the header are read, and how many it has.
@@ -28,16 +27,14 @@ const UUID_LENGTH: usize = 16;
 
 // Reads the UUID of a file.
 pub(crate) fn read_macho<S: Source>(
-    alloc: Global,
-    source: &S,
+    opened: &Opened<'_, S>,
     log: &mut S::Log,
-    len: u64,
 ) -> Result<Option<Identity>, ReadError> {
-    let head = within(alloc, source, log, len, 0, HEADER_READ)?;
+    let head = opened.within(log, 0, HEADER_READ)?;
     let size: u32 = number_at(&head, 20, ByteOrder::LittleEndian).unwrap();
     let end = HEADER_LENGTH as u64 + u64::from(size);
-    let bytes = within(alloc, source, log, len, 0, end)?;
-    identity_in(alloc, &bytes)
+    let bytes = opened.within(log, 0, end)?;
+    identity_in(opened.alloc, &bytes)
 }
 
 // The UUID in these first bytes of a file, up to the end of its load commands.

@@ -4,14 +4,13 @@
 
 use crate::shim::Vec;
 use crate::erased::binfarce_identity::identity::{Identity, Kind};
-use crate::erased::binfarce_identity::reading::within;
 use crate::erased::binfarce_bytes::parser::number_at;
 use crate::erased::binfarce_bytes::source::Source;
 use crate::erased::binfarce_bytes::{ByteOrder, ParseError};
 use crate::erased::binfarce_pe::parts::{
     HEADERS_LENGTH, SECTION_LENGTH, SIGNATURE_POINTER, TableOffsets, places_in, signature_in,
 };
-use crate::erased::binfarce_tables::ReadError;
+use crate::erased::binfarce_tables::{Opened, ReadError};
 use crate::shim::alloc::Global;
 
 // As many bytes of an optional header as state the debug directory.
@@ -34,38 +33,27 @@ pub(crate) struct Place {
 
 // Reads the GUID and the age of a file.
 pub(crate) fn read_pe<S: Source>(
-    alloc: Global,
-    source: &S,
+    opened: &Opened<'_, S>,
     log: &mut S::Log,
-    len: u64,
 ) -> Result<Option<Identity>, ReadError> {
-    let pointer = within(alloc, source, log, len, SIGNATURE_POINTER as u64, 4)?;
+    let pointer = opened.within(log, SIGNATURE_POINTER as u64, 4)?;
     let signature = signature_in(&pointer)?;
-    let headers = within(
-        alloc,
-        source,
-        log,
-        len,
-        u64::from(signature),
-        HEADERS_LENGTH,
-    )?;
+    let headers = opened.within(log, u64::from(signature), HEADERS_LENGTH)?;
     let places = places_in(&headers, signature)?;
-    read_places(alloc, source, log, len, places)
+    read_places(opened, log, places)
 }
 
 // Those of a file whose tables are at these places.
 fn read_places<S: Source>(
-    alloc: Global,
-    source: &S,
+    opened: &Opened<'_, S>,
     log: &mut S::Log,
-    len: u64,
     places: TableOffsets,
 ) -> Result<Option<Identity>, ReadError> {
     let size = places.sections.saturating_sub(places.optional_header);
     let size = size.min(OPTIONAL_HEADER_READ);
-    let header = within(alloc, source, log, len, places.optional_header, size)?;
+    let header = opened.within(log, places.optional_header, size)?;
     let directory = debug_directory(&header);
-    read_directory(alloc, source, log, len, places, directory)
+    read_directory(opened, log, places, directory)
 }
 
 // The place in memory of the debug directory, if there is one.
@@ -98,10 +86,8 @@ fn debug_in(header: &[u8], start: usize) -> Option<Place> {
 
 // Reads what the debug directory at this place in memory has.
 fn read_directory<S: Source>(
-    alloc: Global,
-    source: &S,
+    opened: &Opened<'_, S>,
     log: &mut S::Log,
-    len: u64,
     places: TableOffsets,
     directory: Option<Place>,
 ) -> Result<Option<Identity>, ReadError> {
@@ -109,9 +95,9 @@ fn read_directory<S: Source>(
         return Ok(None);
     };
     let size = u64::from(places.section_count) * SECTION_LENGTH as u64;
-    let headers = within(alloc, source, log, len, places.sections, size)?;
+    let headers = opened.within(log, places.sections, size)?;
     let offset = offset_of(&headers, place, places.section_count);
-    read_entries(alloc, source, log, len, place.size, offset)
+    read_entries(opened, log, place.size, offset)
 }
 
 // Where a place in memory is in the file, by the first of these section headers whose raw data has it.
@@ -139,18 +125,16 @@ fn offset_in(headers: &[u8], start: usize, place: Place) -> Option<u64> {
 
 // Reads what the debug directory of this size at this offset in the file has.
 fn read_entries<S: Source>(
-    alloc: Global,
-    source: &S,
+    opened: &Opened<'_, S>,
     log: &mut S::Log,
-    len: u64,
     size: u32,
     offset: Option<u64>,
 ) -> Result<Option<Identity>, ReadError> {
     let Some(offset) = offset else {
         return Err(ReadError::Refused(ParseError::MalformedInput));
     };
-    let entries = within(alloc, source, log, len, offset, u64::from(size))?;
-    read_record(alloc, source, log, len, codeview_data(&entries))
+    let entries = opened.within(log, offset, u64::from(size))?;
+    read_record(opened, log, codeview_data(&entries))
 }
 
 // The data of the first entry of CodeView among these.
@@ -178,10 +162,8 @@ fn data_in(entries: &[u8], start: usize) -> Option<Place> {
 
 // Reads the record at this place in the file.
 fn read_record<S: Source>(
-    alloc: Global,
-    source: &S,
+    opened: &Opened<'_, S>,
     log: &mut S::Log,
-    len: u64,
     place: Option<Place>,
 ) -> Result<Option<Identity>, ReadError> {
     let Some(place) = place else {
@@ -190,15 +172,8 @@ fn read_record<S: Source>(
     if place.size < RECORD_LENGTH {
         return Err(ReadError::Refused(ParseError::MalformedInput));
     }
-    let bytes = within(
-        alloc,
-        source,
-        log,
-        len,
-        u64::from(place.at),
-        u64::from(RECORD_LENGTH),
-    )?;
-    codeview_in(alloc, &bytes)
+    let bytes = opened.within(log, u64::from(place.at), u64::from(RECORD_LENGTH))?;
+    codeview_in(opened.alloc, &bytes)
 }
 
 // The identity in a record, if it has the signature of PDB 7.0.

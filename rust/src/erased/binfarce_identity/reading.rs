@@ -2,7 +2,6 @@
 
 //! The identity of a file that is read at offsets.
 
-use crate::shim::Vec;
 use crate::erased::binfarce_identity::elf::read_elf;
 use crate::erased::binfarce_identity::identity::Identity;
 use crate::erased::binfarce_identity::macho::read_macho;
@@ -10,7 +9,7 @@ use crate::erased::binfarce_identity::pe::read_pe;
 use crate::erased::binfarce_bytes::ParseError;
 use crate::erased::binfarce_bytes::format::Format;
 use crate::erased::binfarce_bytes::source::Source;
-use crate::erased::binfarce_tables::{ReadError, Width, part};
+use crate::erased::binfarce_tables::{Opened, ReadError, Width, open};
 use crate::shim::alloc::Global;
 
 /// What says from which build a file of this format is: of ELF the first build ID among the notes of its sections, or of
@@ -33,42 +32,21 @@ pub fn read_identity<S: Source>(
     if let Format::Unknown = format {
         return Ok(None);
     }
-    let len = source.length()?;
-    read_as(alloc, source, log, len, format)
+    let opened = open(alloc, source)?;
+    read_as(&opened, log, format)
 }
 
 // The identity of a file of this length.
 fn read_as<S: Source>(
-    alloc: Global,
-    source: &S,
+    opened: &Opened<'_, S>,
     log: &mut S::Log,
-    len: u64,
     format: Format,
 ) -> Result<Option<Identity>, ReadError> {
     match format {
-        Format::Elf32 { byte_order } => {
-            read_elf(alloc, source, log, len, Width::Bits32, byte_order)
-        }
-        Format::Elf64 { byte_order } => {
-            read_elf(alloc, source, log, len, Width::Bits64, byte_order)
-        }
-        Format::Macho => read_macho(alloc, source, log, len),
-        Format::PE => read_pe(alloc, source, log, len),
+        Format::Elf32 { byte_order } => { read_elf(opened, log, Width::Bits32, byte_order) }
+        Format::Elf64 { byte_order } => { read_elf(opened, log, Width::Bits64, byte_order) }
+        Format::Macho => read_macho(opened, log),
+        Format::PE => read_pe(opened, log),
         Format::Unknown => Ok(None),
     }
-}
-
-/// The bytes of a range that has to lie in a file of this length.
-pub(crate) fn within<S: Source>(
-    alloc: Global,
-    source: &S,
-    log: &mut S::Log,
-    len: u64,
-    offset: u64,
-    size: u64,
-) -> Result<Vec<u8>, ReadError> {
-    if offset > len || size > len - offset {
-        return Err(ReadError::Refused(ParseError::UnexpectedEof));
-    }
-    part(alloc, source, log, offset, size)
 }

@@ -10,15 +10,22 @@ use crate::erased::binfarce_bytes::source::{Source, read_part};
 use crate::shim::alloc::Global;
 use crate::shim::io;
 
-// A source that is read at offsets, its length in bytes, and the allocator of what is read of it.
-pub(crate) struct Opened<'a, S> {
-    pub(crate) alloc: Global,
-    pub(crate) source: &'a S,
-    pub(crate) len: u64,
+/// A source that is read at offsets.
+pub struct Opened<'a, S> {
+    /// The allocator of what is read of it.
+    pub alloc: Global,
+    /// The source itself.
+    pub source: &'a S,
+    /// Its length in bytes.
+    pub len: u64,
 }
 
-// Asks for the source's length, as every reading does first.
-pub(crate) fn open<S: Source>(alloc: Global, source: &S) -> io::Result<Opened<'_, S>> {
+/// Asks for the source's length, as every reading does first. Nothing is allocated.
+///
+/// # Errors
+///
+/// That of the source, which can't be read at offsets; never of a source that can't fail, such as bytes in memory.
+pub fn open<S: Source>(alloc: Global, source: &S) -> io::Result<Opened<'_, S>> {
     let len = source.length()?;
     Ok(Opened { alloc, source, len })
 }
@@ -34,13 +41,13 @@ impl<S: Source> Opened<'_, S> {
         part(self.alloc, self.source, log, offset, size)
     }
 
-    // The bytes of this range; refused where it doesn't lie in the file.
-    pub(crate) fn within(
-        &self,
-        log: &mut S::Log,
-        offset: u64,
-        size: u64,
-    ) -> Result<Vec<u8>, ReadError> {
+    /// The `size` bytes of the file from the offset on, in memory of that size. No other byte is read.
+    ///
+    /// # Errors
+    ///
+    /// `Refused` with `UnexpectedEof` where they don't all lie in the file; `Unreadable` where a read of the source
+    /// fails, and never for a source that can't fail, such as bytes in memory; `OutOfMemory` where the allocation fails.
+    pub fn within(&self, log: &mut S::Log, offset: u64, size: u64) -> Result<Vec<u8>, ReadError> {
         if offset > self.len || size > self.len - offset {
             return Err(ReadError::Refused(ParseError::UnexpectedEof));
         }

@@ -5,7 +5,7 @@
 use crate::shim::Vec;
 use crate::erased::binfarce_tables::beginning::Beginning;
 use crate::erased::binfarce_tables::error::ReadError;
-use crate::erased::binfarce_tables::opened::{Opened, open, part};
+use crate::erased::binfarce_tables::opened::{Opened, open};
 use crate::erased::binfarce_bytes::functions::{SectionFunction, Selection};
 use crate::erased::binfarce_bytes::parser::{number_at, to_index};
 use crate::erased::binfarce_bytes::source::Source;
@@ -162,20 +162,17 @@ pub fn read_sections<S: Source>(
     source: &S,
     log: &mut S::Log,
 ) -> Result<SectionParts, ReadError> {
-    let len = source.length()?;
-    let opened = Opened { alloc, source, len };
+    let opened = open(alloc, source)?;
     let places = read_places(&opened, log)?;
-    let beginning = read_beginning(alloc, source, log, len, places)?;
-    let strings = read_strings(alloc, source, log, len, places, beginning.bytes())?;
+    let beginning = read_beginning(&opened, log, places)?;
+    let strings = read_strings(&opened, log, places, beginning.bytes())?;
     Ok(SectionParts { beginning, strings })
 }
 
 // The beginning of a file whose tables are at these places, up to the end of the section headers.
 fn read_beginning<S: Source>(
-    alloc: Global,
-    source: &S,
+    opened: &Opened<'_, S>,
     log: &mut S::Log,
-    file_length: u64,
     places: TableOffsets,
 ) -> Result<Beginning, ReadError> {
     let headers = places.section_count as u64 * SECTION_LENGTH as u64;
@@ -183,16 +180,15 @@ fn read_beginning<S: Source>(
         .sections
         .saturating_add(headers.max(1))
         .max(STUB_LENGTH);
-    let bytes = part(alloc, source, log, 0, end.min(file_length))?;
+    let file_length = opened.len;
+    let bytes = opened.part(log, 0, end.min(file_length))?;
     Ok(Beginning { bytes, file_length })
 }
 
 // The string table of a file that begins with these bytes, if the name of a section is in it; else nothing.
 fn read_strings<S: Source>(
-    alloc: Global,
-    source: &S,
+    opened: &Opened<'_, S>,
     log: &mut S::Log,
-    len: u64,
     places: TableOffsets,
     beginning: &[u8],
 ) -> Result<Vec<u8>, ReadError> {
@@ -202,11 +198,11 @@ fn read_strings<S: Source>(
         count: places.section_count,
     };
     if !has_long_names(table) {
-        return Ok(Vec::new(alloc));
+        return Ok(Vec::new(opened.alloc));
     }
-    match strings_at(len, places) {
-        None => Ok(Vec::new(alloc)),
-        Some(offset) => read_string_table(alloc, source, log, len, offset),
+    match strings_at(opened.len, places) {
+        None => Ok(Vec::new(opened.alloc)),
+        Some(offset) => read_string_table(opened, log, offset),
     }
 }
 
@@ -222,16 +218,14 @@ fn strings_at(len: u64, places: TableOffsets) -> Option<u64> {
 
 // The string table that begins at this offset: as many bytes as its first 4 state, or up to the file's end.
 fn read_string_table<S: Source>(
-    alloc: Global,
-    source: &S,
+    opened: &Opened<'_, S>,
     log: &mut S::Log,
-    len: u64,
     offset: u64,
 ) -> Result<Vec<u8>, ReadError> {
-    let head = part(alloc, source, log, offset, STRINGS_LENGTH)?;
+    let head = opened.part(log, offset, STRINGS_LENGTH)?;
     let size: u32 = number_at(&head, 0, ByteOrder::LittleEndian).unwrap();
-    let rest = len.saturating_sub(offset);
-    part(alloc, source, log, offset, u64::from(size).min(rest))
+    let rest = opened.len.saturating_sub(offset);
+    opened.part(log, offset, u64::from(size).min(rest))
 }
 
 /// Where the file is loaded unless the loader chooses another address: its image base (`ImageBase`). `None` without one,

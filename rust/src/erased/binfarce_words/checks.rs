@@ -98,7 +98,10 @@ fn are_given(given: &Arguments<'_>, one: Flag, other: Flag) -> bool {
 
 // Whether the bytes of a section are asked for.
 fn is_of_bytes(command: Command, given: &Arguments<'_>) -> bool {
-    command == Command::Section && !given.has(Flag::Id) && given.operands.len() == 2
+    match command {
+        Command::Section => !given.has(Flag::Id) && given.operands.len() == 2,
+        _ => false,
+    }
 }
 
 // What is wrong with the operands of a command, which may ask for the identities of files.
@@ -107,13 +110,13 @@ fn check_operands<'a>(
     has_id: bool,
     operands: &[Argument<'a>],
 ) -> Result<(), Wrong<'a>> {
-    match operands {
-        _ if command == Command::Filter => Ok(()),
-        [] => Err(Wrong::NoFile(command)),
-        [_] if command == Command::Diff => Err(Wrong::NoSecondFile),
-        [_, _, more, ..] if command == Command::Diff => exceeded(*more),
-        [_, _, more, ..] if command == Command::Section && !has_id => exceeded(*more),
-        [_, more, ..] if command == Command::Map => exceeded(*more),
+    match (command, operands) {
+        (Command::Filter, _) => Ok(()),
+        (_, []) => Err(Wrong::NoFile(command)),
+        (Command::Diff, [_]) => Err(Wrong::NoSecondFile),
+        (Command::Diff, [_, _, more, ..]) => exceeded(*more),
+        (Command::Section, [_, _, more, ..]) if !has_id => exceeded(*more),
+        (Command::Map, [_, more, ..]) => exceeded(*more),
         _ => Ok(()),
     }
 }

@@ -21,7 +21,7 @@ _binfarce() {
             [[ ${COMPREPLY[*]} != *= ]] || compopt -o nospace
             ;;
         *)
-            if [ "$command,$COMP_CWORD" = section,3 ]; then
+            if [ "$command,$COMP_CWORD" = section,3 ] && [[ $before != -* ]]; then
                 # `compgen -W` would run a section's name as a command, and so would the line if the name weren't quoted.
                 while read -r name; do
                     [[ -z $name || $name != "$word"* ]] || COMPREPLY+=("$(printf %q "$name")")

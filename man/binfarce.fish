@@ -22,5 +22,6 @@ for command in $commands
         complete -c binfarce -n "__fish_seen_subcommand_from $command" $option
     end
 end
-complete -c binfarce -n "__fish_seen_subcommand_from section; and test (count (commandline -opc)) -eq 3" -f \
+complete -c binfarce -f \
+    -n "__fish_seen_subcommand_from section; and test (count (commandline -opc)) -eq 3; and not string match -q -- '-*' (commandline -opc)[3]" \
     -a "(binfarce section (commandline -opc)[3] 2>/dev/null | awk '{ print \$4 }')"

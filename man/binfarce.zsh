@@ -9,7 +9,7 @@ if [[ $CURRENT -eq 2 || $words[2] == help ]]; then
         awk -F: '!seen[$1]++')"} 'help:help on a command')
     _describe command commands
     [[ $PREFIX != -* ]] || compadd -- --help --version
-elif [[ $CURRENT -eq 4 && $words[2] == section && $PREFIX != -* ]]; then
+elif [[ $CURRENT -eq 4 && $words[2] == section && $words[3] != -* && $PREFIX != -* ]]; then
     compadd -- $(binfarce section ${(Q)words[3]} 2>/dev/null | awk '{ print $4 }')
 else
     # --first=N the N largest sums, --json each sum as a JSON object, ..

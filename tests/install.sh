@@ -74,6 +74,7 @@ binfarce diff --by=mod|module
 binfarce at --ann|--annotate
 binfarce size --json --st|--std
 binfarce section $sample .te|.text
+binfarce section --id uninst|uninstall
 binfarce list uninst|uninstall
 END
     # A hostile section's name is quoted, but for fish, which quotes what it takes from here; and no shell runs it.

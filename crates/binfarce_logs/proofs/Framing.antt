@@ -42,7 +42,7 @@ breaks_off first now text part made others (passed, holds, has) =
 pub none : (names : List (List ℕ)) (files : List File) (bare : Bool) (text : List ℕ) → text ≡ framed names [] [] → IsPrefixOf files bare text []
 none names files bare text is = subst (λ (t : List ℕ). IsPrefixOf files bare t []) (sym (is ∙ nothing names [])) ([], ([], no_pieces [], refl))
 
--- the same of other files that are these, and of another text that is this
+-- what holds of files and a text holds of equal ones
 pub moved : (P : List File → Bool → List ℕ → Type 0) (names files : List File) (bare own : Bool) (text other : List ℕ) → names ≡ files → bare ≡ own → text ≡ other → P names bare text → P files own other
 moved P names files bare own text other named bared is holds =
     subst (λ (t : List ℕ). P files own t) is (subst (λ (b : Bool). P files b text) bared (subst (λ (fs : List File). P fs bare text) named holds))

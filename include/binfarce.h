@@ -2,9 +2,9 @@
  * binfarce: readable names of Rust symbols, and the function symbols of ELF, Mach-O and PE files.
  *
  * `cargo build --release` makes libbinfarce.a and libbinfarce.so from plain Rust, erased from proved sources;
- * bindings/archive.sh makes a libbinfarce.a by the Rattle kit, proved down to these functions: given stack, for every name
- * and every file a call returns what the written definitions say, or that an allocation failed. Both assume, without a
- * check, that the caller keeps these rules:
+ * bindings/archive.sh makes a libbinfarce.a with the Rattle kit, proved down to these functions: with enough stack, a call
+ * returns for every name and every file what the written definitions say, or that an allocation failed. Both assume, without
+ * a check, that the caller keeps these rules:
  *
  * - Pointers. Each pointer points to as many bytes, or structs, as the length after it says, for the whole call. They are
  *   readable, and writable where the pointer isn't const. Where the length is 0, it may be NULL; a pointer without a length may
@@ -16,27 +16,27 @@
  *
  * Ownership. The library keeps no memory and no pointer after a call, so nothing has to be freed. It writes only to the
  * caller's buffers. A `struct binfarce_function`, a `struct binfarce_section` and a `struct binfarce_bytes` point into the
- * caller's file, which has to stay as long as they are used, and a `struct binfarce_mangling` into the caller's name.
+ * caller's file, which has to stay as long as they are used; a `struct binfarce_mangling` points into the caller's name.
  *
  * Texts are UTF-8, without a NUL at the end: their length is returned, and binfarce_terminate puts a NUL there. A name may contain
  * any character, even a line feed. They are bytes, so a `char *` is cast: `(const uint8_t *)s`, and in C++
- * `reinterpret_cast<const uint8_t *>(s.data())`. In C++ a struct that is named as a function, as `struct binfarce_sections`, is
- * written with `struct`, since the function hides it.
+ * `reinterpret_cast<const uint8_t *>(s.data())`. In C++ write `struct` before the name of a struct that is also a function's, such
+ * as `struct binfarce_sections`, since the function hides it.
  *
  * Lengths. A call that gives a text or an array writes as much of it as the buffer has room for, and leaves the rest of the
  * buffer unchanged. It always returns the whole length or count: if that exceeds the buffer's, the caller grows the buffer and
  * calls again, and the file is read again. So a buffer that has room at once saves half of the work. A text may be cut within a
  * character. A call that is refused (status isn't BINFARCE_OK) leaves its buffers unchanged, and its lengths are 0; but
- * binfarce_sections gives the sections before a refusal. A pointer to one struct gets all of its fields in each call: where the
- * call is refused, they are 0.
+ * binfarce_sections gives the sections before a refusal. A call writes all fields of the one struct that a pointer points to: if
+ * the call is refused, they are 0.
  *
  * Memory. The calls that say so allocate by malloc and realloc while they run (on Windows by HeapAlloc), and free all of it
  * before they return. If an allocation fails, they return BINFARCE_OUT_OF_MEMORY. A name of 80 kB can have a text of 400 MB, and a
- * call takes about twice a text's memory, even where the buffer's length is 0: bound the length of names from hostile files. With
+ * call takes about twice a text's memory, even if the buffer's length is 0: bound the length of names from hostile files. With
  * the kit's archive malloc has to align blocks as the C library's does.
  *
- * Threads. There is no global state: calls may run on any threads at once, as long as no buffer is shared. Only malloc may lock
- * or block. From a signal handler, or a child forked of a process with threads, only calls that don't allocate may come; a
+ * Threads. There is no global state: calls may run on any threads at once, as long as they share no buffer. Only malloc may lock
+ * or block. A signal handler, or a child forked from a process with threads, may make only calls that don't allocate; a
  * handler's stack has to suffice for the name.
  *
  * Example. It prints `foo::bar`:
@@ -51,8 +51,8 @@
  * Python.
  *
  * Versions. Within libbinfarce.so.1 functions, and numbers of a status, may be added; signatures, structs and the numbers of
- * enums stay: another change makes libbinfarce.so.2. The words of a status may change, and how much stack and memory a call
- * takes. Of a version's number n the parts are n >> 16, n >> 8 & 255 and n & 255; where binfarce_version() is
+ * enums stay: any other change makes libbinfarce.so.2. The words of a status may change, and how much stack and memory a call
+ * takes. A version's number n has the parts n >> 16, n >> 8 & 255 and n & 255; if binfarce_version() is
  * BINFARCE_VERSION_NUMBER or greater, the library has each function of this header.
  *
  * Missing: the header fields of Mach-O and PE files, where a file is loaded, and what the command has beside listings and
@@ -96,27 +96,27 @@ enum binfarce_status {
     BINFARCE_DYNSYM_IS_MISSING = 12,         /* the file has no dynamic symbol table; no Mach-O or PE file has one */
     BINFARCE_DYNSTR_IS_MISSING = 13,         /* its dynamic symbol table links to no section */
     /* Why a section's bytes aren't given. */
-    BINFARCE_NO_BYTES = 14, /* the section has none in the file, as .bss */
+    BINFARCE_NO_BYTES = 14, /* the section has none in the file, such as .bss */
     BINFARCE_PAST_END = 15, /* they end past the file */
-    /* What a file is that isn't read: binfarce_foreign, and each call for a file but binfarce_list and binfarce_report. */
+    /* What a file is that isn't read: from binfarce_foreign, and each call for a file except binfarce_list and binfarce_report. */
     BINFARCE_UNIVERSAL = 32, /* a universal Mach-O file: the caller passes the bytes of one of its parts */
     BINFARCE_JAVA_CLASS = 33,
     BINFARCE_MACHO32 = 34,
     BINFARCE_MACHO_BIG_ENDIAN = 35,
-    BINFARCE_ARCHIVE = 36, /* of ar: the caller passes the bytes of a member */
+    BINFARCE_ARCHIVE = 36, /* by ar: the caller passes the bytes of a member */
     BINFARCE_THIN_ARCHIVE = 37,
     BINFARCE_COFF = 38, /* a COFF object file */
     BINFARCE_PDB = 39,
     BINFARCE_WASM = 40,
-    BINFARCE_BITCODE = 41, /* of LLVM */
+    BINFARCE_BITCODE = 41, /* by LLVM */
     BINFARCE_SCRIPT = 42,
     BINFARCE_TEXT = 43,
     BINFARCE_EMPTY = 44,
     BINFARCE_MANY_SECTIONS = 45, /* an ELF file of 65,280 sections or more */
     BINFARCE_CORE = 46,          /* an ELF core file without sections */
     BINFARCE_DOS = 47,
-    BINFARCE_NE = 48, /* a program of 16-bit Windows or OS/2 */
-    BINFARCE_LE = 49, /* a program of OS/2, or a driver of Windows 9x */
+    BINFARCE_NE = 48, /* a program for 16-bit Windows or OS/2 */
+    BINFARCE_LE = 49, /* a program for OS/2, or a driver for Windows 9x */
     BINFARCE_GZIP = 50,
     BINFARCE_XZ = 51,
     BINFARCE_ZSTD = 52
@@ -132,7 +132,7 @@ enum binfarce_kind {
 /* What a call that gives a text returns. */
 struct binfarce_text {
     uint32_t status; /* enum binfarce_status */
-    uint32_t detail; /* of BINFARCE_UNEXPECTED_SECTION_TYPE the type that was found, and else 0 */
+    uint32_t detail; /* for BINFARCE_UNEXPECTED_SECTION_TYPE the type that was found, else 0 */
     size_t length;   /* the whole length of the text in bytes */
 };
 
@@ -143,7 +143,7 @@ struct binfarce_name {
     size_t complete_length; /* the whole lengths of the texts in bytes */
     size_t trimmed_length;
     size_t crate_length; /* 0 where has_crate is 0; a crate's name may be empty too */
-    uint32_t has_crate; /* 1, or 0 as for a legacy name, whose crate binfarce_crate_of gives */
+    uint32_t has_crate; /* 1, or 0, for example for a legacy name, whose crate binfarce_crate_of gives */
 };
 
 /* The BINFARCE_VERSION_NUMBER of the library that runs. Does not allocate. */
@@ -158,16 +158,16 @@ size_t binfarce_terminate(uint8_t *out, size_t out_length, size_t length);
 
 /*
  * The words of a status, as binfarce-list and binfarce-size print them, but without the number of
- * BINFARCE_UNEXPECTED_SECTION_TYPE: its words are "unexpected section type", and the call that was refused has the number in
- * `detail`. From 32 on they are what a file is, as "an archive"; the command binfarce prints a hint after them. Of a number that is no
- * status they are "unknown status". 64 bytes have room for the words of this version. Returns their length. Does not allocate.
+ * BINFARCE_UNEXPECTED_SECTION_TYPE: its words are "unexpected section type", and the refused call returns the number in
+ * `detail`. From 32 on they say what a file is, such as "an archive"; the command binfarce prints a hint after them. For a number
+ * that is no status they are "unknown status". All words of this version fit into 64 bytes. Returns their length. Does not allocate.
  */
 size_t binfarce_status_text(uint32_t status, uint8_t *out, size_t out_length);
 
 /*
- * A name's readable form: both texts and the crate. The complete text has the disambiguators of crates, or of a legacy name
- * its hash; the trimmed one doesn't. Neither has what follows a mangling, such as `.cold`. The crate is that of a v0 name's first
- * crate root. A name that isn't mangled stays unchanged in both texts, and so does a v0 name that has a form that isn't read
+ * A name's readable form: both texts and the crate. The complete text contains the disambiguators of crates, or a legacy name's
+ * hash; the trimmed one doesn't. Neither contains what follows a mangling, such as `.cold`. The crate is that of a v0 name's first
+ * crate root. A name that isn't mangled stays unchanged in both texts, and so does a v0 name that contains a form that isn't read
  * (docs/NAMES.md of the sources), nests deeper than 500 levels or takes more than 65,536 steps. A buffer whose text isn't wanted
  * has the length 0. Allocates.
  */
@@ -180,7 +180,7 @@ struct binfarce_name binfarce_demangle(const uint8_t *name, size_t name_length,
 struct binfarce_text binfarce_trimmed(const uint8_t *name, size_t name_length, uint8_t *out, size_t out_length);
 
 /*
- * The crate of a name: of a v0 name as binfarce_demangle gives it, and of a legacy name the first part of its path,
+ * The crate of a name: for a v0 name as binfarce_demangle gives it, and for a legacy name the first part of its path,
  * unless that begins with `<`. BINFARCE_NONE if it has no crate; BINFARCE_NOT_UTF8, BINFARCE_OUT_OF_MEMORY. Allocates.
  */
 struct binfarce_text binfarce_crate_of(const uint8_t *name, size_t name_length, uint8_t *out, size_t out_length);
@@ -201,7 +201,7 @@ uint32_t binfarce_mangling(const uint8_t *name, size_t name_length, struct binfa
 
 /*
  * The listing of a file's function symbols: a line for each, `{address:016x} {size:>10} {trimmed name}`, and last
- * `text {size of the section}`. The section is that of an ELF file (usually ".text"); of a Mach-O or PE file it is the
+ * `text {size of the section}`. The section is one of an ELF file (usually ".text"); in a Mach-O or PE file it is the
  * text, whatever the caller passes. BINFARCE_NOT_UTF8 for the section's name, BINFARCE_UNKNOWN_FORMAT, a reader's refusal, or
  * BINFARCE_OUT_OF_MEMORY. Allocates, among other things twice the text's length.
  */
@@ -233,9 +233,9 @@ enum binfarce_format {
 uint32_t binfarce_detect_format(const uint8_t *file, size_t file_length);
 
 /*
- * What a file is that isn't read, by its first 512 bytes: a status from BINFARCE_UNIVERSAL on, and BINFARCE_OK of any other file,
- * also of an unknown one. binfarce_list and binfarce_report, as binfarce-list and binfarce-size, don't ask this: some such files
- * begin as others that they read. Does not allocate.
+ * What a file is that isn't read, by its first 512 bytes: a status from BINFARCE_UNIVERSAL on, and BINFARCE_OK for any other file,
+ * even an unknown one. binfarce_list and binfarce_report, like binfarce-list and binfarce-size, don't check this: some such files
+ * begin like others that they read. Does not allocate.
  */
 uint32_t binfarce_foreign(const uint8_t *file, size_t file_length);
 
@@ -263,9 +263,9 @@ struct binfarce_elf_header {
 uint32_t binfarce_elf_header(const uint8_t *file, size_t file_length, struct binfarce_elf_header *out);
 
 /*
- * A function symbol: in an ELF file of the type STT_FUNC, with a name; in a Mach-O or PE file by docs/FORMATS.md of the sources. In
- * the listing of a section of an ELF file, in which the functions of size 0 are left out, a Thumb function's address has bit 0,
- * its instruction set.
+ * A function symbol: in an ELF file one of type STT_FUNC with a name; in a Mach-O or PE file by docs/FORMATS.md of the sources. The
+ * listing of a section of an ELF file leaves out functions of size 0, and the address of a Thumb function there has bit 0, its
+ * instruction set.
  */
 struct binfarce_function {
     const uint8_t *name; /* the name as it is stored, in the caller's file: its offset there is `name - file`. NULL if it is
@@ -278,14 +278,14 @@ struct binfarce_function {
 /* What a call that gives function symbols returns. */
 struct binfarce_functions {
     uint32_t status;       /* enum binfarce_status */
-    uint32_t detail;       /* of BINFARCE_UNEXPECTED_SECTION_TYPE the type that was found, and else 0 */
+    uint32_t detail;       /* for BINFARCE_UNEXPECTED_SECTION_TYPE the type that was found, else 0 */
     size_t count;          /* how many there are, however many of them the array has room for */
-    uint64_t section_size; /* the size of their section in bytes; 0 where they are those of all sections */
+    uint64_t section_size; /* the size of their section in bytes; 0 if they are those of all sections */
 };
 
 /*
- * The function symbols of a file in the order of its listing, in the caller's array: of an ELF file those of the section
- * with this name, in the order of the symbol table; of a Mach-O or PE file those of the text, by address. BINFARCE_NOT_UTF8 for the
+ * The function symbols of a file in the order of its listing, in the caller's array: in an ELF file those of the section
+ * with this name, in the order of the symbol table; in a Mach-O or PE file those of the text, by address. BINFARCE_NOT_UTF8 for the
  * section's name, what a file is that isn't read, BINFARCE_UNKNOWN_FORMAT, a reader's refusal, or BINFARCE_OUT_OF_MEMORY.
  * Allocates, more for more symbols.
  */
@@ -300,22 +300,21 @@ enum binfarce_symbol_table {
 };
 
 /*
- * The function symbols of all sections of a file, in the caller's array: of an ELF file in the order of this symbol table (a number
- * above 1 is taken as BINFARCE_DYNSYM), also indirect ones (STT_GNU_IFUNC); one of size 0 ends at the next symbol or with its
- * section. Addresses are those in memory that the file states, of a PE file virtual ones; in an object file all sections of ELF
- * and PE begin at 0. Refused as binfarce_functions refuses, but for what is about a
- * section's name. Allocates, more for more symbols.
+ * The function symbols of all sections of a file, in the caller's array: in an ELF file in the order of this symbol table (a number
+ * above 1 counts as BINFARCE_DYNSYM), also indirect ones (STT_GNU_IFUNC); a function of size 0 ends at the next symbol or with its
+ * section. Addresses are those in memory that the file states, in a PE file virtual ones; in an object file all sections of ELF
+ * and PE begin at 0. Refused as binfarce_functions refuses, except for a section's name. Allocates, more for more symbols.
  */
 struct binfarce_functions binfarce_all_functions(const uint8_t *file, size_t file_length, uint32_t table,
                                                  struct binfarce_function *out, size_t out_length);
 
 /*
- * The function at an address: the index of the one in this array that holds it, and `functions_length` if none does. It is held
- * from a function's address on, for its size, which counts at least 1. Of several that hold it it is the one of greatest
- * address, and of these the first; in an ELF file local symbols come first, so of aliases it may be a local one, where the command
- * `binfarce at` names another. The array is best that of binfarce_all_functions: that of one section lacks other sections and
- * functions of size 0, and has offsets in a PE file. The address is one that the file states: of a running program less what the loader added.
- * All of the array is searched, and the file isn't read. Does not allocate.
+ * The function at an address: the index of the one in this array that holds it, and `functions_length` if none does. A function
+ * holds the addresses from its own on, for its size, which counts at least 1. If several hold it, it is the one of greatest
+ * address, and if several have that, the first; in an ELF file local symbols come first, so among aliases it may be a local one,
+ * while the command `binfarce at` names another. Pass the array of binfarce_all_functions: that of one section lacks other sections
+ * and functions of size 0, and has offsets in a PE file. The address is one that the file states: in a running program subtract
+ * what the loader added. Searches all of the array, and doesn't read the file. Does not allocate.
  */
 size_t binfarce_function_at(const struct binfarce_function *functions, size_t functions_length, uint64_t address);
 
@@ -325,8 +324,8 @@ struct binfarce_section {
     size_t name_length;     /* in bytes; the name is UTF-8, and what follows is no part of it */
     const uint8_t *segment; /* in a Mach-O file the name of its segment, there too; in other formats NULL */
     size_t segment_length;
-    uint64_t address;     /* of its first byte in memory; in a PE file counted from the image base. Sections that aren't in memory
-                             have one too, mostly 0 */
+    uint64_t address;     /* that of its first byte in memory; in a PE file counted from the image base. Sections that aren't in
+                             memory have one too, mostly 0 */
     uint64_t offset;      /* where its bytes begin in the file, as the file states it */
     uint64_t size;        /* in bytes; in a PE file the smaller one of VirtualSize and SizeOfRawData, or the one that isn't 0 */
     uint64_t file_size;   /* how many bytes it has in the file: 0 where has_bytes is 0, in a PE file SizeOfRawData */
@@ -334,7 +333,7 @@ struct binfarce_section {
     uint64_t flags;       /* sh_flags, flags or Characteristics */
     uint32_t kind;        /* in ELF its type (sh_type), in a Mach-O file the low byte of its flags, in a PE file 0 */
     uint32_t has_name;    /* 1, or 0 for an ELF section whose name isn't in the file, or isn't UTF-8; a name may be empty too */
-    uint32_t has_bytes;   /* 1, or 0 for a section that has none in the file, as .bss */
+    uint32_t has_bytes;   /* 1, or 0 for a section that has none in the file, such as .bss */
 };
 
 /* What a call that gives all sections returns. */

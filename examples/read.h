@@ -5,7 +5,7 @@
 #include <stdlib.h>
 #include <string.h>
 
-/* A whole file in memory; NULL where it can't be read. */
+/* A whole file in memory; NULL if it can't be read. */
 static uint8_t *read_file(const char *path, size_t *length) {
     FILE *file = fopen(path, "rb");
     size_t room = 1 << 16, read;

@@ -1,8 +1,8 @@
-/* symbolize FILE ADDRESS..: the function at each address, in hexadecimal, as `binfarce at` prints it, but that of aliases the first in
-   the table is named, also a local one: by the symbol table, or where the file has none by the dynamic one. */
+/* symbolize FILE ADDRESS..: the function at each address, in hexadecimal, as `binfarce at` prints it, by the symbol table, or if the
+   file has none by the dynamic one. Among aliases it names the first in the table, even a local one. */
 #include "read.h"
 
-/* The readable name of a function: the caller frees it. NULL where memory runs out. */
+/* The readable name of a function: the caller frees it. NULL if memory runs out. */
 static uint8_t *readable(const struct binfarce_function *function, size_t *length) {
     uint8_t *text = NULL;
     size_t room = 256;

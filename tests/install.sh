@@ -1,5 +1,5 @@
 #!/bin/sh
-# Tries `install` and `uninstall`: with what cargo builds, and with a stub of cargo for what goes wrong. Status 1 where one errs.
+# Tries `install` and `uninstall`, with what cargo builds, and with a stub of cargo for what goes wrong. Status 1 if one errs.
 set -eu
 cd "$(dirname "$0")/.."
 scratch=$(mktemp -d)

@@ -1,5 +1,5 @@
 #!/bin/sh
-# examples/fleet/test.sh: tries the scripts of this folder, with the `binfarce` in the PATH, where the packages that they need are.
+# examples/fleet/test.sh: tries the scripts of this folder with the `binfarce` in the PATH. It leaves out what needs packages that are missing.
 set -eu
 cd "$(dirname "$0")"
 fail() { echo "fleet: $*" >&2; exit 1; }

@@ -31,19 +31,7 @@ pub fn request_of<'a>(command: Command, given: &Arguments<'a>) -> Request<'a>
     ensures form { result.is_json ≡ has Json (given_view given.now) }
     ensures limit { result.limit ≡ limit_given (given_view given.now) }
 {
-    Request {
-        kind: kind_of(command, given),
-        symbols: symbols_of(given, false),
-        is_json: given.has(Json),
-        limit: given.limit(),
-    }
-}
-
-// How the function symbols are shown.
-fn kind_of(command: Command, given: &Arguments<'_>) -> Kind
-    ensures { result ≡ kind_asked command (given_view given.now) }
-{
-    match command {
+    let kind = match command {
         Command::List => listing_of(given),
         Command::Map if given.has(Folded) => Kind::Stacks(given.has(Std)),
         Command::Map => {
@@ -51,6 +39,12 @@ fn kind_of(command: Command, given: &Arguments<'_>) -> Kind
             Kind::Picture(figures.grouping, figures.first)
         }
         _ => Kind::Figures(figures_of(given)),
+    };
+    Request {
+        kind,
+        symbols: symbols_of(given, false),
+        is_json: given.has(Json),
+        limit: given.limit(),
     }
 }
 
@@ -153,7 +147,7 @@ fn selection_of<'a>(given: &Arguments<'a>, are_all: bool) -> Selection<'a>
     }
     match given.value(Section) {
         Some(section) => Selection::Section(section),
-        None if are_all || matches!(key_of(given), Some(Key::Section)) => Selection::All,
+        None if are_all || matches!(given.key(), Some(takes::Key::Section)) => Selection::All,
         None => Selection::Section(".text"),
     }
 }

@@ -126,7 +126,14 @@ fn answer<W: Write>(
         }
         Call::Run(command, given) => {
             let refusals = String::new(rt.alloc());
-            let section = match section_of(*command, given) {
+            let symbols = symbols_of(given, matches!(command, Command::At));
+            // The name of the only section that is asked for, if one is.
+            let section = match (*command, symbols.selection) {
+                (Command::Section, _) => given.operand(1),
+                (_, Selection::Section(name)) => Some(name),
+                (_, Selection::All) => None,
+            };
+            let section = match section {
                 Some(name) => Some(String::from_str(rt.alloc(), name)?),
                 None => None,
             };
@@ -465,20 +472,6 @@ fn lack_of(
     match &file.alone {
         Some(file) => lack(alloc, file, &symbols, is_empty).unwrap_or(None),
         None => None,
-    }
-}
-
-// The name of the only section that is asked for, if one is.
-fn section_of<'a>(command: Command, given: &Arguments<'a>) -> Option<&'a str> {
-    let symbols = match command {
-        Command::Section => return given.operand(1),
-        Command::At => symbols_of(given, true),
-        Command::Diff => symbols_of(given, false),
-        _ => request_of(command, given).symbols,
-    };
-    match symbols.selection {
-        Selection::Section(name) => Some(name),
-        Selection::All => None,
     }
 }
 

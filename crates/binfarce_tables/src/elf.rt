@@ -137,7 +137,7 @@ pub fn read<S: Source>(
     let opened = open(alloc, source)?;
     let sections = sections_of(&opened, log, width, byte_order)?;
     let (headers, width, place) = (&sections.headers, sections.width, sections.place);
-    let names = slice_of(&sections.names);
+    let names = sections.names.as_deref();
     let needed = needed_in(headers, width, place, names, which, selection)?;
     let table = read_placed(&opened, log, &sections, needed)?;
     let versions = read_versions(&opened, log, &sections, which)?;
@@ -182,15 +182,6 @@ pub(crate) fn read_place<S: Source>(
     let size = width.header_length() as u64;
     let bytes = opened.within(log, 0, size)?;
     Ok(place_in(&bytes, width, byte_order)?)
-}
-
-pub(crate) fn slice_of(bytes: &Option<Vec<u8>>) -> Option<&[u8]>
-    ensures { option_map (λ b. b.now) result ≡ option_map (λ v. v.items) bytes.entry.now }
-{
-    match bytes {
-        None => None,
-        Some(bytes) => Some(bytes.as_slice()),
-    }
 }
 
 // The section names, where the file has them.
@@ -264,7 +255,7 @@ fn read_placed<S: Source>(
     let table = read_rows(opened, log, sections.width, needed.table)?;
     let (width, place) = (sections.width, sections.place);
     let headers = headers_alone(&sections.headers, place.byte_order, place.shnum);
-    let names = slice_of(&sections.names);
+    let names = sections.names.as_deref();
     let found = needed_descriptors(headers, names, width, place.kind, needed.taken);
     let Some(section) = found else {
         return Ok(table);

@@ -14,7 +14,7 @@ ghost use Rattle.binfarce_tables.specs.SectionReading.{file_sections, sections_v
 ghost use Rattle.binfarce_tables.specs.declared.error.ReadError.TheVariants.{Unreadable};
 ghost use Rattle.binfarce_tables.specs.machine.Places.{table_at};
 
-use crate::elf::{read_names, read_place, slice_of};
+use crate::elf::{read_names, read_place};
 use crate::error::ReadError;
 use crate::opened::{Opened, open};
 use binfarce_bytes::ByteOrder;
@@ -46,8 +46,7 @@ impl SectionParts {
     pub fn names(&self) -> Option<&[u8]>
         ensures { option_map (λ b. b.now) result ≡ (sections_view self.entry.now).names }
     {
-        let names = &self.names;
-        slice_of(names)
+        self.names.as_deref()
     }
 
     // The name of the section of this index, where there is one and it has a name.
@@ -57,7 +56,7 @@ impl SectionParts {
     {
         name_of_index(
             &self.headers,
-            slice_of(&self.names),
+            self.names(),
             self.width,
             self.place.byte_order,
             self.place.shnum,

@@ -19,17 +19,7 @@ use crate::erased::binfarce_words::takes;
 
 /// What `list`, `size` or `map` shows of each file.
 pub fn request_of<'a>(command: Command, given: &Arguments<'a>) -> Request<'a> {
-    Request {
-        kind: kind_of(command, given),
-        symbols: symbols_of(given, false),
-        is_json: given.has(Json),
-        limit: given.limit(),
-    }
-}
-
-// How the function symbols are shown.
-fn kind_of(command: Command, given: &Arguments<'_>) -> Kind {
-    match command {
+    let kind = match command {
         Command::List => listing_of(given),
         Command::Map if given.has(Folded) => Kind::Stacks(given.has(Std)),
         Command::Map => {
@@ -37,6 +27,12 @@ fn kind_of(command: Command, given: &Arguments<'_>) -> Kind {
             Kind::Picture(figures.grouping, figures.first)
         }
         _ => Kind::Figures(figures_of(given)),
+    };
+    Request {
+        kind,
+        symbols: symbols_of(given, false),
+        is_json: given.has(Json),
+        limit: given.limit(),
     }
 }
 
@@ -122,7 +118,7 @@ fn selection_of<'a>(given: &Arguments<'a>, are_all: bool) -> Selection<'a> {
     }
     match given.value(Section) {
         Some(section) => Selection::Section(section),
-        None if are_all || matches!(key_of(given), Some(Key::Section)) => Selection::All,
+        None if are_all || matches!(given.key(), Some(takes::Key::Section)) => Selection::All,
         None => Selection::Section(".text"),
     }
 }

@@ -3,7 +3,7 @@
 //! The section headers and the section names of an ELF file, read at their offsets.
 
 use crate::shim::Vec;
-use crate::erased::binfarce_tables::elf::{read_names, read_place, slice_of};
+use crate::erased::binfarce_tables::elf::{read_names, read_place};
 use crate::erased::binfarce_tables::error::ReadError;
 use crate::erased::binfarce_tables::opened::{Opened, open};
 use crate::erased::binfarce_bytes::ByteOrder;
@@ -32,15 +32,14 @@ impl SectionParts {
 
     /// The bytes of the section names, where the file has them. Nothing is copied.
     pub fn names(&self) -> Option<&[u8]> {
-        let names = &self.names;
-        slice_of(names)
+        self.names.as_deref()
     }
 
     // The name of the section of this index, where there is one and it has a name.
     pub(crate) fn name_of(&self, number: u32) -> Option<&str> {
         name_of_index(
             &self.headers,
-            slice_of(&self.names),
+            self.names(),
             self.width,
             self.place.byte_order,
             self.place.shnum,

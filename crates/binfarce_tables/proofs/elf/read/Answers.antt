@@ -64,7 +64,7 @@ returns-in_err-needed-clause-answer g c = λ file known.
     let seen = sections_view c.in_ok-sections.sections in
     rw c.in_ok-opened.ensures.source at (converted (g.S.Source.may_fail c.in_ok-opened.opened.source.now) parts_view _ c.in_err-needed.field-0.0 c.from_residual-in_err-needed.result c.from_residual-in_err-needed.ensures
     (from_seen c.args.which class c.args.byte_order file (section_of c.args.selection) seen (c.in_ok-sections.ensures.answer file is_known)
-    ∙ ap (λ (a : Result NeededSections Refusal). a >>= after_needed c.args.which file seen) (needed_is c.in_ok-sections.sections c.args.which (section_of c.args.selection) _ _ _ c.deref.ensures.value c.slice_of-names.ensures c.in_err-needed.ensures)))
+    ∙ ap (λ (a : Result NeededSections Refusal). a >>= after_needed c.args.which file seen) (needed_is c.in_ok-sections.sections c.args.which (section_of c.args.selection) _ _ _ c.deref.ensures.value c.as_deref-names.ensures.value c.in_err-needed.ensures)))
 
 pub returns-in_err-table-clause-answer : goal.returns-in_err-table-clause-answer
 returns-in_err-table-clause-answer g c = λ file known.
@@ -78,7 +78,7 @@ returns-in_err-table-clause-answer g c = λ file known.
     let answer = selected_file_answer c.args.which class c.args.byte_order file section in
     let e = c.in_err-table.field-0.0 in
     rw c.in_ok-opened.ensures.source at (passed fails parts_view answer e c.from_residual-in_err-table.result c.from_residual-in_err-table.ensures
-    (instead fails parts_view answer (after_needed c.args.which file seen n) (Err e) (from_needed c.args.which class c.args.byte_order file section seen given n (needed_is c.in_ok-sections.sections c.args.which (section_of c.args.selection) _ _ _ c.deref.ensures.value c.slice_of-names.ensures c.in_ok-needed.ensures))
+    (instead fails parts_view answer (after_needed c.args.which file seen n) (Err e) (from_needed c.args.which class c.args.byte_order file section seen given n (needed_is c.in_ok-sections.sections c.args.which (section_of c.args.selection) _ _ _ c.deref.ensures.value c.as_deref-names.ensures.value c.in_ok-needed.ensures))
     (after_err fails rows_view parts_view (rows_in_file file seen n) (λ found. Ok (after_found c.args.which file seen n found)) e (c.in_err-table.ensures.answer file is_known))))
 
 pub returns-in_err-versions-clause-answer : goal.returns-in_err-versions-clause-answer
@@ -95,7 +95,7 @@ returns-in_err-versions-clause-answer g c = λ file known.
     let shown = after_found c.args.which file seen n (rows_view c.in_ok-table.table) in
     rw c.in_ok-opened.ensures.source at (passed fails parts_view answer e c.from_residual-in_err-versions.result c.from_residual-in_err-versions.ensures
     (instead fails parts_view answer (Ok shown) (Err e)
-    (from_needed c.args.which class c.args.byte_order file section seen given n (needed_is c.in_ok-sections.sections c.args.which (section_of c.args.selection) _ _ _ c.deref.ensures.value c.slice_of-names.ensures c.in_ok-needed.ensures)
+    (from_needed c.args.which class c.args.byte_order file section seen given n (needed_is c.in_ok-sections.sections c.args.which (section_of c.args.selection) _ _ _ c.deref.ensures.value c.as_deref-names.ensures.value c.in_ok-needed.ensures)
     ∙ ap (λ (a : Result TableRows Refusal). a >>= λ found. Ok (after_found c.args.which file seen n found)) (c.in_ok-table.ensures.answer file is_known))
     (after_err fails (λ (v : VersionParts). v.rows.items) parts_view (Ok (bytes_if file (versions_section c.args.which seen.sections))) (λ bytes. Ok shown) e (c.in_err-versions.ensures.rows file is_known))))
 
@@ -109,7 +109,7 @@ returns-clause-answer g c = λ file known.
     let n = needed_view c.in_ok-needed.needed in
     let rows = rows_view c.in_ok-table.table in
     let versions = c.in_ok-versions.versions in
-    from_needed c.args.which class c.args.byte_order file section seen given n (needed_is c.in_ok-sections.sections c.args.which (section_of c.args.selection) _ _ _ c.deref.ensures.value c.slice_of-names.ensures c.in_ok-needed.ensures)
+    from_needed c.args.which class c.args.byte_order file section seen given n (needed_is c.in_ok-sections.sections c.args.which (section_of c.args.selection) _ _ _ c.deref.ensures.value c.as_deref-names.ensures.value c.in_ok-needed.ensures)
     ∙ ap (λ (a : Result TableRows Refusal). a >>= λ found. Ok (after_found c.args.which file seen n found)) (c.in_ok-table.ensures.answer file is_known)
     ∙ ap Ok (versions_read c.args.which file seen n.taken rows versions.rows.items versions.names (taken (c.in_ok-versions.ensures.rows file is_known)) (c.in_ok-versions.ensures.names file is_known)
     ∙ sym (sizes_are c.in_ok-sections.sections n.taken rows versions.rows.items c.in_ok-sizes.sizes.items (name_by rows.strings (get nat_cmp versions.names)) _ _ _ c.deref-2.ensures.value c.deref-3.ensures.value c.deref-4.ensures.value
@@ -134,7 +134,7 @@ returns-in_err-table-clause-only g c = λ file known.
     let seen = sections_view c.in_ok-sections.sections in
     let given = c.in_ok-sections.ensures.answer file is_known in
     let n = needed_view c.in_ok-needed.needed in
-    let found = table_found c.args.which class c.args.byte_order file section seen given n (needed_is c.in_ok-sections.sections c.args.which (section_of c.args.selection) _ _ _ c.deref.ensures.value c.slice_of-names.ensures c.in_ok-needed.ensures) in
+    let found = table_found c.args.which class c.args.byte_order file section seen given n (needed_is c.in_ok-sections.sections c.args.which (section_of c.args.selection) _ _ _ c.deref.ensures.value c.as_deref-names.ensures.value c.in_ok-needed.ensures) in
     rw c.in_ok-opened.ensures.source at (passed_only _ (next (within (λ P. of_sections P class c.args.byte_order file c.args.which) (c.in_ok-sections.ensures.only file is_known))
     (within (λ P. of_placed c.args.which class c.args.byte_order file section seen given P n found) (c.in_err-table.ensures.only file is_known))) c.from_residual-in_err-table.ensures)
 
@@ -146,7 +146,7 @@ returns-in_err-versions-clause-only g c = λ file known.
     let seen = sections_view c.in_ok-sections.sections in
     let given = c.in_ok-sections.ensures.answer file is_known in
     let n = needed_view c.in_ok-needed.needed in
-    let found = table_found c.args.which class c.args.byte_order file section seen given n (needed_is c.in_ok-sections.sections c.args.which (section_of c.args.selection) _ _ _ c.deref.ensures.value c.slice_of-names.ensures c.in_ok-needed.ensures) in
+    let found = table_found c.args.which class c.args.byte_order file section seen given n (needed_is c.in_ok-sections.sections c.args.which (section_of c.args.selection) _ _ _ c.deref.ensures.value c.as_deref-names.ensures.value c.in_ok-needed.ensures) in
     rw c.in_ok-opened.ensures.source at (passed_only _ (next (within (λ P. of_sections P class c.args.byte_order file c.args.which) (c.in_ok-sections.ensures.only file is_known))
     (next (within (λ P. of_placed c.args.which class c.args.byte_order file section seen given P n found) (c.in_ok-table.ensures.only file is_known))
     (within (λ P. of_versions P class c.args.byte_order file c.args.which seen.sections (walk_is c.args.which class c.args.byte_order file section seen given)) (c.in_err-versions.ensures.only file is_known))))
@@ -160,7 +160,7 @@ returns-clause-only g c = λ file known.
     let seen = sections_view c.in_ok-sections.sections in
     let given = c.in_ok-sections.ensures.answer file is_known in
     let n = needed_view c.in_ok-needed.needed in
-    let found = table_found c.args.which class c.args.byte_order file section seen given n (needed_is c.in_ok-sections.sections c.args.which (section_of c.args.selection) _ _ _ c.deref.ensures.value c.slice_of-names.ensures c.in_ok-needed.ensures) in
+    let found = table_found c.args.which class c.args.byte_order file section seen given n (needed_is c.in_ok-sections.sections c.args.which (section_of c.args.selection) _ _ _ c.deref.ensures.value c.as_deref-names.ensures.value c.in_ok-needed.ensures) in
     rw c.in_ok-opened.ensures.source at (next (within (λ P. of_sections P class c.args.byte_order file c.args.which) (c.in_ok-sections.ensures.only file is_known))
     (next (within (λ P. of_placed c.args.which class c.args.byte_order file section seen given P n found) (c.in_ok-table.ensures.only file is_known))
     (within (λ P. of_versions P class c.args.byte_order file c.args.which seen.sections (walk_is c.args.which class c.args.byte_order file section seen given)) (c.in_ok-versions.ensures.only file is_known))))
@@ -179,7 +179,7 @@ returns-in_err-sizes-clause-only g c = λ file known.
     let seen = sections_view c.in_ok-sections.sections in
     let given = c.in_ok-sections.ensures.answer file is_known in
     let n = needed_view c.in_ok-needed.needed in
-    let found = table_found c.args.which class c.args.byte_order file section seen given n (needed_is c.in_ok-sections.sections c.args.which (section_of c.args.selection) _ _ _ c.deref.ensures.value c.slice_of-names.ensures c.in_ok-needed.ensures) in
+    let found = table_found c.args.which class c.args.byte_order file section seen given n (needed_is c.in_ok-sections.sections c.args.which (section_of c.args.selection) _ _ _ c.deref.ensures.value c.as_deref-names.ensures.value c.in_ok-needed.ensures) in
     rw c.in_ok-opened.ensures.source at (ending (next (within (λ P. of_sections P class c.args.byte_order file c.args.which) (c.in_ok-sections.ensures.only file is_known))
     (next (within (λ P. of_placed c.args.which class c.args.byte_order file section seen given P n found) (c.in_ok-table.ensures.only file is_known))
     (within (λ P. of_versions P class c.args.byte_order file c.args.which seen.sections (walk_is c.args.which class c.args.byte_order file section seen given)) (c.in_ok-versions.ensures.only file is_known))))

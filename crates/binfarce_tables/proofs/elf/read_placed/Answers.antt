@@ -79,7 +79,7 @@ pub returns-in_default-clause-answer : goal.returns-in_default-clause-answer
 returns-in_default-clause-answer g c = λ file known.
     let s = c.args.sections.now in
     let n = needed_view c.args.needed in
-    let is = wanted_is s n _ _ _ _ c.needed_descriptors-found.ensures c.headers_alone-headers.ensures c.deref.ensures.value c.slice_of-names.ensures in
+    let is = wanted_is s n _ _ _ _ c.needed_descriptors-found.ensures c.headers_alone-headers.ensures c.deref.ensures.value c.as_deref-names.ensures.value in
     by_section file (sections_view s) n (rows_view c.in_ok-table.table) (c.in_ok-table.ensures.answer file known) None (is ∙ ap (option_map (section_view (λ n. n))) c.in_default.is)
 
 pub returns-in_err-descriptors-clause-answer : goal.returns-in_err-descriptors-clause-answer
@@ -90,7 +90,7 @@ returns-in_err-descriptors-clause-answer g c = λ file known.
     let n = needed_view c.args.needed in
     let found = rows_view c.in_ok-table.table in
     let section = section_view (λ n. n) c.in-Some.section in
-    let is = wanted_is s n _ _ _ _ c.needed_descriptors-found.ensures c.headers_alone-headers.ensures c.deref.ensures.value c.slice_of-names.ensures ∙ ap (option_map (section_view (λ n. n))) c.in-Some.is in
+    let is = wanted_is s n _ _ _ _ c.needed_descriptors-found.ensures c.headers_alone-headers.ensures c.deref.ensures.value c.as_deref-names.ensures.value ∙ ap (option_map (section_view (λ n. n))) c.in-Some.is in
     let with_bytes : List ℕ → Result TableRows Refusal = λ bytes. Ok (record { strings = found.strings; rows = rows_in_code seen.order seen.sections section bytes found.rows }) in
     let e = c.in_err-descriptors.field-0.0 in
     passed fails rows_view _ e c.from_residual-in_err-descriptors.result c.from_residual-in_err-descriptors.ensures
@@ -110,7 +110,7 @@ returns-clause-answer g c = λ file known.
     let n = needed_view c.args.needed in
     let found = rows_view c.in_ok-table.table in
     let section = section_view (λ n. n) c.in-Some.section in
-    let is = wanted_is s n _ _ _ _ c.needed_descriptors-found.ensures c.headers_alone-headers.ensures c.deref.ensures.value c.slice_of-names.ensures ∙ ap (option_map (section_view (λ n. n))) c.in-Some.is in
+    let is = wanted_is s n _ _ _ _ c.needed_descriptors-found.ensures c.headers_alone-headers.ensures c.deref.ensures.value c.as_deref-names.ensures.value ∙ ap (option_map (section_view (λ n. n))) c.in-Some.is in
     let bytes = taken (c.in_ok-descriptors.ensures.answer file known) ∙ ap (bytes_if file) c.stored.ensures in
     let made = made_is s _ _ _ section _ _ _ _ _ c.in_ok-rows.ensures refl c.headers_alone-headers.ensures c.deref.ensures.value c.deref-2.ensures.value c.deref-3.ensures.value in
     by_section file seen n found (c.in_ok-table.ensures.answer file known) (Some section) is
@@ -134,7 +134,7 @@ returns-in_err-descriptors-clause-only g c = λ file known.
     let seen = sections_view s in
     let n = needed_view c.args.needed in
     let section = section_view (λ n. n) c.in-Some.section in
-    let is = wanted_is s n _ _ _ _ c.needed_descriptors-found.ensures c.headers_alone-headers.ensures c.deref.ensures.value c.slice_of-names.ensures ∙ ap (option_map (section_view (λ n. n))) c.in-Some.is in
+    let is = wanted_is s n _ _ _ _ c.needed_descriptors-found.ensures c.headers_alone-headers.ensures c.deref.ensures.value c.as_deref-names.ensures.value ∙ ap (option_map (section_view (λ n. n))) c.in-Some.is in
     passed_only _ (next (within (λ P. front P (rows_parts file n.table) (descriptor_parts file (wanted seen n))) (c.in_ok-table.ensures.only file known))
     (within (λ P. of_stored P file (rows_parts file n.table) (wanted seen n) section _ is c.stored.ensures) (c.in_err-descriptors.ensures.only file known))) c.from_residual-in_err-descriptors.ensures
 
@@ -144,7 +144,7 @@ returns-in_err-rows-clause-only g c = λ file known.
     let seen = sections_view s in
     let n = needed_view c.args.needed in
     let section = section_view (λ n. n) c.in-Some.section in
-    let is = wanted_is s n _ _ _ _ c.needed_descriptors-found.ensures c.headers_alone-headers.ensures c.deref.ensures.value c.slice_of-names.ensures ∙ ap (option_map (section_view (λ n. n))) c.in-Some.is in
+    let is = wanted_is s n _ _ _ _ c.needed_descriptors-found.ensures c.headers_alone-headers.ensures c.deref.ensures.value c.as_deref-names.ensures.value ∙ ap (option_map (section_view (λ n. n))) c.in-Some.is in
     ending (next (within (λ P. front P (rows_parts file n.table) (descriptor_parts file (wanted seen n))) (c.in_ok-table.ensures.only file known))
     (within (λ P. of_stored P file (rows_parts file n.table) (wanted seen n) section _ is c.stored.ensures) (c.in_ok-descriptors.ensures.only file known)))
     (out_surely c.from_residual-in_err-rows.result c.from_residual-in_err-rows.ensures)
@@ -155,6 +155,6 @@ returns-clause-only g c = λ file known.
     let seen = sections_view s in
     let n = needed_view c.args.needed in
     let section = section_view (λ n. n) c.in-Some.section in
-    let is = wanted_is s n _ _ _ _ c.needed_descriptors-found.ensures c.headers_alone-headers.ensures c.deref.ensures.value c.slice_of-names.ensures ∙ ap (option_map (section_view (λ n. n))) c.in-Some.is in
+    let is = wanted_is s n _ _ _ _ c.needed_descriptors-found.ensures c.headers_alone-headers.ensures c.deref.ensures.value c.as_deref-names.ensures.value ∙ ap (option_map (section_view (λ n. n))) c.in-Some.is in
     next (within (λ P. front P (rows_parts file n.table) (descriptor_parts file (wanted seen n))) (c.in_ok-table.ensures.only file known))
     (within (λ P. of_stored P file (rows_parts file n.table) (wanted seen n) section _ is c.stored.ensures) (c.in_ok-descriptors.ensures.only file known))

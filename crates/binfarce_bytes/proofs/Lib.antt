@@ -12,3 +12,4 @@ pub mod Above
 pub mod Sweeping
 pub mod Views
 pub mod Searches
+pub mod SomeListed

@@ -153,17 +153,22 @@ fn has_any<S: Source<Log = ()>>(
     }
 }
 
-/// Whether tables have a function symbol.
+/// Whether tables have a function symbol. Those of a Mach-O or PE file aren't sorted for it.
+#[tactic(auto, unfolding(binfarce_tools::specs::Tables::AreTablesOf))]
 pub(crate) fn has_functions(alloc: Global, tables: &Tables<'_>) -> Result<bool, ReadError>
     ensures has { (which : SymbolTable) (file : List ℕ) (section : Option (List ℕ))
         → AreTablesOf which file section tables.now
         → IfOk result (λ has. has ≡ has_functions (selected_answer which section file)) }
     ensures memory { IfErr result (λ e. e ≡ OutOfMemory) }
 {
-    match tables.functions(alloc) {
-        Ok(selected) => Ok(!selected.functions.is_empty()),
-        Err(ListError::OutOfMemory) => Err(ReadError::OutOfMemory),
-        Err(_) => Ok(false),
+    match tables {
+        Tables::Macho(parts) => Ok(parts.has_functions()),
+        Tables::Pe(parts) => Ok(parts.has_functions()),
+        _ => match tables.functions(alloc) {
+            Ok(selected) => Ok(!selected.functions.is_empty()),
+            Err(ListError::OutOfMemory) => Err(ReadError::OutOfMemory),
+            Err(_) => Ok(false),
+        },
     }
 }
 

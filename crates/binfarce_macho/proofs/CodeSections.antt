@@ -1,8 +1,8 @@
 -- The code section, as a loop over the sections finds it.
-use Rattle.std.proofs.Common.{◌≡◌, ℕ, ◌+◌, ◌<◌, ◌≤◌, Bool, true, false, cond, List, [], ◌∷◌, length, get_or, drop, map, Option, Some, None, refl, sym, ap, ◌∙◌}
+use Rattle.std.proofs.Common.{◌≡◌, ℕ, ◌+◌, ◌<◌, ◌≤◌, Bool, true, false, cond, List, ◌∷◌, length, get_or, drop, map, Some, None, sym, ap, ◌∙◌}
 use Rattle.std.proofs.lemmas.List.{drop_more, drop_all}
 use Rattle.binfarce_macho.specs.MachoSections.{NumberedSection}
-use Rattle.binfarce_macho.specs.MachoSelection.{CodeSection, code_among, is_code, numbered_view}
+use Rattle.binfarce_macho.specs.MachoSelection.{code_among, is_code, numbered_view}
 use Rattle.binfarce_macho.specs.declared.numbered.NumberedSection as code
 
 module _ (sections : List code.NumberedSection) (k : ℕ) (section : code.NumberedSection) (lt : k < length sections) (is : section ≡ get_or sections k section) where

@@ -263,7 +263,8 @@ all_listed f number g (r ∷ rows) all =
     ap (λ (es : List SectionEntry). record { section = number; info = 0; version = 0; entry = g r } ∷ es) (all_listed f number g rows (λ k d lt. all (suc k) d (omega arith)))
     ∙ ap (λ (o : Option Entry). in_section number (cons_option o (filter_map f rows))) (sym (All-head (λ r. f r ≡ Some (g r)) r rows all))
 
-listed_none : (f : RowAddress → SectionEntry) (rows : List RowAddress) → rows ≡ [] → map f (arranged rows) ≡ []
+-- without a row nothing is made
+pub listed_none : (f : RowAddress → SectionEntry) (rows : List RowAddress) → rows ≡ [] → map f (arranged rows) ≡ []
 unfolding arranged
 listed_none f rows none = rw none refl
 

@@ -13,3 +13,4 @@ pub mod TextAnswers
 pub mod EachSection
 pub mod SectionLists
 pub mod Selected
+pub mod SomeKept

@@ -40,7 +40,7 @@ module _ (selected : SelectedSections) (symbols : Symbols) where
   of_selected k o at is = ap (λ (b : Bool). cond b (entries_at symbols (k + 1) (slice_get selected.sections k)) []) is ∙ ap (entries_at symbols (k + 1)) at
 
   -- there is none of this index
-  of_none : (k : ℕ) → slice_get selected.sections k ≡ None → selected_at selected symbols k ≡ []
+  pub of_none : (k : ℕ) → slice_get selected.sections k ≡ None → selected_at selected symbols k ≡ []
   of_none k none = ap (λ (o : Option NumberedSection). cond (is_selected selected.code k) (entries_at symbols (k + 1) o) []) none ∙ nothing (is_selected selected.code k)
 
   -- or it isn't selected

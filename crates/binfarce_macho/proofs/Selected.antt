@@ -1,13 +1,13 @@
 -- What a file answers for a selection.
-use Rattle.std.proofs.Common.{◌≡◌, ◌≢◌, ℕ, List, [], map, Option, None, Some, Result, Ok, Err, IsErrAnd, ◌⊎◌, inl, inr, refl, sym, ap, subst, ◌∙◌}
+use Rattle.std.proofs.Common.{◌≡◌, ◌≢◌, ℕ, List, [], map, Option, None, Result, Ok, Err, IsErrAnd, ◌⊎◌, inl, inr, refl, sym, ap, ◌∙◌}
 use Rattle.std.specs.Global.{Vec}
 use Rattle.binfarce_bytes.specs.declared.error.ParseError.{ParseError}
 use Rattle.binfarce_bytes.specs.declared.functions.SectionFunction.{SectionFunction}
 use Rattle.binfarce_bytes.specs.Refusal.{◌>>=◌, Refusal, refusal_of, out_of_memory}
 use Rattle.binfarce_bytes.specs.Entries.{Answers}
-use Rattle.binfarce_bytes.specs.SectionEntries.{SectionEntry, SelectedSymbols, AnswersAll}
+use Rattle.binfarce_bytes.specs.SectionEntries.{SelectedSymbols, AnswersAll}
 use Rattle.binfarce_bytes.specs.SymbolViews.{HoldsSectionFunctions, HoldsSized}
-use Rattle.binfarce_macho.specs.MachoSections.{NumberedSection, HasSection, section_starts, numbered_at, numbered_sections}
+use Rattle.binfarce_macho.specs.MachoSections.{HasSection, section_starts, numbered_at, numbered_sections}
 use Rattle.binfarce_macho.specs.MachoSelection.{CodeSection, SelectedSections, code_of, sections_in, selected_tables, entries_in, section_size, symbols_of, selected_answer, all_answer}
 use Rattle.binfarce_macho.specs.MachoSymbols.{SymtabCommand, Symbols, table_of, symbols_by}
 use Rattle.binfarce_macho.proofs.MachoAnswers.{refusal_answers}

@@ -4,7 +4,7 @@ use Rattle.std.specs.Option.{option_map}
 use Rattle.std.specs.List.{range_with_len, filter_map, flat_map, starts_with}
 use Rattle.binfarce_bytes.specs.Text.{text_at}
 use Rattle.binfarce_bytes.specs.Refusal.{◌>>=◌, Refusal}
-use Rattle.binfarce_bytes.specs.Field.{field, number_in}
+use Rattle.binfarce_bytes.specs.Field.{number_in}
 use Rattle.binfarce_bytes.specs.Entries.{Entry}
 use Rattle.binfarce_bytes.specs.SectionEntries.{SectionEntry, in_section, unless}
 use Rattle.binfarce_bytes.specs.Sizes.{RowAddress, arranged, addresses_of, least_above}

@@ -273,6 +273,41 @@ fn sized_entry(address: u64, size: Option<u64>, name: Option<&str>) -> Option<Fu
     })
 }
 
+/// Whether the selected sections have a function symbol: whether the list of `functions_of` has an element. Nothing is
+/// allocated, and nothing is sorted.
+pub fn has_functions(selected: &SelectedSections, symbols: Option<SymbolBytes<'_>>) -> bool
+    ensures { result ≡ nat_lt 0
+        (length (entries_in (sections_view selected.now) (option_map symbols_view symbols.entry))) }
+{
+    match symbols {
+        None => false,
+        Some(symbols) => keeps_some(&selected.sections, selected.code, symbols),
+    }
+}
+
+// Whether a row is kept of a selected section.
+fn keeps_some(
+    sections: &[NumberedSection],
+    code: Option<CodeSection>,
+    symbols: SymbolBytes<'_>,
+) -> bool
+    ensures { result ≡ nat_lt 0
+        (length (entries_of_selected (selected_view sections.now code) (symbols_view symbols.entry))) }
+{
+    for k in 0..symbols.rows.len() / SYMBOL_LENGTH {
+        let row = symbol_at(symbols.rows, k * SYMBOL_LENGTH).unwrap();
+        match kept_of(sections, symbols.strings, row) {
+            None => {}
+            Some((at, _)) => {
+                if is_taken(sections, code, at) {
+                    return true;
+                }
+            }
+        }
+    }
+    false
+}
+
 // The function symbols of selected sections in a symbol table. Only a failed allocation is an error.
 fn functions_in<'a>(
     alloc: Global,
@@ -364,7 +399,7 @@ fn kept_of<'a>(
         (symbol_view row) in MatchOption result
         ((i : ℕ) → name i ≡ None)
         (λ found. (found.0 < length sections.now) × (name found.0 ≡ Some found.1.now)
-        × ((i : ℕ) → i ≢ found.0 → name i ≡ None)) }
+        × ((i : ℕ) → i ≢ found.0 → name i ≡ None) × (found.0 < 255)) }
 {
     if row.section == 0 {
         return None;

@@ -1,6 +1,6 @@
 -- The rows that end sizes in each selected section, as one loop goes over all rows.
 use Rattle.std.specs.Borrow.{Bor}
-use Rattle.std.proofs.Common.{true, is_some, ◌≡◌, ◌≢◌, ◌⊎◌, ℕ, zero, suc, ◌+◌, ◌<◌, ◌≤◌, List, [], ◌∷◌, ◌++◌, length, get_or, set, map, All, Option, Some, None, inl, inr, refl, sym, ap, subst, ◌∙◌, arith, nat_eq, length-set, get_or-set_other}
+use Rattle.std.proofs.Common.{true, is_some, ◌≡◌, ◌≢◌, ◌⊎◌, ℕ, suc, ◌+◌, ◌<◌, ◌≤◌, List, [], ◌∷◌, ◌++◌, length, get_or, set, map, All, Option, Some, None, inl, inr, refl, sym, ap, subst, ◌∙◌, arith, nat_eq, length-set, get_or-set_other}
 use Rattle.std.specs.Prelude.{if◌then◌else◌}
 use Rattle.std.specs.Option.{option_map}
 use Rattle.std.specs.List.{range_with_len, flat_map}
@@ -15,6 +15,7 @@ use Rattle.binfarce_bytes.specs.SectionEntries.{in_section}
 use Rattle.binfarce_bytes.specs.Sizes.{RowAddress, addresses_of}
 use Rattle.binfarce_bytes.specs.RowViews.{row_view, rows_view}
 use Rattle.binfarce_bytes.proofs.Rows.{range_more}
+use Rattle.binfarce_bytes.proofs.SomeListed.{none_listed, some_listed}
 use Rattle.binfarce_pe.specs.declared.functions.Held.{Held}
 use Rattle.binfarce_pe.specs.PeSelection.{Rules, moved, section_entries, entries_by}
 use Rattle.binfarce_pe.specs.PeSymbols.{CoffTable, record_count, symbol_of, row_numbers}
@@ -139,32 +140,9 @@ others_held table rules held at nothing h i low lt =
 pub one_section_more : {A : Type 0} (f : ℕ → List A) (a n : ℕ) → flat_map f (range_with_len a (n + 1)) ≡ flat_map f (range_with_len a n) ++ f (a + n)
 one_section_more f a n = ap (flat_map f) (range_more a n) ∙ flat_map-append f (range_with_len a n) ((a + n) ∷ []) ∙ ap (λ (xs : List _). flat_map f (range_with_len a n) ++ xs) (append-nil (f (a + n)))
 
-append_some : {A : Type 0} (xs ys : List A) → ys ≢ [] → xs ++ ys ≢ []
-append_some [] ys some none = some none
-append_some (x ∷ xs) ys some none = cc
-
-some_append : {A : Type 0} (xs ys : List A) → xs ≢ [] → xs ++ ys ≢ []
-some_append [] ys some none = some refl
-some_append (x ∷ xs) ys some none = cc
-
-some_listed : {A : Type 0} (f : ℕ → List A) (a n i : ℕ) → i < n → f (a + i) ≢ [] → flat_map f (range_with_len a n) ≢ []
-some_listed f a zero i lt some = absurd (omega arith)
-some_listed f a (suc n) zero lt some =
-    let here : f a ≢ [] = subst (λ (m : ℕ). f m ≢ []) (omega arith) some in
-    some_append (f a) (flat_map f (range_with_len (a + 1) n)) here
-some_listed f a (suc n) (suc i) lt some =
-    let there : f (a + 1 + i) ≢ [] = subst (λ (m : ℕ). f m ≢ []) (omega arith) some in
-    append_some (f a) (flat_map f (range_with_len (a + 1) n)) (some_listed f (a + 1) n i (omega arith) there)
-
 pub mapped_some : {A B : Type 0} (g : A → B) (xs : List A) → xs ≢ [] → map g xs ≢ []
 mapped_some g [] some none = some refl
 mapped_some g (x ∷ xs) some none = cc
-
-none_listed : {A : Type 0} (f : ℕ → List A) (a n : ℕ) → ((i : ℕ) → i < n → f (a + i) ≡ []) → flat_map f (range_with_len a n) ≡ []
-none_listed f a zero none = refl
-none_listed f a (suc n) none =
-    let here : f a ≡ [] = subst (λ (m : ℕ). f m ≡ []) (omega arith) (none 0 (omega arith)) in
-    rw here (none_listed f (a + 1) n (λ i lt. subst (λ (m : ℕ). f m ≡ []) (omega arith) (none (suc i) (omega arith))))
 
 -- none of these rows is kept of a selected section
 abbrev pub NoneKept : CoffTable → Rules → List ℕ → Type 0

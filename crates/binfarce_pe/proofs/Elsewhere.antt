@@ -1,5 +1,5 @@
 -- In which of the selected sections a row is kept, or ends sizes.
-use Rattle.std.proofs.Common.{◌≡◌, ℕ, ◌+◌, Bool, true, false, ◌&&◌, ◌||◌, not, List, Option, None, refl, nat_eq}
+use Rattle.std.proofs.Common.{◌≡◌, ℕ, ◌+◌, Bool, true, false, ◌&&◌, ◌||◌, not, None, refl, nat_eq}
 use Rattle.std.specs.Prelude.{unwrap_or}
 use Rattle.std.specs.Option.{option_map}
 use Rattle.binfarce_pe.specs.PeSelection.{SelectedSections, the_text, in_memory, rules_of, is_inner}

@@ -186,6 +186,7 @@ pub fn section_name<'a>(sections: Table<'a>, strings: &'a [u8], number: u32) -> 
 
 /// The function symbols of selected sections in a symbol table: by section, and in each by the row's value and at equal
 /// values in table order. The only error is a failed allocation, and only instead of a list that isn't empty.
+#[tactic(auto, using(binfarce_bytes::proofs::SomeListed::none_of, binfarce_bytes::proofs::SomeListed::some_of))]
 pub fn functions_of<'a>(
     alloc: Global,
     sections: SelectedSections<'_>,
@@ -198,7 +199,7 @@ pub fn functions_of<'a>(
         (entries_by (rules_of (sections_view sections.entry)) (table_view symbols.entry) ≢ []) }
 {
     let mut functions = Vec::new(alloc);
-    if !keeps_some(sections, symbols) {
+    if !has_functions(sections, symbols) {
         return Ok(functions);
     }
     let mut held = rows_by_section(alloc, sections, symbols)?;
@@ -441,12 +442,11 @@ struct Held<'a> {
     names: Vec<Option<&'a str>>,
 }
 
-// Whether a row is kept of a selected section. Nothing is allocated.
-fn keeps_some(sections: SelectedSections<'_>, symbols: CoffTable<'_>) -> bool
-    ensures some { result ≡ true
-        → entries_by (rules_of (sections_view sections.entry)) (table_view symbols.entry) ≢ [] }
-    ensures none { result ≡ false
-        → entries_by (rules_of (sections_view sections.entry)) (table_view symbols.entry) ≡ [] }
+/// Whether the selected sections have a function symbol: whether the list of `functions_of` has an element. Nothing is
+/// allocated, and nothing is sorted.
+pub fn has_functions(sections: SelectedSections<'_>, symbols: CoffTable<'_>) -> bool
+    ensures { result ≡ nat_lt 0
+        (length (entries_by (rules_of (sections_view sections.entry)) (table_view symbols.entry))) }
 {
     let row_count = symbols.rows.len() / SYMBOL_LENGTH;
     let mut next = 0;

@@ -1,6 +1,6 @@
 //! 64-bit Mach-O files, of which only the tables are read (Apple's `<mach-o/loader.h>` and `<mach-o/nlist.h>`).
 
-ghost use Rattle.std.specs.Prelude.{◌∷◌, [], ◌≡◌, ◌≢◌, ◌⊎◌, ◌<◌, ◌≤◌, List, ℕ, false, true, Ok, Some, length, MatchResult, IfOk, IfErr};
+ghost use Rattle.std.specs.Prelude.{◌∷◌, [], ◌≡◌, ◌≢◌, ◌⊎◌, ◌<◌, ◌≤◌, List, ℕ, false, true, Ok, Some, length, nat_lt, MatchResult, IfOk, IfErr};
 ghost use Rattle.std.specs.Option.{option_map};
 ghost use Rattle.binfarce_bytes.specs.Entries.{Answers};
 ghost use Rattle.binfarce_bytes.specs.Part.{part, parts_if};
@@ -27,7 +27,7 @@ use crate::opened::{Opened, open};
 use binfarce_bytes::ParseError;
 use binfarce_bytes::functions::{SectionFunction, Selection};
 use binfarce_bytes::source::Source;
-use binfarce_macho::functions::functions_of;
+use binfarce_macho::functions::{functions_of, has_functions};
 use binfarce_macho::header::{MachoHeader, parse_header};
 use binfarce_macho::numbered::{SelectedSections, selected_sections};
 use binfarce_macho::parts::{commands_end, holds_commands, load_address};
@@ -63,6 +63,13 @@ impl Parts {
             Answers HoldsSelected (λ _. tables.sections.sections ≢ []) (Ok (symbols_of tables)) result }
     {
         functions_of(alloc, &self.sections, symbols_in(&self.symbols))
+    }
+
+    /// Whether `functions` gives a function symbol. Nothing is allocated, and nothing is sorted.
+    pub fn has_functions(&self) -> bool
+        ensures { result ≡ nat_lt 0 (length (symbols_of (parts_view self.entry.now)).entries) }
+    {
+        has_functions(&self.sections, symbols_in(&self.symbols))
     }
 
     /// The size in bytes of the code section; `None` where all sections are selected.

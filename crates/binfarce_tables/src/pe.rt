@@ -1,6 +1,6 @@
 //! PE files, of which only the tables are read (Microsoft PE Format).
 
-ghost use Rattle.std.specs.Prelude.{◌∷◌, [], ◌≡◌, ◌≢◌, ◌<◌, ◌≤◌, ◌+◌, List, ℕ, true, Ok, drop, length, Some, None, IfOk, IfErr};
+ghost use Rattle.std.specs.Prelude.{◌∷◌, [], ◌≡◌, ◌≢◌, ◌<◌, ◌≤◌, ◌+◌, List, ℕ, true, Ok, drop, length, nat_lt, Some, None, IfOk, IfErr};
 ghost use Rattle.std.specs.Option.{option_map};
 ghost use Rattle.binfarce_bytes.specs.Entries.{Answers};
 ghost use Rattle.binfarce_bytes.specs.Source.{ReadsOnly};
@@ -25,7 +25,9 @@ use binfarce_bytes::functions::{SectionFunction, Selection};
 use binfarce_bytes::parser::{number_at, to_index};
 use binfarce_bytes::source::Source;
 use binfarce_bytes::{ByteOrder, ParseError};
-use binfarce_pe::functions::{SelectedSections, code_of, functions_of, section_name};
+use binfarce_pe::functions::{
+    SelectedSections, code_of, functions_of, has_functions, section_name,
+};
 use binfarce_pe::header::image_base;
 use binfarce_pe::names::has_long_names;
 use binfarce_pe::parts::{
@@ -89,6 +91,17 @@ impl Parts {
             strings: &self.records.strings,
         };
         Ok(functions_of(alloc, self.sections.chosen(), symbols)?)
+    }
+
+    /// Whether `functions` gives a function symbol. Nothing is allocated, and nothing is sorted.
+    pub fn has_functions(&self) -> bool
+        ensures { result ≡ nat_lt 0 (length (selected_view self.entry.now).entries) }
+    {
+        let symbols = CoffTable {
+            rows: &self.records.rows,
+            strings: &self.records.strings,
+        };
+        has_functions(self.sections.chosen(), symbols)
     }
 
     /// The size in bytes of the code section in memory; `None` where all sections are selected.

@@ -130,12 +130,16 @@ fn has_any<S: Source<Log = ()>>(
     }
 }
 
-/// Whether tables have a function symbol.
+/// Whether tables have a function symbol. Those of a Mach-O or PE file aren't sorted for it.
 pub(crate) fn has_functions(alloc: Global, tables: &Tables<'_>) -> Result<bool, ReadError> {
-    match tables.functions(alloc) {
-        Ok(selected) => Ok(!selected.functions.is_empty()),
-        Err(ListError::OutOfMemory) => Err(ReadError::OutOfMemory),
-        Err(_) => Ok(false),
+    match tables {
+        Tables::Macho(parts) => Ok(parts.has_functions()),
+        Tables::Pe(parts) => Ok(parts.has_functions()),
+        _ => match tables.functions(alloc) {
+            Ok(selected) => Ok(!selected.functions.is_empty()),
+            Err(ListError::OutOfMemory) => Err(ReadError::OutOfMemory),
+            Err(_) => Ok(false),
+        },
     }
 }
 

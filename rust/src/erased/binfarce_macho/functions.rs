@@ -211,6 +211,35 @@ fn sized_entry(address: u64, size: Option<u64>, name: Option<&str>) -> Option<Fu
     })
 }
 
+/// Whether the selected sections have a function symbol: whether the list of `functions_of` has an element. Nothing is
+/// allocated, and nothing is sorted.
+pub fn has_functions(selected: &SelectedSections, symbols: Option<SymbolBytes<'_>>) -> bool {
+    match symbols {
+        None => false,
+        Some(symbols) => keeps_some(&selected.sections, selected.code, symbols),
+    }
+}
+
+// Whether a row is kept of a selected section.
+fn keeps_some(
+    sections: &[NumberedSection],
+    code: Option<CodeSection>,
+    symbols: SymbolBytes<'_>,
+) -> bool {
+    for k in 0..symbols.rows.len() / SYMBOL_LENGTH {
+        let row = symbol_at(symbols.rows, k * SYMBOL_LENGTH).unwrap();
+        match kept_of(sections, symbols.strings, row) {
+            None => {}
+            Some((at, _)) => {
+                if is_taken(sections, code, at) {
+                    return true;
+                }
+            }
+        }
+    }
+    false
+}
+
 // The function symbols of selected sections in a symbol table. Only a failed allocation is an error.
 fn functions_in<'a>(
     alloc: Global,

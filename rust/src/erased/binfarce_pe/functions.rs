@@ -147,7 +147,7 @@ pub fn functions_of<'a>(
     symbols: CoffTable<'a>,
 ) -> Result<Vec<SectionFunction<'a>>, AllocError> {
     let mut functions = Vec::new(alloc);
-    if !keeps_some(sections, symbols) {
+    if !has_functions(sections, symbols) {
         return Ok(functions);
     }
     let mut held = rows_by_section(alloc, sections, symbols)?;
@@ -326,8 +326,9 @@ struct Held<'a> {
     names: Vec<Option<&'a str>>,
 }
 
-// Whether a row is kept of a selected section. Nothing is allocated.
-fn keeps_some(sections: SelectedSections<'_>, symbols: CoffTable<'_>) -> bool {
+/// Whether the selected sections have a function symbol: whether the list of `functions_of` has an element. Nothing is
+/// allocated, and nothing is sorted.
+pub fn has_functions(sections: SelectedSections<'_>, symbols: CoffTable<'_>) -> bool {
     let row_count = symbols.rows.len() / SYMBOL_LENGTH;
     let mut next = 0;
     while next < row_count {

@@ -9,7 +9,7 @@ use crate::erased::binfarce_tables::opened::{Opened, open};
 use crate::erased::binfarce_bytes::ParseError;
 use crate::erased::binfarce_bytes::functions::{SectionFunction, Selection};
 use crate::erased::binfarce_bytes::source::Source;
-use crate::erased::binfarce_macho::functions::functions_of;
+use crate::erased::binfarce_macho::functions::{functions_of, has_functions};
 use crate::erased::binfarce_macho::header::{MachoHeader, parse_header};
 use crate::erased::binfarce_macho::numbered::{SelectedSections, selected_sections};
 use crate::erased::binfarce_macho::parts::{commands_end, holds_commands, load_address};
@@ -42,6 +42,11 @@ impl Parts {
     /// `OutOfMemory`, only where the file has a section.
     pub fn functions(&self, alloc: Global) -> Result<Vec<SectionFunction<'_>>, ParseError> {
         functions_of(alloc, &self.sections, symbols_in(&self.symbols))
+    }
+
+    /// Whether `functions` gives a function symbol. Nothing is allocated, and nothing is sorted.
+    pub fn has_functions(&self) -> bool {
+        has_functions(&self.sections, symbols_in(&self.symbols))
     }
 
     /// The size in bytes of the code section; `None` where all sections are selected.

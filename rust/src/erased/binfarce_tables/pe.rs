@@ -10,7 +10,9 @@ use crate::erased::binfarce_bytes::functions::{SectionFunction, Selection};
 use crate::erased::binfarce_bytes::parser::{number_at, to_index};
 use crate::erased::binfarce_bytes::source::Source;
 use crate::erased::binfarce_bytes::{ByteOrder, ParseError};
-use crate::erased::binfarce_pe::functions::{SelectedSections, code_of, functions_of, section_name};
+use crate::erased::binfarce_pe::functions::{
+    SelectedSections, code_of, functions_of, has_functions, section_name,
+};
 use crate::erased::binfarce_pe::header::image_base;
 use crate::erased::binfarce_pe::names::has_long_names;
 use crate::erased::binfarce_pe::parts::{
@@ -57,6 +59,15 @@ impl Parts {
             strings: &self.records.strings,
         };
         Ok(functions_of(alloc, self.sections.chosen(), symbols)?)
+    }
+
+    /// Whether `functions` gives a function symbol. Nothing is allocated, and nothing is sorted.
+    pub fn has_functions(&self) -> bool {
+        let symbols = CoffTable {
+            rows: &self.records.rows,
+            strings: &self.records.strings,
+        };
+        has_functions(self.sections.chosen(), symbols)
     }
 
     /// The size in bytes of the code section in memory; `None` where all sections are selected.

@@ -6,7 +6,7 @@ use Rattle.binfarce_bytes.specs.SectionEntries.{SectionEntry}
 use Rattle.binfarce_bytes.specs.Sizes.{arranged}
 use Rattle.binfarce_bytes.specs.RowViews.{rows_view}
 use Rattle.binfarce_bytes.specs.SymbolViews.{section_function_view}
-use Rattle.binfarce_macho.specs.MachoSelection.{code_view, is_selected, numbered_view, selected_at, symbols_view}
+use Rattle.binfarce_macho.specs.MachoSelection.{code_view, is_selected, numbered_view, symbols_view}
 use Rattle.binfarce_macho.specs.machine.RawMacho.{function_in, selected_view}
 use Rattle.binfarce_macho.proofs.EachSection.{section_here, others_held, past_one, held_here, all_inside, section_listed}
 use Rattle.binfarce_macho.proofs.SectionLists.{no_sections, of_other, of_selected, section_added, all_added}

@@ -1,4 +1,4 @@
-use Rattle.std.proofs.Common.{◌≡◌, ◌≢◌, ◌∙◌, sym, ap, subst, map, List, [], Some}
+use Rattle.std.proofs.Common.{◌≢◌, ◌∙◌, sym, ap, subst, map, List, [], Some}
 use Rattle.binfarce_bytes.specs.Refusal.{refusal_of}
 use Rattle.binfarce_bytes.specs.Sizes.{arranged}
 use Rattle.binfarce_bytes.specs.SymbolViews.{section_function_view}

@@ -50,4 +50,5 @@ returns-in-Some c =
       by_section strings row sections index (numbered_view c.index-sections-index.result) true (section_is c.args.sections.now index c.index-sections-index.result (omega (arith, c.if-index-sections.false)) c.index-sections-index.is) c.if-not-section.false
           ∙ ap (λ (n : ℕ). function_name strings (extent_view c.index-sections-index.result.extent) n row) number ∙ sym c.in-Some.ensures,
       λ i other. not_of strings row sections i (λ e. other (omega (arith, number))),
+      omega (arith, number),
     )

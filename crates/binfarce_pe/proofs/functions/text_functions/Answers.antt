@@ -1,5 +1,5 @@
 use Rattle.binfarce_bytes.specs.Refusal.{refusal_of}
-use Rattle.binfarce_pe.specs.PeParts.{section_table, table_view, text_view}
+use Rattle.binfarce_pe.specs.PeParts.{table_view, text_view}
 use Rattle.binfarce_pe.specs.PeSelection.{the_text, rules_of, entries_by}
 use Rattle.binfarce_pe.specs.PeSymbols.{pe_answer}
 use Rattle.binfarce_pe.proofs.Selected.{text_refused, symbols_refused, text_answered, text_err, text_memory, text_ok}

@@ -1,12 +1,13 @@
 use Rattle.std.proofs.Common.{◌≡◌, ◌+◌, ℕ, ◌∷◌, ◌++◌, [], ap, arith, sym, is_some, ◌∙◌}
 use Rattle.std.proofs.lemmas.List.Elements.{All-nil}
+use Rattle.binfarce_bytes.proofs.SomeListed.{has_some, has_none}
 use Rattle.binfarce_pe.specs.PeParts.{table_view}
-use Rattle.binfarce_pe.specs.PeSelection.{rules_of, sections_view}
+use Rattle.binfarce_pe.specs.PeSelection.{entries_by, rules_of, sections_view}
 use Rattle.binfarce_pe.specs.PeSymbols.{SymbolRow}
 use Rattle.binfarce_pe.specs.PeRules.{accepted_name}
 use Rattle.binfarce_pe.proofs.Rows.{after, all_left, one_before, all_before, IsLeftOut}
 use Rattle.binfarce_pe.proofs.EachSection.{none_more, none_selected, some_selected}
-use Rattle.binfarce_pe.proofs.functions.keeps_some.Goals as goal
+use Rattle.binfarce_pe.proofs.functions.has_functions.Goals as goal
 
 pub loop-next-init : goal.loop-next-init
 loop-next-init c =
@@ -28,16 +29,18 @@ loop-next-preserved c =
           (λ i lt. ap (accepted_name t (rules.section (rules.first + i)).accepts k) (sym c.symbol_of-row.ensures) ∙ c.in-None.ensures i lt) c.loop-next.invariant.2,
     )
 
-pub returns-in-Some-clause-some : goal.returns-in-Some-clause-some
-returns-in-Some-clause-some c is =
+pub returns-in-Some : goal.returns-in-Some
+returns-in-Some c =
     let t = table_view c.args.symbols in
     let rules = rules_of (sections_view c.args.sections) in
     let k = c.loop-next.next in
-    some_selected t rules c.loop-next.invariant.0 k c.in-Some.field-0 c.loop-next-test.true c.loop-next.invariant.1 c.in-Some.ensures.0
-    (ap (λ (r : SymbolRow ℕ). is_some (accepted_name t (rules.section (rules.first + c.in-Some.field-0)).accepts k r)) (sym c.symbol_of-row.ensures) ∙ c.in-Some.ensures.1)
+    has_some (entries_by rules t)
+    (some_selected t rules c.loop-next.invariant.0 k c.in-Some.field-0 c.loop-next-test.true c.loop-next.invariant.1 c.in-Some.ensures.0
+    (ap (λ (r : SymbolRow ℕ). is_some (accepted_name t (rules.section (rules.first + c.in-Some.field-0)).accepts k r)) (sym c.symbol_of-row.ensures) ∙ c.in-Some.ensures.1))
 
-pub returns-clause-none : goal.returns-clause-none
-returns-clause-none c is =
+pub returns : goal.returns
+returns c =
     let t = table_view c.args.symbols in
-    none_selected t (rules_of (sections_view c.args.sections)) c.loop-next.invariant.0
-    (all_before t c.loop-next.next c.loop-next.invariant.0 (omega arith) c.loop-next.invariant.1) c.loop-next.invariant.2
+    let rules = rules_of (sections_view c.args.sections) in
+    has_none (entries_by rules t)
+    (none_selected t rules c.loop-next.invariant.0 (all_before t c.loop-next.next c.loop-next.invariant.0 (omega arith) c.loop-next.invariant.1) c.loop-next.invariant.2)

@@ -3,7 +3,7 @@ use Rattle.binfarce_pe.specs.PeParts.{table_view}
 use Rattle.binfarce_pe.specs.PeSelection.{rules_of, sections_view}
 use Rattle.binfarce_pe.proofs.Rows.{AreBefore}
 use Rattle.binfarce_pe.proofs.EachSection.{NoneKept}
-use Rattle.binfarce_pe.proofs.functions.keeps_some.Given as goal
+use Rattle.binfarce_pe.proofs.functions.has_functions.Given as goal
 
 -- none of the rows before the next is kept
 abbrev pub invariant-loop-next : goal.invariant-loop-next

@@ -28,7 +28,11 @@ diff -r --exclude=out crates "$scratch/crates" >>"$scratch/layout" || true
 setsid sh -exc 'tests/lints.sh; cargo test --offline --workspace; examples/run.sh; tests/install.sh; tests/unproved.sh
     tests/forms.py --kit' >"$scratch/plain" 2>&1 &
 beside=$!
+times >"$scratch/before"
 { rt ci || true; } 2>&1 | tee "$scratch/gate" | sed '$d'
+times >"$scratch/after"
+awk -F '[ms ]+' 'FNR == 2 { spent[FILENAME] = $1 + $2 / 60 + $3 + $4 / 60 }
+    END { printf "rt ci took %.0f processor minutes\n", spent[ARGV[2]] - spent[ARGV[1]] }' "$scratch/before" "$scratch/after"
 last=$(tail -n 1 "$scratch/gate")
 wait "$beside" || { cat "$scratch/plain"; fail "what runs beside rt ci"; }
 beside=

@@ -63,7 +63,7 @@ abbrev pub found_in : List Entry → (is_return : Bool) → Option ℕ → Optio
 found_in entries is_return None = None
 found_in entries is_return (Some address) = option_map (λ entry. (entry, address - entry.address)) (entry_for is_return entries address)
 
--- the same of an address by this lookup
+-- what a lookup finds for an address
 abbrev pub found_at : List Entry → Lookup → ℕ → Option (Entry × ℕ)
 found_at entries lookup address = found_in entries lookup.is_return (in_file lookup address)
 

@@ -54,7 +54,7 @@ one_byte b is = and_from (is_run_byte b) true is refl
 regroup : (x run : List ℕ) (b : ℕ) (more : List ℕ) → x ++ (run ++ b ∷ more) ≡ (x ++ (run ++ b ∷ [])) ++ more
 regroup x run b more = ap (λ (y : List ℕ). x ++ y) (sym (append_assoc run (b ∷ []) more)) ∙ sym (append_assoc x (run ++ b ∷ []) more)
 
--- the same of equal texts
+-- equal texts are filtered alike
 pub filtered_same : (full : Bool) (text other filtered also : List ℕ) → text ≡ other → filtered ≡ also → IsFiltered full text filtered → IsFiltered full other also
 filtered_same full text other filtered also same both is =
     let P : List ℕ → Type 0 = λ x. IsFiltered full x also in

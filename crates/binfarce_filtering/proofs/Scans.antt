@@ -38,7 +38,7 @@ inside_more inside (a ∷ text) b = inside_more (goes_inside inside a) text b
 last_is : (text : List ℕ) (at : ℕ) → 0 < at → at ≤ length text → take at text ≡ take (at - 1) text ++ get_or text (at - 1) 0 ∷ []
 last_is text at some within = subst (λ (n : ℕ). take n text ≡ take (at - 1) text ++ get_or text (at - 1) 0 ∷ []) (omega (arith, some)) (take_more text (at - 1) 0 (omega (arith, some, within)))
 
--- the same of a position of a text
+-- so at a position of a text, by the byte before it
 pub after_here : (text : List ℕ) (at : ℕ) → 0 < at → at ≤ length text → ends_after false (take at text) ≡ (95 == get_or text (at - 1) 0)
 after_here text at some within = ap (ends_after false) (last_is text at some within) ∙ after_more false (take (at - 1) text) (get_or text (at - 1) 0)
 
@@ -131,7 +131,7 @@ starts_more false run b starts goes no_mark =
     let P : List ℕ → Type 0 = λ r. Starts true (r ++ b ∷ []) in
     subst P (sym starts) (first_in_run b goes, omega arith, refl)
 
--- the same of what is left, from any run on
+-- what is left is filtered alike after any run
 abbrev Again : Bool → List ℕ → List ℕ → List ℕ → Type 0
 Again full text more filtered = (inside : Bool) (run : List ℕ) → Starts inside run → is_plain (ends_after false run) text ≡ true → ends_inside inside text ≡ false
     → IsFiltered full (run ++ (text ++ more)) (run ++ (text ++ filtered))

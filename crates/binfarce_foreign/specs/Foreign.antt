@@ -103,7 +103,7 @@ elf32_of order first =
     else if is_zero 48 2 first then Some ManySections
     else None
 
--- the same of one of 64 bits
+-- so for an ELF file of 64 bits, whose fields are at other offsets
 abbrev pub elf64_of : ByteOrder → (first : List ℕ) → Option Foreign
 elf64_of order first =
     if nat_lt (length first) 64 then None

@@ -136,7 +136,7 @@ length-bytes image layout =
     let headers = section_headers class order class.header_length parts in
     omega (arith, length-append (header_bytes layout image) (bodies ++ headers), length-append bodies headers, length-header_bytes layout image, length-bodies layout order class.header_length parts, length-section_headers layout order class.header_length parts)
 
--- a sum that stops at the greatest number gives the same end, as far as that goes
+-- a sum that stops at the greatest number gives the same end, or both are past that number
 pub bodies_end_saturated : (class : ElfClass) (place most : ℕ) (part : Part) (parts : List Part) → min (bodies_end class (min (place + min (body_length class part) most) most) parts) most ≡ min (bodies_end class (place + body_length class part) parts) most
 bodies_end_saturated class place most part parts =
     omega (arith, bodies_end_from class (min (place + min (body_length class part) most) most) parts, bodies_end_from class (place + body_length class part) parts)

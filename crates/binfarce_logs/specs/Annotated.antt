@@ -64,7 +64,7 @@ found_behind files before offset = if nat_eq (longest_name files before) 0 then 
 abbrev pub found_for : List File → (before : List ℕ) → (number : ℕ) → Result (Option (Entry × ℕ)) Reply
 found_for files before number = if ends_with_plus before then found_behind files before number else Ok (found_among files number)
 
--- the same of a word, which may write no number
+-- what is found for a word: nothing, where it writes no number
 abbrev pub found_by : List File → (before : List ℕ) → (number : Option ℕ) → Result (Option (Entry × ℕ)) Reply
 found_by files before None = Err Unasked
 found_by files before (Some number) = found_for files before number

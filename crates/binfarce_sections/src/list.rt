@@ -28,7 +28,7 @@ use binfarce_tools::writing::write_whole;
 use std::alloc::{AllocError, Global};
 use std::fmt::Write;
 
-/// Lists the sections of a file in file order, a line each, as far as they can be read.
+/// Lists the sections of a file in file order, a line each, up to the first one that the reader refuses.
 ///
 /// The format is the one that the file's first bytes name. A line is `{address:016x} {offset:>10} {size:>10} {name}`,
 /// with the offset in the file and the size in bytes; in a Mach-O file the name is `SEGMENT,SECTION`. Names are written

@@ -39,7 +39,7 @@ pub items_more : (part : List ℕ) (R : Readers) (binder_depth : ℕ) (listed : 
 items_more part R binder_depth listed between n m is_first later s s2 s3 h em ef eg e2 e3 =
     rw (items_step part R binder_depth listed between n is_first s h, eg, e3, e2, em, ef) (refl, refl)
 
--- the same of a printer
+-- so for a printer
 pub items_next : (levels_left binder_depth : ℕ) (listed : Listed) (between : List ℕ) (n m : ℕ) (is_first later : Bool) (p q r : Printing) → 0 < n → m ≡ n - 1 → later ≡ false → list_goes_on p.part p.state.at ≡ true → q ≡ with_state (write (separator is_first between) p.state) p → r ≡ with_state (item_rule q.part (readers q.part levels_left) binder_depth listed q.state).1 q → (with_state (items_rule r.part (readers r.part levels_left) binder_depth listed between m later r.state).1 r ≡ with_state (items_rule p.part (readers p.part levels_left) binder_depth listed between n is_first p.state).1 p) × (suc (items_count (items_rule r.part (readers r.part levels_left) binder_depth listed between m later r.state).0) ≡ items_count (items_rule p.part (readers p.part levels_left) binder_depth listed between n is_first p.state).0)
 items_next levels_left binder_depth listed between n m is_first later p q r h em ef eg e2 e3 =
     let more = items_more p.part (readers p.part levels_left) binder_depth listed between n m is_first later p.state (write (separator is_first between) p.state) _ h em ef eg refl refl in

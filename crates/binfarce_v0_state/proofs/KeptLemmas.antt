@@ -149,7 +149,7 @@ again part levels_left production binder_depth s target start end trimmed_start 
     let same = complete production k.tree part levels_left binder_depth (into target s) (Some k.after) limit_exceeded k.is (omega (arith, k.height_is, h)) (omega (arith, k.steps_is, n)) in
     (rw (same, heard_again muted s.muted (slice_range s.text start end) (text_of production s.full k.tree binder_depth) e k.text_is, heard_again muted s.muted (slice_range s.trimmed trimmed_start trimmed_end) (text_of production false k.tree binder_depth) e k.trimmed_is, ← k.steps_is, ← k.height_is) refl, ap (λ x. left_open_of production x.0) same ∙ k.open_is)
 
--- the same of a printer, behind the back reference
+-- so for a printer, which goes on behind the back reference
 pub kept_again : (production : Production) (levels_left binder_depth : ℕ) (p : Printing) (target after start end trimmed_start trimmed_end steps height : ℕ) (left_open muted : Bool) → p.state.limit_exceeded ≡ false → Kept p.part p.state.full p.state.text p.state.trimmed production target binder_depth start end trimmed_start trimmed_end steps height left_open muted → height ≤ levels_left → steps ≤ p.state.steps_left → (muted && not p.state.muted) ≡ false → (with_state (record p.state { at = Some after; steps_left = p.state.steps_left - steps; least_levels_left = min p.state.least_levels_left (levels_left - height); text = grown p.state.most p.state.text (heard p.state.muted (slice_range p.state.text start end)); trimmed = grown p.state.most p.state.trimmed (heard p.state.muted (slice_range p.state.trimmed trimmed_start trimmed_end)) }) p ≡ with_state (back_to after p.state.in_back_reference (read (readers p.part levels_left) production binder_depth (into target p.state)).1) p) × (left_open ≡ left_open_of production (read (readers p.part levels_left) production binder_depth (into target p.state)).0)
 kept_again production levels_left binder_depth p target after start end trimmed_start trimmed_end steps height left_open muted limit_exceeded k h n hears =
     let e = again p.part levels_left production binder_depth p.state target start end trimmed_start trimmed_end steps height left_open muted limit_exceeded k h n hears in

@@ -7,7 +7,7 @@ use Rattle.std.proofs.lemmas.Bool.{cases_lt}
 use Rattle.std.proofs.lemmas.List.{set_past}
 use Rattle.test_samples.specs.Patched.{patched_at, patched}
 
--- a byte past all numbers changes nothing, nor does the one that stands in its place
+-- a byte past all numbers changes nothing, nor does the byte in its place
 pub set_saturated : (file : List ℕ) (at place byte : ℕ) → length file < 2 ^ 64 → place ≡ min at (2 ^ 64 - 1) → set file place byte ≡ set file at byte
 set_saturated file at place byte small is = by_order (cases_lt at (2 ^ 64))
   where

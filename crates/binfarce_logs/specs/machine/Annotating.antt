@@ -57,7 +57,7 @@ abbrev pub Leaves : (files : List File) (bare is_last : Bool) (gone left : List 
 Leaves files bare is_last gone left made =
     (more : List ℕ) (pieces : List Piece) → MayFollow is_last more → ArePiecesAfter files bare gone (left ++ more) pieces → ArePiecesAfter files bare [] (gone ++ (left ++ more)) (made ++ pieces)
 
--- the same of a text up to a position, after `front`
+-- so for a text that comes after `front`, and of which the bytes before a position are gone
 abbrev pub LeavesAt : (files : List File) (bare is_last : Bool) (front text : List ℕ) (at : ℕ) (made : List Piece) → Type 0
 LeavesAt files bare is_last front text at made = Leaves files bare is_last (front ++ take at text) (drop at text) made
 

@@ -20,6 +20,11 @@ abbrev pub definitions_section : SymbolTable → Walk Section → Option Section
 definitions_section Symtab sections = None
 definitions_section Dynsym sections = find (λ s. nat_eq s.kind 0x6ffffffd) sections.items
 
+-- the section of the versions that are needed of other files, of the type SHT_GNU_verneed
+abbrev pub needs_section : SymbolTable → Walk Section → Option Section
+needs_section Symtab sections = None
+needs_section Dynsym sections = find (λ s. nat_eq s.kind 0x6ffffffe) sections.items
+
 -- the bytes of a section, where there is one and it lies in the file; else none
 abbrev pub bytes_if : List ℕ → Option Section → List ℕ
 bytes_if file None = []

@@ -17,7 +17,7 @@ ghost use Rattle.binfarce_elf_memory.specs.Versions as versions;
 
 use crate::ends::{FileKind, keys_of, kind_of, sizes_of};
 use crate::selection::{Needed, Taken, needed_of};
-use crate::versions::{DEFINITIONS, VERSIONS, whole_section_of_kind};
+use crate::versions::{DEFINITIONS, NEEDS, VERSIONS, whole_section_of_kind};
 use binfarce_bytes::functions::Selection;
 use binfarce_bytes::parser::UnexpectedEof;
 use binfarce_bytes::{ByteOrder, ParseError};
@@ -116,11 +116,13 @@ pub fn needed_in(
     }
 }
 
-/// The sections of the versions of a symbol table's rows, and of their definitions.
+/// The sections of the versions of a symbol table's rows, of their definitions, and of those that are needed of other
+/// files.
 #[derive(Clone, Copy)]
 pub struct VersionSections {
     pub versions: Option<Section<u64>>,
     pub definitions: Option<Section<u64>>,
+    pub needs: Option<Section<u64>>,
 }
 
 /// Those of this symbol table, found in these section headers. There are none where they aren't whole.
@@ -134,20 +136,25 @@ pub fn version_sections(
         (walk (class_of width) (headers_alone place.byte_order headers.now place.shnum)) }
     ensures definitions { option_map (section_view (λ n. n)) result.definitions ≡ versions.definitions_section which
         (walk (class_of width) (headers_alone place.byte_order headers.now place.shnum)) }
+    ensures needs { option_map (section_view (λ n. n)) result.needs ≡ versions.needs_section which
+        (walk (class_of width) (headers_alone place.byte_order headers.now place.shnum)) }
 {
     let table = headers_alone(headers, place.byte_order, place.shnum);
     match (which, width) {
         (SymbolTable::Symtab, _) => VersionSections {
             versions: None,
             definitions: None,
+            needs: None,
         },
         (SymbolTable::Dynsym, Width::Bits32) => VersionSections {
             versions: widened(whole_section_of_kind::<u32>(table, VERSIONS)),
             definitions: widened(whole_section_of_kind::<u32>(table, DEFINITIONS)),
+            needs: widened(whole_section_of_kind::<u32>(table, NEEDS)),
         },
         (SymbolTable::Dynsym, Width::Bits64) => VersionSections {
             versions: whole_section_of_kind::<u64>(table, VERSIONS),
             definitions: whole_section_of_kind::<u64>(table, DEFINITIONS),
+            needs: whole_section_of_kind::<u64>(table, NEEDS),
         },
     }
 }

@@ -8,7 +8,7 @@ ghost use Rattle.binfarce_elf.specs.Elf.{walk};
 ghost use Rattle.binfarce_elf.specs.ElfViews.{section_view};
 ghost use Rattle.binfarce_elf.specs.machine.RawElf.{table_view};
 ghost use Rattle.binfarce_elf_memory.specs.SelectionViews.{version_names};
-ghost use Rattle.binfarce_elf_memory.specs.Versions.{bytes_if, definition_at, definitions, name_offset, version_of, versions_section};
+ghost use Rattle.binfarce_elf_memory.specs.Versions.{bytes_if, definition_at, definitions, name_by, name_offset, version_of, versions_section};
 ghost use Rattle.binfarce_elf_memory.specs.machine.RawSelection.{definition_view};
 
 use binfarce_bytes::ByteOrder;
@@ -20,10 +20,13 @@ use binfarce_elf::symbols::section_of_kind;
 use std::alloc::{AllocError, Global};
 use std::collections::BTreeMap;
 
-// The types of the sections of versions, and of their definitions: `SHT_GNU_versym` and `SHT_GNU_verdef`.
+// The types of the sections of versions, of their definitions, and of those that are needed of other files:
+// `SHT_GNU_versym`, `SHT_GNU_verdef` and `SHT_GNU_verneed`.
 pub(crate) const VERSIONS: Word = 0x6fffffff;
 
 pub(crate) const DEFINITIONS: Word = 0x6ffffffd;
+
+pub(crate) const NEEDS: Word = 0x6ffffffe;
 
 // An index is in the low 15 bits of a version; the high bit says that the symbol is hidden.
 const INDICES: Half = 1 << 15;
@@ -47,13 +50,25 @@ impl<'a> VersionNames<'a> {
     pub fn name(self, version: u16) -> Option<&'a str>
         ensures { option_map (λ t. t.now) result ≡ version_names self.entry version }
     {
-        let index = version % INDICES;
-        if index <= VER_NDX_GLOBAL {
-            return None;
-        }
-        let offset = *self.offsets?.get(&index)?;
-        parse_null_string(self.strings, offset as usize)
+        name_by(self.strings, self.offsets?, version)
     }
+}
+
+/// The name of a version, a slice of the strings: the text at the offset that its index has. `None` for a symbol without
+/// one (the indices 0 and 1), where there is no offset, and for a name that isn't in the strings or no valid UTF-8.
+pub fn name_by<'a>(
+    strings: &'a [u8],
+    offsets: &BTreeMap<Half, Word>,
+    version: Half,
+) -> Option<&'a str>
+    ensures { option_map (λ t. t.now) result ≡ name_by strings.entry.now (get nat_cmp offsets.now) version }
+{
+    let index = version % INDICES;
+    if index <= VER_NDX_GLOBAL {
+        return None;
+    }
+    let offset = *offsets.get(&index)?;
+    parse_null_string(strings, offset as usize)
 }
 
 /// The offsets of the names of the versions that a section of definitions defines, by the versions' indices: no more
@@ -72,7 +87,7 @@ pub fn name_offsets(
         let Some(definition) = definition_at(section, start, byte_order) else {
             return Ok(offsets);
         };
-        define(&mut offsets, definition)?;
+        define(&mut offsets, definition.index, definition.name)?;
         if definition.next == 0 {
             return Ok(offsets);
         }
@@ -81,16 +96,16 @@ pub fn name_offsets(
     Ok(offsets)
 }
 
-// Sets the offset of a definition's name at its index, unless an earlier one is there. An index of 16 bits has none.
-fn define(offsets: &mut BTreeMap<Half, Word>, definition: Definition) -> Result<(), AllocError>
-    ensures { IfOk result (λ _. (index : ℕ) → index < 32768 → get nat_cmp offsets.new index
-        ≡ option_or (get nat_cmp offsets.old index)
-        (if nat_eq definition.index index then Some definition.name else None)) }
+/// Sets the offset of a name at a version's index, unless an earlier one is there. An index of 16 bits has none. The only
+/// error is a failed allocation.
+pub fn define(offsets: &mut BTreeMap<Half, Word>, index: Half, name: Word) -> Result<(), AllocError>
+    ensures { IfOk result (λ _. (i : ℕ) → i < 32768 → get nat_cmp offsets.new i
+        ≡ option_or (get nat_cmp offsets.old i) (if nat_eq index i then Some name else None)) }
 {
-    if definition.index >= INDICES || offsets.get(&definition.index).is_some() {
+    if index >= INDICES || offsets.get(&index).is_some() {
         return Ok(());
     }
-    let _ = offsets.insert(definition.index, definition.name)?;
+    let _ = offsets.insert(index, name)?;
     Ok(())
 }
 
@@ -121,10 +136,10 @@ fn definition_at(bytes: &[u8], start: u64, byte_order: ByteOrder) -> Option<Defi
     })
 }
 
-// The version of a row, where these are those of all rows; 0 where it has none.
+/// The version of a row, where these are those of all rows; 0 where it has none.
 #[inline(always)]
 #[tactic(auto, unfolding(crate::specs::Versions::version_of))]
-pub(crate) fn version_at(versions: &[u8], row: usize, byte_order: ByteOrder) -> Half
+pub fn version_at(versions: &[u8], row: usize, byte_order: ByteOrder) -> Half
     ensures { result ≡ version_of byte_order versions.now row }
 {
     number_at(versions, row.saturating_mul(2), byte_order).unwrap_or(0)

@@ -2,7 +2,8 @@
 use Rattle.std.proofs.Common.{◌≡◌, ℕ, zero, suc, ◌+◌, ◌-◌, ◌*◌, ◌<◌, List, None, Ok, refl, arith}
 use Rattle.binfarce_bytes.specs.declared.ByteOrder.{ByteOrder}
 use Rattle.binfarce_identity.specs.ElfIdentity.{Shape, header_place, headers_reading, place_reading}
-use Rattle.binfarce_identity.specs.Reading.{answered, or_else}
+use Rattle.binfarce_tables.specs.Readings.{answered}
+use Rattle.binfarce_identity.specs.Reading.{or_else}
 
 module _ (order : ByteOrder) (shape : Shape) (headers : List ℕ) where
   pub none_left : (n index : ℕ) → n ≡ 0 → headers_reading order shape headers n index ≡ answered (Ok None)

@@ -15,7 +15,8 @@ use Rattle.binfarce_tables.specs.declared.error.ReadError.TheVariants.{Refused, 
 use Rattle.binfarce_tables.proofs.Readings.{instead, passed}
 use Rattle.binfarce_tables.proofs.Sure.{passed_only}
 use Rattle.binfarce_identity.specs.Identity.{Answer, identity_view}
-use Rattle.binfarce_identity.specs.Reading.{Reading, answered, with_part, answer_of, parts_of, or_else, Does}
+use Rattle.binfarce_tables.specs.Readings.{answered, with_part, answer_of, parts_of}
+use Rattle.binfarce_identity.specs.Reading.{Reading, or_else, Does}
 use Rattle.binfarce_identity.specs.declared.identity.Identity as code
 use Rattle.binfarce_identity.proofs.Steps.{Identities}
 

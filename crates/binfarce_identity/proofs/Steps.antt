@@ -12,10 +12,11 @@ use Rattle.binfarce_bytes.specs.Source.{PartLog, ReadsOnly}
 use Rattle.binfarce_tables.specs.Reading.{Reads}
 use Rattle.binfarce_tables.specs.declared.error.ReadError.{ReadError}
 use Rattle.binfarce_tables.specs.declared.error.ReadError.TheVariants.{Unreadable}
-use Rattle.binfarce_tables.proofs.Readings.{as_long_as, from_memory, held, instead, memory_readable, passed}
-use Rattle.binfarce_tables.proofs.Sure.{in_any, within, next, nothing, passed_only}
-use Rattle.binfarce_identity.specs.Identity.{Answer, identity_view}
-use Rattle.binfarce_identity.specs.Reading.{Reading, answered, with_part, answer_of, parts_of, Does}
+use Rattle.binfarce_tables.proofs.Readings.{as_long_as, held, instead, passed}
+use Rattle.binfarce_tables.proofs.Sure.{in_any, within, next, passed_only}
+use Rattle.binfarce_identity.specs.Identity.{identity_view}
+use Rattle.binfarce_tables.specs.Readings.{with_part, answer_of, parts_of}
+use Rattle.binfarce_identity.specs.Reading.{Reading, Does}
 use Rattle.binfarce_identity.specs.declared.identity.Identity as code
 
 -- a part that was read lies in the file
@@ -97,16 +98,3 @@ module _ {fails : Bool} {sure : PartSet} {old new : PartLog} (file : List ℕ) {
       → Path (Result (List ℕ) Refusal) (part_in file o s) (Ok bytes) → ReadsOnly sure old between (whole_part file o s) Q → Does fails sure between new file (after bytes) r
       → Does fails sure old new file (with_part offset size after) r
   taken_at bytes begins long reads only does = at begins long (part_taken file o s after bytes reads only does)
-
--- an answer by bytes in memory
-pub done : {fails : Bool} {sure : PartSet} {log : PartLog} (file : List ℕ) (answer : Answer) (r : Identities)
-    → Reads false (option_map identity_view) answer r → Does fails sure log log file (answered answer) r
-unfolding answer_of parts_of
-done {fails = fails} file answer r reads = record {
-  answer = from_memory fails (option_map identity_view) answer r reads;
-  only = nothing (memory_readable (option_map identity_view) answer r reads);
-}
-
--- so of a reading that is the same
-pub same : {fails : Bool} {sure : PartSet} {old new : PartLog} {r : Identities} (file : List ℕ) {a b : Reading} → a ≡ b → Does fails sure old new file a r → Does fails sure old new file b r
-same {fails = fails} {sure = sure} {old = old} {new = new} {r = r} file is does = subst (λ (reading : Reading). Does fails sure old new file reading r) is does

@@ -12,7 +12,7 @@ use Rattle.binfarce_identity.specs.ElfIdentity.{elf_reading}
 use Rattle.binfarce_identity.specs.FileIdentity.{identity_parts}
 use Rattle.binfarce_identity.specs.MachoIdentity.{macho_reading}
 use Rattle.binfarce_identity.specs.PeIdentity.{pe_reading}
-use Rattle.binfarce_identity.specs.Reading.{parts_of}
+use Rattle.binfarce_tables.specs.Readings.{parts_of}
 
 -- it surely gives none of the parts of a file of a known format
 pub no_length : {sure : Part → Bool} {log : (Part → Bool) → Bool} {R : Type 0} (format : Format) (file : List ℕ) → (format ≡ Unknown → ⊥) → ((q : Part) → sure q ≡ false)

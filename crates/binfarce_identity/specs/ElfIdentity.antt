@@ -10,7 +10,8 @@ use Rattle.binfarce_elf.specs.declared.class.Width.{Width}
 use Rattle.binfarce_elf_memory.specs.ElfSegments.{program_fields, program_length}
 use Rattle.binfarce_identity.specs.Identity.{Answer, identity}
 use Rattle.binfarce_identity.specs.Notes.{build_id}
-use Rattle.binfarce_identity.specs.Reading.{Reading, answered, with_part, or_else}
+use Rattle.binfarce_tables.specs.Readings.{answered, with_part}
+use Rattle.binfarce_identity.specs.Reading.{Reading, or_else}
 use Rattle.binfarce_identity.specs.declared.identity.Kind.TheVariants.{BuildId}
 
 -- headers of places in a file: how many bytes each has, its fields for the type and the place, and the type of notes

@@ -8,7 +8,8 @@ use Rattle.binfarce_identity.specs.ElfIdentity.{elf_reading}
 use Rattle.binfarce_identity.specs.Identity.{Answer}
 use Rattle.binfarce_identity.specs.MachoIdentity.{macho_reading}
 use Rattle.binfarce_identity.specs.PeIdentity.{pe_reading}
-use Rattle.binfarce_identity.specs.Reading.{Reading, answered, answer_of, parts_of}
+use Rattle.binfarce_tables.specs.Readings.{answered, answer_of, parts_of}
+use Rattle.binfarce_identity.specs.Reading.{Reading}
 
 -- the reading of a file of this format
 abbrev pub identity_reading : Format → Reading

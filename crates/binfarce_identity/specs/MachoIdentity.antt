@@ -5,7 +5,8 @@ use Rattle.binfarce_bytes.specs.Refusal.{◌>>=◌, malformed_input, if_as_long_
 use Rattle.binfarce_bytes.specs.Walk.{first}
 use Rattle.binfarce_macho.specs.Macho.{Command, body_of, commands, header_length, header_of, least_length}
 use Rattle.binfarce_identity.specs.Identity.{Answer, identity}
-use Rattle.binfarce_identity.specs.Reading.{Reading, answered, with_part}
+use Rattle.binfarce_tables.specs.Readings.{answered, with_part}
+use Rattle.binfarce_identity.specs.Reading.{Reading}
 use Rattle.binfarce_identity.specs.declared.identity.Kind.TheVariants.{Uuid}
 
 -- LC_UUID

@@ -8,7 +8,8 @@ use Rattle.binfarce_bytes.specs.Refusal.{malformed_input}
 use Rattle.binfarce_pe.specs.Pe.{header_after, section_length, section_fields}
 use Rattle.binfarce_pe.specs.PeParts.{TablePlaces, places_after}
 use Rattle.binfarce_identity.specs.Identity.{Answer, identity}
-use Rattle.binfarce_identity.specs.Reading.{Reading, answered, with_part}
+use Rattle.binfarce_tables.specs.Readings.{answered, with_part}
+use Rattle.binfarce_identity.specs.Reading.{Reading}
 use Rattle.binfarce_identity.specs.declared.identity.Kind.TheVariants.{CodeView}
 
 -- a place of so many bytes: in memory, counted from the image base, or in the file

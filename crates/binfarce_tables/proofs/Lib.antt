@@ -2,6 +2,7 @@ pub mod FirstBytes
 mod HeadersAlone
 pub mod Readings
 pub mod Sure
+pub mod ReadingSteps
 mod ElfSure
 mod Located
 mod Contents

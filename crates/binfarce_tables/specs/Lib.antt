@@ -5,6 +5,7 @@ pub mod Errors
 pub mod PeReading
 pub mod PeReads
 pub mod Reading
+pub mod Readings
 pub mod SectionReading
 pub mod Loading
 pub mod MachoReading

@@ -5,7 +5,9 @@
 use crate::shim::Vec;
 use crate::erased::binfarce_elf_memory::ends::{FileKind, keys_of, kind_of, sizes_of};
 use crate::erased::binfarce_elf_memory::selection::{Needed, Taken, needed_of};
-use crate::erased::binfarce_elf_memory::versions::{DEFINITIONS, VERSIONS, whole_section_of_kind};
+use crate::erased::binfarce_elf_memory::versions::{
+    DEFINITIONS, NEEDS, VERSIONS, whole_section_of_kind,
+};
 use crate::erased::binfarce_bytes::functions::Selection;
 use crate::erased::binfarce_bytes::parser::UnexpectedEof;
 use crate::erased::binfarce_bytes::{ByteOrder, ParseError};
@@ -86,11 +88,13 @@ pub fn needed_in(
     }
 }
 
-/// The sections of the versions of a symbol table's rows, and of their definitions.
+/// The sections of the versions of a symbol table's rows, of their definitions, and of those that are needed of other
+/// files.
 #[derive(Clone, Copy)]
 pub struct VersionSections {
     pub versions: Option<Section<u64>>,
     pub definitions: Option<Section<u64>>,
+    pub needs: Option<Section<u64>>,
 }
 
 /// Those of this symbol table, found in these section headers. There are none where they aren't whole.
@@ -105,14 +109,17 @@ pub fn version_sections(
         (SymbolTable::Symtab, _) => VersionSections {
             versions: None,
             definitions: None,
+            needs: None,
         },
         (SymbolTable::Dynsym, Width::Bits32) => VersionSections {
             versions: widened(whole_section_of_kind::<u32>(table, VERSIONS)),
             definitions: widened(whole_section_of_kind::<u32>(table, DEFINITIONS)),
+            needs: widened(whole_section_of_kind::<u32>(table, NEEDS)),
         },
         (SymbolTable::Dynsym, Width::Bits64) => VersionSections {
             versions: whole_section_of_kind::<u64>(table, VERSIONS),
             definitions: whole_section_of_kind::<u64>(table, DEFINITIONS),
+            needs: whole_section_of_kind::<u64>(table, NEEDS),
         },
     }
 }

@@ -12,10 +12,13 @@ use crate::erased::binfarce_elf::symbols::section_of_kind;
 use crate::shim::alloc::{AllocError, Global};
 use crate::shim::collections::BTreeMap;
 
-// The types of the sections of versions, and of their definitions: `SHT_GNU_versym` and `SHT_GNU_verdef`.
+// The types of the sections of versions, of their definitions, and of those that are needed of other files:
+// `SHT_GNU_versym`, `SHT_GNU_verdef` and `SHT_GNU_verneed`.
 pub(crate) const VERSIONS: Word = 0x6fffffff;
 
 pub(crate) const DEFINITIONS: Word = 0x6ffffffd;
+
+pub(crate) const NEEDS: Word = 0x6ffffffe;
 
 // An index is in the low 15 bits of a version; the high bit says that the symbol is hidden.
 const INDICES: Half = 1 << 15;
@@ -37,13 +40,23 @@ impl<'a> VersionNames<'a> {
     /// The name of a version, a slice of the strings: `GLIBC_2.14`. `None` for a symbol without one (the indices 0 and
     /// 1), for a version that isn't defined, and for a name that isn't in the strings or no valid UTF-8.
     pub fn name(self, version: u16) -> Option<&'a str> {
-        let index = version % INDICES;
-        if index <= VER_NDX_GLOBAL {
-            return None;
-        }
-        let offset = *self.offsets?.get(&index)?;
-        parse_null_string(self.strings, to_usize(offset))
+        name_by(self.strings, self.offsets?, version)
     }
+}
+
+/// The name of a version, a slice of the strings: the text at the offset that its index has. `None` for a symbol without
+/// one (the indices 0 and 1), where there is no offset, and for a name that isn't in the strings or no valid UTF-8.
+pub fn name_by<'a>(
+    strings: &'a [u8],
+    offsets: &BTreeMap<Half, Word>,
+    version: Half,
+) -> Option<&'a str> {
+    let index = version % INDICES;
+    if index <= VER_NDX_GLOBAL {
+        return None;
+    }
+    let offset = *offsets.get(&index)?;
+    parse_null_string(strings, to_usize(offset))
 }
 
 /// The offsets of the names of the versions that a section of definitions defines, by the versions' indices: no more
@@ -59,7 +72,7 @@ pub fn name_offsets(
         let Some(definition) = definition_at(section, start, byte_order) else {
             return Ok(offsets);
         };
-        define(&mut offsets, definition)?;
+        define(&mut offsets, definition.index, definition.name)?;
         if definition.next == 0 {
             return Ok(offsets);
         }
@@ -68,12 +81,13 @@ pub fn name_offsets(
     Ok(offsets)
 }
 
-// Sets the offset of a definition's name at its index, unless an earlier one is there. An index of 16 bits has none.
-fn define(offsets: &mut BTreeMap<Half, Word>, definition: Definition) -> Result<(), AllocError> {
-    if definition.index >= INDICES || offsets.get(&definition.index).is_some() {
+/// Sets the offset of a name at a version's index, unless an earlier one is there. An index of 16 bits has none. The only
+/// error is a failed allocation.
+pub fn define(offsets: &mut BTreeMap<Half, Word>, index: Half, name: Word) -> Result<(), AllocError> {
+    if index >= INDICES || offsets.get(&index).is_some() {
         return Ok(());
     }
-    let _ = offsets.insert(definition.index, definition.name)?;
+    let _ = offsets.insert(index, name)?;
     Ok(())
 }
 
@@ -100,9 +114,9 @@ fn definition_at(bytes: &[u8], start: u64, byte_order: ByteOrder) -> Option<Defi
     })
 }
 
-// The version of a row, where these are those of all rows; 0 where it has none.
+/// The version of a row, where these are those of all rows; 0 where it has none.
 #[cfg_attr(not(debug_assertions), inline(always))]
-pub(crate) fn version_at(versions: &[u8], row: usize, byte_order: ByteOrder) -> Half {
+pub fn version_at(versions: &[u8], row: usize, byte_order: ByteOrder) -> Half {
     number_at(versions, row.saturating_mul(2), byte_order).unwrap_or(0)
 }
 

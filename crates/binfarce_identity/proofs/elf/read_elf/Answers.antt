@@ -3,7 +3,8 @@ use Rattle.binfarce_elf.specs.Classes.{class_of}
 use Rattle.binfarce_elf.specs.Elf.{header_of}
 use Rattle.binfarce_identity.specs.ElfIdentity.{elf_reading, table_of, table_reading}
 use Rattle.binfarce_identity.specs.machine.Views.{table_view}
-use Rattle.binfarce_identity.proofs.Steps.{failed_at, same, taken_at}
+use Rattle.binfarce_tables.proofs.ReadingSteps.{same}
+use Rattle.binfarce_identity.proofs.Steps.{failed_at, taken_at}
 use Rattle.binfarce_identity.proofs.elf.read_elf.Goals as goal
 
 pub returns-in_err-head : goal.returns-in_err-head

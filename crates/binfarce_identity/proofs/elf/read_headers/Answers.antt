@@ -4,7 +4,7 @@ use Rattle.binfarce_identity.specs.ElfIdentity.{header_place, headers_reading, p
 use Rattle.binfarce_identity.specs.machine.Views.{note_place_view, shape_of}
 use Rattle.binfarce_identity.proofs.Headers.{next_header, none_left}
 use Rattle.binfarce_identity.proofs.OrElse.{ended, found, left_is, passed_by, stopped}
-use Rattle.binfarce_identity.proofs.Steps.{same}
+use Rattle.binfarce_tables.proofs.ReadingSteps.{same}
 use Rattle.binfarce_identity.proofs.elf.read_headers.Goals as goal
 
 pub returns-in_err-found : goal.returns-in_err-found

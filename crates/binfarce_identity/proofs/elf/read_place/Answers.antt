@@ -3,9 +3,10 @@ use Rattle.std.specs.Option.{option_map}
 use Rattle.binfarce_identity.specs.declared.elf.NotePlace.{NotePlace}
 use Rattle.binfarce_identity.specs.ElfIdentity.{as_identity, place_reading}
 use Rattle.binfarce_identity.specs.Notes.{build_id}
-use Rattle.binfarce_identity.specs.Reading.{answered}
+use Rattle.binfarce_tables.specs.Readings.{answered}
 use Rattle.binfarce_identity.specs.machine.Views.{note_place_view}
-use Rattle.binfarce_identity.proofs.Steps.{done, failed_at, same, taken_at}
+use Rattle.binfarce_tables.proofs.ReadingSteps.{done, same}
+use Rattle.binfarce_identity.proofs.Steps.{failed_at, taken_at}
 use Rattle.binfarce_identity.proofs.elf.read_place.Goals as goal
 
 pub returns-in_default : goal.returns-in_default

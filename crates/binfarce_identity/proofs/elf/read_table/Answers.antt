@@ -1,7 +1,8 @@
 use Rattle.std.proofs.Common.{◌≡◌, ◌*◌, ℕ, List, refl, ap, ap₂}
 use Rattle.binfarce_identity.specs.ElfIdentity.{headers_reading, table_reading}
 use Rattle.binfarce_identity.specs.machine.Views.{shape_of}
-use Rattle.binfarce_identity.proofs.Steps.{failed_at, same, taken_at}
+use Rattle.binfarce_tables.proofs.ReadingSteps.{same}
+use Rattle.binfarce_identity.proofs.Steps.{failed_at, taken_at}
 use Rattle.binfarce_identity.proofs.elf.read_table.Goals as goal
 
 pub returns-in_err-headers : goal.returns-in_err-headers

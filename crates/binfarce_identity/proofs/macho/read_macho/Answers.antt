@@ -3,8 +3,9 @@ use Rattle.binfarce_bytes.specs.declared.ByteOrder.TheVariants.{LittleEndian}
 use Rattle.binfarce_bytes.specs.Number.{bytes_at, number}
 use Rattle.binfarce_macho.specs.Macho.{header_fields, header_of}
 use Rattle.binfarce_identity.specs.MachoIdentity.{macho_reading, uuid_of}
-use Rattle.binfarce_identity.specs.Reading.{answered}
-use Rattle.binfarce_identity.proofs.Steps.{done, failed_at, same, taken_at}
+use Rattle.binfarce_tables.specs.Readings.{answered}
+use Rattle.binfarce_tables.proofs.ReadingSteps.{done, same}
+use Rattle.binfarce_identity.proofs.Steps.{failed_at, taken_at}
 use Rattle.binfarce_identity.proofs.macho.read_macho.Goals as goal
 
 -- what the header states, by its bytes

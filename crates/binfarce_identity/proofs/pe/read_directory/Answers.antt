@@ -4,7 +4,8 @@ use Rattle.binfarce_pe.specs.PeParts.{places_view}
 use Rattle.binfarce_identity.specs.declared.pe.Place as code
 use Rattle.binfarce_identity.specs.PeIdentity.{directory_reading, entries_reading, offset_from}
 use Rattle.binfarce_identity.specs.machine.Views.{place_view}
-use Rattle.binfarce_identity.proofs.Steps.{done, failed_at, same, taken_at}
+use Rattle.binfarce_tables.proofs.ReadingSteps.{done, same}
+use Rattle.binfarce_identity.proofs.Steps.{failed_at, taken_at}
 use Rattle.binfarce_identity.proofs.pe.read_directory.Goals as goal
 
 pub returns-in_default : goal.returns-in_default

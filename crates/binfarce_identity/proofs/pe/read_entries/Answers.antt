@@ -1,7 +1,8 @@
 use Rattle.std.proofs.Common.{Err, refl, sym, ap, ◌∙◌}
 use Rattle.binfarce_bytes.specs.Refusal.{malformed_input}
 use Rattle.binfarce_identity.specs.PeIdentity.{codeview_data, entries_reading, record_reading}
-use Rattle.binfarce_identity.proofs.Steps.{done, failed_at, same, taken_at}
+use Rattle.binfarce_tables.proofs.ReadingSteps.{done, same}
+use Rattle.binfarce_identity.proofs.Steps.{failed_at, taken_at}
 use Rattle.binfarce_identity.proofs.pe.read_entries.Goals as goal
 
 pub returns-in_default : goal.returns-in_default

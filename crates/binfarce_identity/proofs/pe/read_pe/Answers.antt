@@ -4,7 +4,8 @@ use Rattle.binfarce_bytes.specs.Number.{bytes_at, number}
 use Rattle.binfarce_pe.specs.Pe.{header_after}
 use Rattle.binfarce_pe.specs.PeParts.{places_after, places_view}
 use Rattle.binfarce_identity.specs.PeIdentity.{pe_reading, places_reading}
-use Rattle.binfarce_identity.proofs.Steps.{failed_at, same, taken_at}
+use Rattle.binfarce_tables.proofs.ReadingSteps.{same}
+use Rattle.binfarce_identity.proofs.Steps.{failed_at, taken_at}
 use Rattle.binfarce_identity.proofs.pe.read_pe.Goals as goal
 
 pub returns-in_err-pointer : goal.returns-in_err-pointer

@@ -1,7 +1,8 @@
 use Rattle.std.proofs.Common.{◌≡◌, ◌-◌, min, refl, ap, ◌∙◌, arith}
 use Rattle.binfarce_pe.specs.PeParts.{places_view}
 use Rattle.binfarce_identity.specs.PeIdentity.{debug_directory, directory_reading, places_reading}
-use Rattle.binfarce_identity.proofs.Steps.{failed_at, same, taken_at}
+use Rattle.binfarce_tables.proofs.ReadingSteps.{same}
+use Rattle.binfarce_identity.proofs.Steps.{failed_at, taken_at}
 use Rattle.binfarce_identity.proofs.pe.read_places.Goals as goal
 
 pub returns-in_err-header : goal.returns-in_err-header

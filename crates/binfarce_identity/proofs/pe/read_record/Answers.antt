@@ -4,9 +4,10 @@ use Rattle.std.specs.Option.{option_map}
 use Rattle.binfarce_bytes.specs.Refusal.{malformed_input}
 use Rattle.binfarce_identity.specs.declared.pe.Place as code
 use Rattle.binfarce_identity.specs.PeIdentity.{codeview_in, record_reading}
-use Rattle.binfarce_identity.specs.Reading.{answered, with_part}
+use Rattle.binfarce_tables.specs.Readings.{answered, with_part}
 use Rattle.binfarce_identity.specs.machine.Views.{place_view}
-use Rattle.binfarce_identity.proofs.Steps.{done, failed_at, same, taken_at}
+use Rattle.binfarce_tables.proofs.ReadingSteps.{done, same}
+use Rattle.binfarce_identity.proofs.Steps.{failed_at, taken_at}
 use Rattle.binfarce_identity.proofs.pe.read_record.Goals as goal
 
 too_short : (p : code.Place) → p.size < 24 → answered (Err malformed_input) ≡ record_reading (Some (place_view p))

@@ -1,6 +1,6 @@
 use Rattle.std.proofs.Common.{ap}
 use Rattle.binfarce_identity.specs.FileIdentity.{identity_of}
-use Rattle.binfarce_identity.specs.Reading.{answer_of}
+use Rattle.binfarce_tables.specs.Readings.{answer_of}
 use Rattle.binfarce_identity.proofs.Unmeasured.{no_length}
 use Rattle.binfarce_identity.proofs.reading.read_identity.Goals as goal
 

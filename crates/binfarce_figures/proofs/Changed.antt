@@ -42,10 +42,10 @@ zero_names [] = refl
 zero_names (s ∷ shares) = ap (λ (ns : List (List ℕ)). s.name ∷ ns) (zero_names shares)
 
 -- the sums of the old file with the names of both, and those of the new one
-first_sum : (old new : List Share) (name : List ℕ) → sum_of (old ++ zeros new) name ≡ sum_of old name
+pub first_sum : (old new : List Share) (name : List ℕ) → sum_of (old ++ zeros new) name ≡ sum_of old name
 first_sum old new name = omega (arith, sum_of-append old (zeros new) name, zero_sum new name)
 
-second_sum : (old new : List Share) (name : List ℕ) → sum_of (zeros old ++ new) name ≡ sum_of new name
+pub second_sum : (old new : List Share) (name : List ℕ) → sum_of (zeros old ++ new) name ≡ sum_of new name
 second_sum old new name = omega (arith, sum_of-append (zeros old) new name, zero_sum old name)
 
 -- the keys are those of both

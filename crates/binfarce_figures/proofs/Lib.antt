@@ -20,5 +20,6 @@ pub mod Got
 pub mod Figured
 pub mod Changed
 pub mod Compared
+pub mod Sized
 pub mod Paths
 pub mod ModuleCrates

@@ -1,5 +1,8 @@
 -- The text of how the sums of two files differ.
-use Rattle.std.specs.Prelude.{◌≡◌, ℕ, Bool, not, List, ◌++◌, filter, Option, Some, None, Result, Ok, Err, codes, nat_eq}
+use Rattle.std.specs.Prelude.{◌≡◌, ℕ, Bool, not, List, [], ◌++◌, filter, Option, Some, None, Result, Ok, Err, codes, nat_eq, String, if◌then◌else◌}
+use Rattle.std.specs.BTreeMap.{BTreeMap, get_by_text}
+use Rattle.std.specs.Global.{Global}
+use Rattle.std.specs.Option.{option_map}
 use Rattle.binfarce.specs.Refusal.{Refusal}
 use Rattle.binfarce.specs.SectionEntries.{SelectedSymbols}
 use Rattle.binfarce.specs.declared.SymbolTable.{SymbolTable}
@@ -7,9 +10,12 @@ use Rattle.binfarce_rows.specs.Json.{Style, number_member}
 use Rattle.binfarce_rows.specs.Columns.{change_column, difference, growth_column, growth_member, signed_member, size_column}
 use Rattle.binfarce_tools.specs.Report.{Share, AreCratesOf, sum_of, total}
 use Rattle.binfarce_tools.specs.Answer.{selected_answer}
+use Rattle.binfarce_tools.specs.Sums.{occurs}
+use Rattle.binfarce_figures.specs.declared.key.Grouping.{Grouping}
+use Rattle.binfarce_figures.specs.declared.sums.Numbers.{Numbers}
 use Rattle.binfarce_figures.specs.declared.diff.Growth.{Growth}
 use Rattle.binfarce_figures.specs.declared.sums.Figures.{Figures}
-use Rattle.binfarce_figures.specs.Claimed.{Claimed, AreClaimsIn}
+use Rattle.binfarce_figures.specs.Claimed.{AreClaimsFor, AreClaimsIn, Claimed}
 use Rattle.binfarce_figures.specs.Claims.{IsSumOf}
 use Rattle.binfarce_figures.specs.Figures.{AreRowsOf, AreSharesIn, numbers_of, row_of}
 
@@ -63,6 +69,27 @@ abbrev pub AreChangesBy : Figures → Style → SelectedSymbols × SelectedSymbo
 AreChangesBy shown style selected text =
     (before : List Share) × (after : List Share) × AreSharesIn shown.grouping selected.0 before × AreSharesIn shown.grouping selected.1 after
     × IsTextOfChanges shown style before after text
+
+-- what is summed for a key in two files, if one of the shares of either has it
+abbrev pub sizes_at : (old new : List Share) → (name : List ℕ) → Option (ℕ × ℕ)
+sizes_at old new name = if occurs (old ++ new) name then Some (sum_of old name, sum_of new name) else None
+
+-- shares are those of a file's answer; none, without a file
+abbrev pub AreSharesIf : Grouping → Option SelectedSymbols → List Share → Type 0
+AreSharesIf grouping (Some selected) shares = AreSharesIn grouping selected shares
+AreSharesIf grouping None shares = shares ≡ []
+
+-- claims are those of a file's answer, if there is a file
+abbrev pub AreClaimsIf : Option SelectedSymbols → Option Claimed → Type 0
+AreClaimsIf (Some selected) (Some claims) = AreClaimsFor selected claims
+AreClaimsIf None None = Unit {0}
+AreClaimsIf selected claims = ⊥
+
+-- numbers have the sums of the answers of an old file, if there is one, and of a new one, by the keys of both
+abbrev pub AreSizesFrom : Grouping → (old : Option SelectedSymbols) → (new : SelectedSymbols) → BTreeMap (String Global) Numbers → Type 0
+AreSizesFrom grouping old new numbers =
+    (before after : List Share) × AreSharesIf grouping old before × AreSharesIn grouping new after
+    × ((name : List ℕ) → option_map {U = ℕ × ℕ} (λ n. (n.sum, n.other)) (get_by_text numbers name) ≡ sizes_at before after name)
 
 -- growth is that between two files' answers
 pub record IsGrowthBy (selected : SelectedSymbols × SelectedSymbols) (growth : Growth) : Type 0 where

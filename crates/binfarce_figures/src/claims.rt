@@ -186,24 +186,17 @@ fn claimed<'a>(
         let end = place + u128::from(function.function.size);
         let added = cover(&mut spans, place, end)?;
         let size = added as u64;
-        claims.push(with_size(*function, size))?;
+        claims.push(SectionFunction {
+            section: function.section,
+            info: function.info,
+            version: function.version,
+            function: FunctionSymbol {
+                size,
+                ..function.function
+            },
+        })?;
     }
     Ok(claims)
-}
-
-// A function symbol with another size.
-fn with_size<'a>(function: SectionFunction<'a>, size: u64) -> SectionFunction<'a>
-    ensures { section_function_view result ≡ once.with_size (section_function_view function.entry) size }
-{
-    SectionFunction {
-        section: function.section,
-        info: function.info,
-        version: function.version,
-        function: FunctionSymbol {
-            size,
-            ..function.function
-        },
-    }
 }
 
 // Adds the bytes from a place up to another to the spans of bytes, of which none begins before it, and of which the

@@ -1,19 +1,22 @@
 //! How the sums of two files differ.
 
-ghost use Rattle.std.specs.Prelude.{◌≡◌, ◌⊎◌, Some, Ok, IfErr, IfOk};
+ghost use Rattle.std.specs.Prelude.{◌≡◌, ◌⊎◌, Option, Some, Ok, IfErr, IfOk};
+ghost use Rattle.std.specs.Option.{option_map};
 ghost use Rattle.std.specs.String.{string_bytes};
 ghost use Rattle.binfarce.specs.SectionEntries.{SelectedSymbols};
 ghost use Rattle.binfarce_rows.specs.Json.{style_of};
 ghost use Rattle.binfarce_tools.specs.ReportWords.{outcome_of};
 ghost use Rattle.binfarce_tools.specs.Writing.{Takes, Fails, Leaves};
 ghost use Rattle.binfarce_tools.specs.declared.report.ReportError.TheVariants.{OutOfMemory, Write};
-ghost use Rattle.binfarce_figures.specs.Changes.{AreChangesBy, AreClaimsAsked, Asked, IsGrowthBy, answer_for, both};
+ghost use Rattle.binfarce_figures.specs.Changes.{AreChangesBy, AreClaimsAsked, AreClaimsIf, AreSizesFrom, Asked, IsGrowthBy, answer_for, both};
+ghost use Rattle.binfarce_figures.specs.Claimed.{AreClaimsFor};
 ghost use Rattle.binfarce_figures.specs.Figures.{ended};
 ghost use Rattle.binfarce_figures.specs.machine.Compared.{IsTextWith};
 
 use crate::claims::Claims;
 use crate::figures::{Columns, Figure, Layout};
-use crate::sums::{Counting, Figures, add_claims};
+use crate::key::Grouping;
+use crate::sums::{Counting, Figures, Numbers, add_claims};
 use binfarce_rows::json::Form;
 use binfarce_tools::list::Sink;
 use binfarce_tools::report::{ReportError, write_made};
@@ -67,6 +70,31 @@ pub fn diff<S: Sink>(
         old: old.total,
         new: new.total,
     })
+}
+
+/// The sums of each key of function symbols: the first number in an old file, if there is one, and the other in a new one.
+///
+/// # Errors
+///
+/// `AllocError` where an allocation failed.
+pub fn sizes_of(
+    alloc: Global,
+    old: Option<&Claims<'_, '_>>,
+    new: &Claims<'_, '_>,
+    grouping: Grouping,
+) -> Result<BTreeMap<String, Numbers>, AllocError>
+    ensures { (was : Option SelectedSymbols) (is : SelectedSymbols)
+        → AreClaimsIf was (option_map (λ claims. claims.now) old.entry) → AreClaimsFor is new.now
+        → IfOk result (AreSizesFrom grouping was is) }
+{
+    let mut numbers = BTreeMap::new(alloc);
+    let Some(old) = old else {
+        add_claims(alloc, new, grouping, Counting::New, &mut numbers)?;
+        return Ok(numbers);
+    };
+    add_claims(alloc, old, grouping, Counting::Old, &mut numbers)?;
+    add_claims(alloc, new, grouping, Counting::New, &mut numbers)?;
+    Ok(numbers)
 }
 
 // The whole text.

@@ -157,7 +157,12 @@ impl Listing<'_, '_> {
         let mut name = String::new(self.alloc);
         let mut text = String::new(self.alloc);
         for function in &functions[..count] {
-            self.put_name(&mut demangler, &mut name, function.function.name)?;
+            put_name(
+                &mut demangler,
+                &mut name,
+                self.shown.naming,
+                function.function.name,
+            )?;
             self.push_row(&mut text, *function, name.as_str())?;
         }
         Ok(text)
@@ -228,7 +233,7 @@ impl Listing<'_, '_> {
             × (texts.new.texts.items ≡ texts.old.texts.items ++ more)) }
     {
         let mut text = String::new(self.alloc);
-        self.put_name(demangler, &mut text, name)?;
+        put_name(demangler, &mut text, self.shown.naming, name)?;
         if text.as_str() == name {
             return Ok(None);
         }
@@ -275,31 +280,6 @@ impl Listing<'_, '_> {
             None => function.function.name,
         };
         Row { function, name }
-    }
-
-    // Overwrites the text by what is shown of a name.
-    fn put_name(
-        &self,
-        demangler: &mut Demangler,
-        text: &mut String,
-        name: &str,
-    ) -> Result<(), AllocError>
-        ensures { OnOk result (IsNameText self.now.shown.now.naming name.now (string_bytes text.new)) }
-    {
-        match self.shown.naming {
-            Naming::Trimmed => {
-                text.clear();
-                demangler.push_trimmed(text, name)
-            }
-            Naming::Complete => {
-                *text = demangler.demangle(name)?.complete;
-                Ok(())
-            }
-            Naming::Stored => {
-                text.clear();
-                text.push_str(name)
-            }
-        }
     }
 
     // Appends the row of a function symbol with this name, with its section where all sections are listed.
@@ -375,6 +355,35 @@ impl Listing<'_, '_> {
     }
 }
 
+/// Overwrites the text by what is shown of a name.
+///
+/// # Errors
+///
+/// `AllocError` where an allocation failed. The text is then unspecified.
+pub fn put_name(
+    demangler: &mut Demangler,
+    text: &mut String,
+    naming: Naming,
+    name: &str,
+) -> Result<(), AllocError>
+    ensures { OnOk result (IsNameText naming name.now (string_bytes text.new)) }
+{
+    match naming {
+        Naming::Trimmed => {
+            text.clear();
+            demangler.push_trimmed(text, name)
+        }
+        Naming::Complete => {
+            *text = demangler.demangle(name)?.complete;
+            Ok(())
+        }
+        Naming::Stored => {
+            text.clear();
+            text.push_str(name)
+        }
+    }
+}
+
 // The type of a function symbol with this info.
 fn kind_word(info: u8) -> Option<&'static str>
     ensures { option_map (λ t. t.now) result ≡ kind_word info }
@@ -396,8 +405,8 @@ fn binding_word(info: u8) -> Option<&'static str>
     word_of(info / 16)
 }
 
-// The word for a binding.
-fn word_of(binding: u8) -> Option<&'static str>
+/// The word for a binding (`st_info / 16`): `local`, `global`, `weak` or `unique`.
+pub fn word_of(binding: u8) -> Option<&'static str>
     ensures { option_map (λ t. t.now) result ≡ word_of binding }
 {
     match binding {

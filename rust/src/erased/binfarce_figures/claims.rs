@@ -114,22 +114,17 @@ fn claimed<'a>(
         let end = place + u128::from(function.function.size);
         let added = cover(&mut spans, place, end)?;
         let size = added as u64;
-        claims.push(with_size(*function, size))?;
+        claims.push(SectionFunction {
+            section: function.section,
+            info: function.info,
+            version: function.version,
+            function: FunctionSymbol {
+                size,
+                ..function.function
+            },
+        })?;
     }
     Ok(claims)
-}
-
-// A function symbol with another size.
-fn with_size<'a>(function: SectionFunction<'a>, size: u64) -> SectionFunction<'a> {
-    SectionFunction {
-        section: function.section,
-        info: function.info,
-        version: function.version,
-        function: FunctionSymbol {
-            size,
-            ..function.function
-        },
-    }
 }
 
 // Adds the bytes from a place up to another to the spans of bytes, of which none begins before it, and of which the

@@ -5,7 +5,8 @@
 use crate::shim::String;
 use crate::erased::binfarce_figures::claims::Claims;
 use crate::erased::binfarce_figures::figures::{Columns, Figure, Layout};
-use crate::erased::binfarce_figures::sums::{Counting, Figures, add_claims};
+use crate::erased::binfarce_figures::key::Grouping;
+use crate::erased::binfarce_figures::sums::{Counting, Figures, Numbers, add_claims};
 use crate::erased::binfarce_rows::json::Form;
 use crate::erased::binfarce_tools::list::Sink;
 use crate::erased::binfarce_tools::report::{ReportError, write_made};
@@ -47,6 +48,27 @@ pub fn diff<S: Sink>(
         old: old.total,
         new: new.total,
     })
+}
+
+/// The sums of each key of function symbols: the first number in an old file, if there is one, and the other in a new one.
+///
+/// # Errors
+///
+/// `AllocError` where an allocation failed.
+pub fn sizes_of(
+    alloc: Global,
+    old: Option<&Claims<'_, '_>>,
+    new: &Claims<'_, '_>,
+    grouping: Grouping,
+) -> Result<BTreeMap<String, Numbers>, AllocError> {
+    let mut numbers = BTreeMap::new(alloc);
+    let Some(old) = old else {
+        add_claims(alloc, new, grouping, Counting::New, &mut numbers)?;
+        return Ok(numbers);
+    };
+    add_claims(alloc, old, grouping, Counting::Old, &mut numbers)?;
+    add_claims(alloc, new, grouping, Counting::New, &mut numbers)?;
+    Ok(numbers)
 }
 
 // The whole text.

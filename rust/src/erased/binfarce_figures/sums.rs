@@ -34,7 +34,7 @@ pub struct Sums {
 
 /// Two numbers of a key.
 #[derive(Debug, Clone, Copy)]
-pub(crate) struct Numbers {
+pub struct Numbers {
     /// The sum of the sizes of its function symbols; of two files, in the old one.
     pub sum: u64,
     /// How many function symbols have it; of two files, the sum of their sizes in the new one.

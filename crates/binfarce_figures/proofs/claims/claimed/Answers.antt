@@ -1,4 +1,4 @@
-use Rattle.std.proofs.Common.{◌+◌, ◌-◌, ◌≤◌, ℕ, List, [], map, reverse, rules, sym, ap, subst, ◌∙◌, arith}
+use Rattle.std.proofs.Common.{◌+◌, ◌-◌, ◌≤◌, ℕ, List, [], map, refl, reverse, rules, sym, ap, subst, ◌∙◌, arith}
 use Rattle.std.proofs.lemmas.List.{drop-map, drop_all}
 use Rattle.binfarce.specs.SectionEntries.{SectionEntry}
 use Rattle.binfarce.specs.SymbolViews.{section_function_view}
@@ -45,7 +45,7 @@ loop-function-preserved c =
     let place = c.place_of-place.result in
     let split = mapped_split section_function_view c.args.functions.now c.loop-function.function-index _ c.loop-function-test.true in
     one_more _ _ (reverse c.loop-function.spans.items) c.loop-function.function-index _ split c.loop-function.invariant (map section_function_view c.push.new.self.items) (reverse c.cover.new.spans.items) place (place + c.from.result) c.in_ok-added.added
-    c.place_of-place.ensures.is (ap (λ (n : ℕ). place + n) c.from.ensures) c.in_ok-added.ensures.added c.in_ok-added.ensures.rises c.in_ok-added.ensures.covered (map_push section_function_view c.loop-function.claims.items c.push.new.self.items _ _ c.in_ok-push.ensures.items c.with_size.ensures)
+    c.place_of-place.ensures.is (ap (λ (n : ℕ). place + n) c.from.ensures) c.in_ok-added.ensures.added c.in_ok-added.ensures.rises c.in_ok-added.ensures.covered (map_push section_function_view c.loop-function.claims.items c.push.new.self.items _ _ c.in_ok-push.ensures.items refl)
 
 pub returns : goal.returns
 returns c =

@@ -1,0 +1,4 @@
+mod VersionSteps
+mod FileSteps
+mod TableSteps
+mod Given

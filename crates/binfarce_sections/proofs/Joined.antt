@@ -19,7 +19,7 @@ use Rattle.binfarce_sections.specs.Sums.{IsByKey}
 use Rattle.binfarce_sections.specs.machine.Changed.{added, joined, joined_to}
 use Rattle.binfarce_sections.proofs.ChangeSums.{given_sum}
 
-abbrev name_of : Change → List ℕ
+abbrev pub name_of : Change → List ℕ
 name_of c = c.name.now
 
 abbrev order : List ℕ → List ℕ → Ordering
@@ -69,10 +69,10 @@ renamed c d [] is rises = tt
 renamed c d (next ∷ others) is rises = (subst (λ (n : List ℕ). is_lt (order (name_of next) n) ≡ false) is rises.0, rises.1)
 
 -- a number of the changes of a name
-abbrev named_sum : (w : Change → ℕ) → (name : List ℕ) → List Change → ℕ
+abbrev pub named_sum : (w : Change → ℕ) → (name : List ℕ) → List Change → ℕ
 named_sum w name changes = sum_by (λ c. if bytes_eq (name_of c) name then w c else 0) changes
 
-abbrev row_at : List Change → (name : List ℕ) → Row
+abbrev pub row_at : List Change → (name : List ℕ) → Row
 row_at changes name = record {
   name = name;
   old = named_sum (λ c. c.old) name changes;
@@ -279,7 +279,7 @@ module _ (given : List Change) (old new : List Part) (is : map row_view given �
     )
 
     -- the sums of changes that parts make alone
-    given_row : row_at given name ≡ row_of old new name
+    pub given_row : row_at given name ≡ row_of old new name
     given_row = λ i. record {
       name = name;
       old = old_is (λ r. r.old) (λ p. p.bytes) (λ p. refl) (λ p. refl) i;
@@ -288,7 +288,7 @@ module _ (given : List Change) (old new : List Part) (is : map row_view given �
       new_memory = new_is (λ r. r.new_memory) (λ p. p.memory) (λ p. refl) (λ p. refl) i;
     }
 
-    given_any : list_any (λ c. bytes_eq name (name_of c)) given ≡ list_any (λ p. bytes_eq name p.name) (old ++ new)
+    pub given_any : list_any (λ c. bytes_eq name (name_of c)) given ≡ list_any (λ p. bytes_eq name p.name) (old ++ new)
     given_any =
         let has = λ (r : Row). bytes_eq name r.name in
         let is_named = λ (p : Part). bytes_eq name p.name in

@@ -11,3 +11,4 @@ pub mod SumRows
 pub mod Whole
 pub mod ChangeSums
 pub mod Joined
+mod AddedRows

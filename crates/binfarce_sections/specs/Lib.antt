@@ -4,6 +4,7 @@ pub mod Named
 pub mod Lines
 pub mod Sums
 pub mod Changes
+pub mod ByName
 pub mod Results
 pub mod Views
 pub mod Tables

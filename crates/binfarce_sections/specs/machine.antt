@@ -3,3 +3,4 @@ pub mod Found
 pub mod Listed
 pub mod Summed
 pub mod Changed
+pub mod Added

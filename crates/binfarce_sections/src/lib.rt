@@ -7,6 +7,7 @@ pub mod error;
 pub mod kinds;
 mod laws;
 pub mod list;
+pub mod rows;
 pub mod sections;
 pub mod sums;
 pub mod tables;

@@ -12,7 +12,7 @@ ghost use Rattle.binfarce_rows.specs.Columns.{size_text};
 ghost use Rattle.binfarce_sections.specs.Lines.{name_text};
 ghost use Rattle.binfarce_sections.specs.Results.{SumsUp, TakesText, Fails};
 ghost use Rattle.binfarce_sections.specs.Section.{sections_of};
-ghost use Rattle.binfarce_sections.specs.Sums.{AreSharesOf, active, end_row, is_inactive, others_row, plain_line, plain_object, plain_row, share_object, share_row, share_rows, shares_of, sums_text, total, total_memory};
+ghost use Rattle.binfarce_sections.specs.Sums.{AreSharesOf, active, end_row, others_row, plain_line, plain_object, plain_row, share_object, share_row, share_rows, shares_of, sums_text, total, total_memory};
 ghost use Rattle.binfarce_sections.specs.Tables.{AreTablesOf};
 ghost use Rattle.binfarce_sections.specs.declared.error.SectionError.TheVariants as errors;
 ghost use Rattle.binfarce_sections.specs.Views.{section_view, sections_left, share_view};
@@ -101,6 +101,18 @@ impl<'a> SectionSums<'a> {
         sums_left(alloc, sections, tables.file_length())
     }
 
+    /// The sums of an empty file, which has no sections.
+    pub fn none(alloc: Global) -> SectionSums<'a>
+        ensures { result ≡ record { file_length = 0; shares = [] } }
+    {
+        SectionSums {
+            shares: Vec::new(alloc),
+            rest: 0,
+            file_length: 0,
+            memory: 0,
+        }
+    }
+
     /// The length of the file in bytes: the sum of all numbers of bytes in the file.
     pub fn file_length(&self) -> u64
         ensures { result ≡ self.now.file_length }
@@ -176,18 +188,12 @@ fn push_active<'a>(kept: &mut Vec<Section<'a>>, section: Section<'a>) -> Result<
     ensures { OnOk result (map section_view kept.new.items
         ≡ map section_view kept.old.items ++ active (section_view section.entry ∷ [])) }
 {
-    if is_inactive(section.kind) {
+    // The header is inactive.
+    if section.kind == SectionType::Elf(SHT_NULL) {
         return Ok(());
     }
     kept.push(section)?;
     Ok(())
-}
-
-// Whether this is the type of an inactive section header.
-fn is_inactive(kind: SectionType) -> bool
-    ensures { result ≡ is_inactive kind }
-{
-    kind == SectionType::Elf(SHT_NULL)
 }
 
 const SHT_NULL: u32 = 0;

@@ -7,6 +7,7 @@ pub mod changes;
 pub mod error;
 pub mod kinds;
 pub mod list;
+pub mod rows;
 pub mod sections;
 pub mod sums;
 pub mod tables;

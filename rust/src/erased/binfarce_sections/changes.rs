@@ -75,7 +75,10 @@ fn changes_of<'a>(
     given.sort_by_key(|change| change.name)?;
     let mut changes = joined_of(alloc, &given)?;
     changes.sort_by_key(|change| Reverse(distance(change.old_memory, change.new_memory)))?;
-    changes.sort_by_key(|change| Reverse(bytes_distance(change.old, change.new)))?;
+    changes.sort_by_key(|change| Reverse(distance(
+        u128::from(change.old),
+        u128::from(change.new),
+    )))?;
     Ok(changes)
 }
 
@@ -84,12 +87,8 @@ fn distance(old: u128, new: u128) -> u128 {
     old.abs_diff(new)
 }
 
-fn bytes_distance(old: u64, new: u64) -> u64 {
-    old.abs_diff(new)
-}
-
 // A change for each part.
-fn given_of<'a>(
+pub(crate) fn given_of<'a>(
     alloc: Global,
     old: &'a SectionSums<'a>,
     new: &'a SectionSums<'a>,

@@ -63,6 +63,16 @@ impl<'a> SectionSums<'a> {
         sums_left(alloc, sections, tables.file_length())
     }
 
+    /// The sums of an empty file, which has no sections.
+    pub fn none(alloc: Global) -> SectionSums<'a> {
+        SectionSums {
+            shares: Vec::new(alloc),
+            rest: 0,
+            file_length: 0,
+            memory: 0,
+        }
+    }
+
     /// The length of the file in bytes: the sum of all numbers of bytes in the file.
     pub fn file_length(&self) -> u64 {
         self.file_length
@@ -123,16 +133,12 @@ fn active_of<'a>(alloc: Global, sections: Sections<'a>) -> Result<Vec<Section<'a
 
 // Adds a section, unless its header is inactive.
 fn push_active<'a>(kept: &mut Vec<Section<'a>>, section: Section<'a>) -> Result<(), AllocError> {
-    if is_inactive(section.kind) {
+    // The header is inactive.
+    if section.kind == SectionType::Elf(SHT_NULL) {
         return Ok(());
     }
     kept.push(section)?;
     Ok(())
-}
-
-// Whether this is the type of an inactive section header.
-fn is_inactive(kind: SectionType) -> bool {
-    kind == SectionType::Elf(SHT_NULL)
 }
 
 const SHT_NULL: u32 = 0;

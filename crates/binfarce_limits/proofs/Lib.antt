@@ -1,0 +1,3 @@
+mod Splits
+mod Lines
+mod Names

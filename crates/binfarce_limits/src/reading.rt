@@ -1,0 +1,194 @@
+//! Reads limits from a text: a line for each row.
+
+ghost use Rattle.std.specs.Prelude.{◌≡◌, ◌++◌, ◌∷◌, [], map, MatchResult, Ok, OnOk};
+ghost use Rattle.std.specs.Option.{option_map};
+ghost use Rattle.binfarce_limits.specs.Reading.{limits_in, limits_of, line_of, line_parts, with_line};
+ghost use Rattle.binfarce_limits.specs.ReadingViews.{IsUnread, line_view};
+ghost use Rattle.binfarce_limits.specs.Rows.{limit_view};
+ghost use Rattle.binfarce_limits.specs.machine.Names.{AreNamesOf};
+
+use crate::rows::RowLimit;
+use binfarce_words::takes::{Limit, limit_in};
+use std::alloc::{AllocError, Global};
+use std::collections::BTreeMap;
+use std::fmt;
+
+/// Why limits aren't read. Lines are counted from 1 on.
+#[derive(Debug, Clone, Copy, PartialEq)]
+pub enum Unread<'a> {
+    /// The line at this number has no limit behind a name.
+    NoLimit(usize),
+    /// What is behind the name in this line is no limit.
+    BadLimit(usize, &'a str),
+    /// The limit in this line is one on growth, and files aren't compared.
+    OnlyGrowth(usize, &'a str),
+    /// This line has a name that a line before it has.
+    Twice(usize, &'a str),
+    /// An allocation failed.
+    OutOfMemory,
+}
+
+impl<'a> fmt::Display for Unread<'a> {
+    ghost use Rattle.std.specs.Prelude.{Some};
+    ghost use Rattle.binfarce_limits.specs.ReadingViews.{unread_words};
+
+    ghost output = { λ u. Some (unread_words u) };
+
+    fn fmt<W: fmt::Write>(&self, f: &mut fmt::Formatter<W>) -> fmt::Result {
+        match self {
+            Unread::NoLimit(line) => write!(
+                f,
+                "line {line} has no limit; a line is the name of a row, a blank and a limit"
+            ),
+            Unread::BadLimit(line, word) => write!(
+                f,
+                "line {line}: a limit is a number of bytes, also as 600k or 2M, or of diff one of per cent as 2%, and not {word}"
+            ),
+            Unread::OnlyGrowth(line, word) => write!(
+                f,
+                "line {line}: {word} is for diff; size takes a number of bytes"
+            ),
+            Unread::Twice(line, name) => write!(f, "line {line}: a line before it has {name}, too"),
+            Unread::OutOfMemory => write!(f, "out of memory"),
+        }
+    }
+}
+
+impl From<AllocError> for Unread<'_> {
+    ghost use Rattle.binfarce_limits.specs.declared.reading.Unread.TheVariants.{OutOfMemory};
+
+    ghost from_gives = { λ _ u. u ≡ OutOfMemory };
+
+    fn from(_: AllocError) -> Self {
+        Unread::OutOfMemory
+    }
+}
+
+// What a line says.
+#[derive(Debug, Clone, Copy, PartialEq)]
+pub(crate) enum Line<'a> {
+    // Nothing: it is blank, or begins with `#`.
+    Nothing,
+    // It has no limit behind a name.
+    NoLimit,
+    // What is behind the name is no limit.
+    BadLimit(&'a str),
+    // The limit is one on growth, and files aren't compared.
+    OnlyGrowth(&'a str),
+    // A limit on the row of a name.
+    Limits(RowLimit<'a>),
+}
+
+/// The limits in a text, in the order of their lines. `compares` says whether files are compared.
+///
+/// A line is a row's name, and behind its last tab, or if it has none behind its last blank, a limit as `--fail-above`
+/// takes; white space around a line, a name and a limit counts for nothing. A line without anything, and one that begins
+/// with `#`, has no limit.
+///
+/// # Errors
+///
+/// An `Unread` for the first line that can't be taken: it has no limit, or what is none; a limit in per cent where no
+/// files are compared; or a name that a line before it has. `OutOfMemory` where an allocation fails.
+pub fn read_limits<'a>(
+    alloc: Global,
+    text: &'a str,
+    compares: bool,
+) -> Result<Vec<RowLimit<'a>>, Unread<'a>>
+    ensures { let answer = limits_in compares text.entry.now in MatchResult result
+        (λ v. answer ≡ Ok (map limit_view v.items)) (IsUnread answer) }
+{
+    let lines: Vec<&'a str> = text.split('\n').collect(alloc)?;
+    limits_of(alloc, &lines, compares)
+}
+
+// The limits in lines.
+fn limits_of<'a>(
+    alloc: Global,
+    lines: &[&'a str],
+    compares: bool,
+) -> Result<Vec<RowLimit<'a>>, Unread<'a>>
+    ensures { let answer = limits_of compares (map (λ l. l.now) lines.entry.now) in MatchResult result
+        (λ v. answer ≡ Ok (map limit_view v.items)) (IsUnread answer) }
+{
+    let mut limits = Vec::new(alloc);
+    let mut names = BTreeMap::new(alloc);
+    for (i, line) in lines.iter().enumerate() {
+        take_line(&mut limits, &mut names, i + 1, line_of(line, compares))?;
+    }
+    Ok(limits)
+}
+
+// Adds the limit that the line of this number has, if it has one.
+fn take_line<'a>(
+    limits: &mut Vec<RowLimit<'a>>,
+    names: &mut BTreeMap<&'a str, ()>,
+    number: usize,
+    line: Line<'a>,
+) -> Result<(), Unread<'a>>
+    requires { AreNamesOf (map limit_view limits.old.items) names.old }
+    ensures takes { let answer = with_line (map limit_view limits.old.items) number (line_view line.entry) in
+        MatchResult result (λ x. answer ≡ Ok (map limit_view limits.new.items)) (IsUnread answer) }
+    ensures names { OnOk result (AreNamesOf (map limit_view limits.new.items) names.new) }
+{
+    match line {
+        Line::Nothing => Ok(()),
+        Line::NoLimit => Err(Unread::NoLimit(number)),
+        Line::BadLimit(word) => Err(Unread::BadLimit(number, word)),
+        Line::OnlyGrowth(word) => Err(Unread::OnlyGrowth(number, word)),
+        Line::Limits(limit) => {
+            if names.get(limit.name).is_some() {
+                return Err(Unread::Twice(number, limit.name));
+            }
+            add_limit(limits, names, limit)?;
+            Ok(())
+        }
+    }
+}
+
+// Adds a limit, and its name.
+fn add_limit<'a>(
+    limits: &mut Vec<RowLimit<'a>>,
+    names: &mut BTreeMap<&'a str, ()>,
+    limit: RowLimit<'a>,
+) -> Result<(), AllocError>
+    requires { AreNamesOf (map limit_view limits.old.items) names.old }
+    ensures added { OnOk result
+        (map limit_view limits.new.items ≡ map limit_view limits.old.items ++ limit_view limit.entry ∷ []) }
+    ensures names { OnOk result (AreNamesOf (map limit_view limits.new.items) names.new) }
+{
+    let _ = names.insert(limit.name, ())?;
+    limits.push(limit)?;
+    Ok(())
+}
+
+// What a line says.
+fn line_of(line: &str, compares: bool) -> Line<'_>
+    ensures { line_view result ≡ line_of compares line.entry.now }
+{
+    let line = line.trim();
+    if line.is_empty() || line.as_bytes().starts_with(b"#") {
+        return Line::Nothing;
+    }
+    let Some((name, word)) = line_parts(line) else {
+        return Line::NoLimit;
+    };
+    let word = word.trim();
+    match limit_in(word) {
+        None => Line::BadLimit(word),
+        Some(Limit::Percent(_)) if !compares => Line::OnlyGrowth(word),
+        Some(limit) => Line::Limits(RowLimit {
+            name: name.trim(),
+            limit,
+        }),
+    }
+}
+
+// What is before and behind the last tab of a line, or if it has none its last blank.
+fn line_parts(line: &str) -> Option<(&str, &str)>
+    ensures { option_map (λ p. (p.0.now, p.1.now)) result ≡ line_parts line.entry.now }
+{
+    match line.rsplit_once('\t') {
+        Some(parts) => Some(parts),
+        None => line.rsplit_once(' '),
+    }
+}

@@ -1,0 +1,114 @@
+//! Which rows are above their limits, and which limits have no row.
+
+ghost use Rattle.std.specs.Prelude.{◌≡◌, ◌++◌, ℕ, List, Option, map, IfOk, OnOk};
+ghost use Rattle.std.specs.List.{list_any};
+ghost use Rattle.binfarce_limits.specs.Rows.{finding_view, findings, is_found_above, judged, limit_view};
+
+use crate::excess::{Counted, Excess, excess_of};
+use binfarce_words::takes::Limit;
+use std::alloc::{AllocError, Global};
+use std::fmt;
+
+/// A row's name, and the most that is allowed of it.
+#[derive(Debug, Clone, Copy, PartialEq)]
+pub struct RowLimit<'a> {
+    /// The name.
+    pub name: &'a str,
+    /// The most.
+    pub limit: Limit,
+}
+
+/// What is counted for rows, by their names.
+pub trait Rows {
+    ghost use Rattle.binfarce_limits.specs.declared.excess.Counted.{Counted};
+
+    // What is counted for the row of a name, if there is one.
+    ghost counted: { Self → List ℕ → Option Counted };
+
+    /// What is counted for the row of this name. `None` if there is none.
+    fn counted(&self, name: &str) -> Option<Counted>
+        ensures { result ≡ counted self.now name.now };
+}
+
+/// What is said of a limit: that its row is above it, or that there is no such row.
+#[derive(Debug, Drop)]
+pub struct Finding {
+    /// The row's name.
+    pub name: String,
+    /// The limit.
+    pub limit: Limit,
+    /// What is more than it. `None` if no row has the name.
+    pub excess: Option<Excess>,
+}
+
+impl fmt::Display for Finding {
+    ghost use Rattle.std.specs.Prelude.{Some};
+    ghost use Rattle.binfarce_limits.specs.Rows.{finding_words};
+
+    ghost output = { λ f. Some (finding_words f) };
+
+    fn fmt<W: fmt::Write>(&self, f: &mut fmt::Formatter<W>) -> fmt::Result {
+        match &self.excess {
+            Some(excess) => write!(
+                f,
+                "{} {excess}, and --limits allows {}",
+                self.name, self.limit
+            ),
+            None => write!(f, "no row is named {}, which --limits names", self.name),
+        }
+    }
+}
+
+/// What is said of limits, in their order: of each whose row is above it, and of each that has no row.
+///
+/// # Errors
+///
+/// `AllocError` where an allocation fails.
+pub fn judge<R: Rows>(
+    alloc: Global,
+    limits: &[RowLimit<'_>],
+    rows: &R,
+) -> Result<Vec<Finding>, AllocError>
+    ensures { IfOk result (λ v. map finding_view v.items
+        ≡ findings (R.counted rows.now) (map limit_view limits.now)) }
+{
+    let mut found = Vec::new(alloc);
+    for limit in limits {
+        push_judged(alloc, &mut found, rows.counted(limit.name), *limit)?;
+    }
+    Ok(found)
+}
+
+// Adds what is said of a limit, by what is counted for its row, if there is one.
+fn push_judged(
+    alloc: Global,
+    found: &mut Vec<Finding>,
+    counted: Option<Counted>,
+    limit: RowLimit<'_>,
+) -> Result<(), AllocError>
+    ensures { OnOk result (map finding_view found.new.items
+        ≡ map finding_view found.old.items ++ judged counted (limit_view limit.entry)) }
+{
+    let RowLimit { name, limit } = limit;
+    let excess = match counted {
+        Some(counted) => match excess_of(counted, limit) {
+            Some(excess) => Some(excess),
+            None => return Ok(()),
+        },
+        None => None,
+    };
+    let name = String::from_str(alloc, name)?;
+    found.push(Finding {
+        name,
+        limit,
+        excess,
+    })?;
+    Ok(())
+}
+
+/// Whether one of these says that a row is above its limit.
+pub fn are_above(found: &[Finding]) -> bool
+    ensures { result ≡ list_any (λ f. is_found_above (finding_view f)) found.now }
+{
+    found.iter().any(|finding| finding.excess.is_some())
+}

@@ -68,6 +68,7 @@ binfarce fil|filter
 binfarce help se|section
 binfarce --v|--version
 binfarce diff --fail|--fail-above
+binfarce diff --lim|--limits
 binfarce list --sort=na|name
 binfarce size --by=gen|generic
 binfarce diff --by=mod|module
@@ -76,6 +77,7 @@ binfarce size --json --st|--std
 binfarce section $sample .te|.text
 binfarce section --id uninst|uninstall
 binfarce list uninst|uninstall
+binfarce list --und|--undefined
 END
     # A hostile section's name is quoted, but for fish, which quotes what it takes from here; and no shell runs it.
     [ "$shell" = fish ] && wanted='odd$(>hit)' || wanted='odd\$\(\>hit\)'

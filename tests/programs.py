@@ -826,6 +826,32 @@ for *words, limit, hint in (*(("size", it, 38, f"{old}: has 39") for it in ("--j
     files = (new, old) if words[0] == "diff" else (blanks, old) if words[-1] == "-n1" else (old, blanks)
     ends(3, printed(folder / "binfarce", *words, *files), f"binfarce: {hint} bytes, and --fail-above allows {limit}", "binfarce", *words, f"--fail-above={limit}", *files)
 ends(1, f"\n{old}:\n" + printed(folder / "binfarce", "size", old), f"{lost}\nbinfarce: {old}: has 39 bytes, and --fail-above allows 38", "binfarce", "size", "--fail-above=38", missing, old)
+# Limits by row: a row above its limit, also one that isn't shown, and a name that no row has, in the order of the lines.
+budgets, growing = f"{scratch}/budgets", (old, new) if by > 0 else (new, old)
+for status, said, text, *words in ((3, (f"{old}: a has 24 bytes, and --limits allows 23", f"{old}: no row is named zz, which --limits names"), "# most\na 23\n\n  b\t9 \nzz 1\n", "size", old),
+                                   (3, (f"{old}: b has 9 bytes, and --limits allows 8",), "b 8", "size", "--json", "-n1", old), (0, (), "a 1k\r\nb 9\r\n", "size", "--std", "--percent", old),
+                                   (3, (f"{old}: b::f::<u16> has 5 bytes, and --limits allows 4",), "b::f::<u8> 4\nb::f::<u16> 4\n", "size", "--by=function", old),
+                                   (3, (f"{old}: b has 9 bytes, and --limits allows 8", f"{new}: no row is named b, which --limits names"), "b 8\n", "size", old, new),
+                                   (0, (f"{old}: no row is named zz, which --limits names",), "zz 1\n", "size", old), (0, (f"{budgets}: no limit is in it, so none is held",), "# none\n", "size", old),
+                                   (3, (f"{new}: a grew by 8 bytes, and --limits allows 7",), "b 0\na 7\n[total] 0\n", "diff", old, new), (0, (), "a 34%\n", "diff", "-n0", old, new),
+                                   (3, (f"{new}: a grew by 8 bytes (33.33%), and --limits allows 33%",), "a\t33%\n", "diff", "--json", old, new),
+                                   (3, (f"{growing[1]}: [total] grew by {abs(by)} bytes, and --limits allows {abs(by) - 1}",), f"[total] {abs(by) - 1}\n", "diff", "--by=section", *growing),
+                                   (0, (f"{new}: no row is named .nowhere, which --limits names",), f"[total] {max(by, 0)}\n.nowhere 2%\n", "diff", "--by=section", old, new),
+                                   (0, (f"{sample}: no row is named [total], which --limits names",), "[total] 1\n", "size", "--by=section", sample),
+                                   (3, (f"{old}: has 39 bytes, and --fail-above allows 38", f"{old}: a has 24 bytes, and --limits allows 23"), "a 23", "size", "--fail-above=38", old),
+                                   (3, (f"{old}: has 39 bytes, and --fail-above allows 38",), "a 24", "size", "--fail-above=38", old)):
+    pathlib.Path(budgets).write_text(text)
+    lines = "\n".join(f"binfarce: {it}" for it in said)
+    ends(status, printed(folder / "binfarce", *(it for it in words if not it.startswith("--fail"))), lines, "binfarce", words[0], f"--limits={budgets}", *words[1:])
+for status, line, text, *words in ((2, "line 2 has no limit; a line is the name of a row, a blank and a limit", b"a 1\nb\n", "size", old), (2, "line 1: 5% is for diff; size takes a number of bytes", b"a 5%", "size", old),
+                                   (2, "line 1: a limit is a number of bytes, also as 600k or 2M, or of diff one of per cent as 2%, and not 5q", b"a 5q", "diff", old, new),
+                                   (2, "line 3: a line before it has a, too", b"a 1\n\n a  2", "size", old), (1, "not UTF-8", b"\xff 1", "size", old)):
+    pathlib.Path(budgets).write_bytes(text)
+    ends(status, "", f"binfarce: {budgets}: {line}", "binfarce", words[0], "--limits", budgets, *words[1:])
+ends(1, "", lost, "binfarce", "size", f"--limits={missing}", old)
+ends(2, "", "binfarce: no option --limits=x of list; binfarce list --help shows them", "binfarce", "list", "--limits=x", old)
+pathlib.Path(budgets).write_text("a 24\n")
+fails(full, 1, "binfarce: standard output: Broken pipe", "binfarce", "size", f"--limits={budgets}", old)
 # Numbers past 32 bits, and growth past 2^64 hundredths; growth at its limit in per cent, and growth from nothing, which is above each.
 narrow, wide, widest = (assembled(name, 16, ("_RNvC1a1f", 0, size)) for name, size in (("narrow", 16), ("wide", (1 << 32) + 16), ("widest", top + 16)))
 per_cent, hundredths = divmod(10000 * (1 << 22) // 587, 100)
@@ -1058,6 +1084,37 @@ identified(1, f"{built.hex()}  {ids[0]}\n", f"{lost}\nbinfarce: {sample}: no bui
 program = f"{scratch}/built"
 printed("gcc", "-static", "-nostdlib", "-Wl,--build-id", "-o", program, "-x", "c", "-", given="int _start() { return 0; }")
 identified(0, re.search("Build ID: (.*)", printed("readelf", "-n", program))[1] + "\n", "", program)
+# What files need of others: as nm prints it of the C library, of a program that is linked with a library whose versions are made here, and of an object file.
+def needed(wanted, *files):
+    ends(0, wanted, "", "binfarce", "list", "--undefined", *files)
+def undefined(path, *options):
+    lines = printed("nm", "-p", "-u", "--with-symbol-versions", "--no-demangle", *options, path).splitlines(True)
+    return "".join(line.split(" ", 1)[1] for line in map(str.lstrip, lines))
+pathlib.Path(f"{scratch}/versions").write_text("OURS_1 { global: f; local: *; };\nOURS_2 { global: g; number; } OURS_1;\n")
+ours, user, part = f"{scratch}/libours.so", f"{scratch}/user", f"{scratch}/part.o"
+printed("gcc", "-shared", "-fPIC", "-nostdlib", "-Wl,-soname,libours.so.1", f"-Wl,--version-script={scratch}/versions", "-o", ours, "-x", "c", "-", given="int number; void f(void) {} void g(void) {}")
+code = "extern int number; void f(void); void g(void); void w(void) __attribute__((weak)); void _RNvC1a1b(void);\nvoid h(void) { f(); g(); if (w) w(); _RNvC1a1b(); number = 1; }"
+printed("gcc", "-c", "-fPIC", "-o", part, "-x", "c", "-", given=code)
+printed("gcc", "-shared", "-fPIC", "-nostdlib", "-o", user, part, ours)
+needed(undefined(library, "-D"), library)
+assert "@GLIBC_PRIVATE" in undefined(library, "-D") and not {"f@OURS_1", "g@OURS_2", "number@OURS_2", "w", "_RNvC1a1b"} - set(undefined(user, "-D").split())
+for options in ((), ("--full",), ("--raw",)):
+    wanted = undefined(user, "-D")
+    needed(wanted if options == ("--raw",) else wanted.replace("_RNvC1a1b", "a[0]::b" if options else "a::b"), *options, user)
+needed("".join(f"\n{path}:\n{undefined(path, *options)}" for path, *options in ((part,), (user, "-D"))).replace("_RNvC1a1b", "a::b"), part, user)
+found = {it.pop("name"): it for it in objects("list", "--undefined", user, part) if it["file"] == user}
+assert found["g"] == {"file": user, "raw": "g", "binding": "global", "version": "OURS_2", "from": "libours.so.1"}
+assert found["w"] == {"file": user, "raw": "w", "binding": "weak", "version": None, "from": None} and found["a::b"]["raw"] == "_RNvC1a1b"
+# A file that needs nothing; one without a symbol table, with the hint on it; other formats; and a file beside one that is refused.
+ends(0, "", f"binfarce: {ours}: no undefined symbols", "binfarce", "list", "--undefined", ours)
+printed("strip", "-o", f"{scratch}/bare", program)
+stated = re.search("Build ID: (..)(.*)", printed("readelf", "-n", program))
+ends(1, "", f"binfarce: {scratch}/bare: no symbol table (.symtab): it is stripped\nbinfarce: {scratch}/bare: its debug symbols may be in /usr/lib/debug/.build-id/{stated[1]}/{stated[2]}.debug", "binfarce", "list", "--undefined", f"{scratch}/bare")
+for path, said in ((apple, "nm -um shows it of Mach-O files"), (windows, "objdump -p shows the imports of PE files")):
+    ends(1, "", f"binfarce: {path}: what is needed is read of ELF files alone; {said}", "binfarce", "list", "--undefined", path)
+ends(1, f"\n{user}:\n{undefined(user, '-D').replace('_RNvC1a1b', 'a::b')}", lost, "binfarce", "list", "--undefined", missing, user)
+for option in ("--sort=name", "--first=1", "--no-total", "--section=.text", "--dynamic", "--all"):
+    ends(2, "", f"binfarce: --undefined and {option.partition('=')[0]} exclude each other", "binfarce", "list", "--undefined", option, user)
 # A section without a name has none in JSON: section 0 of this file, whose header isn't inactive, and which the other file lacks.
 data = bytearray(pathlib.Path(sample).read_bytes())
 table = int.from_bytes(data[40:48], "little")

@@ -1,5 +1,6 @@
 -- How the writing of how two files differ ended.
-use Rattle.std.proofs.Common.{◌≡◌, ◌⊎◌, inl, inr, Bool, false, ℕ, List, [], ◌++◌, Option, Some, None, Result, Ok, Err, IsErrAnd, is_some, refl, sym, ap₂, subst}
+use Rattle.std.proofs.Common.{◌≡◌, ◌∙◌, ◌⊎◌, inl, inr, Bool, false, ℕ, List, [], ◌++◌, Option, Some, None, Result, Ok, Err, IsErrAnd, is_some, ◌∷◌, ◌||◌, map, refl, sym, ap, ap₂, subst}
+use Rattle.std.proofs.lemmas.List.{map-append}
 use Rattle.std.specs.Io.KnownBytes.{Appends}
 use Rattle.binfarce_bytes.specs.Refusal.{Refusal}
 use Rattle.binfarce_bytes.specs.SectionEntries.{SelectedSymbols}
@@ -13,12 +14,14 @@ use Rattle.binfarce_tools.specs.ReportWords.{outcome_of}
 use Rattle.binfarce_tools.specs.declared.report.ReportError.{ReportError}
 use Rattle.binfarce_tools.specs.declared.report.ReportError.TheVariants as reports
 use Rattle.binfarce_io.specs.Faults.{failure}
-use Rattle.binfarce_jobs.specs.Files.{Grows, Reports, State, hinted}
+use Rattle.binfarce_jobs.specs.Files.{Grows, Hinted, Reports, State, hinted}
 use Rattle.binfarce_jobs.specs.Hints.{IsOrNone, words_of}
-use Rattle.binfarce_jobs.specs.Limit.{grown}
+use Rattle.binfarce_jobs.specs.Limit.{are_above, grown}
 use Rattle.binfarce_io.specs.declared.fault.Fault.{Fault}
 use Rattle.binfarce_io.specs.declared.fault.Fault.TheVariants as faults
-use Rattle.binfarce_jobs.proofs.FileLoop.{grows_none}
+use Rattle.binfarce_limits.specs.Rows.{Found, finding_view, finding_words, found_words}
+use Rattle.binfarce_limits.specs.declared.rows.Finding.{Finding}
+use Rattle.binfarce_jobs.proofs.FileLoop.{grows_none, reports_more}
 use Rattle.binfarce_calls.specs.Compared.{BreaksOff, Comparison, Differ}
 use Rattle.binfarce_calls.specs.Summed.{Fate, refused, summed}
 use Rattle.binfarce_calls.specs.machine.Steps.{Carries, Writes}
@@ -67,16 +70,16 @@ due_of {L} Is answer listed text is due = subst (λ (a : Option (Result L Refusa
 
 module _ {S : Type 0} (asked : Comparison S) (a b : S) (first second : Fate S) (first_is : first ≡ summed a) (second_is : second ≡ summed b) (before after : State) where
   -- both files are summed, and how they differ is written
-  pub were_written : (text : List ℕ) (growth : Growth) (lacks_old lacks_new : List (List ℕ)) → asked.IsText a b text → asked.IsGrowth a b growth
+  pub were_written : (text : List ℕ) (growth : Growth) (rows : List Found) (lacks_old lacks_new : List (List ℕ)) → asked.IsText a b text → asked.IsGrowth a b growth → asked.AreRows a b rows
       → IsOrNone (words_of (asked.lack asked.old.bytes)) lacks_old → IsOrNone (words_of (asked.lack asked.new.bytes)) lacks_new
       → Appends before.bytes after.bytes text → Reports before.reports after.reports []
-      → Grows before.hints after.hints (hinted asked.old.path lacks_old ++ (hinted asked.new.path lacks_new ++ hinted asked.new.path (words_of (grown growth asked.limit))))
-      → (is_above : Bool) → is_above ≡ is_some (grown growth asked.limit) → Writes asked first second before after (Ok is_above)
-  were_written text growth lacks_old lacks_new is_text is_growth one other wrote more gave is_above above =
-      let said = hinted asked.old.path lacks_old ++ (hinted asked.new.path lacks_new ++ hinted asked.new.path (words_of (grown growth asked.limit))) in
+      → Grows before.hints after.hints (hinted asked.old.path lacks_old ++ (hinted asked.new.path lacks_new ++ hinted asked.new.path (words_of (grown growth asked.limit) ++ map found_words rows)))
+      → (is_above : Bool) → is_above ≡ (is_some (grown growth asked.limit) || are_above rows) → Writes asked first second before after (Ok is_above)
+  were_written text growth rows lacks_old lacks_new is_text is_growth are_rows one other wrote more gave is_above above =
+      let said = hinted asked.old.path lacks_old ++ (hinted asked.new.path lacks_new ++ hinted asked.new.path (words_of (grown growth asked.limit) ++ map found_words rows)) in
       subst (λ (f : Fate S). Writes asked f second before after (Ok is_above)) (sym first_is)
       (subst (λ (s : Fate S). Writes asked (summed a) s before after (Ok is_above)) (sym second_is)
-      (text, said, (is_text, (growth, is_growth, (lacks_old, lacks_new, one, other, refl), above)), wrote, more, gave))
+      (text, said, (is_text, (growth, rows, is_growth, are_rows, (lacks_old, lacks_new, one, other, refl), above)), wrote, more, gave))
 
   -- or the writing failed
   pub were_not : (e : Fault) → BreaksOff asked (summed a) (summed b) before after (failure e) → Writes asked first second before after (Err e)
@@ -113,3 +116,19 @@ section_broke Is old new errors.Unreadable takes = absurd takes
 pub passed_on : {S : Type 0} (asked : Comparison S) (first second : Fate S) (before after : State) (e : Fault) (result : Result Bool Fault) → IsErrAnd result (λ f. f ≡ e) → Writes asked first second before after (Err e) → Writes asked first second before after result
 passed_on asked first second before after e (Ok is_above) is wrote = absurd is
 passed_on asked first second before after e (Err f) is wrote = subst (λ (f : Fault). Writes asked first second before after (Err f)) (sym is) wrote
+
+-- the words of findings
+pub words_are : (found : List Finding) → map finding_words found ≡ map found_words (map finding_view found)
+words_are [] = refl
+words_are (f ∷ found) = ap (λ (said : List (List ℕ)). finding_words f ∷ said) (words_are found)
+
+-- what is said of a file, and then more
+pub said_more : (path : List ℕ) (a b c : Option (List Hinted)) (xs ys : List (List ℕ)) → Grows a b (hinted path xs) → Grows b c (hinted path ys) → Grows a c (hinted path (xs ++ ys))
+said_more path a b c xs ys one other =
+    subst (Grows a c) (sym (map-append (λ (words : List ℕ). (path, words)) xs ys)) (reports_more a b c (hinted path xs) (hinted path ys) one other)
+
+-- what is said of a sum, and of rows
+pub said_both : (path : List ℕ) (a b c : Option (List Hinted)) (words : List (List ℕ)) (rows : List Finding) → Grows a b (hinted path words) → Grows b c (hinted path (map finding_words rows))
+    → Grows a c (hinted path (words ++ map found_words (map finding_view rows)))
+said_both path a b c words rows one other =
+    subst (λ (said : List (List ℕ)). Grows a c (hinted path (words ++ said))) (words_are rows) (said_more path a b c words (map finding_words rows) one other)

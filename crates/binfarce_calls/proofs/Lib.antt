@@ -1,4 +1,5 @@
 mod Changes
+mod RowSteps
 mod InTurn
 pub mod NameLines
 mod Pairs

@@ -1,5 +1,5 @@
 -- What a file comes to that is summed by its sections, by how the summing of what is read of it ended.
-use Rattle.std.proofs.Common.{◌≡◌, ◌∙◌, ◌⊎◌, inl, inr, Bool, true, false, not, ◌||◌, ℕ, List, [], ◌∷◌, ◌++◌, Option, Some, None, is_some, Result, Ok, Err, IsErrAnd, append-nil, refl, sym, ap, subst}
+use Rattle.std.proofs.Common.{◌≡◌, ◌∙◌, ◌⊎◌, inl, inr, Bool, true, false, not, ◌||◌, ℕ, List, [], ◌∷◌, ◌++◌, Option, Some, None, is_some, Result, Ok, Err, IsErrAnd, append-nil, map, refl, sym, ap, ap₂, subst}
 use Rattle.std.specs.Io.KnownBytes.{Appends, Keeps}
 use Rattle.binfarce_rows.specs.Json.{Style}
 use Rattle.binfarce_sections.specs.Results.{TakesText}
@@ -13,13 +13,17 @@ use Rattle.binfarce_jobs.specs.Files.{Files, Grows, HintsFault, IsHeld, Reports,
 use Rattle.binfarce_foreign.specs.Foreign.{foreign_in}
 use Rattle.binfarce_jobs.specs.Hints.{words_of}
 use Rattle.binfarce_io.specs.Input.{IsForeign, IsReadOf, IsUnreadable}
-use Rattle.binfarce_jobs.specs.Limit.{above}
+use Rattle.binfarce_jobs.specs.Limit.{above, are_above}
 use Rattle.binfarce_io.specs.Output.{pending, taken, writer_of}
 use Rattle.binfarce_io.specs.declared.fault.Fault.{Fault}
 use Rattle.binfarce_io.specs.declared.fault.Fault.TheVariants as faults
 use Rattle.binfarce_jobs.specs.declared.limit.Verdict.{Verdict}
 use Rattle.binfarce_io.specs.declared.output.Output.{Output}
 use Rattle.binfarce_jobs.proofs.FileFates.{beginning_after, said_of_file, whole, whole_taken}
+use Rattle.binfarce_jobs.specs.Show.{limits_of}
+use Rattle.binfarce_limits.specs.Rows.{Found, NameLimit, finding_view, findings, found_words}
+use Rattle.binfarce_calls.specs.RowLimits.{sized_in}
+use Rattle.binfarce_calls.specs.declared.sections.FileRows.{FileRows}
 use Rattle.binfarce_calls.specs.Sections.{InTurn, SumsArgument, SumsOne, not_done, style_at}
 use Rattle.binfarce_calls.specs.Summed.{HasNoSections, HasSections, MayBeRefused, refused, summed}
 use Rattle.binfarce_calls.specs.machine.Steps.{SumFails, SumsSource}
@@ -32,12 +36,12 @@ nothing (Some a) new same = subst (λ (n : Option (List ℕ)). Appends (Some a) 
 written_of_call : (fault : Fault) → failure fault ≡ write_failed → is_of_file fault ≡ false
 written_of_call fault is = ap (λ (o : Outcome). not (is_failed_write o || is_of_call fault)) is
 
-module _ {W : Type 0} (contents : W → Option (List ℕ)) (style : Style) (first : Option ℕ) (may_fail : Bool) (file : List ℕ) (old mid : Output W) where
-  abbrev pub Held : Output W → Result ℕ Fault → Type 0
-  Held new result = SumsSource style first may_fail file (pending old) (contents (writer_of old)) (contents (writer_of new)) (taken contents new) result
+module _ {W : Type 0} (contents : W → Option (List ℕ)) (style : Style) (first : Option ℕ) (limits : List NameLimit) (may_fail : Bool) (file : List ℕ) (old mid : Output W) where
+  abbrev pub Held : Output W → Result FileRows Fault → Type 0
+  Held new result = SumsSource style first limits may_fail file (pending old) (contents (writer_of old)) (contents (writer_of new)) (taken contents new) result
 
   -- as `?` passes a fault on
-  pub held_on : (new : Output W) (e : Fault) (result : Result ℕ Fault) → IsErrAnd result (λ f. f ≡ e) → Held new (Err e) → Held new result
+  pub held_on : (new : Output W) (e : Fault) (result : Result FileRows Fault) → IsErrAnd result (λ f. f ≡ e) → Held new (Err e) → Held new result
   held_on new e (Ok n) is held = absurd is
   held_on new e (Err f) is held = subst (λ (f : Fault). Held new (Err f)) (sym is) held
 
@@ -65,10 +69,10 @@ module _ {W : Type 0} (contents : W → Option (List ℕ)) (style : Style) (firs
       (is, (sums, has, whole_taken (contents (writer_of old)) (taken contents mid) (taken contents new) (pending old) (sums_text style first sums) (subst (Appends (taken contents old) (taken contents mid)) text_is took) kept))
 
   -- all was written
-  pub rows_written : (new : Output W) (sums : FileSums) (n : ℕ) → HasSections file sums → TakesText (λ text. text ≡ sums_text style first sums) (taken contents old) (taken contents mid) (Ok tt) → Keeps (taken contents mid) (taken contents new)
-      → pending new ≡ [] → n ≡ sums.file_length → Held new (Ok n)
-  rows_written new sums n has (text, text_is, took) kept none is =
-      (sums, has, is, whole (contents (writer_of old)) (taken contents mid) (contents (writer_of new)) (pending old) (pending new) (sums_text style first sums) (subst (Appends (taken contents old) (taken contents mid)) text_is took) kept none)
+  pub rows_written : (new : Output W) (sums : FileSums) (found : FileRows) → HasSections file sums → TakesText (λ text. text ≡ sums_text style first sums) (taken contents old) (taken contents mid) (Ok tt) → Keeps (taken contents mid) (taken contents new)
+      → pending new ≡ [] → found.length ≡ sums.file_length → map finding_view found.rows.items ≡ findings (sized_in sums) limits → Held new (Ok found)
+  rows_written new sums found has (text, text_is, took) kept none is are =
+      (sums, has, is, are, whole (contents (writer_of old)) (taken contents mid) (contents (writer_of new)) (pending old) (pending new) (sums_text style first sums) (subst (Appends (taken contents old) (taken contents mid)) text_is took) kept none)
 
 module _ (first : Option ℕ) (files : Files) (path : List ℕ) (old new : State) where
   abbrev pub One : Result Verdict Fault → Type 0
@@ -92,15 +96,17 @@ module _ (first : Option ℕ) (files : Files) (path : List ℕ) (old new : State
         subst One (sym err) (inl (wrote, (native, (sums, has, subst (λ (h : List ℕ). AppendsBeginning old.bytes new.taken (h ++ sums_text (style_at files.asked path) first sums)) is begins))), reports, gave)
 
     -- a file whose rows are written
-    pub summed_one : (n : ℕ) (is_above : Bool) → SumsSource (style_at files.asked path) first (files.may_fail path) (files.held path) left old.bytes new.bytes new.taken (Ok n) → is_above ≡ is_some (above n files.asked.limit)
-        → Reports old.reports new.reports [] → Grows old.hints new.hints (hinted path (words_of (above n files.asked.limit))) → One (Ok (record { is_done = true; is_above = is_above }))
-    summed_one n is_above (sums, has, length_is, wrote) exceeds reports gave = (
+    pub summed_one : (found : FileRows) (is_above : Bool) → SumsSource (style_at files.asked path) first (limits_of files.asked) (files.may_fail path) (files.held path) left old.bytes new.bytes new.taken (Ok found)
+        → is_above ≡ (is_some (above found.length files.asked.limit) || are_above (map finding_view found.rows.items))
+        → Reports old.reports new.reports [] → Grows old.hints new.hints (hinted path (words_of (above found.length files.asked.limit) ++ map found_words (map finding_view found.rows.items))) → One (Ok (record { is_done = true; is_above = is_above }))
+    summed_one found is_above (sums, has, length_is, rows_are, wrote) exceeds reports gave = (
       summed sums,
       (native, has),
-      ap (λ (b : Bool). record { is_done = true; is_above = b }) (exceeds ∙ ap (λ (n : ℕ). is_some (above n files.asked.limit)) length_is),
+      ap (λ (b : Bool). record { is_done = true; is_above = b }) (exceeds ∙ ap₂ (λ (n : ℕ) (rows : List Found). is_some (above n files.asked.limit) || are_above rows) length_is rows_are),
       subst (λ (h : List ℕ). Appends old.bytes new.bytes (h ++ sums_text (style_at files.asked path) first sums)) is wrote,
       reports,
-      subst (λ (n : ℕ). Grows old.hints new.hints (hinted path (words_of (above n files.asked.limit)))) length_is gave,
+      subst (λ (rows : List Found). Grows old.hints new.hints (hinted path (words_of (above sums.file_length files.asked.limit) ++ map found_words rows))) rows_are
+          (subst (λ (n : ℕ). Grows old.hints new.hints (hinted path (words_of (above n files.asked.limit) ++ map found_words (map finding_view found.rows.items)))) length_is gave),
     )
 
 -- what one argument came to, by what is known of its file

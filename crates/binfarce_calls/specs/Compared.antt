@@ -1,5 +1,5 @@
 -- What two files that are compared come to.
-use Rattle.std.specs.Prelude.{◌≡◌, ◌⊎◌, ℕ, Bool, false, not, ◌&&◌, List, [], ◌∷◌, ◌++◌, Option, Some, None, is_some, Result, Ok, Err}
+use Rattle.std.specs.Prelude.{◌≡◌, ◌⊎◌, ℕ, Bool, false, not, ◌&&◌, ◌||◌, List, [], ◌∷◌, ◌++◌, map, Option, Some, None, is_some, Result, Ok, Err}
 use Rattle.std.specs.Io.KnownBytes.{Appends}
 use Rattle.binfarce_bytes.specs.SectionEntries.{SelectedSymbols}
 use Rattle.binfarce_figures.specs.Changes.{AreChangesBy, IsGrowthBy}
@@ -13,10 +13,12 @@ use Rattle.binfarce_words.specs.declared.takes.Limit.{Limit}
 use Rattle.binfarce_io.specs.Faults.{failure}
 use Rattle.binfarce_jobs.specs.Files.{Grows, Hinted, Refused, Reports, State, hinted}
 use Rattle.binfarce_jobs.specs.Hints.{IsOrNone, lack_in, words_of}
-use Rattle.binfarce_jobs.specs.Limit.{grown}
+use Rattle.binfarce_jobs.specs.Limit.{are_above, grown}
 use Rattle.binfarce_io.specs.declared.fault.Fault.{Fault}
 use Rattle.binfarce_jobs.specs.declared.hint.Hint.{Hint}
 use Rattle.binfarce_jobs.specs.declared.limit.Verdict.{Verdict}
+use Rattle.binfarce_limits.specs.Rows.{Found, findings, found_words, limit_view}
+use Rattle.binfarce_calls.specs.RowLimits.{AreRowsBetween, sections_in}
 use Rattle.binfarce_calls.specs.Summed.{Fate, HasNoSections, HasNoSum, HasSections, HasSymbols, MayComeTo, is_summed, reported, said_of, summed}
 use Rattle.binfarce_calls.specs.declared.compare.Pair.{Pair}
 use Rattle.binfarce_calls.specs.declared.compare.Sizes.{Sizes}
@@ -41,7 +43,7 @@ pub record File : Type 0 where
 abbrev pub file_at : (may_fail : List ℕ → Bool) → (path bytes : List ℕ) → File
 file_at may_fail path bytes = record { path = path; may_fail = may_fail path; bytes = bytes }
 
--- a comparison of two files: which sums a file has, and why it has none; the text that shows how sums differ, and the growth between them; the hint on a file whose sums are sums of nothing; and the limit on growth
+-- a comparison of two files: which sums a file has, and why it has none; the text that shows how sums differ, the growth between them, and what is said of its rows; the hint on a file whose sums are sums of nothing; and the limit on growth
 pub record Comparison (S : Type 0) : Type 1 where
   pub old : File
   pub new : File
@@ -49,6 +51,7 @@ pub record Comparison (S : Type 0) : Type 1 where
   pub HasNone : (file : List ℕ) → Outcome → Type 0
   pub IsText : (before after : S) → (text : List ℕ) → Type 0
   pub IsGrowth : (before after : S) → Growth → Type 0
+  pub AreRows : (before after : S) → List Found → Type 0
   pub lack : (file : List ℕ) → Option Hint
   pub limit : Option Limit
 
@@ -61,6 +64,7 @@ by_sizes asked pair may_fail old new = record {
   HasNone = HasNoSum asked.symbols;
   IsText = λ before after. AreChangesBy asked.figures (style_of pair.form) (before, after);
   IsGrowth = λ before after. IsGrowthBy (before, after);
+  AreRows = λ before after. AreRowsBetween (map limit_view pair.limits.now) asked.figures.grouping (before, after);
   lack = lack_in asked.symbols;
   limit = pair.limit;
 }
@@ -74,20 +78,21 @@ by_sections figures pair may_fail old new = record {
   HasNone = HasNoSections;
   IsText = AreChangesOf figures.has_percent (style_of pair.form) figures.first;
   IsGrowth = λ before after growth. growth ≡ record { old = before.file_length; new = after.file_length };
+  AreRows = λ before after found. found ≡ findings (sections_in before after) (map limit_view pair.limits.now);
   lack = λ file. None;
   limit = pair.limit;
 }
 
--- what is said of two files that are both summed: of each, that its sums are sums of nothing; and of the new one, that the growth exceeds the limit
-abbrev pub IsSaidOfBoth : {S : Type 0} → Comparison S → Growth → List Hinted → Type 0
-IsSaidOfBoth asked growth said =
+-- what is said of two files that are both summed: of each, that its sums are sums of nothing; and of the new one, that the growth exceeds the limit, and on its rows
+abbrev pub IsSaidOfBoth : {S : Type 0} → Comparison S → Growth → List Found → List Hinted → Type 0
+IsSaidOfBoth asked growth rows said =
     (first second : List (List ℕ)) × IsOrNone (words_of (asked.lack asked.old.bytes)) first × IsOrNone (words_of (asked.lack asked.new.bytes)) second
-    × (said ≡ hinted asked.old.path first ++ (hinted asked.new.path second ++ hinted asked.new.path (words_of (grown growth asked.limit))))
+    × (said ≡ hinted asked.old.path first ++ (hinted asked.new.path second ++ hinted asked.new.path (words_of (grown growth asked.limit) ++ map found_words rows)))
 
--- of two files that are both summed, text shows how their sums differ, this is said of them, and the growth exceeds the limit or not; of others there is no text, and no more is said
+-- of two files that are both summed, text shows how their sums differ, this is said of them, and the growth, or that of a row, exceeds its limit or not; of others there is no text, and no more is said
 abbrev pub Differ : {S : Type 0} → Comparison S → (first second : Fate S) → (text : List ℕ) → (said : List Hinted) → (is_above : Bool) → Type 0
 Differ asked (summed before) (summed after) text said is_above =
-    asked.IsText before after text × ((growth : Growth) × asked.IsGrowth before after growth × IsSaidOfBoth asked growth said × (is_above ≡ is_some (grown growth asked.limit)))
+    asked.IsText before after text × ((growth : Growth) × (rows : List Found) × asked.IsGrowth before after growth × asked.AreRows before after rows × IsSaidOfBoth asked growth rows said × (is_above ≡ (is_some (grown growth asked.limit) || are_above rows)))
 Differ asked first second text said is_above = (text ≡ []) × (said ≡ []) × (is_above ≡ false)
 
 -- two files that came to this were compared: each that is refused is reported by its path, with its hints, the old one first; then the text was written, and what is said of both

@@ -1,6 +1,7 @@
 pub mod Asked
 pub mod Filter
 pub mod Summed
+pub mod RowLimits
 pub mod Compared
 pub mod Sections
 pub mod Placing

@@ -1,5 +1,5 @@
 -- What is written and reported of the sections of files.
-use Rattle.std.specs.Prelude.{◌≡◌, ◌≢◌, ◌⊎◌, ℕ, Bool, true, false, List, [], ◌∷◌, ◌++◌, Option, None, is_some, Result, Ok, Err, if◌then◌else◌}
+use Rattle.std.specs.Prelude.{◌≡◌, ◌≢◌, ◌⊎◌, ℕ, Bool, true, false, ◌||◌, List, [], ◌∷◌, ◌++◌, map, Option, None, is_some, Result, Ok, Err, if◌then◌else◌}
 use Rattle.std.specs.Io.KnownBytes.{Appends}
 use Rattle.binfarce_rows.specs.Json.{Style, lines, objects}
 use Rattle.binfarce_sections.specs.Sums.{FileSums, sums_text}
@@ -13,7 +13,7 @@ use Rattle.binfarce_jobs.specs.Files.{Files, Grows, RefusesArgument, Reports, St
 use Rattle.binfarce_foreign.specs.Foreign.{foreign_in}
 use Rattle.binfarce_jobs.specs.Hints.{IsSaidOfRefused, words_of}
 use Rattle.binfarce_io.specs.Input.{IsForeign, IsUnreadable}
-use Rattle.binfarce_jobs.specs.Limit.{above, and_then}
+use Rattle.binfarce_jobs.specs.Limit.{above, and_then, are_above}
 use Rattle.binfarce_jobs.specs.Section.{TakesAsked}
 use Rattle.binfarce_io.specs.declared.fault.Fault.{Fault}
 use Rattle.binfarce_io.specs.declared.fault.Fault.TheVariants.{Section}
@@ -21,6 +21,9 @@ use Rattle.binfarce_jobs.specs.declared.hint.Hint.{Hint}
 use Rattle.binfarce_jobs.specs.declared.limit.Verdict.{Verdict}
 use Rattle.binfarce_jobs.specs.declared.section.Asked.{Asked}
 use Rattle.binfarce_jobs.specs.declared.show.Request.{Request}
+use Rattle.binfarce_limits.specs.Rows.{Found, NameLimit, findings, found_words}
+use Rattle.binfarce_jobs.specs.Show.{limits_of}
+use Rattle.binfarce_calls.specs.RowLimits.{sized_in}
 use Rattle.binfarce_calls.specs.Summed.{Fate, HasNoSections, HasSections, MayComeTo, is_summed, refused, reported, summed}
 
 -- all is done, and no sum exceeds a limit; a file is refused
@@ -61,17 +64,22 @@ abbrev pub excess_in : Option Limit → Fate FileSums → Option Hint
 excess_in limit (summed sums) = above sums.file_length limit
 excess_in limit (refused fault said) = None
 
+-- what is said of limits on the rows of a file that came to this
+abbrev pub rows_in : List NameLimit → Fate FileSums → List Found
+rows_in limits (summed sums) = findings (sized_in sums) limits
+rows_in limits (refused fault said) = []
+
 -- what is written, and what is said, of a file that came to this
 abbrev pub written_in : (first : Option ℕ) → Files → (path : List ℕ) → Fate FileSums → List ℕ
 written_in first files path (summed sums) = rows_of first files path sums
 written_in first files path (refused fault said) = []
 
-abbrev pub said_in : Option Limit → Fate FileSums → List (List ℕ)
-said_in limit (summed sums) = words_of (excess_in limit (summed sums))
-said_in limit (refused fault said) = said
+abbrev pub said_in : Request → Fate FileSums → List (List ℕ)
+said_in asked (summed sums) = words_of (excess_in asked.limit (summed sums)) ++ map found_words (rows_in (limits_of asked) (summed sums))
+said_in asked (refused fault said) = said
 
-abbrev pub verdict_in : Option Limit → Fate FileSums → Verdict
-verdict_in limit fate = record { is_done = is_summed fate; is_above = is_some (excess_in limit fate) }
+abbrev pub verdict_in : Request → Fate FileSums → Verdict
+verdict_in asked fate = record { is_done = is_summed fate; is_above = is_some (excess_in asked.limit fate) || are_above (rows_in (limits_of asked) fate) }
 
 -- a beginning of the rows of the file at a path was written
 abbrev pub BeginsRows : (first : Option ℕ) → Files → (path : List ℕ) → (old taken : Option (List ℕ)) → Type 0
@@ -81,8 +89,8 @@ BeginsRows first files path old taken =
 -- how the summing of the file at a path ended: with what it came to; or a write failed; or the memory for its heading was refused, before anything was written
 abbrev pub SumsOne : (first : Option ℕ) → Files → (path : List ℕ) → (old new : State) → Result Verdict Fault → Type 0
 SumsOne first files path old new (Ok all) =
-    (fate : Fate FileSums) × MayComeTo HasSections HasNoSections (files.may_fail path) (files.held path) fate × (all ≡ verdict_in files.asked.limit fate)
-    × Appends old.bytes new.bytes (written_in first files path fate) × Reports old.reports new.reports (reported path fate) × Grows old.hints new.hints (hinted path (said_in files.asked.limit fate))
+    (fate : Fate FileSums) × MayComeTo HasSections HasNoSections (files.may_fail path) (files.held path) fate × (all ≡ verdict_in files.asked fate)
+    × Appends old.bytes new.bytes (written_in first files path fate) × Reports old.reports new.reports (reported path fate) × Grows old.hints new.hints (hinted path (said_in files.asked fate))
 SumsOne first files path old new (Err e) =
     (((failure e ≡ write_failed) × BeginsRows first files path old.bytes new.taken) ⊎ ((failure e ≡ no_memory) × Appends old.bytes new.bytes []))
     × Reports old.reports new.reports [] × Grows old.hints new.hints []

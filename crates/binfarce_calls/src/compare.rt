@@ -1,19 +1,21 @@
 //! `binfarce diff [OPTION..] OLD NEW`: how two files differ.
 
-ghost use Rattle.std.specs.Prelude.{◌≡◌, ℕ, Bool, List, Some, is_some};
+ghost use Rattle.std.specs.Prelude.{◌≡◌, ◌++◌, ◌||◌, ℕ, Bool, List, Some, is_some, map};
 ghost use Rattle.binfarce_bytes.specs.SectionEntries.{SelectedSymbols};
 ghost use Rattle.binfarce_sections.specs.Sums.{FileSums};
 ghost use Rattle.binfarce_sections.specs.Tables.{AreTablesOf};
 ghost use Rattle.binfarce_jobs.specs.Files.{Grows, hinted, state_of};
 ghost use Rattle.binfarce_jobs.specs.Hints.{IsOrNone, lack_in, words_of};
-ghost use Rattle.binfarce_jobs.specs.Limit.{grown};
+ghost use Rattle.binfarce_jobs.specs.Limit.{are_above, grown};
 ghost use Rattle.binfarce_jobs.specs.Show.{AreTablesFor};
+ghost use Rattle.binfarce_limits.specs.Rows.{finding_view, finding_words};
 ghost use Rattle.binfarce_jobs.specs.declared.show.Symbols.{Symbols as Taken};
 ghost use Rattle.binfarce_calls.specs.Compared.{ComparesAs, ReportsOf, by_sections, by_sizes};
 ghost use Rattle.binfarce_calls.specs.Summed.{Fate, HasNoSections, HasNoSum, MayBeRefused};
 ghost use Rattle.binfarce_calls.specs.machine.Reported.{ReportsRead, ReportsSummed};
 ghost use Rattle.binfarce_calls.specs.machine.Steps.{Carries, HasRead, HasSummed, HasSums, Steps, StepsOn, Writes, messages};
 
+use crate::limits::{changed_rows, changed_sections};
 use binfarce_bytes::source::Source;
 use binfarce_figures::claims::Claims;
 use binfarce_figures::diff::{Growth, diff};
@@ -21,10 +23,11 @@ use binfarce_figures::sums::Figures;
 use binfarce_io::fault::Fault;
 use binfarce_io::input::OpenFile;
 use binfarce_io::output::Output;
-use binfarce_jobs::files::{System, give, open_input, refuse};
+use binfarce_jobs::files::{System, give, give_rows, open_input, refuse};
 use binfarce_jobs::hint::lack;
-use binfarce_jobs::limit::{Verdict, grown};
+use binfarce_jobs::limit::{Verdict, exceeds, grown};
 use binfarce_jobs::show::{Symbols, tables_of};
+use binfarce_limits::rows::{Finding, RowLimit};
 use binfarce_rows::json::Form;
 use binfarce_sections::changes::diff_sections;
 use binfarce_sections::sums::SectionSums;
@@ -45,6 +48,8 @@ pub struct Pair<'a> {
     pub form: Form<'a>,
     /// The most that the sum may have grown by.
     pub limit: Option<Limit>,
+    /// The most that rows may have grown by.
+    pub limits: &'a [RowLimit<'a>],
 }
 
 // A file, and the tables that were read of it.
@@ -123,6 +128,13 @@ fn write_changes<F: Read + Source<Log = ()> + Drop, Y: System<F>, W: Write>(
     };
     // No heading precedes the text.
     out.begin(Vec::new(alloc));
+    let rows = changed_rows(
+        alloc,
+        pair.limits,
+        &before.claims,
+        &after.claims,
+        asked.figures.grouping,
+    )?;
     let growth = diff(
         alloc,
         &before.claims,
@@ -134,7 +146,7 @@ fn write_changes<F: Read + Source<Log = ()> + Drop, Y: System<F>, W: Write>(
     out.end()?;
     hint_on_none(alloc, system, pair.old, &asked.symbols, before);
     hint_on_none(alloc, system, pair.new, &asked.symbols, after);
-    Ok(is_above(system, pair, growth))
+    Ok(is_above(system, pair, growth, rows))
 }
 
 /// Writes how the bytes of the sections of two files differ, in this number of rows, and reports as `compare` does.
@@ -192,13 +204,14 @@ fn write_section_changes<F: Read + Source<Log = ()>, Y: System<F>, W: Write>(
     } = *figures;
     // No heading precedes the text.
     out.begin(Vec::new(alloc));
+    let rows = changed_sections(alloc, pair.limits, before, after)?;
     diff_sections(alloc, before, after, first, has_percent, pair.form, out)?;
     out.end()?;
     let growth = Growth {
         old: before.file_length(),
         new: after.file_length(),
     };
-    Ok(is_above(system, pair, growth))
+    Ok(is_above(system, pair, growth, rows))
 }
 
 // The file at this path, and its section tables. `None` where it is refused, which is reported.
@@ -334,19 +347,21 @@ fn hint_on_none<F: Read + Source<Log = ()> + Drop, Y: System<F>>(
     give(system, path, hint);
 }
 
-// Whether the sum grew by more than the limit, which is reported.
+// Whether the sum, or that of a row, grew by more than the limit, which is reported.
 fn is_above<F: Read + Source<Log = ()>, Y: System<F>>(
     system: &mut Y,
     pair: &Pair<'_>,
     growth: Growth,
+    rows: Vec<Finding>,
 ) -> bool
-    ensures above { result ≡ is_some (grown growth pair.now.limit) }
+    ensures above { result ≡ (is_some (grown growth pair.now.limit) || are_above (map finding_view rows.items)) }
     ensures reports { Y.reports system.new ≡ Y.reports system.old }
-    ensures hints { Grows (Y.hints system.old) (Y.hints system.new)
-        (hinted pair.now.new.now (words_of (grown growth pair.now.limit))) }
+    ensures hints { Grows (Y.hints system.old) (Y.hints system.new) (hinted pair.now.new.now
+        (words_of (grown growth pair.now.limit) ++ map finding_words rows.items)) }
 {
     let excess = grown(growth, pair.limit);
-    let is_above = excess.is_some();
+    let is_above = exceeds(&excess, &rows);
     give(system, pair.new, excess);
+    give_rows(system, pair.new, rows);
     is_above
 }

@@ -4,6 +4,7 @@
 pub mod at;
 pub mod compare;
 pub mod filter;
+mod limits;
 pub mod placing;
 pub mod request;
 pub mod sections;

@@ -13,6 +13,7 @@ use binfarce_figures::order::Order;
 use binfarce_figures::rows::{Naming, Shown};
 use binfarce_figures::sums::Figures;
 use binfarce_jobs::show::{Kind, Request, Symbols};
+use binfarce_limits::rows::RowLimit;
 use binfarce_rows::json::Form;
 use binfarce_tools::SymbolTable::{Dynsym, Symtab};
 use binfarce_tools::tables::Selection;
@@ -23,13 +24,18 @@ use binfarce_words::flag::Flag::{
 use binfarce_words::given::Arguments;
 use binfarce_words::takes;
 
-/// What `list`, `size` or `map` shows of each file.
-pub fn request_of<'a>(command: Command, given: &Arguments<'a>) -> Request<'a>
+/// What `list`, `size` or `map` shows of each file, with these limits on rows.
+pub fn request_of<'a>(
+    command: Command,
+    given: &Arguments<'a>,
+    limits: &'a [RowLimit<'a>],
+) -> Request<'a>
     ensures kind { result.kind ≡ kind_asked command (given_view given.now) }
     ensures table { result.symbols.which ≡ table_asked (given_view given.now) }
     ensures section { section_of result.symbols.selection ≡ section_asked false (given_view given.now) }
     ensures form { result.is_json ≡ has Json (given_view given.now) }
     ensures limit { result.limit ≡ limit_given (given_view given.now) }
+    ensures limits { result.limits ≡ limits.entry }
 {
     let kind = match command {
         Command::List => listing_of(given),
@@ -45,6 +51,7 @@ pub fn request_of<'a>(command: Command, given: &Arguments<'a>) -> Request<'a>
         symbols: symbols_of(given, false),
         is_json: given.has(Json),
         limit: given.limit(),
+        limits,
     }
 }
 
@@ -88,8 +95,8 @@ fn key_of(given: &Arguments<'_>) -> Option<Key>
     }
 }
 
-// What is shown of a name.
-fn naming_of(given: &Arguments<'_>) -> Naming
+/// What is shown of a name.
+pub fn naming_of(given: &Arguments<'_>) -> Naming
     ensures { result ≡ naming_asked (given_view given.now) }
 {
     if given.has(Raw) {

@@ -6,17 +6,20 @@ ghost use Rattle.binfarce_jobs.specs.Files.{AreHeld, IsHeld, asked_files, state_
 ghost use Rattle.binfarce_foreign.specs.Foreign.{foreign_in};
 ghost use Rattle.binfarce_io.specs.Input.{IsReadOf};
 ghost use Rattle.binfarce_io.specs.Output.{pending, taken, writer_of};
+ghost use Rattle.binfarce_limits.specs.Rows.{limit_view};
 ghost use Rattle.binfarce_words.specs.WordViews.{argument_view};
 ghost use Rattle.binfarce_calls.specs.Sections.{InTurn, ShowsAsked, SumsArgument, SumsOne, style_at};
 ghost use Rattle.binfarce_calls.specs.machine.Steps.{SumsSource};
 
+use crate::limits::section_rows;
 use binfarce_bytes::source::Source;
 use binfarce_io::fault::Fault;
 use binfarce_io::output::Output;
-use binfarce_jobs::files::{System, give, heading, open_input, refuse, refuse_argument};
-use binfarce_jobs::limit::{Verdict, above};
+use binfarce_jobs::files::{System, give, give_rows, heading, open_input, refuse, refuse_argument};
+use binfarce_jobs::limit::{Verdict, above, exceeds};
 use binfarce_jobs::section::{Asked, write_sections};
 use binfarce_jobs::show::Request;
+use binfarce_limits::rows::{Finding, RowLimit};
 use binfarce_rows::json::Form;
 use binfarce_sections::sums::{SectionSums, sum_sections};
 use binfarce_sections::tables::read;
@@ -132,11 +135,13 @@ fn sum_file<F: Read + Source<Log = ()> + Drop, Y: System<F>, W: Write>(
     let Some(input) = open_input(alloc, system, path) else {
         return Ok(Verdict::refused());
     };
-    match sum_source(alloc, &input, first, form_at(asked, path), out) {
-        Ok(length) => {
-            let excess = above(length, asked.limit);
-            let is_above = excess.is_some();
+    let form = form_at(asked, path);
+    match sum_source(alloc, &input, first, asked.limits, form, out) {
+        Ok(summed) => {
+            let excess = above(summed.length, asked.limit);
+            let is_above = exceeds(&excess, &summed.rows);
             give(system, path, excess);
+            give_rows(system, path, summed.rows);
             Ok(Verdict {
                 is_done: true,
                 is_above,
@@ -157,22 +162,32 @@ fn form_at<'a>(asked: &Request<'a>, path: &'a str) -> Form<'a>
     }
 }
 
-// Writes how many bytes of a source its sections have, after what is left of the heading, and returns its length.
+// A file that is summed: its length, and which of its rows are above their limits.
+#[derive(Drop)]
+struct FileRows {
+    length: u64,
+    rows: Vec<Finding>,
+}
+
+// Writes how many bytes of a source its sections have, after what is left of the heading.
 fn sum_source<S: Source<Log = ()>, W: Write>(
     alloc: Global,
     source: &S,
     first: Option<usize>,
+    limits: &[RowLimit<'_>],
     form: Form<'_>,
     out: &mut Output<W>,
-) -> Result<u64, Fault>
+) -> Result<FileRows, Fault>
     ensures { (file part : List ℕ) (may_fail : Bool) → S.bytes source.now ≡ Some part → IsReadOf file part
         → foreign_in file ≡ None → (S.may_fail source.now ≡ true → may_fail ≡ true)
-        → SumsSource (style_of form.entry) first may_fail file (pending out.old)
+        → SumsSource (style_of form.entry) first (map limit_view limits.now) may_fail file (pending out.old)
         (W.contents (writer_of out.old)) (W.contents (writer_of out.new)) (taken W.contents out.new) result }
 {
     let tables = read(alloc, source, &mut ())?;
     let sums = SectionSums::of_tables(alloc, &tables)?;
+    let rows = section_rows(alloc, limits, &sums)?;
     sum_sections(alloc, &sums, first, form, out)?;
     out.end()?;
-    Ok(sums.file_length())
+    let length = sums.file_length();
+    Ok(FileRows { length, rows })
 }

@@ -97,8 +97,8 @@ pub fn asked_of<'a>(
     Ok(Some(asked))
 }
 
-// The bytes of the file at this path.
-fn read_file(rt: &HostRuntime, path: &str) -> io::Result<Vec<u8>> {
+/// The bytes of the file at this path.
+pub fn read_file(rt: &HostRuntime, path: &str) -> io::Result<Vec<u8>> {
     let mut bytes = Vec::new(rt.alloc());
     File::open(rt, path)?.read_to_end(&mut bytes)?;
     Ok(bytes)

@@ -27,11 +27,12 @@ usage: binfarce COMMAND [OPTION..] ..
 `--` ends the options, and `-` as a FILE is standard input. Status: 0; 1 if a
 file was refused, a read or a write failed, or memory ran out; 2 for a wrong
 call, or for lines without an address; 3 where a sum or its growth is above
---fail-above.
+--fail-above or --limits.
 ";
 
 const LIST: &str = "\
 usage: binfarce list [OPTION..] FILE..
+       binfarce list --undefined [--raw|--full] [--json] FILE..
 
 Writes a line for each function symbol: its address, its size in bytes, and its
 readable name; last the size of the section. Several files are each listed
@@ -45,6 +46,9 @@ name.
   --full           names with hashes and disambiguators
   --raw            names as they are stored
   --json           each function symbol as a JSON object
+  --undefined      what an ELF file needs from others: its undefined symbols,
+                   as NAME@VERSION, or NAME if it has no version; with --json
+                   also the file that the version comes from
 ";
 
 const SIZE: &str = "\
@@ -64,6 +68,8 @@ A byte that several function symbols have counts once, for the innermost.
   -n N, --first=N  the N largest sums, and one of all others
   --fail-above=N   status 3 where the sum of all, by section the size of the
                    file, is more than N bytes, as 600k or 2M (k is 1,024)
+  --limits=FILE    the same by row: each line of FILE is a row's name and the
+                   most that it may be, as `core 600k`; # begins a remark
   --json           each sum as a JSON object, and one of the sum of all
 ";
 
@@ -82,6 +88,8 @@ byte counts once.
   -n N, --first=N  the N largest changes, and one of all others
   --fail-above=N   status 3 where the sum of all grew by more than N bytes, as
                    600k or 2M (k is 1,024), or by more than N per cent (2%)
+  --limits=FILE    the same by row: each line of FILE is a row's name and the
+                   most that it may grow by, as `core 2%`; # begins a remark
   --json           each change as a JSON object
 ";
 

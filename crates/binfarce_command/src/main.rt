@@ -3,10 +3,13 @@
 
 mod asked;
 mod help;
+mod limits;
+mod needs;
 mod report;
 
 use crate::asked::Addresses;
 use crate::help::{VERSION, help};
+use crate::limits::{limits_in, read_limit_file};
 use crate::report::{ended, refuse as refuse_call, report, say};
 use binfarce_addresses::Counts;
 use binfarce_addresses::at::Places;
@@ -28,6 +31,7 @@ use binfarce_jobs::hint::{Hint, lack};
 use binfarce_jobs::limit::Verdict;
 use binfarce_jobs::section::Asked;
 use binfarce_jobs::show::Symbols;
+use binfarce_limits::rows::RowLimit;
 use binfarce_logs::Module;
 use binfarce_logs::annotate::annotate_stream;
 use binfarce_logs::framed::annotate_frames;
@@ -37,7 +41,9 @@ use binfarce_tools::tables::Selection;
 use binfarce_words::argument::arguments_of;
 use binfarce_words::call::{Call, read_call};
 use binfarce_words::command::Command;
-use binfarce_words::flag::Flag::{Annotate, Bare, FailAbove, First, Full, Id, Json, Maps, Offsets};
+use binfarce_words::flag::Flag::{
+    Annotate, Bare, FailAbove, First, Full, Id, Json, Limits, Maps, Offsets, Undefined,
+};
 use binfarce_words::given::Arguments;
 use binfarce_words::wrong::Wrong;
 use std::alloc::{AllocError, Global};
@@ -88,13 +94,21 @@ fn run<'a>(rt: &HostRuntime, texts: &'a [Option<String>]) -> Result<u8, Wrong<'a
         },
         _ => Addresses::nothing(rt.alloc()),
     };
+    let Some(file) = read_limit_file(rt, &call) else {
+        return Ok(1);
+    };
+    let limits = match limits_in(rt, &call, &file) {
+        Ok(limits) => limits,
+        Err(status) => return Ok(status),
+    };
     let mut out = Output::new(rt.alloc(), io::writer(rt));
-    let done = match answer(rt, &call, &asked, &mut out) {
+    let done = match answer(rt, &call, &asked, limits.as_slice(), &mut out) {
         Ok(Some(verdict)) => Ok(verdict),
         Ok(None) => return Err(Wrong::NotMaps(maps_of(&call))),
         Err(fault) => Err(fault),
     };
-    let has_limit = matches!(&call, Call::Run(_, given) if given.has(FailAbove));
+    let has_limit =
+        matches!(&call, Call::Run(_, given) if given.has(FailAbove) || given.has(Limits));
     Ok(ended(rt, done, has_limit, out.into_parts().1))
 }
 
@@ -107,10 +121,11 @@ fn maps_of<'a>(call: &Call<'a>) -> &'a str {
 }
 
 // Runs a call, and flushes the output. `None` where the maps have no mapping: nothing is then written.
-fn answer<W: Write>(
+fn answer<'a, W: Write>(
     rt: &HostRuntime,
-    call: &Call<'_>,
+    call: &'a Call<'_>,
     asked: &Addresses,
+    limits: &'a [RowLimit<'a>],
     out: &mut Output<W>,
 ) -> Result<Option<Verdict>, Fault> {
     let done = match call {
@@ -142,7 +157,12 @@ fn answer<W: Write>(
                 refusals,
                 section,
             };
-            let mut work = Work { host, given, out };
+            let mut work = Work {
+                host,
+                given,
+                limits,
+                out,
+            };
             let done = work.run(*command, asked)?;
             work.print_refusals()?;
             done
@@ -162,6 +182,8 @@ fn print<W: Write>(text: &str, out: &mut Output<W>) -> Result<(), Fault> {
 struct Work<'a, 'b, W> {
     host: Host<'a>,
     given: &'a Arguments<'b>,
+    // Those on rows.
+    limits: &'a [RowLimit<'a>],
     out: &'a mut Output<W>,
 }
 
@@ -172,6 +194,7 @@ impl<'a, W: Write> Work<'a, '_, W> {
         let verdict = match command {
             Command::At if given.has(Annotate) => return self.annotate(asked),
             Command::At => return self.symbolize(asked),
+            Command::List if given.has(Undefined) => self.write_needs()?,
             Command::Diff => self.compare()?,
             Command::Filter => self.filter()?,
             Command::Section if given.has(Id) => self.write_identities()?,
@@ -194,7 +217,7 @@ impl<'a, W: Write> Work<'a, '_, W> {
     fn show_all(&mut self, command: Command) -> Result<Verdict, Fault> {
         let given = self.given;
         let alloc = self.host.rt.alloc();
-        let asked = request_of(command, given);
+        let asked = request_of(command, given, self.limits);
         // Objects have the names of their files, and need no headings.
         let most = if asked.is_json { 1 } else { usize::MAX };
         let mut all = Verdict::done();
@@ -221,6 +244,7 @@ impl<'a, W: Write> Work<'a, '_, W> {
             new,
             form: form_of(given, new),
             limit: given.limit(),
+            limits: self.limits,
         };
         let figures = figures_of(given);
         if given.is_by_section() {

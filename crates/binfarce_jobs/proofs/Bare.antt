@@ -1,5 +1,5 @@
 -- Files with code and without function symbols.
-use Rattle.std.proofs.Common.{◌≡◌, ◌∙◌, ◌&&◌, ◌||◌, Bool, true, false, ℕ, List, Option, Some, None, Result, Ok, Err, if◌then◌else◌, refl, sym, ap}
+use Rattle.std.proofs.Common.{◌≡◌, ◌∙◌, ◌&&◌, ◌||◌, Bool, true, false, ℕ, List, Option, Some, Result, Ok, Err, if◌then◌else◌, refl, sym, ap}
 use Rattle.binfarce_bytes.specs.Format.{format_of}
 use Rattle.binfarce_bytes.specs.Refusal.{Refusal, symbols_section_is_missing}
 use Rattle.binfarce_bytes.specs.declared.format.Format.{Format}

@@ -1,5 +1,5 @@
 -- What a file comes to, by what is read of it and by how its showing ended.
-use Rattle.std.proofs.Common.{◌≡◌, ◌≢◌, ◌∙◌, ◌⊎◌, inl, inr, ℕ, Bool, true, false, not, ◌||◌, List, [], ◌∷◌, ◌++◌, Option, Some, None, Result, Ok, Err, refl, sym, ap, subst, append_assoc, append-nil, IsErrAnd, if◌then◌else◌, codes, nat_eq}
+use Rattle.std.proofs.Common.{◌≡◌, ◌≢◌, ◌∙◌, ◌⊎◌, inl, inr, ℕ, Bool, true, false, not, ◌||◌, List, [], ◌∷◌, ◌++◌, Option, Some, None, Result, Ok, Err, refl, sym, ap, subst, append_assoc, append-nil, IsErrAnd, if◌then◌else◌, codes, nat_eq, map}
 use Rattle.std.specs.Option.{option_map}
 use Rattle.std.specs.Io.KnownBytes.{Appends, Keeps}
 use Rattle.binfarce_bytes.specs.Format.{format_of}
@@ -25,7 +25,10 @@ use Rattle.binfarce_io.specs.Output.{pending, taken, writer_of}
 use Rattle.binfarce_foreign.specs.Foreign.{first_bytes, foreign_in}
 use Rattle.binfarce_io.specs.Input.{IsForeign, IsReadOf, IsUnreadable}
 use Rattle.binfarce_io.proofs.Streams.{format_of_beginning}
-use Rattle.binfarce_jobs.specs.Show.{Fits, HasSumsOf, IsAskedText, IsSeenOf, IsShownText, MayEnd, MemoryFor, TakesText, answer_for, answer_taken, answer_unless, answer_with, excess_of, exceeds, has_table, is_bare, is_taken}
+use Rattle.binfarce_jobs.specs.Limit.{are_above}
+use Rattle.binfarce_limits.specs.Rows.{Found, finding_view, finding_words, found_words}
+use Rattle.binfarce_limits.specs.declared.rows.Finding.{Finding}
+use Rattle.binfarce_jobs.specs.Show.{Fits, HasRowsOf, HasSumsOf, IsAskedText, IsSeenOf, IsShownText, MayEnd, MemoryFor, TakesText, answer_for, answer_taken, answer_unless, answer_with, excess_of, exceeds, has_table, is_bare, is_taken, limits_of}
 use Rattle.binfarce_io.specs.declared.fault.Fault.{Fault}
 use Rattle.binfarce_io.specs.declared.fault.Fault.TheVariants.{Report, Section, Stream, Unsupported, NotUtf8, SharedAddresses, Unplaced, Missing}
 use Rattle.binfarce_jobs.specs.declared.hint.Hint.{Hint}
@@ -87,22 +90,30 @@ answered asked path (Some (Err refusal)) text due = absurd due
 answered asked path None text due = absurd due
 
 -- the sums that were found are those of this answer
-pub sums_of : (asked : Request) (path file text : List ℕ) (seen : Seen) → IsShownText asked path file text → ((selected : SelectedSymbols) → answer_for asked.symbols file ≡ Some (Ok selected) → IsSeenOf asked.kind selected seen)
+pub sums_of : (asked : Request) (path file text : List ℕ) (seen : Seen) → IsShownText asked path file text → ((selected : SelectedSymbols) → answer_for asked.symbols file ≡ Some (Ok selected) → IsSeenOf asked.kind (limits_of asked) selected seen)
     → HasSumsOf asked file seen.sums
 sums_of asked path file text seen due is =
     let found = answered asked path (answer_for asked.symbols file) text due in (found.0, found.1, (is found.0 found.1).sums_are)
 
+-- so is what is said of limits on their rows
+pub rows_of : (asked : Request) (path file text : List ℕ) (seen : Seen) → IsShownText asked path file text → ((selected : SelectedSymbols) → answer_for asked.symbols file ≡ Some (Ok selected) → IsSeenOf asked.kind (limits_of asked) selected seen)
+    → HasRowsOf asked file (map finding_view seen.rows.items)
+rows_of asked path file text seen due is =
+    let found = answered asked path (answer_for asked.symbols file) text due in (found.0, found.1, (is found.0 found.1).rows_are)
+
 -- and whether it has no function symbol
-pub none_of : (asked : Request) (path file text : List ℕ) (seen : Seen) → IsShownText asked path file text → ((selected : SelectedSymbols) → answer_for asked.symbols file ≡ Some (Ok selected) → IsSeenOf asked.kind selected seen)
+pub none_of : (asked : Request) (path file text : List ℕ) (seen : Seen) → IsShownText asked path file text → ((selected : SelectedSymbols) → answer_for asked.symbols file ≡ Some (Ok selected) → IsSeenOf asked.kind (limits_of asked) selected seen)
     → seen.is_empty ≡ has_none asked.symbols file
 none_of asked path file text seen due is =
     let found = answered asked path (answer_for asked.symbols file) text due in
     (is found.0 found.1).empty_is ∙ ap (λ (answer : Option (Result SelectedSymbols Refusal)). nat_eq (count_of answer) 0) (sym found.1)
 
 -- what is found of what was read of a file, and said of it, is that of the file
-found_of_file : (asked : Request) (file bytes : List ℕ) (sums : Option Sums) (said : List (List ℕ)) → IsReadOf file bytes → HasSumsOf asked bytes sums → IsSaidOfShown asked bytes sums said → IsFoundIn asked file said (exceeds asked.limit sums)
-found_of_file asked file bytes sums said (inl same) has says = (sums, subst (λ (f : List ℕ). HasSumsOf asked f sums) same has, subst (λ (f : List ℕ). IsSaidOfShown asked f sums said) same says, refl)
-found_of_file asked file bytes sums said (inr (unknown, first)) (selected, answer, is) says =
+found_of_file : (asked : Request) (file bytes : List ℕ) (sums : Option Sums) (rows : List Found) (said : List (List ℕ)) → IsReadOf file bytes → HasSumsOf asked bytes sums → HasRowsOf asked bytes rows → IsSaidOfShown asked bytes sums rows said
+    → IsFoundIn asked file said (exceeds asked.limit sums || are_above rows)
+found_of_file asked file bytes sums rows said (inl same) has have says =
+    (sums, rows, subst (λ (f : List ℕ). HasSumsOf asked f sums) same has, subst (λ (f : List ℕ). HasRowsOf asked f rows) same have, subst (λ (f : List ℕ). IsSaidOfShown asked f sums rows said) same says, refl)
+found_of_file asked file bytes sums rows said (inr (unknown, first)) (selected, answer, is) have says =
     let never : Path (Option (Result SelectedSymbols Refusal)) None (Some (Ok selected)) = sym (no_shown asked bytes (unknown_too file bytes unknown first)) ∙ answer in absurd cc
 
 -- a file of an unknown format has no dynamic function symbols
@@ -245,9 +256,9 @@ module _ {W : Type 0} (contents : W → Option (List ℕ)) (asked : Request) (pa
 
   -- a file that is shown, and its heading written
   pub was_shown : (new : Output W) (seen : Seen) → (text : List ℕ) × IsShownText asked path file text × Appends (taken contents old) (taken contents mid) text → Keeps (taken contents mid) (taken contents new) → pending new ≡ []
-      → ((selected : SelectedSymbols) → answer_for asked.symbols file ≡ Some (Ok selected) → IsSeenOf asked.kind selected seen) → Held new (Ok seen)
+      → ((selected : SelectedSymbols) → answer_for asked.symbols file ≡ Some (Ok selected) → IsSeenOf asked.kind (limits_of asked) selected seen) → Held new (Ok seen)
   was_shown new seen (text, due, took) kept none is =
-      ((text, due, whole (contents (writer_of old)) (taken contents mid) (contents (writer_of new)) (pending old) (pending new) text took kept none), sums_of asked path file text seen due is, none_of asked path file text seen due is)
+      ((text, due, whole (contents (writer_of old)) (taken contents mid) (contents (writer_of new)) (pending old) (pending new) text took kept none), sums_of asked path file text seen due is, rows_of asked path file text seen due is, none_of asked path file text seen due is)
 
   -- the same, where the writing of the heading failed, as `?` passes the fault on
   pub broke_off : (new : Output W) (e : Fault) (result : Result Seen Fault) → IsErrAnd result (λ f. f ≡ e) → (text : List ℕ) × IsShownText asked path file text × Appends (taken contents old) (taken contents mid) text
@@ -264,18 +275,30 @@ module _ {W : Type 0} (contents : W → Option (List ℕ)) (asked : Request) (pa
   show_failed e (Err f) is ends takes leaves = subst (λ (f : Fault). Held mid (Err f)) (sym is) (unshown (failure e) (never_written e) ends takes leaves)
 
 -- the hints on a file that is shown, and on one that is refused
-pub said_shown : (asked : Request) (file : List ℕ) (sums : Option Sums) (hints : Hints) → IsOrNone (words_of (lack_in asked.symbols file)) (words_of hints.first) → hints.second ≡ unknown_for asked.kind sums → hints.excess ≡ excess_of asked.limit sums
-    → IsSaidOfShown asked file sums (all_words hints)
-said_shown asked file sums hints first second excess =
-    (words_of hints.first, first, ap (λ (h : Option Hint). words_of hints.first ++ (words_of h ++ words_of hints.excess)) second ∙ ap (λ (h : Option Hint). words_of hints.first ++ (words_of (unknown_for asked.kind sums) ++ words_of h)) excess)
+words_are : (found : List Finding) → map finding_words found ≡ map found_words (map finding_view found)
+words_are [] = refl
+words_are (f ∷ found) = ap (λ (said : List (List ℕ)). finding_words f ∷ said) (words_are found)
 
-pub said_refused : (fault : Fault) (file : List ℕ) (hints : Hints) → IsOrNone (words_of (dynamic_for fault file)) (words_of hints.first) → IsOrNone (stripped_for fault file) (words_of hints.second) → hints.excess ≡ None → IsSaidOfRefused fault file (all_words hints)
-said_refused fault file hints first second none = (
+pub said_shown : (asked : Request) (file : List ℕ) (sums : Option Sums) (rows : List Finding) (hints : Hints) → IsOrNone (words_of (lack_in asked.symbols file)) (words_of hints.first) → hints.second ≡ unknown_for asked.kind sums → hints.excess ≡ excess_of asked.limit sums
+    → hints.rows.items ≡ rows → IsSaidOfShown asked file sums (map finding_view rows) (all_words hints)
+said_shown asked file sums rows hints first second excess are =
+    let more = map finding_words hints.rows.items in (
+      words_of hints.first,
+      first,
+      ap (λ (h : Option Hint). words_of hints.first ++ (words_of h ++ (words_of hints.excess ++ more))) second
+          ∙ ap (λ (h : Option Hint). words_of hints.first ++ (words_of (unknown_for asked.kind sums) ++ (words_of h ++ more))) excess
+          ∙ ap (λ (said : List (List ℕ)). words_of hints.first ++ (words_of (unknown_for asked.kind sums) ++ (words_of (excess_of asked.limit sums) ++ said))) (ap (map finding_words) are ∙ words_are rows),
+    )
+
+pub said_refused : (fault : Fault) (file : List ℕ) (hints : Hints) → IsOrNone (words_of (dynamic_for fault file)) (words_of hints.first) → IsOrNone (stripped_for fault file) (words_of hints.second) → hints.excess ≡ None → hints.rows.items ≡ [] → IsSaidOfRefused fault file (all_words hints)
+said_refused fault file hints first second none no_rows = (
   words_of hints.first,
   words_of hints.second,
   first,
   second,
-  ap (λ (h : Option Hint). words_of hints.first ++ (words_of hints.second ++ words_of h)) none ∙ ap (λ (said : List (List ℕ)). words_of hints.first ++ said) (append-nil (words_of hints.second)),
+  ap (λ (h : Option Hint). words_of hints.first ++ (words_of hints.second ++ (words_of h ++ map finding_words hints.rows.items))) none
+      ∙ ap (λ (rows : List Finding). words_of hints.first ++ (words_of hints.second ++ map finding_words rows)) no_rows
+      ∙ ap (λ (said : List (List ℕ)). words_of hints.first ++ said) (append-nil (words_of hints.second)),
 )
 
 module _ (files : Files) (path : List ℕ) (old new : State) where
@@ -324,12 +347,12 @@ module _ (files : Files) (path : List ℕ) (old new : State) where
     failed fault result writing.wrong_usage call is_o is_call fails reports hints = not_shown fault result writing.wrong_usage call (λ e. cc) is_o is_call fails reports hints
 
     -- a file that is shown
-    pub came_to : (seen : Seen) (is_above : Bool) (said : List (List ℕ)) → ShowsSource files.asked path MayFail bytes left old.bytes new.bytes new.taken (Ok seen) → is_above ≡ exceeds files.asked.limit seen.sums
-        → (seen.is_empty ≡ has_none files.asked.symbols bytes → IsSaidOfShown files.asked bytes seen.sums said) → Reports old.reports new.reports [] → Grows old.hints new.hints (hinted path said) → One (Ok (record { is_done = true; is_above = is_above }))
-    came_to seen is_above said ((text, due, wrote), sums, none) above says answered_lines gave =
+    pub came_to : (seen : Seen) (is_above : Bool) (said : List (List ℕ)) → ShowsSource files.asked path MayFail bytes left old.bytes new.bytes new.taken (Ok seen) → is_above ≡ (exceeds files.asked.limit seen.sums || are_above (map finding_view seen.rows.items))
+        → (seen.is_empty ≡ has_none files.asked.symbols bytes → IsSaidOfShown files.asked bytes seen.sums (map finding_view seen.rows.items) said) → Reports old.reports new.reports [] → Grows old.hints new.hints (hinted path said) → One (Ok (record { is_done = true; is_above = is_above }))
+    came_to seen is_above said ((text, due, wrote), sums, rows, none) above says answered_lines gave =
         subst (λ (b : Bool). One (Ok (record { is_done = true; is_above = b }))) (sym above) (
-          shown text said (exceeds files.asked.limit seen.sums),
-          ((native, text_of_file files.asked path (files.held path) bytes text read due), found_of_file files.asked (files.held path) bytes seen.sums said read sums (says none)),
+          shown text said (exceeds files.asked.limit seen.sums || are_above (map finding_view seen.rows.items)),
+          ((native, text_of_file files.asked path (files.held path) bytes text read due), found_of_file files.asked (files.held path) bytes seen.sums (map finding_view seen.rows.items) said read sums rows (says none)),
           refl,
           subst (λ (h : List ℕ). Appends old.bytes new.bytes (h ++ text)) is wrote,
           answered_lines,

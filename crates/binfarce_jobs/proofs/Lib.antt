@@ -9,3 +9,4 @@ pub mod FileFates
 mod Bare
 mod Links
 mod Said
+pub mod AboveRows

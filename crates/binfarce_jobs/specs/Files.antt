@@ -1,5 +1,5 @@
 -- What is written and reported of several files.
-use Rattle.std.specs.Prelude.{◌≡◌, ◌≢◌, ◌⊎◌, ℕ, Bool, true, false, List, [], ◌∷◌, ◌++◌, All, codes, map, Option, Some, None, Result, Ok, Err, if◌then◌else◌}
+use Rattle.std.specs.Prelude.{◌≡◌, ◌≢◌, ◌⊎◌, ℕ, Bool, true, false, ◌||◌, List, [], ◌∷◌, ◌++◌, All, codes, map, Option, Some, None, Result, Ok, Err, if◌then◌else◌}
 use Rattle.std.specs.Io.KnownBytes.{Appends}
 use Rattle.std.specs.List.{flat_map, list_all, list_any}
 use Rattle.binfarce_tools.specs.Writing.{AppendsBeginning, Outcome, no_memory, write_failed}
@@ -9,7 +9,9 @@ use Rattle.binfarce_io.specs.Input.{IsForeign, IsUnreadable}
 use Rattle.binfarce_io.specs.MessageLine.{escaped}
 use Rattle.binfarce_io.specs.Output.{taken, writer_of}
 use Rattle.binfarce_jobs.specs.Hints.{IsSaidOfRefused, IsSaidOfShown, has_none}
-use Rattle.binfarce_jobs.specs.Show.{HasSumsOf, IsShownText, MayEnd, exceeds}
+use Rattle.binfarce_limits.specs.Rows.{Found, finding_view}
+use Rattle.binfarce_jobs.specs.Limit.{are_above}
+use Rattle.binfarce_jobs.specs.Show.{HasRowsOf, HasSumsOf, IsShownText, MayEnd, exceeds}
 use Rattle.binfarce_figures.specs.declared.sums.Sums.{Sums}
 use Rattle.binfarce_words.specs.Words.{Argument, name_of, no_utf8, utf8}
 use Rattle.binfarce_io.specs.declared.fault.Fault.{Fault}
@@ -57,9 +59,11 @@ MayBeRefused asked may_fail file fault =
     ⊎ IsUnreadable may_fail file fault
     ⊎ ((foreign_in file ≡ None) × (failure fault ≢ write_failed) × MayEnd ((may_fail ≡ true) ⊎ (file ≡ [])) asked file (failure fault))
 
--- this is said of a file that is shown, and whether a sum of it exceeds its limit: by its sums
+-- this is said of a file that is shown, and whether a sum of it exceeds its limit: by its sums, and by what is said of its rows
 abbrev pub IsFoundIn : Request → (file : List ℕ) → (said : List (List ℕ)) → (above : Bool) → Type 0
-IsFoundIn asked file said above = (sums : Option Sums) × HasSumsOf asked file sums × IsSaidOfShown asked file sums said × (above ≡ exceeds asked.limit sums)
+IsFoundIn asked file said above =
+    (sums : Option Sums) × (rows : List Found) × HasSumsOf asked file sums × HasRowsOf asked file rows × IsSaidOfShown asked file sums rows said
+    × (above ≡ (exceeds asked.limit sums || are_above rows))
 
 -- the file at a path, which may fail to be read, or not, and holds these bytes, may come to this
 abbrev pub MayComeTo : Request → (path : List ℕ) → (may_fail : Bool) → (file : List ℕ) → Fate → Type 0
@@ -187,7 +191,7 @@ FailsAs asked path MayFail file heading old new taken outcome = MayEnd MayFail a
 
 -- how the showing of a file that is read ended: its text is written after what was left of the heading, and it is found whether it has no function symbol, and its sums; or it failed
 abbrev pub ShowsSource : Request → (path : List ℕ) → (MayFail : Type 0) → (file : List ℕ) → (heading : List ℕ) → (old new taken : Option (List ℕ)) → Result Seen Fault → Type 0
-ShowsSource asked path MayFail file heading old new taken (Ok seen) = ((text : List ℕ) × IsShownText asked path file text × Appends old new (heading ++ text)) × HasSumsOf asked file seen.sums × (seen.is_empty ≡ has_none asked.symbols file)
+ShowsSource asked path MayFail file heading old new taken (Ok seen) = ((text : List ℕ) × IsShownText asked path file text × Appends old new (heading ++ text)) × HasSumsOf asked file seen.sums × HasRowsOf asked file (map finding_view seen.rows.items) × (seen.is_empty ≡ has_none asked.symbols file)
 ShowsSource asked path MayFail file heading old new taken (Err fault) = FailsAs asked path MayFail file heading old new taken (failure fault)
 
 -- an argument that isn't UTF-8 was refused, and so reported; or the memory for its name was refused

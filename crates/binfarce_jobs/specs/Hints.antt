@@ -1,5 +1,5 @@
 -- Hints on files.
-use Rattle.std.specs.Prelude.{◌≡◌, ◌⊎◌, ℕ, zero, suc, ◌*◌, ◌/◌, ◌%◌, Bool, true, false, ◌&&◌, ◌||◌, List, [], ◌∷◌, ◌++◌, drop, length, codes, nat_eq, nat_le, nat_lt, Option, Some, None, Result, Ok, Err, if◌then◌else◌}
+use Rattle.std.specs.Prelude.{◌≡◌, ◌⊎◌, ℕ, zero, suc, ◌*◌, Bool, true, false, ◌&&◌, ◌||◌, List, [], ◌∷◌, ◌++◌, drop, length, map, codes, nat_eq, nat_le, nat_lt, Option, Some, None, Result, Ok, Err, if◌then◌else◌}
 use Rattle.std.specs.Char.{is_ascii_graphic}
 use Rattle.std.specs.Fmt.{decimal}
 use Rattle.std.specs.List.{flat_map, list_all}
@@ -20,6 +20,8 @@ use Rattle.binfarce_figures.specs.declared.sums.Sums.{Sums}
 use Rattle.binfarce_sections.specs.Named.{Lack, bytes_named, no_bytes}
 use Rattle.binfarce_sections.specs.Section.{sections_of}
 use Rattle.binfarce_sections.specs.declared.error.SectionError.TheVariants as sections
+use Rattle.binfarce_limits.specs.Excess.{excess_words}
+use Rattle.binfarce_limits.specs.Rows.{Found, finding_words, found_words}
 use Rattle.binfarce_words.specs.WordViews.{limit_words}
 use Rattle.binfarce_jobs.specs.Show.{answer_for, answer_taken, excess_of, functions_name}
 use Rattle.binfarce_io.specs.MessageLine.{byte_text}
@@ -47,6 +49,7 @@ loaded_words loads.Offsets = codes "are they offsets in the file?"
 abbrev pub hint_words : Hint → List ℕ
 hint_words hints.None = codes "no function symbols"
 hint_words hints.NoneDynamic = codes "no function symbols in .dynsym"
+hint_words hints.NoneNeeded = codes "no undefined symbols"
 hint_words (hints.Others count) = codes "no function symbols in the section; --all takes " ++ decimal count
 hint_words (hints.Dynamic count) = codes "--dynamic --all takes " ++ (decimal count ++ codes " function symbols")
 hint_words hints.Instead = codes "no symbol table (.symtab): names are those of .dynsym"
@@ -54,11 +57,9 @@ hint_words (hints.Stripped places) = codes "its debug symbols may be in " ++ str
 hint_words hints.Descriptors = codes "its function descriptors (.opd) are in the program itself"
 hint_words (hints.Missed count loaded) = codes "0 of " ++ (decimal count ++ (codes " addresses are in a function symbol; " ++ loaded_words loaded))
 hint_words (hints.Unknown bytes sum) = decimal bytes ++ (codes " of " ++ (decimal sum ++ codes " bytes have no crate, as those of C, C++ and assembly; --by=function shows whose they are"))
-hint_words (hints.Above sum most) = codes "has " ++ (decimal sum ++ (codes " bytes, and --fail-above allows " ++ decimal most))
+hint_words (hints.Excess more limit) = excess_words more ++ (codes ", and --fail-above allows " ++ limit_words limit)
 hint_words hints.Nothing = codes "nothing is counted, so --fail-above can't be held"
-hint_words (hints.Grown by limit) = codes "grew by " ++ (decimal by ++ (codes " bytes, and --fail-above allows " ++ limit_words limit))
-hint_words (hints.GrownBy by n limit) =
-    codes "grew by " ++ (decimal by ++ (codes " bytes (" ++ (decimal (n / 100) ++ (codes "." ++ (decimal (n / 10 % 10) ++ (decimal (n % 10) ++ (codes "%), and --fail-above allows " ++ limit_words limit)))))))
+hint_words (hints.Row finding) = finding_words finding
 hint_words (hints.NoAddress true) = codes "no address in the text"
 hint_words (hints.NoAddress false) = codes "no address in the text; --bare takes those without 0x, too"
 hint_words (hints.Offsets count) = codes "offsets (" ++ (decimal count ++ codes ") behind other names than the file's; if the file has one of them, --as=NAME says so")
@@ -196,13 +197,13 @@ IsOrNone due said = (said ≡ due) ⊎ (said ≡ [])
 
 -- the words of all hints, in their order
 abbrev pub all_words : Hints → List (List ℕ)
-all_words all = words_of all.first ++ (words_of all.second ++ words_of all.excess)
+all_words all = words_of all.first ++ (words_of all.second ++ (words_of all.excess ++ map finding_words all.rows.items))
 
--- what is said of a file that is shown with these sums: what it lacks, on the bytes that have no crate, and that the sum exceeds the limit
-abbrev pub IsSaidOfShown : Request → (file : List ℕ) → Option Sums → (said : List (List ℕ)) → Type 0
-IsSaidOfShown asked file sums said =
+-- what is said of a file that is shown with these sums, and with this of its rows: what it lacks, on the bytes that have no crate, that the sum exceeds the limit, and on its rows
+abbrev pub IsSaidOfShown : Request → (file : List ℕ) → Option Sums → (rows : List Found) → (said : List (List ℕ)) → Type 0
+IsSaidOfShown asked file sums rows said =
     (first : List (List ℕ)) × IsOrNone (words_of (lack_in asked.symbols file)) first
-    × (said ≡ first ++ (words_of (unknown_for asked.kind sums) ++ words_of (excess_of asked.limit sums)))
+    × (said ≡ first ++ (words_of (unknown_for asked.kind sums) ++ (words_of (excess_of asked.limit sums) ++ map found_words rows)))
 
 -- what is said of a file that is refused: how many dynamic function symbols it has, and where its debug symbols may be
 abbrev pub IsSaidOfRefused : Fault → (file : List ℕ) → (said : List (List ℕ)) → Type 0

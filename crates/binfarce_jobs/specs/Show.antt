@@ -1,5 +1,6 @@
 -- How function symbols are shown.
-use Rattle.std.specs.Prelude.{◌≡◌, ℕ, Bool, true, false, not, ◌&&◌, List, [], codes, length, nat_eq, nat_lt, Option, Some, None, is_some, Result, Ok, Err, if◌then◌else◌}
+use Rattle.std.specs.Prelude.{◌≡◌, ℕ, Bool, true, false, not, ◌&&◌, List, [], ◌∷◌, codes, length, map, nat_eq, nat_lt, Option, Some, None, is_some, Result, Ok, Err, if◌then◌else◌}
+use Rattle.std.specs.Option.{option_map}
 use Rattle.std.specs.Str.{bytes_eq}
 use Rattle.binfarce.specs.Format.{format_of}
 use Rattle.binfarce.specs.declared.Format.{Format}
@@ -7,14 +8,20 @@ use Rattle.binfarce.specs.declared.Format.TheVariants as formats
 use Rattle.binfarce.specs.Refusal.{Refusal, section_is_missing, symbols_section_is_missing}
 use Rattle.binfarce.specs.SectionEntries.{SelectedSymbols}
 use Rattle.binfarce_figures.specs.Claims.{SumFits}
-use Rattle.binfarce_figures.specs.Figures.{AreFiguresBy, AreStacksIn, AreSumsBy, IsPictureBy}
+use Rattle.binfarce_figures.specs.Figures.{AreFiguresBy, AreSharesIn, AreStacksIn, AreSumsBy, IsPictureBy}
+use Rattle.binfarce_figures.specs.Changes.{sizes_at}
 use Rattle.binfarce_figures.specs.RowListing.{IsListingBy}
 use Rattle.binfarce_figures.specs.declared.sums.Sums.{Sums}
+use Rattle.binfarce_figures.specs.declared.key.Grouping.{Grouping}
+use Rattle.binfarce_limits.specs.Rows.{Found, NameLimit, finding_view, findings, limit_view}
+use Rattle.binfarce_limits.specs.declared.excess.Counted.{Counted}
+use Rattle.binfarce_limits.specs.declared.excess.Counted.TheVariants.{Size}
 use Rattle.binfarce_rows.specs.Json.{Style, lines, objects}
 use Rattle.binfarce_tools.specs.Listing.{ListingFits}
 use Rattle.binfarce_tools.specs.SelectedTexts.{IsListingOfSelected}
 use Rattle.binfarce_bytes.specs.Selection.{section_of}
 use Rattle.binfarce_tools.specs.Answer.{selected_answer, MemoryIn}
+use Rattle.binfarce_tools.specs.Report.{Share}
 use Rattle.binfarce_tools.specs.Tables.{AreTablesOf}
 use Rattle.binfarce_tools.specs.Writing.{Outcome, IsDue, ProgramEndsAs, Takes}
 use Rattle.binfarce_tables.specs.PeReading.{file_has_symbols}
@@ -44,10 +51,25 @@ abbrev pub HasSums : Kind → SelectedSymbols → Option Sums → Type 0
 HasSums (Figures figures) selected seen = (sums : Sums) × (seen ≡ Some sums) × AreSumsBy figures.grouping selected sums
 HasSums kind selected seen = seen ≡ None
 
--- what was found is that of a file's answer: whether it has no function symbol, and the sums, where sums are shown
-pub record IsSeenOf (kind : Kind) (selected : SelectedSymbols) (seen : Seen) : Type 0 where
+-- what is counted for the row of a name, if there is one, where these shares are summed
+abbrev pub counted_in : List Share → (name : List ℕ) → Option Counted
+counted_in shares name = option_map (λ n. Size n.1) (sizes_at [] shares name)
+
+-- this is said of limits on the rows of the sums of a file's answer; nothing, without limits
+abbrev pub AreRowsIn : List NameLimit → Grouping → SelectedSymbols → List Found → Type 0
+AreRowsIn [] grouping selected found = found ≡ []
+AreRowsIn (limit ∷ others) grouping selected found = (shares : List Share) × AreSharesIn grouping selected shares × (found ≡ findings (counted_in shares) (limit ∷ others))
+
+-- so where sums are shown
+abbrev pub HasRows : List NameLimit → Kind → SelectedSymbols → List Found → Type 0
+HasRows limits (Figures figures) selected found = AreRowsIn limits figures.grouping selected found
+HasRows limits kind selected found = found ≡ []
+
+-- what was found is that of a file's answer: whether it has no function symbol, and where sums are shown these, and what is said of limits on their rows
+pub record IsSeenOf (kind : Kind) (limits : List NameLimit) (selected : SelectedSymbols) (seen : Seen) : Type 0 where
   pub empty_is : seen.is_empty ≡ nat_eq (length selected.entries) 0
   pub sums_are : HasSums kind selected seen.sums
+  pub rows_are : HasRows limits kind selected (map finding_view seen.rows.items)
 
 -- the name of the section that is selected; empty for all sections
 abbrev pub selected_name : Option (List ℕ) → List ℕ
@@ -148,6 +170,14 @@ excess_of limit None = None
 abbrev pub exceeds : Option Limit → Option Sums → Bool
 exceeds limit sums = is_some (excess_of limit sums)
 
+-- the limits on rows that are asked for
+abbrev pub limits_of : Request → List NameLimit
+limits_of asked = map limit_view asked.limits.now
+
 -- the sums are those of a file's answer
 abbrev pub HasSumsOf : Request → (file : List ℕ) → Option Sums → Type 0
 HasSumsOf asked file sums = (selected : SelectedSymbols) × (answer_for asked.symbols file ≡ Some (Ok selected)) × HasSums asked.kind selected sums
+
+-- and this is said of the rows of such an answer
+abbrev pub HasRowsOf : Request → (file : List ℕ) → List Found → Type 0
+HasRowsOf asked file found = (selected : SelectedSymbols) × (answer_for asked.symbols file ≡ Some (Ok selected)) × HasRows (limits_of asked) asked.kind selected found

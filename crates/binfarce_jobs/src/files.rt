@@ -7,16 +7,18 @@ ghost use Rattle.binfarce_jobs.specs.Hints.{all_words, hint_words, words_of};
 ghost use Rattle.binfarce_io.specs.Output.{pending, taken, writer_of};
 ghost use Rattle.binfarce_foreign.specs.Foreign.{foreign_in};
 ghost use Rattle.binfarce_io.specs.Input.{IsForeign, IsReadOf, IsUnreadable, bytes_of, may_fail_of};
+ghost use Rattle.binfarce_limits.specs.Rows.{finding_words};
 ghost use Rattle.binfarce_words.specs.WordViews.{argument_view};
 
 use crate::hint::{Hint, Hints, hints_on, refusal_hints};
-use crate::limit::Verdict;
+use crate::limit::{Verdict, exceeds};
 use crate::show::{Request, Seen, show};
 use binfarce_bytes::source::Source;
 use binfarce_io::fault::Fault;
 use binfarce_io::input::OpenFile;
 use binfarce_io::message::push_escaped;
 use binfarce_io::output::Output;
+use binfarce_limits::rows::Finding;
 use binfarce_sections::error::SectionError;
 use binfarce_words::argument::Argument;
 use std::alloc::{AllocError, Global};
@@ -138,7 +140,7 @@ fn show_file<F: Read + Source<Log = ()> + Drop, Y: System<F>, W: Write>(
     match show_source(alloc, asked, path, &input, out) {
         Ok(seen) => {
             let hints = hints_on(alloc, &input, asked, seen);
-            let is_above = hints.excess.is_some();
+            let is_above = exceeds(&hints.excess, &hints.rows);
             give_all(system, path, hints);
             Ok(Verdict {
                 is_done: true,
@@ -246,10 +248,28 @@ fn give_all<F: Read + Source<Log = ()>, Y: System<F>>(system: &mut Y, path: &str
         first,
         second,
         excess,
+        rows,
     } = hints;
     give(system, path, first);
     give(system, path, second);
     give(system, path, excess);
+    give_rows(system, path, rows);
+}
+
+/// Gives what is said of rows, in its order.
+pub fn give_rows<F: Read + Source<Log = ()>, Y: System<F>>(
+    system: &mut Y,
+    path: &str,
+    rows: Vec<Finding>,
+)
+    ensures hints { Grows (Y.hints system.old) (Y.hints system.new) (hinted path.now (map finding_words rows.items)) }
+    ensures reports { Y.reports system.new ≡ Y.reports system.old }
+    ensures bytes { Y.bytes_at system.new ≡ Y.bytes_at system.old }
+    ensures may_fail { Y.may_fail_at system.new ≡ Y.may_fail_at system.old }
+{
+    for row in rows {
+        system.hint(path, Hint::Row(row));
+    }
 }
 
 /// Reports why the file at this path is refused, with hints on what would help.

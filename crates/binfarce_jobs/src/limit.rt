@@ -1,11 +1,13 @@
 //! Limits on sums, and what work on files came to.
 
-ghost use Rattle.std.specs.Prelude.{◌≡◌, true, false};
-ghost use Rattle.binfarce_jobs.specs.Limit.{above, and_then, grown, is_above};
+ghost use Rattle.std.specs.Prelude.{◌≡◌, ◌||◌, true, false, is_some, map};
+ghost use Rattle.binfarce_limits.specs.Rows.{finding_view};
+ghost use Rattle.binfarce_jobs.specs.Limit.{above, and_then, are_above, exceeded, grown};
 
 use crate::hint::Hint;
 use binfarce_figures::diff::Growth;
-use binfarce_rows::columns::hundredths;
+use binfarce_limits::excess::{Counted, Excess, excess_of};
+use binfarce_limits::rows::{Finding, are_above};
 use binfarce_words::takes::Limit;
 
 /// What work on files came to.
@@ -56,8 +58,8 @@ pub fn above(sum: u64, limit: Option<Limit>) -> Option<Hint>
 {
     match limit {
         Some(Limit::Bytes(_)) if sum == 0 => Some(Hint::Nothing),
-        Some(Limit::Bytes(most)) if sum > most as u64 => Some(Hint::Above(sum, most)),
-        _ => None,
+        Some(limit) => exceeded(excess_of(Counted::Size(sum), limit), limit),
+        None => None,
     }
 }
 
@@ -66,26 +68,26 @@ pub fn above(sum: u64, limit: Option<Limit>) -> Option<Hint>
 pub fn grown(growth: Growth, limit: Option<Limit>) -> Option<Hint>
     ensures { result ≡ grown growth limit }
 {
-    let by = growth.new.saturating_sub(growth.old);
-    match limit {
-        Some(limit) if is_above(growth.old, by, limit) => match limit {
-            Limit::Percent(_) if growth.old > 0 => {
-                let share = hundredths(by, growth.old);
-                Some(Hint::GrownBy(by, share, limit))
-            }
-            _ => Some(Hint::Grown(by, limit)),
-        },
-        Some(_) if growth.new == 0 => Some(Hint::Nothing),
-        _ => None,
+    let limit = limit?;
+    match excess_of(Counted::Growth(growth.old, growth.new), limit) {
+        None if growth.new == 0 => Some(Hint::Nothing),
+        excess => exceeded(excess, limit),
     }
 }
 
-// Whether the growth of a sum by so many bytes is above the limit.
-fn is_above(old: u64, by: u64, limit: Limit) -> bool
-    ensures { result ≡ is_above old by limit }
+// The hint on what is more than this limit, if anything is.
+fn exceeded(excess: Option<Excess>, limit: Limit) -> Option<Hint>
+    ensures { result ≡ exceeded excess limit }
 {
-    match limit {
-        Limit::Bytes(most) => by > most as u64,
-        Limit::Percent(most) => 100 * u128::from(by) > most as u128 * u128::from(old),
+    match excess {
+        Some(excess) => Some(Hint::Excess(excess, limit)),
+        None => None,
     }
+}
+
+/// Whether a sum exceeds its limit, by the hint on that, or a row does.
+pub fn exceeds(excess: &Option<Hint>, rows: &[Finding]) -> bool
+    ensures { result ≡ (is_some excess.now || are_above (map finding_view rows.now)) }
+{
+    excess.is_some() || are_above(rows)
 }

@@ -1,10 +1,12 @@
 //! Shows the function symbols of a file: as a listing, as sums, or as a picture.
 
-ghost use Rattle.std.specs.Prelude.{◌≡◌, ℕ, List, Option, true, false, Ok, None, Some, IfErr, IfOk};
+ghost use Rattle.std.specs.Prelude.{◌≡◌, ℕ, List, Option, true, false, Ok, None, Some, map, IfErr, IfOk};
 ghost use Rattle.binfarce_bytes.specs.Refusal.{refusal_of};
 ghost use Rattle.binfarce_bytes.specs.Selection.{section_of};
 ghost use Rattle.binfarce_rows.specs.Json.{style_of};
 ghost use Rattle.binfarce.specs.SectionEntries.{SelectedSymbols};
+ghost use Rattle.binfarce_figures.specs.Claimed.{AreClaimsIn};
+ghost use Rattle.binfarce_limits.specs.Rows.{finding_view, limit_view};
 ghost use Rattle.binfarce_tables.specs.Reading.{Reads};
 ghost use Rattle.binfarce_tables.specs.declared.error.ReadError.TheVariants.{OutOfMemory};
 ghost use Rattle.binfarce_tools.specs.Answer.{selected_answer, MemoryIn};
@@ -12,7 +14,7 @@ ghost use Rattle.binfarce_tools.specs.Tables.{AreTablesOf, ReadsAs, is_whole};
 ghost use Rattle.binfarce_tools.specs.declared.SymbolTable.{SymbolTable};
 ghost use Rattle.binfarce_tools.specs.Writing.{EndsAs, Takes, Fails, Leaves};
 ghost use Rattle.binfarce_io.specs.Faults.{outcome_of};
-ghost use Rattle.binfarce_jobs.specs.Show.{AreTablesFor, Fits, IsSeenOf, IsTextOf, MayEnd, TakesText, answer_for, has_functions, has_table, is_bare, is_taken, no_functions, style_for};
+ghost use Rattle.binfarce_jobs.specs.Show.{AreRowsIn, AreTablesFor, Fits, IsSeenOf, IsTextOf, MayEnd, TakesText, answer_for, has_functions, has_table, is_bare, is_taken, no_functions, style_for};
 
 use crate::code::has_code;
 use binfarce_bytes::ParseError;
@@ -20,12 +22,15 @@ use binfarce_bytes::format::Format;
 use binfarce_bytes::functions::SectionFunction;
 use binfarce_bytes::source::Source;
 use binfarce_figures::claims::Claims;
+use binfarce_figures::diff::sizes_of;
 use binfarce_figures::key::Grouping;
 use binfarce_figures::map::map_by;
 use binfarce_figures::rows::{Shown, list_by};
 use binfarce_figures::stacks::fold_claims;
-use binfarce_figures::sums::{Figures, Sums, sum_by};
+use binfarce_figures::sums::{Figures, Numbers, Sums, sum_by};
 use binfarce_io::fault::Fault;
+use binfarce_limits::excess::Counted;
+use binfarce_limits::rows::{Finding, RowLimit, Rows, judge};
 use binfarce_rows::json::Form;
 use binfarce_tables::ReadError;
 use binfarce_tables::format::read_format;
@@ -34,7 +39,8 @@ use binfarce_tools::SymbolTable;
 use binfarce_tools::list::{ListError, Sink, list_selected};
 use binfarce_tools::tables::{Selection, Tables, read, read_tables};
 use binfarce_words::takes::Limit;
-use std::alloc::Global;
+use std::alloc::{AllocError, Global};
+use std::collections::BTreeMap;
 
 /// How function symbols are shown.
 #[derive(Debug, Clone, Copy, PartialEq)]
@@ -71,15 +77,19 @@ pub struct Request<'a> {
     pub is_json: bool,
     /// The most that a file's sum may be, where sums are shown.
     pub limit: Option<Limit>,
+    /// The most that rows of sums may be.
+    pub limits: &'a [RowLimit<'a>],
 }
 
 /// What was found in a file that was shown.
-#[derive(Debug, Clone, Copy, PartialEq)]
+#[derive(Debug, Drop)]
 pub struct Seen {
     /// Whether there is none of the function symbols that are taken.
     pub is_empty: bool,
     /// The sum of all sizes, each byte counted once, and that of `[unknown]`, where sums are shown.
     pub sums: Option<Sums>,
+    /// Which rows of these sums are above their limits, and which limits have no row.
+    pub rows: Vec<Finding>,
 }
 
 /// The tables of the source for these function symbols.
@@ -243,15 +253,17 @@ pub fn show<S: Source<Log = ()>, K: Sink>(
         → TakesText asked.now path.now file (K.taken out.old) (K.taken out.new) (outcome_of result) }
     ensures seen { (file : List ℕ) (selected : SelectedSymbols) → S.bytes source.now ≡ Some file
         → answer_for asked.now.symbols file ≡ Some (Ok selected)
-        → IfOk result (IsSeenOf asked.now.kind selected) }
+        → IfOk result (IsSeenOf asked.now.kind (map limit_view asked.now.limits.now) selected) }
     ensures fails { Fails (K.has_failed out.old) (K.has_failed out.new) (outcome_of result) }
     ensures leaves { Leaves out.old out.new (outcome_of result) }
 {
     let tables = tables_of(alloc, source, &asked.symbols)?;
     let form = form_for(asked, path);
     match asked.symbols.selection {
-        Selection::Section(_) => show_section(alloc, asked.kind, path, form, &tables, out),
-        Selection::All => show_tables(alloc, asked.kind, path, form, &tables, out),
+        Selection::Section(_) => {
+            show_section(alloc, asked.kind, asked.limits, path, form, &tables, out)
+        }
+        Selection::All => show_tables(alloc, asked.kind, asked.limits, path, form, &tables, out),
     }
 }
 
@@ -259,6 +271,7 @@ pub fn show<S: Source<Log = ()>, K: Sink>(
 fn show_section<K: Sink>(
     alloc: Global,
     kind: Kind,
+    limits: &[RowLimit<'_>],
     path: &str,
     form: Form<'_>,
     tables: &Tables<'_>,
@@ -272,7 +285,7 @@ fn show_section<K: Sink>(
     ensures seen { (which : SymbolTable) (file name : List ℕ) (selected : SelectedSymbols)
         → AreTablesOf which file (Some name) tables.now
         → selected_answer which (Some name) file ≡ Some (Ok selected)
-        → IfOk result (IsSeenOf kind selected) }
+        → IfOk result (IsSeenOf kind (map limit_view limits.now) selected) }
     ensures fails { Fails (K.has_failed out.old) (K.has_failed out.new) (outcome_of result) }
     ensures leaves { Leaves out.old out.new (outcome_of result) }
 {
@@ -283,13 +296,14 @@ fn show_section<K: Sink>(
         size: size.unwrap_or(0),
         versions: tables.version_names(),
     };
-    show_tables(alloc, kind, path, form, &made, out)
+    show_tables(alloc, kind, limits, path, form, &made, out)
 }
 
 // Shows the function symbols of these tables.
 fn show_tables<K: Sink>(
     alloc: Global,
     kind: Kind,
+    limits: &[RowLimit<'_>],
     path: &str,
     form: Form<'_>,
     tables: &Tables<'_>,
@@ -305,7 +319,7 @@ fn show_tables<K: Sink>(
     ensures seen { (which : SymbolTable) (file : List ℕ) (section : Option (List ℕ)) (selected : SelectedSymbols)
         → AreTablesOf which file section tables.now
         → selected_answer which section file ≡ Some (Ok selected)
-        → IfOk result (IsSeenOf kind selected) }
+        → IfOk result (IsSeenOf kind (map limit_view limits.now) selected) }
     ensures fails { Fails (K.has_failed out.old) (K.has_failed out.new) (outcome_of result) }
     ensures leaves { Leaves out.old out.new (outcome_of result) }
 {
@@ -317,6 +331,7 @@ fn show_tables<K: Sink>(
             Ok(Seen {
                 is_empty,
                 sums: None,
+                rows: Vec::new(alloc),
             })
         }
         Kind::Rows(shown) => {
@@ -324,14 +339,17 @@ fn show_tables<K: Sink>(
             Ok(Seen {
                 is_empty: found == 0,
                 sums: None,
+                rows: Vec::new(alloc),
             })
         }
         Kind::Figures(figures) => {
             let claims = Claims::of_tables(alloc, tables)?;
+            let rows = rows_of(alloc, limits, &claims, figures.grouping)?;
             let sums = sum_by(alloc, &claims, &figures, form, out)?;
             Ok(Seen {
                 is_empty: claims.is_empty(),
                 sums: Some(sums),
+                rows,
             })
         }
         Kind::Picture(grouping, first) => {
@@ -340,6 +358,7 @@ fn show_tables<K: Sink>(
             Ok(Seen {
                 is_empty: claims.is_empty(),
                 sums: None,
+                rows: Vec::new(alloc),
             })
         }
         Kind::Stacks(joins_std) => {
@@ -348,7 +367,46 @@ fn show_tables<K: Sink>(
             Ok(Seen {
                 is_empty: claims.is_empty(),
                 sums: None,
+                rows: Vec::new(alloc),
             })
+        }
+    }
+}
+
+// Which of these rows are above their limits, and which limits have no row.
+fn rows_of(
+    alloc: Global,
+    limits: &[RowLimit<'_>],
+    claims: &Claims<'_, '_>,
+    grouping: Grouping,
+) -> Result<Vec<Finding>, AllocError>
+    ensures { (which : SymbolTable) (file : List ℕ) (section : Option (List ℕ)) (selected : SelectedSymbols)
+        → AreClaimsIn which file section claims.now
+        → selected_answer which section file ≡ Some (Ok selected)
+        → IfOk result (λ v. AreRowsIn (map limit_view limits.now) grouping selected (map finding_view v.items)) }
+{
+    if limits.is_empty() {
+        return Ok(Vec::new(alloc));
+    }
+    let numbers = sizes_of(alloc, None, claims, grouping)?;
+    judge(alloc, limits, &SumRows(&numbers))
+}
+
+// The rows of sums.
+#[derive(Clone, Copy)]
+struct SumRows<'a>(&'a BTreeMap<String, Numbers>);
+
+impl Rows for SumRows<'_> {
+    ghost use Rattle.std.specs.BTreeMap.{get_by_text};
+    ghost use Rattle.std.specs.Option.{option_map};
+    ghost use Rattle.binfarce_limits.specs.declared.excess.Counted.TheVariants.{Size};
+
+    ghost counted = { λ rows name. option_map (λ n. Size n.other) (get_by_text rows.0.now name) };
+
+    fn counted(&self, name: &str) -> Option<Counted> {
+        match self.0.get(name) {
+            Some(numbers) => Some(Counted::Size(numbers.other)),
+            None => None,
         }
     }
 }

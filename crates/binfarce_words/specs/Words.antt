@@ -35,10 +35,10 @@ command_name Section = codes "section"
 
 -- the options of a command, first those that not all commands on function symbols have
 abbrev pub flags_of : Command → List Flag
-flags_of Listing = flags.Sort ∷ flags.First ∷ flags.NoTotal ∷ flags.Raw ∷ flags.Full ∷ flags.Json ∷ flags.Section ∷ flags.Dynamic ∷ flags.All ∷ flags.Help ∷ []
-flags_of Size = flags.By ∷ flags.First ∷ flags.Percent ∷ flags.Std ∷ flags.Json ∷ flags.FailAbove ∷ flags.Section ∷ flags.Dynamic ∷ flags.All ∷ flags.Help ∷ []
+flags_of Listing = flags.Sort ∷ flags.First ∷ flags.NoTotal ∷ flags.Raw ∷ flags.Full ∷ flags.Json ∷ flags.Undefined ∷ flags.Section ∷ flags.Dynamic ∷ flags.All ∷ flags.Help ∷ []
+flags_of Size = flags.By ∷ flags.First ∷ flags.Percent ∷ flags.Std ∷ flags.Json ∷ flags.FailAbove ∷ flags.Limits ∷ flags.Section ∷ flags.Dynamic ∷ flags.All ∷ flags.Help ∷ []
 flags_of Map = flags.First ∷ flags.Std ∷ flags.Folded ∷ flags.Section ∷ flags.Dynamic ∷ flags.All ∷ flags.Help ∷ []
-flags_of Diff = flags.By ∷ flags.First ∷ flags.Percent ∷ flags.Std ∷ flags.Json ∷ flags.FailAbove ∷ flags.Section ∷ flags.Dynamic ∷ flags.All ∷ flags.Help ∷ []
+flags_of Diff = flags.By ∷ flags.First ∷ flags.Percent ∷ flags.Std ∷ flags.Json ∷ flags.FailAbove ∷ flags.Limits ∷ flags.Section ∷ flags.Dynamic ∷ flags.All ∷ flags.Help ∷ []
 flags_of Filter = flags.Full ∷ flags.Help ∷ []
 flags_of At = flags.Return ∷ flags.Annotate ∷ flags.Bare ∷ flags.Base ∷ flags.Maps ∷ flags.Offsets ∷ flags.As ∷ flags.Json ∷ flags.Section ∷ flags.Dynamic ∷ flags.All ∷ flags.Help ∷ []
 flags_of Section = flags.Id ∷ flags.Json ∷ flags.Help ∷ []
@@ -66,8 +66,10 @@ form_of flags.Percent = (codes "--percent", [], Nothing)
 form_of flags.Std = (codes "--std", [], Nothing)
 form_of flags.Json = (codes "--json", [], Nothing)
 form_of flags.FailAbove = (codes "--fail-above", [], TakesLimit)
+form_of flags.Limits = (codes "--limits", [], Text)
 form_of flags.Folded = (codes "--folded", [], Nothing)
 form_of flags.Id = (codes "--id", [], Nothing)
+form_of flags.Undefined = (codes "--undefined", [], Nothing)
 
 -- the order of lines that a name names
 abbrev pub order_named : List ℕ → Option Order
@@ -441,6 +443,22 @@ is_by_section given = is_section (value_given flags.By given)
 abbrev pub first_given : List Flag → Arguments → Option Flag
 first_given options given = find (λ flag. is_some (value_given flag given)) options
 
+-- the options that function symbols alone have, and not what a file needs
+abbrev pub options_of_symbols : List Flag
+options_of_symbols = flags.Sort ∷ flags.First ∷ flags.NoTotal ∷ flags.Section ∷ flags.Dynamic ∷ flags.All ∷ []
+
+-- the first of them that is given
+abbrev pub of_symbols : Arguments → Option Flag
+of_symbols given = first_given options_of_symbols given
+
+-- such an option is wrong beside `--undefined`
+abbrev pub alone : Option Flag → Result (Unit {0}) Wrong
+alone None = Ok tt
+alone (Some flag) = Err (exclusive flags.Undefined flag)
+
+abbrev pub undefined_checked : Arguments → Result (Unit {0}) Wrong
+undefined_checked given = if is_some (value_given flags.Undefined given) then alone (of_symbols given) else Ok tt
+
 -- the options of a command that only sums of functions have
 abbrev pub options_of_functions : Command → List Flag
 options_of_functions Size = flags.Std ∷ flags.Section ∷ flags.Dynamic ∷ flags.All ∷ flags.Percent ∷ []
@@ -465,7 +483,7 @@ abbrev pub sums_checked : Command → Arguments → Result (Unit {0}) Wrong
 sums_checked command given = if are_given flags.Folded flags.First given then Err (exclusive flags.Folded flags.First)
     else functions_checked (is_by_section given) (of_functions command given) >>= λ x. limit_checked command (value_given flags.FailAbove given)
 
--- what is given is checked: no two options that exclude each other, none without one that it needs, no bytes as JSON; of files whose addresses are in one text each has a base and a name, or none has; sums; the operands
+-- what is given is checked: no two options that exclude each other, none without one that it needs, no bytes as JSON; of files whose addresses are in one text each has a base and a name, or none has; what files need; sums; the operands
 abbrev pub checked : Command → Arguments → Result (Unit {0}) Wrong
 checked command given = if are_given flags.All flags.Section given then Err (exclusive flags.All flags.Section)
     else if are_given flags.Raw flags.Full given then Err (exclusive flags.Raw flags.Full)
@@ -477,7 +495,7 @@ checked command given = if are_given flags.All flags.Section given then Err (exc
     else if is_some (value_given flags.Bare given) && not (is_some (value_given flags.Annotate given)) then Err (needs flags.Bare flags.Annotate)
     else if is_some (value_given flags.Annotate given) && not (is_each flags.Base given) then Err (not_each flags.Base)
     else if is_some (value_given flags.Annotate given) && not (is_each flags.As given) then Err (not_each flags.As)
-    else sums_checked command given >>= λ x. operands_checked command (is_some (value_given flags.Id given)) given.operands
+    else undefined_checked given >>= λ x. sums_checked command given >>= λ x. operands_checked command (is_some (value_given flags.Id given)) given.operands
 
 -- the command, or help on it, where that is requested
 abbrev pub call_with : Command → Arguments → Result Call Wrong

@@ -2,7 +2,7 @@
 
 ghost use Rattle.std.specs.Prelude.{◌≡◌, count_by, map};
 ghost use Rattle.std.specs.Str.{bytes_eq};
-ghost use Rattle.binfarce_words.specs.Words.{are_given, checked, exceeded, flag_name, is_each, is_of_bytes, of_functions, operands_checked, sums_checked};
+ghost use Rattle.binfarce_words.specs.Words.{are_given, checked, exceeded, flag_name, is_each, is_of_bytes, of_functions, of_symbols, operands_checked, sums_checked, undefined_checked};
 ghost use Rattle.binfarce_words.specs.WordViews.{Gives, argument_view, given_view};
 
 use crate::argument::Argument;
@@ -47,8 +47,42 @@ pub(crate) fn check<'a>(command: Command, given: &Arguments<'a>) -> Result<(), W
     if given.has(Flag::Annotate) && !is_each(given, Flag::As) {
         return Err(Wrong::NotEach(Flag::As));
     }
+    check_undefined(given)?;
     check_sums(command, given)?;
     check_operands(command, given.has(Flag::Id), given.operands.as_slice())
+}
+
+// What is wrong beside `--undefined`: an option of function symbols.
+fn check_undefined<'a>(given: &Arguments<'a>) -> Result<(), Wrong<'a>>
+    ensures { Gives (λ x. x) (undefined_checked (given_view given.entry.now)) result }
+{
+    if given.has(Flag::Undefined) {
+        if let Some(flag) = of_symbols(given) {
+            return Err(Wrong::Exclusive(Flag::Undefined, flag));
+        }
+    }
+    Ok(())
+}
+
+// The first option that is given, and that function symbols alone have.
+fn of_symbols(given: &Arguments<'_>) -> Option<Flag>
+    ensures { result ≡ of_symbols (given_view given.now) }
+{
+    if given.has(Flag::Sort) {
+        Some(Flag::Sort)
+    } else if given.has(Flag::First) {
+        Some(Flag::First)
+    } else if given.has(Flag::NoTotal) {
+        Some(Flag::NoTotal)
+    } else if given.has(Flag::Section) {
+        Some(Flag::Section)
+    } else if given.has(Flag::Dynamic) {
+        Some(Flag::Dynamic)
+    } else if given.has(Flag::All) {
+        Some(Flag::All)
+    } else {
+        None
+    }
 }
 
 // What is wrong with how sums are asked for.

@@ -6,14 +6,14 @@ ghost use Rattle.binfarce_words.specs.Words.{flags_of};
 use crate::flag::Flag;
 use crate::flag::Flag::{
     All, Annotate, As, Bare, Base, By, Dynamic, FailAbove, First, Folded, Full, Help, Id, Json,
-    Maps, NoTotal, Offsets, Percent, Raw, Return, Section, Sort, Std,
+    Limits, Maps, NoTotal, Offsets, Percent, Raw, Return, Section, Sort, Std, Undefined,
 };
 use crate::named::Named;
 
 /// A command.
 #[derive(Debug, Clone, Copy, PartialEq)]
 pub enum Command {
-    /// Lists function symbols.
+    /// Lists function symbols, or what files need of others.
     List,
     /// Sums sizes by crate.
     Size,
@@ -65,14 +65,14 @@ impl Command {
     {
         match self {
             Command::List => &[
-                Sort, First, NoTotal, Raw, Full, Json, Section, Dynamic, All, Help,
+                Sort, First, NoTotal, Raw, Full, Json, Undefined, Section, Dynamic, All, Help,
             ],
             Command::Size => &[
-                By, First, Percent, Std, Json, FailAbove, Section, Dynamic, All, Help,
+                By, First, Percent, Std, Json, FailAbove, Limits, Section, Dynamic, All, Help,
             ],
             Command::Map => &[First, Std, Folded, Section, Dynamic, All, Help],
             Command::Diff => &[
-                By, First, Percent, Std, Json, FailAbove, Section, Dynamic, All, Help,
+                By, First, Percent, Std, Json, FailAbove, Limits, Section, Dynamic, All, Help,
             ],
             Command::Filter => &[Full, Help],
             Command::At => &[

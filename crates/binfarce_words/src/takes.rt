@@ -200,8 +200,8 @@ fn before_unit<'a>(value: &'a str, unit: &str) -> Option<&'a str>
     value.strip_suffix(unit)
 }
 
-// The limit: a number of bytes, or of per cent before `%`.
-pub(crate) fn limit_in(value: &str) -> Option<Limit>
+/// The limit that a value is: a number of bytes, or of per cent before `%`.
+pub fn limit_in(value: &str) -> Option<Limit>
     ensures { result ≡ limit_in value.now }
 {
     match value.split_once('%') {

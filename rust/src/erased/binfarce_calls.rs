@@ -5,6 +5,7 @@
 pub mod at;
 pub mod compare;
 pub mod filter;
+pub(crate) mod limits;
 pub mod placing;
 pub mod request;
 pub mod sections;

@@ -4,11 +4,14 @@
 
 pub(crate) mod asked;
 pub(crate) mod help;
+pub(crate) mod limits;
+pub(crate) mod needs;
 pub(crate) mod report;
 
 use crate::shim::{HostRuntime, String, Vec};
 use crate::erased::binfarce_command::asked::Addresses;
 use crate::erased::binfarce_command::help::{VERSION, help};
+use crate::erased::binfarce_command::limits::{limits_in, read_limit_file};
 use crate::erased::binfarce_command::report::{ended, refuse as refuse_call, report, say};
 use crate::erased::binfarce_addresses::Counts;
 use crate::erased::binfarce_addresses::at::Places;
@@ -34,6 +37,7 @@ use crate::erased::binfarce_jobs::hint::{Hint, lack};
 use crate::erased::binfarce_jobs::limit::Verdict;
 use crate::erased::binfarce_jobs::section::Asked;
 use crate::erased::binfarce_jobs::show::Symbols;
+use crate::erased::binfarce_limits::rows::RowLimit;
 use crate::erased::binfarce_logs::Module;
 use crate::erased::binfarce_logs::annotate::annotate_stream;
 use crate::erased::binfarce_logs::framed::annotate_frames;
@@ -44,7 +48,7 @@ use crate::erased::binfarce_words::argument::arguments_of;
 use crate::erased::binfarce_words::call::{Call, read_call};
 use crate::erased::binfarce_words::command::Command;
 use crate::erased::binfarce_words::flag::Flag::{
-    Annotate, Bare, FailAbove, First, Full, Id, Json, Maps, Offsets,
+    Annotate, Bare, FailAbove, First, Full, Id, Json, Limits, Maps, Offsets, Undefined,
 };
 use crate::erased::binfarce_words::given::Arguments;
 use crate::erased::binfarce_words::wrong::Wrong;
@@ -96,13 +100,21 @@ fn run<'a>(rt: &HostRuntime, texts: &'a [Option<String>]) -> Result<u8, Wrong<'a
         },
         _ => Addresses::nothing(rt.alloc()),
     };
+    let Some(file) = read_limit_file(rt, &call) else {
+        return Ok(1);
+    };
+    let limits = match limits_in(rt, &call, &file) {
+        Ok(limits) => limits,
+        Err(status) => return Ok(status),
+    };
     let mut out = Output::new(rt.alloc(), io::writer(rt));
-    let done = match answer(rt, &call, &asked, &mut out) {
+    let done = match answer(rt, &call, &asked, limits.as_slice(), &mut out) {
         Ok(Some(verdict)) => Ok(verdict),
         Ok(None) => return Err(Wrong::NotMaps(maps_of(&call))),
         Err(fault) => Err(fault),
     };
-    let has_limit = matches!(&call, Call::Run(_, given) if given.has(FailAbove));
+    let has_limit =
+        matches!(&call, Call::Run(_, given) if given.has(FailAbove) || given.has(Limits));
     Ok(ended(rt, done, has_limit, out.into_parts().1))
 }
 
@@ -115,10 +127,11 @@ fn maps_of<'a>(call: &Call<'a>) -> &'a str {
 }
 
 // Runs a call, and flushes the output. `None` where the maps have no mapping: nothing is then written.
-fn answer<W: Write>(
+fn answer<'a, W: Write>(
     rt: &HostRuntime,
-    call: &Call<'_>,
+    call: &'a Call<'_>,
     asked: &Addresses,
+    limits: &'a [RowLimit<'a>],
     out: &mut Output<W>,
 ) -> Result<Option<Verdict>, Fault> {
     let done = match call {
@@ -150,7 +163,12 @@ fn answer<W: Write>(
                 refusals,
                 section,
             };
-            let mut work = Work { host, given, out };
+            let mut work = Work {
+                host,
+                given,
+                limits,
+                out,
+            };
             let done = work.run(*command, asked)?;
             work.print_refusals()?;
             done
@@ -169,6 +187,8 @@ fn print<W: Write>(text: &str, out: &mut Output<W>) -> Result<(), Fault> {
 struct Work<'a, 'b, W> {
     host: Host<'a>,
     given: &'a Arguments<'b>,
+    // Those on rows.
+    limits: &'a [RowLimit<'a>],
     out: &'a mut Output<W>,
 }
 
@@ -179,6 +199,7 @@ impl<'a, W: Write> Work<'a, '_, W> {
         let verdict = match command {
             Command::At if given.has(Annotate) => return self.annotate(asked),
             Command::At => return self.symbolize(asked),
+            Command::List if given.has(Undefined) => self.write_needs()?,
             Command::Diff => self.compare()?,
             Command::Filter => self.filter()?,
             Command::Section if given.has(Id) => self.write_identities()?,
@@ -201,7 +222,7 @@ impl<'a, W: Write> Work<'a, '_, W> {
     fn show_all(&mut self, command: Command) -> Result<Verdict, Fault> {
         let given = self.given;
         let alloc = self.host.rt.alloc();
-        let asked = request_of(command, given);
+        let asked = request_of(command, given, self.limits);
         // Objects have the names of their files, and need no headings.
         let most = if asked.is_json { 1 } else { usize::MAX };
         let mut all = Verdict::done();
@@ -228,6 +249,7 @@ impl<'a, W: Write> Work<'a, '_, W> {
             new,
             form: form_of(given, new),
             limit: given.limit(),
+            limits: self.limits,
         };
         let figures = figures_of(given);
         if given.is_by_section() {

@@ -26,10 +26,14 @@ pub mod binfarce_image;
 pub mod binfarce_rows;
 #[cfg(any(test, feature = "programs"))]
 pub mod binfarce_words;
+#[cfg(any(test, feature = "programs"))]
+pub mod binfarce_limits;
 pub mod binfarce_identity;
 pub mod binfarce_chart;
 pub mod binfarce_tools;
 pub mod binfarce_figures;
+#[cfg(any(test, feature = "programs"))]
+pub mod binfarce_needs;
 pub mod binfarce_addresses;
 pub mod binfarce_frames;
 pub mod binfarce_logs;
@@ -59,6 +63,12 @@ pub mod test_image_samples;
 pub mod test_reading;
 #[cfg(test)]
 #[cfg(feature = "stored")]
+pub mod test_limits;
+#[cfg(test)]
+#[cfg(feature = "stored")]
+pub mod test_needs;
+#[cfg(test)]
+#[cfg(feature = "stored")]
 pub mod test_identities;
 #[cfg(test)]
 #[cfg(feature = "stored")]
@@ -76,6 +86,8 @@ pub mod test_formats;
 #[cfg(test)]
 #[cfg(feature = "stored")]
 pub const TEST_PROGRAMS: &[(&str, crate::shim::test::Main)] = &[
+    ("test_limits", test_limits::main),
+    ("test_needs", test_needs::main),
     ("test_identities", test_identities::main),
     ("test_lookups", test_lookups::main),
     ("test_memory", test_memory::main),

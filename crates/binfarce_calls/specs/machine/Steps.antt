@@ -1,5 +1,5 @@
 -- What the steps of a comparison come to.
-use Rattle.std.specs.Prelude.{◌≡◌, ℕ, Bool, true, false, List, [], ◌∷◌, ◌++◌, Option, Some, None, Result, Ok, Err}
+use Rattle.std.specs.Prelude.{◌≡◌, ℕ, Bool, true, false, List, [], ◌∷◌, ◌++◌, map, Option, Some, None, Result, Ok, Err}
 use Rattle.std.specs.Io.KnownBytes.{Appends}
 use Rattle.binfarce_bytes.specs.SectionEntries.{SelectedSymbols}
 use Rattle.binfarce_bytes.specs.Selection.{section_of}
@@ -20,6 +20,9 @@ use Rattle.binfarce_calls.specs.Compared.{BreaksOff, Comparison, Differ}
 use Rattle.binfarce_calls.specs.Summed.{Fate, HasNoSections, HasSections, MayBeRefused, refused, summed}
 use Rattle.binfarce_calls.specs.declared.compare.ReadFile.{ReadFile}
 use Rattle.binfarce_calls.specs.declared.compare.Summed.{Summed}
+use Rattle.binfarce_calls.specs.declared.sections.FileRows.{FileRows}
+use Rattle.binfarce_calls.specs.RowLimits.{sized_in}
+use Rattle.binfarce_limits.specs.Rows.{NameLimit, finding_view, findings}
 
 -- what was reported, and the hints that were given, where these are known
 pub record Messages : Type 0 where
@@ -92,7 +95,8 @@ abbrev pub SumFails : Style → (first : Option ℕ) → (may_fail : Bool) → (
 SumFails style first may_fail file heading old new taken fault true = MayBeRefused HasNoSections may_fail file fault × (new ≡ old)
 SumFails style first may_fail file heading old new taken fault false = (failure fault ≡ write_failed) × ((sums : FileSums) × HasSections file sums × AppendsBeginning old taken (heading ++ sums_text style first sums))
 
--- how it ended: the rows were written, and the file has this length; or it failed
-abbrev pub SumsSource : Style → (first : Option ℕ) → (may_fail : Bool) → (file heading : List ℕ) → (old new taken : Option (List ℕ)) → Result ℕ Fault → Type 0
-SumsSource style first may_fail file heading old new taken (Ok length) = (sums : FileSums) × HasSections file sums × (length ≡ sums.file_length) × Appends old new (heading ++ sums_text style first sums)
-SumsSource style first may_fail file heading old new taken (Err fault) = SumFails style first may_fail file heading old new taken fault (is_of_file fault)
+-- how it ended: the rows were written, the file has this length, and this is said of limits on its rows; or it failed
+abbrev pub SumsSource : Style → (first : Option ℕ) → List NameLimit → (may_fail : Bool) → (file heading : List ℕ) → (old new taken : Option (List ℕ)) → Result FileRows Fault → Type 0
+SumsSource style first limits may_fail file heading old new taken (Ok found) =
+    (sums : FileSums) × HasSections file sums × (found.length ≡ sums.file_length) × (map finding_view found.rows.items ≡ findings (sized_in sums) limits) × Appends old new (heading ++ sums_text style first sums)
+SumsSource style first limits may_fail file heading old new taken (Err fault) = SumFails style first may_fail file heading old new taken fault (is_of_file fault)

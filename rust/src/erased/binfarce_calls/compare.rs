@@ -3,6 +3,7 @@
 //! `binfarce diff [OPTION..] OLD NEW`: how two files differ.
 
 use crate::shim::Vec;
+use crate::erased::binfarce_calls::limits::{changed_rows, changed_sections};
 use crate::erased::binfarce_bytes::source::Source;
 use crate::erased::binfarce_figures::claims::Claims;
 use crate::erased::binfarce_figures::diff::{Growth, diff};
@@ -10,10 +11,11 @@ use crate::erased::binfarce_figures::sums::Figures;
 use crate::erased::binfarce_io::fault::Fault;
 use crate::erased::binfarce_io::input::OpenFile;
 use crate::erased::binfarce_io::output::Output;
-use crate::erased::binfarce_jobs::files::{System, give, open_input, refuse};
+use crate::erased::binfarce_jobs::files::{System, give, give_rows, open_input, refuse};
 use crate::erased::binfarce_jobs::hint::lack;
-use crate::erased::binfarce_jobs::limit::{Verdict, grown};
+use crate::erased::binfarce_jobs::limit::{Verdict, exceeds, grown};
 use crate::erased::binfarce_jobs::show::{Symbols, tables_of};
+use crate::erased::binfarce_limits::rows::{Finding, RowLimit};
 use crate::erased::binfarce_rows::json::Form;
 use crate::erased::binfarce_sections::changes::diff_sections;
 use crate::erased::binfarce_sections::sums::SectionSums;
@@ -34,6 +36,8 @@ pub struct Pair<'a> {
     pub form: Form<'a>,
     /// The most that the sum may have grown by.
     pub limit: Option<Limit>,
+    /// The most that rows may have grown by.
+    pub limits: &'a [RowLimit<'a>],
 }
 
 // A file, and the tables that were read of it.
@@ -95,6 +99,13 @@ fn write_changes<F: Read + Source<Log = ()>, Y: System<F>, W: Write>(
     };
     // No heading precedes the text.
     out.begin(Vec::new(alloc));
+    let rows = changed_rows(
+        alloc,
+        pair.limits,
+        &before.claims,
+        &after.claims,
+        asked.figures.grouping,
+    )?;
     let growth = diff(
         alloc,
         &before.claims,
@@ -106,7 +117,7 @@ fn write_changes<F: Read + Source<Log = ()>, Y: System<F>, W: Write>(
     out.end()?;
     hint_on_none(alloc, system, pair.old, &asked.symbols, before);
     hint_on_none(alloc, system, pair.new, &asked.symbols, after);
-    Ok(is_above(system, pair, growth))
+    Ok(is_above(system, pair, growth, rows))
 }
 
 /// Writes how the bytes of the sections of two files differ, in this number of rows, and reports as `compare` does.
@@ -150,13 +161,14 @@ fn write_section_changes<F: Read + Source<Log = ()>, Y: System<F>, W: Write>(
     } = *figures;
     // No heading precedes the text.
     out.begin(Vec::new(alloc));
+    let rows = changed_sections(alloc, pair.limits, before, after)?;
     diff_sections(alloc, before, after, first, has_percent, pair.form, out)?;
     out.end()?;
     let growth = Growth {
         old: before.file_length(),
         new: after.file_length(),
     };
-    Ok(is_above(system, pair, growth))
+    Ok(is_above(system, pair, growth, rows))
 }
 
 // The file at this path, and its section tables. `None` where it is refused, which is reported.
@@ -250,14 +262,16 @@ fn hint_on_none<F: Read + Source<Log = ()>, Y: System<F>>(
     give(system, path, hint);
 }
 
-// Whether the sum grew by more than the limit, which is reported.
+// Whether the sum, or that of a row, grew by more than the limit, which is reported.
 fn is_above<F: Read + Source<Log = ()>, Y: System<F>>(
     system: &mut Y,
     pair: &Pair<'_>,
     growth: Growth,
+    rows: Vec<Finding>,
 ) -> bool {
     let excess = grown(growth, pair.limit);
-    let is_above = excess.is_some();
+    let is_above = exceeds(&excess, &rows);
     give(system, pair.new, excess);
+    give_rows(system, pair.new, rows);
     is_above
 }

@@ -7,6 +7,7 @@ use crate::erased::binfarce_figures::order::Order;
 use crate::erased::binfarce_figures::rows::{Naming, Shown};
 use crate::erased::binfarce_figures::sums::Figures;
 use crate::erased::binfarce_jobs::show::{Kind, Request, Symbols};
+use crate::erased::binfarce_limits::rows::RowLimit;
 use crate::erased::binfarce_rows::json::Form;
 use crate::erased::binfarce_tools::SymbolTable::{Dynsym, Symtab};
 use crate::erased::binfarce_tools::tables::Selection;
@@ -17,8 +18,12 @@ use crate::erased::binfarce_words::flag::Flag::{
 use crate::erased::binfarce_words::given::Arguments;
 use crate::erased::binfarce_words::takes;
 
-/// What `list`, `size` or `map` shows of each file.
-pub fn request_of<'a>(command: Command, given: &Arguments<'a>) -> Request<'a> {
+/// What `list`, `size` or `map` shows of each file, with these limits on rows.
+pub fn request_of<'a>(
+    command: Command,
+    given: &Arguments<'a>,
+    limits: &'a [RowLimit<'a>],
+) -> Request<'a> {
     let kind = match command {
         Command::List => listing_of(given),
         Command::Map if given.has(Folded) => Kind::Stacks(given.has(Std)),
@@ -33,6 +38,7 @@ pub fn request_of<'a>(command: Command, given: &Arguments<'a>) -> Request<'a> {
         symbols: symbols_of(given, false),
         is_json: given.has(Json),
         limit: given.limit(),
+        limits,
     }
 }
 
@@ -70,8 +76,8 @@ fn key_of(given: &Arguments<'_>) -> Option<Key> {
     }
 }
 
-// What is shown of a name.
-fn naming_of(given: &Arguments<'_>) -> Naming {
+/// What is shown of a name.
+pub fn naming_of(given: &Arguments<'_>) -> Naming {
     if given.has(Raw) {
         Naming::Stored
     } else if given.has(Full) {

@@ -3,15 +3,17 @@
 //! The sections of files: what is asked for of those of one, and how many bytes those of several have.
 
 use crate::shim::Vec;
+use crate::erased::binfarce_calls::limits::section_rows;
 use crate::erased::binfarce_bytes::source::Source;
 use crate::erased::binfarce_io::fault::Fault;
 use crate::erased::binfarce_io::output::Output;
 use crate::erased::binfarce_jobs::files::{
-    System, give, heading, open_input, refuse, refuse_argument,
+    System, give, give_rows, heading, open_input, refuse, refuse_argument,
 };
-use crate::erased::binfarce_jobs::limit::{Verdict, above};
+use crate::erased::binfarce_jobs::limit::{Verdict, above, exceeds};
 use crate::erased::binfarce_jobs::section::{Asked, write_sections};
 use crate::erased::binfarce_jobs::show::Request;
+use crate::erased::binfarce_limits::rows::{Finding, RowLimit};
 use crate::erased::binfarce_rows::json::Form;
 use crate::erased::binfarce_sections::sums::{SectionSums, sum_sections};
 use crate::erased::binfarce_sections::tables::read;
@@ -100,11 +102,13 @@ fn sum_file<F: Read + Source<Log = ()>, Y: System<F>, W: Write>(
     let Some(input) = open_input(alloc, system, path) else {
         return Ok(Verdict::refused());
     };
-    match sum_source(alloc, &input, first, form_at(asked, path), out) {
-        Ok(length) => {
-            let excess = above(length, asked.limit);
-            let is_above = excess.is_some();
+    let form = form_at(asked, path);
+    match sum_source(alloc, &input, first, asked.limits, form, out) {
+        Ok(summed) => {
+            let excess = above(summed.length, asked.limit);
+            let is_above = exceeds(&excess, &summed.rows);
             give(system, path, excess);
+            give_rows(system, path, summed.rows);
             Ok(Verdict {
                 is_done: true,
                 is_above,
@@ -123,17 +127,26 @@ fn form_at<'a>(asked: &Request<'a>, path: &'a str) -> Form<'a> {
     }
 }
 
-// Writes how many bytes of a source its sections have, after what is left of the heading, and returns its length.
+// A file that is summed: its length, and which of its rows are above their limits.
+struct FileRows {
+    length: u64,
+    rows: Vec<Finding>,
+}
+
+// Writes how many bytes of a source its sections have, after what is left of the heading.
 fn sum_source<S: Source<Log = ()>, W: Write>(
     alloc: Global,
     source: &S,
     first: Option<usize>,
+    limits: &[RowLimit<'_>],
     form: Form<'_>,
     out: &mut Output<W>,
-) -> Result<u64, Fault> {
+) -> Result<FileRows, Fault> {
     let tables = read(alloc, source, &mut ())?;
     let sums = SectionSums::of_tables(alloc, &tables)?;
+    let rows = section_rows(alloc, limits, &sums)?;
     sum_sections(alloc, &sums, first, form, out)?;
     out.end()?;
-    Ok(sums.file_length())
+    let length = sums.file_length();
+    Ok(FileRows { length, rows })
 }

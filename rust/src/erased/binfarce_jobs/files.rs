@@ -4,13 +4,14 @@
 
 use crate::shim::{String, Vec};
 use crate::erased::binfarce_jobs::hint::{Hint, Hints, hints_on, refusal_hints};
-use crate::erased::binfarce_jobs::limit::Verdict;
+use crate::erased::binfarce_jobs::limit::{Verdict, exceeds};
 use crate::erased::binfarce_jobs::show::{Request, Seen, show};
 use crate::erased::binfarce_bytes::source::Source;
 use crate::erased::binfarce_io::fault::Fault;
 use crate::erased::binfarce_io::input::OpenFile;
 use crate::erased::binfarce_io::message::push_escaped;
 use crate::erased::binfarce_io::output::Output;
+use crate::erased::binfarce_limits::rows::Finding;
 use crate::erased::binfarce_sections::error::SectionError;
 use crate::erased::binfarce_words::argument::Argument;
 use crate::shim::alloc::{AllocError, Global};
@@ -89,7 +90,7 @@ fn show_file<F: Read + Source<Log = ()>, Y: System<F>, W: Write>(
     match show_source(alloc, asked, path, &input, out) {
         Ok(seen) => {
             let hints = hints_on(alloc, &input, asked, seen);
-            let is_above = hints.excess.is_some();
+            let is_above = exceeds(&hints.excess, &hints.rows);
             give_all(system, path, hints);
             Ok(Verdict {
                 is_done: true,
@@ -167,10 +168,23 @@ fn give_all<F: Read + Source<Log = ()>, Y: System<F>>(system: &mut Y, path: &str
         first,
         second,
         excess,
+        rows,
     } = hints;
     give(system, path, first);
     give(system, path, second);
     give(system, path, excess);
+    give_rows(system, path, rows);
+}
+
+/// Gives what is said of rows, in its order.
+pub fn give_rows<F: Read + Source<Log = ()>, Y: System<F>>(
+    system: &mut Y,
+    path: &str,
+    rows: Vec<Finding>,
+) {
+    for row in rows {
+        system.hint(path, Hint::Row(row));
+    }
 }
 
 /// Reports why the file at this path is refused, with hints on what would help.

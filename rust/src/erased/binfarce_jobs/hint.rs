@@ -15,6 +15,8 @@ use crate::erased::binfarce_figures::key::Key;
 use crate::erased::binfarce_figures::sums::Sums;
 use crate::erased::binfarce_io::fault::Fault;
 use crate::erased::binfarce_io::message::push_byte;
+use crate::erased::binfarce_limits::excess::Excess;
+use crate::erased::binfarce_limits::rows::Finding;
 use crate::erased::binfarce_sections::bytes::write_section_of;
 use crate::erased::binfarce_sections::error::SectionError;
 use crate::erased::binfarce_tables::format::read_format;
@@ -32,6 +34,8 @@ pub enum Hint {
     None,
     /// The dynamic symbol table of the file has no function symbol.
     NoneDynamic,
+    /// The file has no undefined symbol.
+    NoneNeeded,
     /// The section has no function symbol, and all sections have so many.
     Others(usize),
     /// The dynamic symbol table has so many function symbols.
@@ -52,14 +56,12 @@ pub enum Hint {
     Unclear(u64),
     /// So many bytes of a sum of so many have no crate.
     Unknown(u64, u64),
-    /// It has so many bytes, more than so many that are allowed.
-    Above(u64, usize),
+    /// Its sum is more than is allowed, or grew by more.
+    Excess(Excess, Limit),
     /// Nothing is counted that a limit could be on.
     Nothing,
-    /// It grew by so many bytes, more than is allowed.
-    Grown(u64, Limit),
-    /// It grew by so many bytes, which are so many hundredths of a per cent, more than is allowed.
-    GrownBy(u64, u128, Limit),
+    /// A row is above its limit, or there is none of this name.
+    Row(Finding),
 }
 
 /// The hints on a file, in the order in which they are given.
@@ -71,6 +73,8 @@ pub struct Hints {
     pub second: Option<Hint>,
     /// That a sum exceeds its limit, or that there is none.
     pub excess: Option<Hint>,
+    /// Which rows are above their limits, and which limits have no row.
+    pub rows: Vec<Finding>,
 }
 
 /// What is known of where a file is loaded.
@@ -93,6 +97,7 @@ impl fmt::Display for Hint {
         match self {
             Hint::None => write!(f, "no function symbols"),
             Hint::NoneDynamic => write!(f, "no function symbols in .dynsym"),
+            Hint::NoneNeeded => write!(f, "no undefined symbols"),
             Hint::Others(count) => write!(
                 f,
                 "no function symbols in the section; --all takes {count}"
@@ -112,21 +117,9 @@ impl fmt::Display for Hint {
                 f,
                 "{bytes} of {sum} bytes have no crate, as those of C, C++ and assembly; --by=function shows whose they are"
             ),
-            Hint::Above(sum, most) => write!(f, "has {sum} bytes, and --fail-above allows {most}"),
+            Hint::Excess(excess, limit) => write!(f, "{excess}, and --fail-above allows {limit}"),
             Hint::Nothing => write!(f, "nothing is counted, so --fail-above can't be held"),
-            Hint::Grown(by, limit) => write!(
-                f,
-                "grew by {by} bytes, and --fail-above allows {limit}"
-            ),
-            Hint::GrownBy(by, share, limit) => {
-                let per_cent = share / 100;
-                write!(
-                    f,
-                    "grew by {by} bytes ({per_cent}.{}{}%), and --fail-above allows {limit}",
-                    share / 10 % 10,
-                    share % 10
-                )
-            }
+            Hint::Row(finding) => write!(f, "{finding}"),
             Hint::NoAddress(true) => write!(f, "no address in the text"),
             Hint::NoAddress(false) => write!(
                 f,
@@ -174,12 +167,18 @@ pub(crate) fn hints_on<S: Source<Log = ()>>(
     asked: &Request<'_>,
     seen: Seen,
 ) -> Hints {
-    let first = lack(alloc, source, &asked.symbols, seen.is_empty).unwrap_or(None);
-    let Some(sums) = seen.sums else {
+    let Seen {
+        is_empty,
+        sums,
+        rows,
+    } = seen;
+    let first = lack(alloc, source, &asked.symbols, is_empty).unwrap_or(None);
+    let Some(sums) = sums else {
         return Hints {
             first,
             second: None,
             excess: None,
+            rows,
         };
     };
     let second = match asked.kind {
@@ -191,6 +190,7 @@ pub(crate) fn hints_on<S: Source<Log = ()>>(
         first,
         second,
         excess,
+        rows,
     }
 }
 
@@ -249,12 +249,14 @@ pub fn refusal_hints<S: Source<Log = ()>>(alloc: Global, source: &S, fault: &Fau
             first: dynamic(alloc, source).unwrap_or(None),
             second: stripped(alloc, source, is_bare).unwrap_or(None),
             excess: None,
+            rows: Vec::new(alloc),
         };
     }
     Hints {
         first: None,
         second: None,
         excess: None,
+        rows: Vec::new(alloc),
     }
 }
 

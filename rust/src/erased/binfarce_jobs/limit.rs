@@ -4,7 +4,8 @@
 
 use crate::erased::binfarce_jobs::hint::Hint;
 use crate::erased::binfarce_figures::diff::Growth;
-use crate::erased::binfarce_rows::columns::hundredths;
+use crate::erased::binfarce_limits::excess::{Counted, Excess, excess_of};
+use crate::erased::binfarce_limits::rows::{Finding, are_above};
 use crate::erased::binfarce_words::takes::Limit;
 
 /// What work on files came to.
@@ -47,32 +48,30 @@ impl Verdict {
 pub fn above(sum: u64, limit: Option<Limit>) -> Option<Hint> {
     match limit {
         Some(Limit::Bytes(_)) if sum == 0 => Some(Hint::Nothing),
-        Some(Limit::Bytes(most)) if sum > most as u64 => Some(Hint::Above(sum, most)),
-        _ => None,
+        Some(limit) => exceeded(excess_of(Counted::Size(sum), limit), limit),
+        None => None,
     }
 }
 
 /// The hint on a sum that grew by more than this limit, or is 0 now, if there is one: where the limit is in per cent of an
 /// old sum, also by how many per cent it grew.
 pub fn grown(growth: Growth, limit: Option<Limit>) -> Option<Hint> {
-    let by = growth.new.saturating_sub(growth.old);
-    match limit {
-        Some(limit) if is_above(growth.old, by, limit) => match limit {
-            Limit::Percent(_) if growth.old > 0 => {
-                let share = hundredths(by, growth.old);
-                Some(Hint::GrownBy(by, share, limit))
-            }
-            _ => Some(Hint::Grown(by, limit)),
-        },
-        Some(_) if growth.new == 0 => Some(Hint::Nothing),
-        _ => None,
+    let limit = limit?;
+    match excess_of(Counted::Growth(growth.old, growth.new), limit) {
+        None if growth.new == 0 => Some(Hint::Nothing),
+        excess => exceeded(excess, limit),
     }
 }
 
-// Whether the growth of a sum by so many bytes is above the limit.
-fn is_above(old: u64, by: u64, limit: Limit) -> bool {
-    match limit {
-        Limit::Bytes(most) => by > most as u64,
-        Limit::Percent(most) => 100 * u128::from(by) > most as u128 * u128::from(old),
+// The hint on what is more than this limit, if anything is.
+fn exceeded(excess: Option<Excess>, limit: Limit) -> Option<Hint> {
+    match excess {
+        Some(excess) => Some(Hint::Excess(excess, limit)),
+        None => None,
     }
+}
+
+/// Whether a sum exceeds its limit, by the hint on that, or a row does.
+pub fn exceeds(excess: &Option<Hint>, rows: &[Finding]) -> bool {
+    excess.is_some() || are_above(rows)
 }

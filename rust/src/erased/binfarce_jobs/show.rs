@@ -2,19 +2,22 @@
 
 //! Shows the function symbols of a file: as a listing, as sums, or as a picture.
 
-use crate::shim::{CollectIn, Vec};
+use crate::shim::{CollectIn, String, Vec};
 use crate::erased::binfarce_jobs::code::has_code;
 use crate::erased::binfarce_bytes::ParseError;
 use crate::erased::binfarce_bytes::format::Format;
 use crate::erased::binfarce_bytes::functions::SectionFunction;
 use crate::erased::binfarce_bytes::source::Source;
 use crate::erased::binfarce_figures::claims::Claims;
+use crate::erased::binfarce_figures::diff::sizes_of;
 use crate::erased::binfarce_figures::key::Grouping;
 use crate::erased::binfarce_figures::map::map_by;
 use crate::erased::binfarce_figures::rows::{Shown, list_by};
 use crate::erased::binfarce_figures::stacks::fold_claims;
-use crate::erased::binfarce_figures::sums::{Figures, Sums, sum_by};
+use crate::erased::binfarce_figures::sums::{Figures, Numbers, Sums, sum_by};
 use crate::erased::binfarce_io::fault::Fault;
+use crate::erased::binfarce_limits::excess::Counted;
+use crate::erased::binfarce_limits::rows::{Finding, RowLimit, Rows, judge};
 use crate::erased::binfarce_rows::json::Form;
 use crate::erased::binfarce_tables::ReadError;
 use crate::erased::binfarce_tables::format::read_format;
@@ -23,7 +26,8 @@ use crate::erased::binfarce_tools::SymbolTable;
 use crate::erased::binfarce_tools::list::{ListError, Sink, list_selected};
 use crate::erased::binfarce_tools::tables::{Selection, Tables, read, read_tables};
 use crate::erased::binfarce_words::takes::Limit;
-use crate::shim::alloc::Global;
+use crate::shim::alloc::{AllocError, Global};
+use crate::shim::collections::BTreeMap;
 
 /// How function symbols are shown.
 #[derive(Debug, Clone, Copy, PartialEq)]
@@ -60,15 +64,19 @@ pub struct Request<'a> {
     pub is_json: bool,
     /// The most that a file's sum may be, where sums are shown.
     pub limit: Option<Limit>,
+    /// The most that rows of sums may be.
+    pub limits: &'a [RowLimit<'a>],
 }
 
 /// What was found in a file that was shown.
-#[derive(Debug, Clone, Copy, PartialEq)]
+#[derive(Debug)]
 pub struct Seen {
     /// Whether there is none of the function symbols that are taken.
     pub is_empty: bool,
     /// The sum of all sizes, each byte counted once, and that of `[unknown]`, where sums are shown.
     pub sums: Option<Sums>,
+    /// Which rows of these sums are above their limits, and which limits have no row.
+    pub rows: Vec<Finding>,
 }
 
 /// The tables of the source for these function symbols.
@@ -202,8 +210,10 @@ pub fn show<S: Source<Log = ()>, K: Sink>(
     let tables = tables_of(alloc, source, &asked.symbols)?;
     let form = form_for(asked, path);
     match asked.symbols.selection {
-        Selection::Section(_) => show_section(alloc, asked.kind, path, form, &tables, out),
-        Selection::All => show_tables(alloc, asked.kind, path, form, &tables, out),
+        Selection::Section(_) => {
+            show_section(alloc, asked.kind, asked.limits, path, form, &tables, out)
+        }
+        Selection::All => show_tables(alloc, asked.kind, asked.limits, path, form, &tables, out),
     }
 }
 
@@ -211,6 +221,7 @@ pub fn show<S: Source<Log = ()>, K: Sink>(
 fn show_section<K: Sink>(
     alloc: Global,
     kind: Kind,
+    limits: &[RowLimit<'_>],
     path: &str,
     form: Form<'_>,
     tables: &Tables<'_>,
@@ -223,13 +234,14 @@ fn show_section<K: Sink>(
         size: size.unwrap_or(0),
         versions: tables.version_names(),
     };
-    show_tables(alloc, kind, path, form, &made, out)
+    show_tables(alloc, kind, limits, path, form, &made, out)
 }
 
 // Shows the function symbols of these tables.
 fn show_tables<K: Sink>(
     alloc: Global,
     kind: Kind,
+    limits: &[RowLimit<'_>],
     path: &str,
     form: Form<'_>,
     tables: &Tables<'_>,
@@ -243,6 +255,7 @@ fn show_tables<K: Sink>(
             Ok(Seen {
                 is_empty,
                 sums: None,
+                rows: Vec::new(alloc),
             })
         }
         Kind::Rows(shown) => {
@@ -250,14 +263,17 @@ fn show_tables<K: Sink>(
             Ok(Seen {
                 is_empty: found == 0,
                 sums: None,
+                rows: Vec::new(alloc),
             })
         }
         Kind::Figures(figures) => {
             let claims = Claims::of_tables(alloc, tables)?;
+            let rows = rows_of(alloc, limits, &claims, figures.grouping)?;
             let sums = sum_by(alloc, &claims, &figures, form, out)?;
             Ok(Seen {
                 is_empty: claims.is_empty(),
                 sums: Some(sums),
+                rows,
             })
         }
         Kind::Picture(grouping, first) => {
@@ -266,6 +282,7 @@ fn show_tables<K: Sink>(
             Ok(Seen {
                 is_empty: claims.is_empty(),
                 sums: None,
+                rows: Vec::new(alloc),
             })
         }
         Kind::Stacks(joins_std) => {
@@ -274,7 +291,35 @@ fn show_tables<K: Sink>(
             Ok(Seen {
                 is_empty: claims.is_empty(),
                 sums: None,
+                rows: Vec::new(alloc),
             })
+        }
+    }
+}
+
+// Which of these rows are above their limits, and which limits have no row.
+fn rows_of(
+    alloc: Global,
+    limits: &[RowLimit<'_>],
+    claims: &Claims<'_, '_>,
+    grouping: Grouping,
+) -> Result<Vec<Finding>, AllocError> {
+    if limits.is_empty() {
+        return Ok(Vec::new(alloc));
+    }
+    let numbers = sizes_of(alloc, None, claims, grouping)?;
+    judge(alloc, limits, &SumRows(&numbers))
+}
+
+// The rows of sums.
+#[derive(Clone, Copy)]
+struct SumRows<'a>(&'a BTreeMap<String, Numbers>);
+
+impl Rows for SumRows<'_> {
+    fn counted(&self, name: &str) -> Option<Counted> {
+        match self.0.get(name) {
+            Some(numbers) => Some(Counted::Size(numbers.other)),
+            None => None,
         }
     }
 }

@@ -4,7 +4,7 @@
 
 use crate::erased::binfarce_words::flag::Flag::{
     All, Annotate, As, Bare, Base, By, Dynamic, FailAbove, First, Folded, Full, Help, Id, Json,
-    Maps, NoTotal, Offsets, Percent, Raw, Return, Section, Sort, Std,
+    Limits, Maps, NoTotal, Offsets, Percent, Raw, Return, Section, Sort, Std, Undefined,
 };
 use crate::erased::binfarce_words::named::Named;
 use crate::erased::binfarce_words::takes::Takes;
@@ -54,10 +54,14 @@ pub enum Flag {
     Json,
     /// The most that a sum may be, or may have grown by.
     FailAbove,
+    /// Names a file of such limits by row.
+    Limits,
     /// Writes stacks.
     Folded,
     /// Writes what says from which build files are.
     Id,
+    /// Lists what files need of others.
+    Undefined,
 }
 
 impl Flag {
@@ -85,8 +89,10 @@ impl Flag {
             Std => ("--std", "", Takes::Nothing),
             Json => ("--json", "", Takes::Nothing),
             FailAbove => ("--fail-above", "", Takes::Limit),
+            Limits => ("--limits", "", Takes::Text),
             Folded => ("--folded", "", Takes::Nothing),
             Id => ("--id", "", Takes::Nothing),
+            Undefined => ("--undefined", "", Takes::Nothing),
         }
     }
 

@@ -174,8 +174,8 @@ fn before_unit<'a>(value: &'a str, unit: &str) -> Option<&'a str> {
     value.strip_suffix(unit)
 }
 
-// The limit: a number of bytes, or of per cent before `%`.
-pub(crate) fn limit_in(value: &str) -> Option<Limit> {
+/// The limit that a value is: a number of bytes, or of per cent before `%`.
+pub fn limit_in(value: &str) -> Option<Limit> {
     match value.split_once('%') {
         None => Some(Limit::Bytes(size_in(value)?)),
         Some((front, "")) => Some(Limit::Percent(count_in(front)?)),

@@ -1,6 +1,10 @@
-use Rattle.std.proofs.Common.{◌≡◌, ◌∙◌, ℕ, true, List, Option, Ok, ap, is_some, refl, subst, sym}
+use Rattle.std.proofs.Common.{◌≡◌, ◌∙◌, ◌||◌, ℕ, true, List, Option, Ok, ap, ap₂, is_some, map, refl, subst, sym}
+use Rattle.std.specs.Global.{Vec}
 use Rattle.binfarce_jobs.specs.Files.{Hinted, IsHeld, Refused, ShowsOne, asked_files, state_of}
 use Rattle.binfarce_jobs.specs.Hints.{all_words}
+use Rattle.binfarce_jobs.specs.Limit.{are_above}
+use Rattle.binfarce_limits.specs.Rows.{finding_view}
+use Rattle.binfarce_limits.specs.declared.rows.Finding.{Finding}
 use Rattle.binfarce_io.specs.Faults.{failure, is_of_call}
 use Rattle.binfarce_io.specs.Output.{pending, taken, writer_of}
 use Rattle.binfarce_io.specs.Input.{may_fail_of}
@@ -19,7 +23,7 @@ returns-in-Ok-clause-shows g c =
     let Shows : words.Argument → Type 0 = λ argument. (held : List ℕ → List ℕ) → IsHeld (g.Y.System.bytes_at c.args.system.now) held argument
     → ShowsOne (asked_files c.args.asked.now c.args.are_several (g.Y.System.may_fail_at c.args.system.now) held) argument
     (state_of g.W.Write.contents c.args.out.now (g.Y.System.reports c.args.system.now) (g.Y.System.hints c.args.system.now))
-    (state_of g.W.Write.contents c.show_source.new.out (g.Y.System.reports c.give_all.new.system) (g.Y.System.hints c.give_all.new.system)) (Ok (record { is_done = true; is_above = c.is_some-is_above.result })) in
+    (state_of g.W.Write.contents c.show_source.new.out (g.Y.System.reports c.give_all.new.system) (g.Y.System.hints c.give_all.new.system)) (Ok (record { is_done = true; is_above = c.exceeds-is_above.result })) in
     let shows : Shows (utf8 c.in-Text.path.now) = λ held is.
     let asked = c.args.asked.now in
     let files = asked_files asked c.args.are_several (g.Y.System.may_fail_at c.args.system.now) held in
@@ -32,12 +36,13 @@ returns-in-Ok-clause-shows g c =
     let new = state_of g.W.Write.contents c.show_source.new.out (g.Y.System.reports given) (g.Y.System.hints given) in
     let old = taken g.W.Write.contents c.args.out.now in
     let read = c.in-Some.ensures.input (held path) is in
-    let above = c.is_some-is_above.ensures ∙ ap (λ (hint : Option Hint). is_some hint) c.hints_on-hints.ensures.excess in
+    let rows_are = ap (λ (v : Vec Finding). v.items) c.hints_on-hints.ensures.rows in
+    let above = c.exceeds-is_above.ensures ∙ ap₂ (λ (hint : Option Hint) (rows : List Finding). is_some hint || are_above (map finding_view rows)) c.hints_on-hints.ensures.excess (c.deref.ensures.value ∙ rows_are) in
     let one = came_to files path (record { bytes = g.W.Write.contents (writer_of begun); taken = old; reports = g.Y.System.reports opened; hints = g.Y.System.hints opened }) new read.0 (pending begun)
-    (may_fail_of g.F.Source.may_fail c.in-Some.input ≡ true) read.1 read.3 (c.begin.ensures.pending ∙ c.in_ok-heading.ensures) read.4 seen c.is_some-is_above.result (all_words hints) (c.in-Ok.ensures read.0 read.2) above
-    (λ none. said_shown asked read.0 seen.sums hints (c.hints_on-hints.ensures.first read.0 read.2 none) c.hints_on-hints.ensures.second c.hints_on-hints.ensures.excess)
+    (may_fail_of g.F.Source.may_fail c.in-Some.input ≡ true) read.1 read.3 (c.begin.ensures.pending ∙ c.in_ok-heading.ensures) read.4 seen c.exceeds-is_above.result (all_words hints) (c.in-Ok.ensures read.0 read.2) above
+    (λ none. said_shown asked read.0 seen.sums seen.rows.items hints (c.hints_on-hints.ensures.first read.0 read.2 none) c.hints_on-hints.ensures.second c.hints_on-hints.ensures.excess rows_are)
     (grows_unless (g.Y.System.reports opened) (g.Y.System.reports given) c.give_all.ensures.reports) c.give_all.ensures.hints in
-    let Begun : Option (List ℕ) → Option (List Refused) → Option (List Hinted) → Type 0 = λ bytes reports hints. ShowsOne files (utf8 path) (record { bytes = bytes; taken = old; reports = reports; hints = hints }) new (Ok (record { is_done = true; is_above = c.is_some-is_above.result })) in
+    let Begun : Option (List ℕ) → Option (List Refused) → Option (List Hinted) → Type 0 = λ bytes reports hints. ShowsOne files (utf8 path) (record { bytes = bytes; taken = old; reports = reports; hints = hints }) new (Ok (record { is_done = true; is_above = c.exceeds-is_above.result })) in
     let start = g.W.Write.contents (writer_of c.args.out.now) in
     subst (λ (hints : Option (List Hinted)). Begun start (g.Y.System.reports c.args.system.now) hints) (ap g.Y.System.hints c.in-Some.ensures.unchanged)
     (subst (λ (reports : Option (List Refused)). Begun start reports (g.Y.System.hints opened)) (ap g.Y.System.reports c.in-Some.ensures.unchanged)

@@ -7,7 +7,7 @@ use Rattle.binfarce_tools.specs.Answer.{MemoryIn, selected_answer}
 use Rattle.binfarce_tools.specs.Tables.{AreTablesOf}
 use Rattle.binfarce_tools.specs.Writing.{EndsAs, Takes}
 use Rattle.binfarce_io.specs.Faults.{outcome_of}
-use Rattle.binfarce_jobs.specs.Show.{AreTablesFor, Fits, IsSeenOf, IsTextOf, MemoryFor, answer_for, style_for}
+use Rattle.binfarce_jobs.specs.Show.{AreTablesFor, Fits, IsSeenOf, IsTextOf, MemoryFor, answer_for, limits_of, style_for}
 use Rattle.binfarce_jobs.proofs.Shown.{unread}
 use Rattle.binfarce_jobs.proofs.show.show.Goals as goal
 
@@ -57,7 +57,7 @@ pub returns-in-Section-clause-seen : goal.returns-in-Section-clause-seen
 returns-in-Section-clause-seen g c = λ file selected is answer.
     let symbols = c.args.asked.now.symbols in
     let are = c.in_ok-tables.ensures.reads file is in
-    let shown : Option (List ℕ) → Type 0 = λ s. AreTablesOf symbols.which file s c.in_ok-tables.tables → selected_answer symbols.which s file ≡ Some (Ok selected) → IfOk c.show_section.result (IsSeenOf c.args.asked.now.kind selected) in
+    let shown : Option (List ℕ) → Type 0 = λ s. AreTablesOf symbols.which file s c.in_ok-tables.tables → selected_answer symbols.which s file ≡ Some (Ok selected) → IfOk c.show_section.result (IsSeenOf c.args.asked.now.kind (limits_of c.args.asked.now) selected) in
     subst shown (sym (ap section_of c.in-Section.is)) (c.show_section.ensures.seen symbols.which file _ selected) are.0 (sym are.1 ∙ answer)
 
 pub returns-clause-seen : goal.returns-clause-seen

@@ -1,4 +1,5 @@
-use Rattle.std.proofs.Common.{Some, None, ap, nat_eq, refl, sym, subst}
+use Rattle.std.proofs.Common.{Some, None, ap, map, nat_eq, refl, sym, subst}
+use Rattle.binfarce_limits.specs.Rows.{finding_view, limit_view}
 use Rattle.binfarce_rows.specs.Json.{style_of}
 use Rattle.binfarce_tools.specs.Answer.{selected_answer}
 use Rattle.binfarce_tools.specs.Writing.{Outcome, Takes, written}
@@ -57,10 +58,15 @@ pub returns-in_ok-sums-in-Figures-clause-seen : goal.returns-in_ok-sums-in-Figur
 returns-in_ok-sums-in-Figures-clause-seen g c = λ which file section selected are answer.
     let claims = c.in_ok-claims-in-Figures.ensures.made which file section are in
     let sums = c.in_ok-sums-in-Figures.sums in
-    subst (λ (k : Kind). IsSeenOf k selected (record { is_empty = c.is_empty.result; sums = Some sums })) (sym c.in-Figures.is)
-    (record { empty_is = c.is_empty.ensures.file which file section selected claims answer; sums_are = (sums, refl, c.in_ok-sums-in-Figures.ensures.sums which file section selected claims answer) })
+    let rows = c.in_ok-rows-in-Figures.rows in
+    subst (λ (k : Kind). IsSeenOf k (map limit_view c.args.limits.now) selected (record { is_empty = c.is_empty.result; sums = Some sums; rows = rows })) (sym c.in-Figures.is)
+    (record {
+      empty_is = c.is_empty.ensures.file which file section selected claims answer;
+      sums_are = (sums, refl, c.in_ok-sums-in-Figures.ensures.sums which file section selected claims answer);
+      rows_are = c.in_ok-rows-in-Figures.ensures which file section selected claims answer;
+    })
 
 pub returns-in_ok-found-in-Rows-clause-seen : goal.returns-in_ok-found-in-Rows-clause-seen
 returns-in_ok-found-in-Rows-clause-seen g c = λ which file section selected are answer.
-    subst (λ (k : Kind). IsSeenOf k selected (record { is_empty = nat_eq c.in_ok-found-in-Rows.found 0; sums = None })) (sym c.in-Rows.is)
-    (record { empty_is = ap (λ n. nat_eq n 0) (c.in_ok-found-in-Rows.ensures.count which file section selected are answer); sums_are = refl })
+    subst (λ (k : Kind). IsSeenOf k (map limit_view c.args.limits.now) selected (record { is_empty = nat_eq c.in_ok-found-in-Rows.found 0; sums = None; rows = c.new-in-Rows.result })) (sym c.in-Rows.is)
+    (record { empty_is = ap (λ n. nat_eq n 0) (c.in_ok-found-in-Rows.ensures.count which file section selected are answer); sums_are = refl; rows_are = ap (map finding_view) c.new-in-Rows.ensures.items })

@@ -21,7 +21,7 @@ pub struct LimitFile<'a> {
     bytes: Vec<u8>,
 }
 
-/// The file of limits that a call names, with no path and no bytes if it names none. `None` where it can't be read, which
+/// The file of limits that a call names, with no path and no bytes if it names none. `None` if it can't be read, which
 /// is reported.
 pub fn read_limit_file<'a>(rt: &HostRuntime, call: &Call<'a>) -> Option<LimitFile<'a>> {
     let path = match call {
@@ -50,6 +50,9 @@ pub fn limits_in<'a>(
     call: &Call<'_>,
     file: &'a LimitFile<'_>,
 ) -> Result<Vec<RowLimit<'a>>, u8> {
+    if file.path.is_empty() {
+        return Ok(Vec::new(rt.alloc()));
+    }
     let compares = matches!(call, Call::Run(Command::Diff, _));
     let Ok(text) = from_utf8(file.bytes.as_slice()) else {
         say(rt, Some(file.path), &Fault::NotUtf8);
@@ -57,7 +60,7 @@ pub fn limits_in<'a>(
     };
     match read_limits(rt.alloc(), text, compares) {
         Ok(limits) => {
-            if limits.is_empty() && !file.path.is_empty() {
+            if limits.is_empty() {
                 say(rt, Some(file.path), &"no limit is in it, so none is held");
             }
             Ok(limits)

@@ -57,7 +57,7 @@ pub(crate) fn known_format(file: &[u8]) -> Result<Format, Error> {
 }
 
 /// Returns the function symbol at an address: of those in the list whose range holds it the one of greatest address, and of several
-/// the first. `None` where no range holds it.
+/// the first. `None` if no range holds it.
 ///
 /// A range begins at the symbol's address and has its size in bytes; a symbol of size 0 holds its own address alone. The whole list
 /// is searched and nothing is allocated; for many addresses there is [`Symbolizer`](crate::Symbolizer).
@@ -184,7 +184,7 @@ pub struct Section<'a> {
     /// `SizeOfRawData`, which an image rounds up.
     pub file_size: u64,
     /// How many bytes it has in memory: in ELF its size where its flags have `SHF_ALLOC`, else 0; in Mach-O its size; in PE
-    /// `VirtualSize`, or `SizeOfRawData` where that is 0, as in an object file.
+    /// `VirtualSize`, or `SizeOfRawData` if that is 0, as in an object file.
     pub memory_size: u64,
 }
 
@@ -422,7 +422,7 @@ pub fn report(file: &[u8], section: &str) -> Result<String, Error> {
     Ok(text.into_string())
 }
 
-/// Takes a text. It fails where there is no memory for it.
+/// Takes a text. It fails if there is no memory for it.
 struct Text {
     bytes: shim::Vec<u8>,
     failed: bool,
@@ -455,7 +455,7 @@ impl From<ListError> for Error {
         match e {
             ListError::Unknown => Error::UnknownFormat(None),
             ListError::Parse(e) => Error::from(e),
-            // A text fails where there is no memory for it.
+            // A text fails if there is no memory for it.
             ListError::OutOfMemory | ListError::Write => Error::OutOfMemory,
         }
     }
@@ -482,7 +482,7 @@ impl From<SectionError> for Error {
             SectionError::NoSection => Error::NoSection,
             SectionError::NoBytes => Error::NoBytes,
             SectionError::PastEnd => Error::PastEnd,
-            // A text fails where there is no memory for it.
+            // A text fails if there is no memory for it.
             SectionError::OutOfMemory | SectionError::Write => Error::OutOfMemory,
             // Not of bytes in memory.
             SectionError::Unreadable => Error::Parse(ParseError::UnexpectedEof),

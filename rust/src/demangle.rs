@@ -61,7 +61,7 @@ pub struct SymbolName {
     pub complete: String,
     /// The path without the last part of a legacy name, or without the disambiguators of a v0 name.
     pub trimmed: String,
-    /// The crate of a v0 name: its first crate root outside a back reference. It may be empty. `None` where the name has
+    /// The crate of a v0 name: its first crate root outside a back reference. It may be empty. `None` if the name has
     /// none, and for other names.
     pub crate_name: Option<String>,
     /// How the name is mangled. Where it is [`Kind::Unknown`], both texts are the name unchanged.
@@ -94,7 +94,7 @@ impl SymbolName {
     ///
     /// # Errors
     ///
-    /// [`OutOfMemory`] where an allocation failed.
+    /// [`OutOfMemory`] if an allocation failed.
     ///
     /// # Examples
     ///
@@ -162,7 +162,7 @@ impl Demangler {
     ///
     /// # Errors
     ///
-    /// [`OutOfMemory`] where an allocation failed.
+    /// [`OutOfMemory`] if an allocation failed.
     ///
     /// # Examples
     ///
@@ -181,7 +181,7 @@ impl Demangler {
     ///
     /// # Errors
     ///
-    /// [`OutOfMemory`] where an allocation failed. `text` is unchanged then.
+    /// [`OutOfMemory`] if an allocation failed. `text` is unchanged then.
     ///
     /// # Examples
     ///
@@ -208,7 +208,7 @@ impl Demangler {
     ///
     /// # Errors
     ///
-    /// [`OutOfMemory`] where an allocation failed. `text` is unchanged then.
+    /// [`OutOfMemory`] if an allocation failed. `text` is unchanged then.
     ///
     /// # Examples
     ///
@@ -239,7 +239,7 @@ impl Demangler {
     ///
     /// # Errors
     ///
-    /// [`OutOfMemory`] where an allocation failed. `text` is unchanged then.
+    /// [`OutOfMemory`] if an allocation failed. `text` is unchanged then.
     ///
     /// # Examples
     ///
@@ -261,7 +261,7 @@ impl Demangler {
     ///
     /// # Errors
     ///
-    /// [`OutOfMemory`] where an allocation failed.
+    /// [`OutOfMemory`] if an allocation failed.
     ///
     /// # Examples
     ///
@@ -344,7 +344,7 @@ impl fmt::Debug for Demangler {
 ///
 /// # Errors
 ///
-/// [`OutOfMemory`] where an allocation failed.
+/// [`OutOfMemory`] if an allocation failed.
 ///
 /// # Examples
 ///
@@ -369,7 +369,7 @@ pub const MAX_PRINTED: usize = 1 << 20;
 /// `{}` prints its [complete](SymbolName::complete) text, and `{:#}` its [trimmed](SymbolName::trimmed) one, into any
 /// [`fmt::Write`]. The text is made before the first byte is written, in memory that is bounded by [`MAX_PRINTED`]; with the feature
 /// `std` each thread keeps at most 1 MiB of it for its next names, as a [`Demangler`] does. The name is
-/// printed as it is stored where its text has more bytes than that, and where an allocation fails: so a panic hook can print a
+/// printed as it is stored where its text has more bytes than that, and if an allocation fails: so a panic hook can print a
 /// name where memory has run out, and the program doesn't end. [`SymbolName::try_demangle`] and [`trimmed()`] return an error there.
 ///
 /// # Examples

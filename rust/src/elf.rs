@@ -74,13 +74,13 @@ macro_rules! reader {
                 Ok(self.0.range()?)
             }
 
-            /// Returns the number of the section's entries (`sh_size` divided by `sh_entsize`); 0 where their size is 0.
+            /// Returns the number of the section's entries (`sh_size` divided by `sh_entsize`); 0 if their size is 0.
             #[must_use]
             pub fn entries(&self) -> $Width {
                 self.0.entries()
             }
 
-            /// Returns the section's name, a part of the file `parent`. `None` where it has no valid one.
+            /// Returns the section's name, a part of the file `parent`. `None` if it has no valid one.
             #[must_use]
             pub fn name<'a>(&self, parent: &$Elf<'a>) -> Option<&'a str> {
                 self.0.name(&parent.0)
@@ -98,7 +98,7 @@ macro_rules! reader {
                 self.0.flags()
             }
 
-            /// Returns how many bytes the section has in the file: its size, but 0 where its type is `SHT_NOBITS`.
+            /// Returns how many bytes the section has in the file: its size, but 0 if its type is `SHT_NOBITS`.
             #[must_use]
             pub fn file_size(&self) -> u64 {
                 self.0.file_size()
@@ -275,7 +275,7 @@ macro_rules! reader {
                 Ok(self.0.section_with_name(name)?.map(Section))
             }
 
-            /// Returns the section of this index, which counts from 0; `None` where there are fewer.
+            /// Returns the section of this index, which counts from 0; `None` if there are fewer.
             ///
             /// # Errors
             ///
@@ -343,7 +343,7 @@ macro_rules! reader {
             ///
             /// # Errors
             ///
-            /// Those of `functions`, and [`Error::OutOfMemory`] where an allocation failed.
+            /// Those of `functions`, and [`Error::OutOfMemory`] if an allocation failed.
             pub fn try_symbols(&self, section_name: &str) -> Result<(Vec<SymbolData>, u64), Error> {
                 Ok(symbols_of(self.0.symbols(Global, section_name)?)?)
             }
@@ -376,7 +376,7 @@ macro_rules! reader {
             ///
             /// # Errors
             ///
-            /// Those of `dynamic_functions`, and [`Error::OutOfMemory`] where an allocation failed.
+            /// Those of `dynamic_functions`, and [`Error::OutOfMemory`] if an allocation failed.
             pub fn dynamic_symbols(&self, section_name: &str) -> Result<(Vec<SymbolData>, u64), Error> {
                 Ok(symbols_of(self.0.dynamic_symbols(Global, section_name)?)?)
             }
@@ -401,7 +401,7 @@ macro_rules! reader {
             ///
             /// In this order: [`ParseError::UnexpectedEof`] where the section header table doesn't begin in the file or a
             /// section header is truncated; those of `functions` or `dynamic_functions` from the missing symbol table on;
-            /// [`Error::OutOfMemory`] where an allocation failed.
+            /// [`Error::OutOfMemory`] if an allocation failed.
             ///
             /// # Examples
             ///

@@ -33,7 +33,7 @@ pub enum Form {
 ///
 /// # Errors
 ///
-/// [`OutOfMemory`] where an allocation failed.
+/// [`OutOfMemory`] if an allocation failed.
 ///
 /// # Examples
 ///
@@ -56,7 +56,7 @@ pub fn filter(text: &str, form: Form) -> Result<String, OutOfMemory> {
 /// # Errors
 ///
 /// That of `input` or `output`, except [`io::ErrorKind::Interrupted`], where the call is repeated. After an error of `input`
-/// everything before it has been filtered and written. [`io::ErrorKind::OutOfMemory`] where an allocation failed, and
+/// everything before it has been filtered and written. [`io::ErrorKind::OutOfMemory`] if an allocation failed, and
 /// [`io::ErrorKind::WriteZero`] where `output` takes no more bytes. [`io::ErrorKind::InvalidData`] where one of them counts more
 /// bytes than the buffer holds.
 ///

@@ -67,13 +67,13 @@ fn with_text(identity: erased::Identity) -> Result<Identity, Error> {
 }
 
 /// Returns what says from which build a file is: of ELF the first build ID among the notes of its sections, or of a file without
-/// section headers among those of its segments; of Mach-O its UUID; of PE the GUID and the age of its PDB file. `None` where the
+/// section headers among those of its segments; of Mach-O its UUID; of PE the GUID and the age of its PDB file. `None` if the
 /// file has none.
 ///
 /// # Errors
 ///
 /// [`Error::UnknownFormat`]; [`Error::Parse`] where what states it ends past the file, for a note that ends past its section, a bad
-/// load command, and a debug directory in no section; [`Error::OutOfMemory`] where an allocation failed.
+/// load command, and a debug directory in no section; [`Error::OutOfMemory`] if an allocation failed.
 ///
 /// # Examples
 ///

@@ -71,7 +71,7 @@ impl<'a> Section<'a> {
         self.0.address()
     }
 
-    /// Returns the offset of the section's first byte in the file, or 0 where it has no bytes there (`offset`).
+    /// Returns the offset of the section's first byte in the file, or 0 if it has no bytes there (`offset`).
     #[must_use]
     pub fn offset(&self) -> u32 {
         self.0.offset()
@@ -83,7 +83,7 @@ impl<'a> Section<'a> {
         self.0.size()
     }
 
-    /// Returns the section's flags (`flags`): its type in the low byte, and attributes. 0 where the file ends before them.
+    /// Returns the section's flags (`flags`): its type in the low byte, and attributes. 0 if the file ends before them.
     #[must_use]
     pub fn flags(&self) -> u32 {
         self.0.flags()
@@ -95,7 +95,7 @@ impl<'a> Section<'a> {
         self.0.section_type()
     }
 
-    /// Returns how many bytes the section has in the file: its size, but 0 where its type fills it with zeros in memory, or
+    /// Returns how many bytes the section has in the file: its size, but 0 if its type fills it with zeros in memory, or
     /// its offset is 0.
     #[must_use]
     pub fn file_size(&self) -> u64 {
@@ -286,7 +286,7 @@ impl<'a> Macho<'a> {
     ///
     /// # Errors
     ///
-    /// Those of [`Macho::symbols`], and [`Error::OutOfMemory`] where an allocation failed.
+    /// Those of [`Macho::symbols`], and [`Error::OutOfMemory`] if an allocation failed.
     pub fn try_symbols(&self) -> Result<(Vec<SymbolData>, u64), Error> {
         Ok(symbols_of(self.0.symbols(Global)?)?)
     }
@@ -321,7 +321,7 @@ impl<'a> Macho<'a> {
     /// # Errors
     ///
     /// Those of [`Macho::find_section`]; [`ParseError::UnexpectedEof`] where the symbol table's command, the string table or the
-    /// symbol table are truncated; [`Error::OutOfMemory`] where an allocation failed.
+    /// symbol table are truncated; [`Error::OutOfMemory`] if an allocation failed.
     ///
     /// # Examples
     ///

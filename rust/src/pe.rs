@@ -74,7 +74,7 @@ impl<'a> Section<'a> {
         self.0.virtual_size()
     }
 
-    /// Returns the offset of the section's first byte in the file, or 0 where it has no bytes there (`PointerToRawData`).
+    /// Returns the offset of the section's first byte in the file, or 0 if it has no bytes there (`PointerToRawData`).
     #[must_use]
     pub fn offset(&self) -> u32 {
         self.0.offset()
@@ -86,19 +86,19 @@ impl<'a> Section<'a> {
         self.0.size()
     }
 
-    /// Returns the section's flags (`Characteristics`). 0 where the file ends before them.
+    /// Returns the section's flags (`Characteristics`). 0 if the file ends before them.
     #[must_use]
     pub fn characteristics(&self) -> u32 {
         self.0.characteristics()
     }
 
-    /// Returns how many bytes of the file are the section's: `SizeOfRawData`, but 0 where `PointerToRawData` is 0.
+    /// Returns how many bytes of the file are the section's: `SizeOfRawData`, but 0 if `PointerToRawData` is 0.
     #[must_use]
     pub fn file_size(&self) -> u32 {
         self.0.file_size()
     }
 
-    /// Returns how many bytes the section has in memory: `VirtualSize`, or `SizeOfRawData` where that is 0, as in an object
+    /// Returns how many bytes the section has in memory: `VirtualSize`, or `SizeOfRawData` if that is 0, as in an object
     /// file.
     #[must_use]
     pub fn memory_size(&self) -> u32 {
@@ -304,7 +304,7 @@ impl<'a> Pe<'a> {
     ///
     /// # Errors
     ///
-    /// Those of [`Pe::symbols`], and [`Error::OutOfMemory`] where an allocation failed.
+    /// Those of [`Pe::symbols`], and [`Error::OutOfMemory`] if an allocation failed.
     pub fn try_symbols(&self) -> Result<(Vec<SymbolData>, u64), Error> {
         Ok(symbols_of(self.0.symbols(Global)?)?)
     }
@@ -341,7 +341,7 @@ impl<'a> Pe<'a> {
     /// # Errors
     ///
     /// [`ParseError::UnexpectedEof`] where the section table doesn't begin in the file or a header is truncated, and where the
-    /// symbol table doesn't begin in the file or passes its end; [`Error::OutOfMemory`] where an allocation failed.
+    /// symbol table doesn't begin in the file or passes its end; [`Error::OutOfMemory`] if an allocation failed.
     ///
     /// # Examples
     ///

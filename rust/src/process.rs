@@ -47,12 +47,12 @@ pub struct Frame<'a> {
 }
 
 impl Process {
-    /// Reads the files of this process by `/proc/self/maps`, the program also where its file was deleted. For Linux. With the
+    /// Reads the files of this process by `/proc/self/maps`, the program also if its file was deleted. For Linux. With the
     /// feature `std`.
     ///
     /// # Errors
     ///
-    /// [`StreamError::Stream`] where the maps can't be read; [`Error::OutOfMemory`] where an allocation failed. Files that are
+    /// [`StreamError::Stream`] where the maps can't be read; [`Error::OutOfMemory`] if an allocation failed. Files that are
     /// refused are in [`Process::refused`].
     pub fn own() -> Result<Self, StreamError> {
         let mut maps = Vec::new(Global);
@@ -64,11 +64,11 @@ impl Process {
 
     /// Reads the files of a process by a text in the form of `/proc/PID/maps`. `open` gets the path of each file of which code is
     /// mapped, once, with a ` (deleted)` behind it if the maps have that; of what it returns the headers, the tables and the last
-    /// byte are read. Of an ELF file without a symbol table it is the dynamic symbols that are found. With the feature `std`.
+    /// byte are read. In an ELF file without a symbol table the dynamic symbols are found. With the feature `std`.
     ///
     /// # Errors
     ///
-    /// [`Error::OutOfMemory`] where an allocation failed. Files that are refused are in [`Process::refused`].
+    /// [`Error::OutOfMemory`] if an allocation failed. Files that are refused are in [`Process::refused`].
     pub fn of_maps<R, F>(maps: &[u8], mut open: F) -> Result<Self, StreamError>
     where
         R: Read + Seek,

@@ -123,7 +123,7 @@ impl<'a> Symbolizer<'a> {
     ///
     /// # Errors
     ///
-    /// [`OutOfMemory`] where an allocation failed.
+    /// [`OutOfMemory`] if an allocation failed.
     ///
     /// # Examples
     ///
@@ -163,7 +163,7 @@ impl<'a> Symbolizer<'a> {
     }
 
     /// Returns the function symbol at an address, and the offset into it. Of several that hold the address it is the one of
-    /// greatest address, and of several there the first, in an ELF file the first that isn't local if there is one. `None` where none holds it, and for an address below the base.
+    /// greatest address, and of several there the first, in an ELF file the first that isn't local if there is one. `None` if none holds it, and for an address below the base.
     ///
     /// # Examples
     ///
@@ -277,13 +277,13 @@ fn look_up_among<'s>(
 debug_by_name!(Symbolizer);
 
 /// Returns where a file says that it is loaded, unless the loader chooses another address: of ELF the page of 4096 bytes of its
-/// lowest loaded segment, and its first code segment; of Mach-O the address of `__TEXT`, of PE its image base. `None` where there
+/// lowest loaded segment, and its first code segment; of Mach-O the address of `__TEXT`, of PE its image base. `None` if there
 /// is none, as in an object file.
 ///
 /// # Errors
 ///
 /// [`Error::UnknownFormat`]; [`Error::Parse`] where the file is too short for what states it, and for a bad Mach-O load command
-/// before that; [`Error::OutOfMemory`] where an allocation failed.
+/// before that; [`Error::OutOfMemory`] if an allocation failed.
 ///
 /// # Examples
 ///
@@ -300,8 +300,8 @@ pub fn load_address(file: &[u8]) -> Result<Option<LoadAddress>, Error> {
 /// Returns where a file is loaded by a text in the form of `/proc/PID/maps`, if [`load_address`] returns this of it: where the
 /// mappings of its code have it, or of a file without code the lowest address of its mappings. A mapping is one of the file if its
 /// path ends with this path, after a `/` if there is one; if none is, those are whose paths end so with the name behind the last `/`.
-/// A ` (deleted)` after a path isn't part of it, nor is a carriage return. `None` where no line maps the file, where its code is
-/// at several places, and where none says where it is: pages may have 4, 16 or 64 KiB. Other lines may stand between, and words of a log before a mapping in its line.
+/// A ` (deleted)` after a path isn't part of it, nor is a carriage return. `None` if no line maps the file, where its code is
+/// at several places, and if none says where it is: pages may have 4, 16 or 64 KiB. Other lines may stand between, and words of a log before a mapping in its line.
 ///
 /// # Examples
 ///

@@ -128,7 +128,7 @@ impl<'a> Tables<'a> {
     ///
     /// # Errors
     ///
-    /// [`Error::OutOfMemory`] where an allocation failed, and no other.
+    /// [`Error::OutOfMemory`] if an allocation failed, and no other.
     ///
     /// # Examples
     ///
@@ -145,7 +145,7 @@ impl<'a> Tables<'a> {
         Ok(Functions(Items::All(AllFunctions::new(self.0.functions(Global)?.into_list().0.all)?)))
     }
 
-    /// Returns the function symbols of all sections, each with its section's number; `None` where the tables are of one
+    /// Returns the function symbols of all sections, each with its section's number; `None` if the tables are of one
     /// section.
     ///
     /// # Errors
@@ -172,7 +172,7 @@ impl<'a> Tables<'a> {
         }
     }
 
-    /// Returns the name of the section of this number. `None` where there is none, where it has no valid name, and where the
+    /// Returns the name of the section of this number. `None` if there is none, if it has no valid name, and where the
     /// tables are of one section.
     ///
     /// # Examples

@@ -1,5 +1,5 @@
 //! The stored runs of the programs: with the arguments and the standard input of a crate's folder each prints what is stored
-//! there, and fails where nothing can be written.
+//! there, and fails if nothing can be written.
 
 use std::path::Path;
 use std::process::{Command, Output, Stdio};

@@ -88,14 +88,14 @@ impl<'a> Macho<'a> {
     ///
     /// # Errors
     ///
-    /// `MalformedInput` where their end exceeds `usize`, `UnexpectedEof` where it lies past the file.
+    /// `MalformedInput` if their end exceeds `usize`, `UnexpectedEof` if it lies past the file.
     pub fn section_bytes(&self, section: &Section<'_>) -> Result<&'a [u8], ParseError>
         ensures { Gives refusal_of (λ b. b.now) (section_data self.now (section_view section.now)) result }
     {
         sections::section_data(self.data, section)
     }
 
-    /// The first section that the callback accepts, in file order; `None` where it accepts none.
+    /// The first section that the callback accepts, in file order; `None` if it accepts none.
     ///
     /// The sections are those of the segment commands (`LC_SEGMENT_64`) whose segment and section name are both valid.
     /// A name is stored in 16 bytes: it is those up to the first NUL, or all 16 without a NUL. It is valid if it is
@@ -103,7 +103,7 @@ impl<'a> Macho<'a> {
     ///
     /// # Errors
     ///
-    /// `UnexpectedEof` where a segment command or a section is truncated, `MalformedInput` where a load command's size
+    /// `UnexpectedEof` if a segment command or a section is truncated, `MalformedInput` if a load command's size
     /// is below 8. The callback gets the sections before it first.
     pub fn find_section<F: Fn(Section<'_>) -> bool>(
         &self,
@@ -141,9 +141,9 @@ impl<'a> Macho<'a> {
     /// # Errors
     ///
     /// In this order: those of `find_section`; `SymbolsSectionIsMissing` without a section `__text` of `__TEXT`;
-    /// `MalformedInput` where that is empty, or for a bad load command before the symbol table's; `UnexpectedEof` where
-    /// that command, the string table or the rows are truncated; `MalformedInput` where the text's end exceeds 64 bits,
-    /// or a row that would be kept lies past that end with no address above it. `OutOfMemory` only where the table has
+    /// `MalformedInput` if that is empty, or for a bad load command before the symbol table's; `UnexpectedEof` if
+    /// that command, the string table or the rows are truncated; `MalformedInput` if the text's end exceeds 64 bits,
+    /// or a row that would be kept lies past that end with no address above it. `OutOfMemory` only if the table has
     /// a value that isn't 0; it may replace the last error.
     #[tactic(auto, using(binfarce_macho::proofs::MachoLaws::answer_sized, binfarce_macho::proofs::MachoLaws::answer_in_order))]
     pub fn symbols(&self, alloc: Global) -> Result<(Vec<SymbolData>, u64), ParseError>
@@ -178,12 +178,12 @@ impl<'a> Macho<'a> {
     /// names aren't valid; a row's section number is at most 255. It keeps rows that are defined in such a section
     /// (`N_SECT`, and no bit of `N_STAB`) with a value in it, a name offset and a valid name, unless that is a label of
     /// the assembler: one that begins with `ltmp` or `L`. A symbol's size is the distance to the next greater address
-    /// of such a row of its section, or to the section's end where there is none.
+    /// of such a row of its section, or to the section's end if there is none.
     ///
     /// # Errors
     ///
-    /// In this order: those of `find_section` with a callback that accepts no section; `UnexpectedEof` where the symbol
-    /// table's command, the string table or the rows are truncated. `OutOfMemory` only where the file has a section; it
+    /// In this order: those of `find_section` with a callback that accepts no section; `UnexpectedEof` if the symbol
+    /// table's command, the string table or the rows are truncated. `OutOfMemory` only if the file has a section; it
     /// may replace another error.
     pub fn all_functions(&self, alloc: Global) -> Result<Vec<SectionFunction<'a>>, ParseError>
         ensures { AnswersAll HoldsSectionFunctions (HasSection self.now) (all_answer self.now) result }

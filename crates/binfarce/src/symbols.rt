@@ -18,7 +18,7 @@ use std::alloc::{AllocError, Global};
 ///
 /// # Errors
 ///
-/// A failed allocation, only where a function symbol is left.
+/// A failed allocation, only if a function symbol is left.
 pub fn symbols_of_elf(
     alloc: Global,
     functions: AllFunctions<'_>,
@@ -34,7 +34,7 @@ pub fn symbols_of_elf(
 ///
 /// # Errors
 ///
-/// A failed allocation, only where the list isn't empty.
+/// A failed allocation, only if the list isn't empty.
 pub(crate) fn symbols_of_list(
     alloc: Global,
     functions: &[FunctionSymbol<'_>],
@@ -49,7 +49,7 @@ pub(crate) fn symbols_of_list(
 ///
 /// # Errors
 ///
-/// A failed allocation, only where the list isn't empty.
+/// A failed allocation, only if the list isn't empty.
 pub(crate) fn without_sections<'a>(
     alloc: Global,
     functions: &[SectionFunction<'a>],

@@ -90,7 +90,7 @@ outcome memory listed text old new (Err Unknown) wrote = let e = wrote.0 in absu
 outcome memory listed text old new (Err (Parse p)) wrote = let e = wrote.0 in absurd cc
 outcome memory listed text old new (Err OutOfMemory) wrote = let e = wrote.0 in absurd cc
 
--- so where a write failed
+-- so if a write failed
 pub err_outcome : (memory : Result SelectedSymbols Refusal → Type 0) (listed : SelectedSymbols) (text : List ℕ) (old new : Option (List ℕ)) (e : ListError) (result : Result Counts ListError) → Writes old new text (Err e) → IsErrAnd result (λ x. x ≡ e) → EndsAs ListingFits memory (Some (Ok listed)) (outcome_of result)
 err_outcome memory listed text old new e (Ok x) wrote is = absurd is
 err_outcome memory listed text old new e (Err x) wrote is =
@@ -115,13 +115,13 @@ err_takes lookup addresses listed text old new e (Err x) are wrote is =
         ok_of : Path (Option (Result SelectedSymbols Refusal)) (Some (Ok listed)) (Some (Ok all)) → listed ≡ all
         ok_of same = ap ok_or_this same
 
--- none is taken where an allocation failed
+-- none is taken if an allocation failed
 pub takes_none : (lookup : Lookup) (addresses : List ℕ) (listed : SelectedSymbols) (old : Option (List ℕ)) (result : Result Counts ListError) → IsErrAnd result (λ e. e ≡ OutOfMemory) → Takes (AreLinesAt lookup addresses) (Some (Ok listed)) old old (outcome_of result)
 takes_none lookup addresses listed old (Ok x) is = absurd is
 takes_none lookup addresses listed old (Err e) is =
     let P : ListError → Type 0 = λ e. Takes (AreLinesAt lookup addresses) (Some (Ok listed)) old old (outcome_of (Err e)) in subst P (sym is) (nothing old)
 
--- so where an allocation failed
+-- so if an allocation failed
 pub no_memory : (memory : Result SelectedSymbols Refusal → Type 0) (listed : SelectedSymbols) (result : Result Counts ListError) → IsErrAnd result (λ e. e ≡ OutOfMemory) → EndsAs ListingFits memory (Some (Ok listed)) (outcome_of result)
 no_memory memory listed (Ok x) is = absurd is
 no_memory memory listed (Err e) is =

@@ -52,7 +52,7 @@ EndsIn text addresses =
 abbrev pub Reads : List ℕ → List (Option ℕ) → List ℕ → Type 0
 Reads text addresses left = Begins text addresses left ⊎ (EndsIn text addresses × (left ≡ []))
 
--- the answer in this style to a line: that of its address, or, where it has none, `??`, or an object without an address
+-- the answer in this style to a line: that of its address, or, if it has none, `??`, or an object without an address
 abbrev pub IsAnswerIn : Style → List Entry → Lookup → Option ℕ → List ℕ → Type 0
 IsAnswerIn json.lines entries lookup None answer = answer ≡ codes "??\n"
 IsAnswerIn (json.objects file section) entries lookup None answer = answer ≡ answer_object file None None

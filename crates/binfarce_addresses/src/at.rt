@@ -165,11 +165,11 @@ impl<'a> Places<'a> {
     }
 
     /// Appends the line of an address to the text: the address, the symbol that it symbolizes to by this lookup, and
-    /// the offset of the address into it; or `??` where there is none. Returns whether there is one.
+    /// the offset of the address into it; or `??` if there is none. Returns whether there is one.
     ///
     /// # Errors
     ///
-    /// `AllocError` where an allocation failed: the text is then unspecified.
+    /// `AllocError` if an allocation failed: the text is then unspecified.
     pub fn push_line(
         &self,
         alloc: Global,
@@ -232,13 +232,13 @@ fn ranges_of(
 /// Symbolizes addresses in an executable: a line for each, in their order.
 ///
 /// The format and the section are as in `list`. A line is `{address:016x} {name}+0x{offset:x}`: the address, the
-/// readable name of its function symbol, and the offset into it. With a base, the address in the file is as far behind
-/// `linked` as the address is behind the base. Of a return address the one before is looked up, but the offset is that
-/// of the address. A symbol holds the addresses of its range, or of size 0 its own. Of several that hold an address, it
-/// is the one of greatest address, and of several there the first in the order of the listing, in an ELF file the first
+/// readable name of its function symbol, and the offset into it. With a base, the address in the file is as far from
+/// `linked` as the address is from the base. For a return address the one before it is looked up, but the offset is that
+/// of the address. A symbol holds the addresses of its range, or if its size is 0 its own. If several hold an address, it
+/// is the one of greatest address; if several have that, the first in the order of the listing, in an ELF file the first
 /// that isn't local, if there is one. The line is
 /// `{address:016x} ??` for an address that none holds, and for one below the base, or, where `size` bytes are loaded from
-/// there, behind them. Returns how many addresses there are, and how many of them a symbol holds.
+/// there, past them. Returns how many addresses there are, and how many of them a symbol holds.
 ///
 /// # Errors
 ///
@@ -296,7 +296,7 @@ pub fn at_tables<S: Sink>(
 ///
 /// # Errors
 ///
-/// `OutOfMemory` where an allocation failed; `Write` where a write failed, which alone can leave a beginning of the
+/// `OutOfMemory` if an allocation failed; `Write` if a write failed, which alone can leave a beginning of the
 /// lines written.
 #[tactic(auto, using(crate::proofs::AddressLines::endings))]
 pub fn write_lines<S: Sink>(

@@ -19,7 +19,7 @@ pub(crate) fn push_address(text: &mut Vec<u8>, address: u64) -> Result<(), Alloc
 ///
 /// # Errors
 ///
-/// `AllocError` where an allocation failed: the text is then unspecified.
+/// `AllocError` if an allocation failed: the text is then unspecified.
 #[inline(always)]
 pub fn push_offset(text: &mut Vec<u8>, offset: u64, end: u8) -> Result<(), AllocError>
     ensures { OnOk result (text.new.items ≡ text.old.items

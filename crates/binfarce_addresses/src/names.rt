@@ -95,7 +95,7 @@ impl<'b, 'a> Names<'b, 'a> {
     ///
     /// # Errors
     ///
-    /// `AllocError` where an allocation failed.
+    /// `AllocError` if an allocation failed.
     pub fn with_room(
         alloc: Global,
         places: &'b Places<'a>,
@@ -121,7 +121,7 @@ impl<'b, 'a> Names<'b, 'a> {
     }
 
     /// What an offset behind the file's name symbolizes to: one from the file's origin, or in the file, where offsets in
-    /// it are looked up. Nothing where the address passes 64 bits.
+    /// it are looked up. Nothing if the address passes 64 bits.
     pub fn find_offset(&self, offset: u64) -> Option<Found>
         ensures { IsFoundIn self.now.0 self.now.1.is_return (at_offset self.now.1 offset) result }
     {
@@ -152,7 +152,7 @@ impl<'b, 'a> Names<'b, 'a> {
             .collect(self.alloc)
     }
 
-    // Reads the first and the last byte of each name, or of the symbol's own where none is kept: a prefetch, without
+    // Reads the first and the last byte of each name, or of the symbol's own if none is kept: a prefetch, without
     // which random addresses take a fifth more.
     pub(crate) fn read_ahead(&self, answers: &[Answer]) -> Result<Vec<(u8, u8)>, AllocError> {
         answers
@@ -278,7 +278,7 @@ impl<'b, 'a> Names<'b, 'a> {
     ///
     /// # Errors
     ///
-    /// `AllocError` where an allocation failed: the text is then unspecified.
+    /// `AllocError` if an allocation failed: the text is then unspecified.
     #[inline(always)]
     pub fn push_name(&mut self, text: &mut Vec<u8>, place: usize) -> Result<(), AllocError>
         requires { place < length self.old.0 }

@@ -39,7 +39,7 @@ pub struct Answered {
 ///
 /// # Errors
 ///
-/// `AllocError` where an allocation failed: `text` is then unspecified.
+/// `AllocError` if an allocation failed: `text` is then unspecified.
 pub fn push_lines(
     alloc: Global,
     places: &Places<'_>,
@@ -107,8 +107,8 @@ fn first_line(bytes: &[u8]) -> Option<&[u8]>
 ///
 /// # Errors
 ///
-/// `Read` where the reader fails: the whole lines before are answered. `Write` where a write failed, and `OutOfMemory`
-/// where an allocation did: a beginning was written.
+/// `Read` if the reader fails: the whole lines before are answered. `Write` if a write failed, and `OutOfMemory`
+/// if an allocation did: a beginning was written.
 pub fn answer_lines<R: Read, S: Sink>(
     alloc: Global,
     places: &Places<'_>,

@@ -21,7 +21,7 @@ some_listed f a (suc n) (suc i) lt some =
     let there : f (a + 1 + i) ≢ [] = subst (λ (m : ℕ). f m ≢ []) (omega arith) some in
     append_some (f a) (flat_map f (range_with_len (a + 1) n)) (some_listed f (a + 1) n i (omega arith) there)
 
--- where none has an element, all together have none
+-- if none has an element, all together have none
 pub none_listed : {A : Type 0} (f : ℕ → List A) (a n : ℕ) → ((i : ℕ) → i < n → f (a + i) ≡ []) → flat_map f (range_with_len a n) ≡ []
 none_listed f a zero none = refl
 none_listed f a (suc n) none =

@@ -14,7 +14,7 @@ part offset size = record { offset = offset; size = size }
 abbrev pub field_part : ℕ → Field → Part
 field_part start f = part (start + f.offset) f.width
 
--- bytes that are read only where all of them lie in the file: a part there, and else none
+-- bytes that are read only if all of them lie in the file: a part there, and else none
 abbrev pub whole_part : List ℕ → ℕ → ℕ → List Part
 whole_part file offset size = if nat_le (offset + size) (length file) then part offset size ∷ [] else []
 

@@ -5,7 +5,7 @@ use Rattle.binfarce_bytes.specs.declared.error.ParseError.{ParseError}
 use Rattle.binfarce_bytes.specs.Refusal.{Refusal, refusal_of, out_of_memory}
 use Rattle.binfarce_bytes.specs.Entries.{Entry, Listed}
 
--- an entry, the number of its section, and in an ELF file the binding and type of its symbol (`st_info`) and its version (its row in `.gnu.version`; 0 where
+-- an entry, the number of its section, and in an ELF file the binding and type of its symbol (`st_info`) and its version (its row in `.gnu.version`; 0 if
 -- there is none), in other files 0
 pub record SectionEntry : Type 0 where
   pub section : ℕ

@@ -10,7 +10,7 @@ use Rattle.std.specs.Str.{IsUtf8, is_utf8}
 abbrev pub nul_at : List ℕ → Option ℕ
 nul_at bytes = position (λ b. nat_eq b 0) bytes
 
--- the bytes up to the first NUL, or all where there is none
+-- the bytes up to the first NUL, or all if there is none
 abbrev pub up_to_nul : List ℕ → List ℕ
 up_to_nul bytes = take (unwrap_or (nul_at bytes) (length bytes)) bytes
 
@@ -22,11 +22,11 @@ utf8_of bytes = if is_utf8 bytes then Some bytes else None
 abbrev pub text_of : List ℕ → Option (List ℕ)
 text_of bytes = if nat_lt 0 (length bytes) then utf8_of bytes else None
 
--- the bytes from an offset up to the first NUL, where there is a NUL and they are a text
+-- the bytes from an offset up to the first NUL, if there is a NUL and they are a text
 unfoldable pub text_at : List ℕ → ℕ → Option (List ℕ)
 text_at bytes start = option_and_then (λ n. text_of (take n (drop start bytes))) (nul_at (drop start bytes))
 
--- a field's bytes up to the first NUL, or all where there is none, where they are a text
+-- a field's bytes up to the first NUL, or all if there is none, where they are a text
 unfoldable pub padded_name : List ℕ → Option (List ℕ)
 padded_name bytes = text_of (up_to_nul bytes)
 

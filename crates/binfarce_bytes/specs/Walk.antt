@@ -45,7 +45,7 @@ abbrev pub found_or_end : {S : Type 0} → Option S → Option Refusal → Resul
 found_or_end (Some item) end = Ok (Some item)
 found_or_end None end = end_of end
 
--- the first item that is accepted; where none is, the walk's refusal, if any
+-- the first item that is accepted; if none is, the walk's refusal, if any
 abbrev pub first : {S : Type 0} → (S → Bool) → Walk S → Result (Option S) Refusal
 first accepts walk = found_or_end (find accepts walk.items) walk.refusal
 

@@ -26,7 +26,7 @@ pub struct SectionFunction<'a> {
     /// In an ELF file the symbol's binding, in the high four bits, and its type (`st_info`); 0 in other files.
     pub info: u8,
     /// The symbol's version in an ELF file: its row in `.gnu.version`, whose high bit says that the symbol is hidden; 0
-    /// where there is none, and in other files.
+    /// if there is none, and in other files.
     pub version: u16,
     /// The function symbol.
     pub function: FunctionSymbol<'a>,
@@ -42,7 +42,7 @@ pub enum Selection<'a> {
 }
 
 /// The function symbol that an address symbolizes to: of those in the list whose range holds it the one of greatest
-/// address, and of several the first. `None` where no range holds it.
+/// address, and of several the first. `None` if no range holds it.
 ///
 /// A range begins at the symbol's address and has its size in bytes; a symbol of size 0 holds its own address alone.
 /// The address is of the kind that the symbols have. The whole list is searched; nothing is allocated.
@@ -57,7 +57,7 @@ pub fn symbol_at<'a>(functions: &[FunctionSymbol<'a>], address: u64) -> Option<F
     found
 }
 
-/// Of the symbol found so far and the next one, the one that the address symbolizes to.
+/// The one that the address symbolizes to, of the symbol found so far and the next one.
 #[inline(always)]
 pub fn found_with<'a>(
     found: Option<FunctionSymbol<'a>>,

@@ -14,7 +14,7 @@ use std::os::unix::fs::FileExt;
 
 /// A source that is read at offsets.
 pub trait Source {
-    /// A log of the parts that it was asked for; `()` where none is kept.
+    /// A log of the parts that it was asked for; `()` if none is kept.
     type Log;
 
     // All its bytes, where they are known.
@@ -29,13 +29,13 @@ pub trait Source {
     // A log's answer to the question whether a set has all its parts.
     ghost logs_only: { Self.Log → PartLog } = { λ _ _. true };
 
-    /// Its length in bytes. An error where it can't be read at offsets.
+    /// Its length in bytes. An error if it can't be read at offsets.
     fn length(&self) -> io::Result<u64>
         ensures length { IfOk result (λ n. IfSome (bytes self.now) (λ all. n ≡ length all)) }
         ensures failed { IfErr result (λ _. may_fail self.now ≡ true) }
         ensures unsure { IfErr result (λ _. (p : Part) → is_sure self.now p ≡ false) };
 
-    /// Fills the buffer with the bytes from the offset on. An error where they end before the buffer is full.
+    /// Fills the buffer with the bytes from the offset on. An error if they end before the buffer is full.
     fn fill_at(&self, log: &mut Self::Log, offset: u64, buf: &mut [u8]) -> io::Result<()>
         ensures asked { AskedFor (logs_only log.old) (logs_only log.new) (part offset (length buf.new) ∷ []) }
         ensures part { OnOk result (IsPart (bytes self.now) offset buf.new) }
@@ -46,7 +46,7 @@ pub trait Source {
 impl Source for File {
     type Log = ();
 
-    /// `Unsupported` where it isn't a regular file.
+    /// `Unsupported` if it isn't a regular file.
     fn length(&self) -> io::Result<u64> {
         let metadata = self.metadata()?;
         if metadata.is_file() {
@@ -89,7 +89,7 @@ impl Source for &[u8] {
 
 /// The `size` bytes from the offset on, in memory of that size.
 ///
-/// Fails with the source's error, and with `OutOfMemory` where the allocation fails.
+/// Fails with the source's error, and with `OutOfMemory` if the allocation fails.
 pub fn read_part<S: Source>(
     alloc: Global,
     source: &S,

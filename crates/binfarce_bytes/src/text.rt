@@ -5,7 +5,7 @@ ghost use Rattle.binfarce_bytes.specs.Text.{text_at, nul_at, up_to_nul, utf8_of,
 ghost use Rattle.std.specs.List.{list_any};
 ghost use Rattle.std.specs.Option.{option_map};
 
-/// The bytes up to the first NUL, or all where there is none; a slice of `bytes`.
+/// The bytes up to the first NUL, or all if there is none; a slice of `bytes`.
 pub fn up_to_nul(bytes: &[u8]) -> &[u8]
     ensures { result.now ≡ up_to_nul bytes.now }
 {
@@ -17,7 +17,7 @@ pub fn up_to_nul(bytes: &[u8]) -> &[u8]
 
 /// The text from `start` to the first NUL, as a slice of `bytes`.
 ///
-/// `None` where `start` is past the end, there is no NUL, the text is empty, or it isn't UTF-8.
+/// `None` if `start` is past the end, there is no NUL, the text is empty, or it isn't UTF-8.
 #[tactic(auto, using(crate::proofs::Texts::finds_text))]
 pub fn parse_null_string(bytes: &[u8], start: usize) -> Option<&str>
     ensures text { option_map (λ t. t.now) result ≡ text_at bytes.now start }
@@ -55,7 +55,7 @@ fn find_nul(bytes: &[u8]) -> Option<usize>
     }
 }
 
-// The offset after the strides from `start` on that have no NUL, where there is none before `start`.
+// The offset after the strides from `start` on that have no NUL, if there is none before `start`.
 #[inline(always)]
 fn past_strides(bytes: &[u8], start: usize, stride: usize) -> usize
     requires stride { 0 < stride }
@@ -86,7 +86,7 @@ fn has_nul(bytes: &[u8]) -> bool
     found
 }
 
-/// The bytes as a text, without a copy; `None` where they aren't UTF-8.
+/// The bytes as a text, without a copy; `None` if they aren't UTF-8.
 #[tactic(auto, using(crate::proofs::Texts::utf8_is, crate::proofs::Texts::utf8_none))]
 pub fn utf8_text(bytes: &[u8]) -> Option<&str>
     ensures { option_map (λ t. t.now) result ≡ utf8_of bytes.now }

@@ -16,7 +16,7 @@ use Rattle.binfarce_c.specs.Sections.{GivesSections, GivesWalk, IsSection, count
 use Rattle.binfarce_c.specs.machine.Filled.{IsFilled, OneMore}
 use Rattle.binfarce_c.specs.machine.SectionErrors.{error_status}
 
--- one more has its place behind those before it, where there is one
+-- one more has its place behind those before it, if there is one
 put-append : {X : Type 0} (was given : List X) (x : X) → put was (given ++ x ∷ []) ≡ slice_set (put was given) (length given) x
 put-append [] given x = rw (drop-nil (length (given ++ x ∷ [])), drop-nil (length given)) refl
 put-append (w ∷ was) [] x = rw (take-nil (length was)) refl

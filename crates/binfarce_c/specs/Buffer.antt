@@ -15,7 +15,7 @@ end_in old text_length = min text_length (length old - 1)
 abbrev pub terminated : (old : List ℕ) (text_length : ℕ) → List ℕ
 terminated old text_length = slice_set old (end_in old text_length) 0
 
--- the pointer is that of a borrow of the whole text; null where it is empty
+-- the pointer is that of a borrow of the whole text; null if it is empty
 abbrev pub PointsTo : (text : List ℕ) (pointer : Ptr) → Type 0
 PointsTo [] pointer = pointer ≡ null_ptr
 PointsTo (byte ∷ others) pointer = (whole : Bor (List ℕ)) × (whole.now ≡ byte ∷ others) × (pointer ≡ as_ptr whole)

@@ -50,7 +50,7 @@ kind_number Unknown = 0
 kind_number Legacy = 1
 kind_number V0 = 2
 
--- the text, or an empty one where there is none
+-- the text, or an empty one if there is none
 abbrev pub text_or_none : Option (List ℕ) → List ℕ
 text_or_none (Some text) = text
 text_or_none None = []

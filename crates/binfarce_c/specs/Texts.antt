@@ -8,7 +8,7 @@ use Rattle.binfarce_c.specs.declared.buffer.Text.{Text}
 use Rattle.binfarce_c.specs.Names.{Holds, HoldsNone}
 use Rattle.binfarce_c.specs.Status as status
 
--- the status of an outcome: the text is first written to memory, so a write fails where an allocation does. No call has the last two outcomes
+-- the status of an outcome: the text is first written to memory, so a write fails if an allocation does. No call has the last two outcomes
 abbrev pub status_of : Outcome → ℕ
 status_of written = status.ok
 status_of write_failed = status.no_memory

@@ -25,7 +25,7 @@ use std::{ptr, str};
 #[repr(C)]
 #[derive(Clone, Copy)]
 pub struct Section {
-    /// The first byte of the name, in the file; null where there is none, or an empty one.
+    /// The first byte of the name, in the file; null if there is none, or an empty one.
     pub name: *const u8,
     /// The length of the name in bytes.
     pub name_length: usize,
@@ -47,9 +47,9 @@ pub struct Section {
     pub flags: u64,
     /// In ELF and Mach-O the number of its type, and in PE 0.
     pub kind: u32,
-    /// 1 where it has a name, which may be empty, and 0 for an ELF section that has none.
+    /// 1 if it has a name, which may be empty, and 0 for an ELF section that has none.
     pub has_name: u32,
-    /// 1 where it has bytes in the file, and else 0.
+    /// 1 if it has bytes in the file, and else 0.
     pub has_bytes: u32,
 }
 
@@ -67,7 +67,7 @@ pub struct Sections {
 #[repr(C)]
 #[derive(Clone, Copy)]
 pub struct Bytes {
-    /// The first of them, in the file; null where there is none.
+    /// The first of them, in the file; null if there is none.
     pub start: *const u8,
     /// How many there are.
     pub length: usize,

@@ -28,7 +28,7 @@ abbrev pub refusal : (path : List ℕ) → Option Fault → List Refused
 refusal path (Some fault) = (path, fault) ∷ []
 refusal path None = []
 
--- each of two files that is refused is reported by its path, the old one first; all is done where none is
+-- each of two files that is refused is reported by its path, the old one first; all is done if none is
 abbrev pub ReportsOf : (old new : List ℕ) → (before after : Option (List Refused)) → Result Verdict Fault → Type 0
 ReportsOf old new before after (Ok verdict) =
     (first second : Option Fault) × Reports before after (refusal old first ++ refusal new second) × (verdict.is_done ≡ (not (is_some first) && not (is_some second)))

@@ -55,7 +55,7 @@ abbrev pub known : Result ℕ NoBase → Result (Option ℕ) NoBase
 known (Ok base) = Ok (Some base)
 known (Err why) = Err why
 
--- where it is loaded, if that is known: by the maps, where these are read, or at the base that is given for it
+-- where it is loaded, if that is known: by the maps, if these are read, or at the base that is given for it
 abbrev pub base_for : Arguments → (maps : Option (List ℕ)) → (place : ℕ) → LoadAddress → Result (Option ℕ) NoBase
 base_for given None place loaded = Ok (base_given given place)
 base_for given (Some maps) place loaded = known (base_of maps (path_for given place) loaded)

@@ -9,7 +9,7 @@ use Rattle.binfarce_io.specs.declared.fault.Fault.TheVariants.{Missing}
 use Rattle.binfarce_words.specs.declared.wrong.Wrong.{Wrong}
 use Rattle.binfarce_words.specs.declared.wrong.Wrong.TheVariants.{OutOfMemory}
 
--- 2 for a wrong call, and 1 where an allocation failed
+-- 2 for a wrong call, and 1 if an allocation failed
 abbrev pub wrong_status : Wrong → ℕ
 wrong_status OutOfMemory = 1
 wrong_status wrong = 2
@@ -20,7 +20,7 @@ is_broken_pipe None = false
 is_broken_pipe (Some BrokenPipe) = true
 is_broken_pipe (Some kind) = false
 
--- 0 where a write failed because the reader of the output has closed it, and 1 for another reason, or where sums have a limit: they aren't all known then
+-- 0 if a write failed because the reader of the output has closed it, and 1 for another reason, or if sums have a limit: they aren't all known then
 abbrev pub write_status : (has_limit : Bool) → Option ErrorKind → ℕ
 write_status has_limit reason = if is_broken_pipe reason && not has_limit then 0 else 1
 
@@ -29,7 +29,7 @@ abbrev pub fault_status : Fault → ℕ
 fault_status (Missing count) = 2
 fault_status fault = 1
 
--- the status of work that came to this: 1 where a file was refused, else 3 where a sum exceeds its limit
+-- the status of work that came to this: 1 if a file was refused, else 3 if a sum exceeds its limit
 abbrev pub verdict_status : Verdict → ℕ
 verdict_status verdict = if not verdict.is_done then 1 else (if verdict.is_above then 3 else 0)
 

@@ -24,7 +24,7 @@ const TOTAL: &str = "[total]";
 ///
 /// # Errors
 ///
-/// `AllocError` where an allocation fails.
+/// `AllocError` if an allocation fails.
 pub(crate) fn changed_rows(
     alloc: Global,
     limits: &[RowLimit<'_>],
@@ -80,7 +80,7 @@ impl Rows for KeyRows<'_> {
 ///
 /// # Errors
 ///
-/// `AllocError` where an allocation fails.
+/// `AllocError` if an allocation fails.
 pub(crate) fn section_rows(
     alloc: Global,
     limits: &[RowLimit<'_>],
@@ -119,7 +119,7 @@ impl Rows for SizeRows<'_> {
 ///
 /// # Errors
 ///
-/// `AllocError` where an allocation fails.
+/// `AllocError` if an allocation fails.
 pub(crate) fn changed_sections(
     alloc: Global,
     limits: &[RowLimit<'_>],

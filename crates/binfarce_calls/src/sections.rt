@@ -31,7 +31,7 @@ use std::io::{Read, Write};
 ///
 /// # Errors
 ///
-/// `Write` where a write fails.
+/// `Write` if a write fails.
 pub fn show_section<F: Read + Source<Log = ()> + Drop, Y: System<F>, W: Write>(
     alloc: Global,
     system: &mut Y,
@@ -64,7 +64,7 @@ pub fn show_section<F: Read + Source<Log = ()> + Drop, Y: System<F>, W: Write>(
 ///
 /// # Errors
 ///
-/// `Write` where a write fails, and `OutOfMemory` where an allocation for a heading, or for the name of an argument that
+/// `Write` if a write fails, and `OutOfMemory` if an allocation for a heading, or for the name of an argument that
 /// isn't UTF-8, fails.
 pub fn sum_files<F: Read + Source<Log = ()> + Drop, Y: System<F>, W: Write>(
     alloc: Global,

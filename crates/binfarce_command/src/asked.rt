@@ -55,7 +55,7 @@ impl Addresses {
     }
 }
 
-/// What `at` is asked for. `None` where the maps can't be read, which is reported.
+/// What `at` is asked for. `None` if the maps can't be read, which is reported.
 pub fn asked_of<'a>(
     rt: &HostRuntime,
     given: &Arguments<'a>,
@@ -104,7 +104,7 @@ pub fn read_file(rt: &HostRuntime, path: &str) -> io::Result<Vec<u8>> {
     Ok(bytes)
 }
 
-// The bytes of a log, to its end. `None` where it is longer than the longest one.
+// The bytes of a log, to its end. `None` if it is longer than the longest one.
 fn read_log<R: Read>(alloc: Global, input: &mut R) -> io::Result<Option<Vec<u8>>> {
     let mut bytes = Vec::new(alloc);
     let mut chunk = vec![in alloc; 0; 1 << 16]?;

@@ -26,7 +26,7 @@ usage: binfarce COMMAND [OPTION..] ..
 
 `--` ends the options, and `-` as a FILE is standard input. Status: 0; 1 if a
 file was refused, a read or a write failed, or memory ran out; 2 for a wrong
-call, or for lines without an address; 3 where a sum or its growth is above
+call, or for lines without an address; 3 if a sum or its growth is above
 --fail-above or --limits.
 ";
 
@@ -66,8 +66,8 @@ A byte that several function symbols have counts once, for the innermost.
   --std            the crates of Rust's standard library as one, [std]
   --percent        each sum's share of the section, or of all sections' sum
   -n N, --first=N  the N largest sums, and one of all others
-  --fail-above=N   status 3 where the sum of all, by section the size of the
-                   file, is more than N bytes, as 600k or 2M (k is 1,024)
+  --fail-above=N   status 3 if the sum of all, or by section the size of the
+                   file, is more than N bytes, such as 600k or 2M (k is 1,024)
   --limits=FILE    the same by row: each line of FILE is a row's name and the
                    most that it may be, as `core 600k`; # begins a remark
   --json           each sum as a JSON object, and one of the sum of all
@@ -86,8 +86,8 @@ byte counts once.
   --std            the crates of Rust's standard library as one, [std]
   --percent        each change in per cent of the old sum
   -n N, --first=N  the N largest changes, and one of all others
-  --fail-above=N   status 3 where the sum of all grew by more than N bytes, as
-                   600k or 2M (k is 1,024), or by more than N per cent (2%)
+  --fail-above=N   status 3 if the sum of all grew by more than N bytes, such
+                   as 600k or 2M (k is 1,024), or by more than N per cent (2%)
   --limits=FILE    the same by row: each line of FILE is a row's name and the
                    most that it may grow by, as `core 2%`; # begins a remark
   --json           each change as a JSON object
@@ -126,8 +126,8 @@ offset in it. Without an ADDRESS the addresses are the lines of standard input.
                    instruction that crashed, nor for what a sanitizer prints
   --annotate       copies standard input, with <name+0x1f> after each address
                    in it, which is 0x and 4 to 16 digits, or an offset in FILE:
-                   FILE+0x1f2e; of several files the first that has the address
-                   names it
+                   FILE+0x1f2e; the first of several files that has the
+                   address names it
   --bare           with --annotate: words of 8 to 16 digits without 0x, too
   --base=ADDRESS   where the file is loaded: where its first mapping begins, a
                    multiple of 0x1000; without it addresses are the file's own
@@ -136,14 +136,14 @@ offset in it. Without an ADDRESS the addresses are the lines of standard input.
                    --annotate the text itself, which is then read to its end
   --offsets        addresses are offsets in the code of FILE, an ELF file, as
                    perf script writes those of call chains; with --annotate
-                   such a line has the symbol behind its file
-  --as=NAME        the file's name or path in the maps and in a text (of
+                   such a line gets the symbol after its file
+  --as=NAME        the file's name or path in the maps and in a text (with
                    several files --base and --as come once for each, in order)
   --dynamic        by the dynamic symbol table of an ELF file (.dynsym)
-  --section=NAME   the symbols of a section of an ELF file; of Mach-O and PE
-                   files .text is the code section, and there is no other name
+  --section=NAME   the symbols of a section of an ELF file; in Mach-O and PE
+                   files only .text, which is the code section
   --all            the symbols of all sections, as without --section; refused
-                   of an object file, whose sections share addresses
+                   for an object file, whose sections share addresses
   --json           an object for each address, with its name and offset or null
 ";
 
@@ -155,17 +155,16 @@ Writes the bytes of the section, or without SECTION a line for each section. A
 section of a Mach-O file is named SECTION or SEGMENT,SECTION.
 
   --id             the build ID of an ELF file, the UUID of a Mach-O file, the
-                   GUID and age of a PE file's PDB file; of several files a
-                   line for each, with its name
+                   GUID and age of a PE file's PDB file; with several files a
+                   line for each, and its name
   --json           an object for each section, with its type and flags; with
                    --id for each file
 ";
 
 // The options of all commands that take function symbols of `.text` by default.
 const SYMBOLS: &str = "  --dynamic        by the dynamic symbol table of an ELF file (.dynsym)
-  --section=NAME   the section of an ELF file, by default .text; of Mach-O and
-                   PE files .text is the code section, and there is no other
-                   name
+  --section=NAME   the section of an ELF file, by default .text; in Mach-O and
+                   PE files only .text, which is the code section
   --all            the symbols of all sections
   --help           this text
 ";

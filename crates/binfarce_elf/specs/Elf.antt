@@ -249,13 +249,13 @@ names_bytes class table = do
   names ← names_section class table
   contents table.file names
 
--- the name at an offset among the section names, where there are any
+-- the name at an offset among the section names, if there are any
 abbrev pub name_among : Option (List ℕ) → ℕ → Option (List ℕ)
 name_among names offset = do
   strings ← names
   text_at strings offset
 
--- a section's name, where it has one: the text at its name offset among the section names
+-- a section's name, if it has one: the text at its name offset among the section names
 unfoldable pub name_of : ElfClass → SectionTable → Section → Option (List ℕ)
 name_of class table section = name_among (names_bytes class table) section.name_offset
 

@@ -51,7 +51,7 @@ abbrev pub is_named : List ℕ → Option (List ℕ) → Bool
 is_named text None = false
 is_named text (Some name) = bytes_eq name text
 
--- the first such section, or the refusal where there is none
+-- the first such section, or the refusal if there is none
 abbrev pub sought : Refusal → (Section → Bool) → Walk Section → Result Section Refusal
 sought refusal accepts sections = first accepts sections >>= required refusal
 

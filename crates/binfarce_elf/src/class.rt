@@ -103,7 +103,7 @@ pub trait Class: RawNumber + Copy + Drop {
     fn widened(self) -> u64
         ensures { result ≡ number_of self };
 
-    /// How many entries of a size there are in this size; 0 where the entry size is 0.
+    /// How many entries of a size there are in this size; 0 if the entry size is 0.
     fn entries_of(self, entry_size: Self) -> Self
         ensures { number_of result ≡ entry_count (number_of self) (number_of entry_size) };
 
@@ -208,7 +208,7 @@ impl Class for u64 {
     ghost some_section = { lit< tt };
 }
 
-/// The row at `start` of a symbol table of this class; refused where it is truncated.
+/// The row at `start` of a symbol table of this class; refused if it is truncated.
 #[inline(always)]
 pub fn row_at(
     width: Width,

@@ -60,7 +60,7 @@ impl<C: Class + fmt::Debug> fmt::Debug for Header<C> {
     }
 }
 
-/// The file header in this byte order. Refused where it is truncated; its magic number isn't checked.
+/// The file header in this byte order. Refused if it is truncated; its magic number isn't checked.
 pub fn parse_header<C: Class>(
     file: &[u8],
     byte_order: ByteOrder,

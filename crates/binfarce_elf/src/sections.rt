@@ -53,7 +53,7 @@ impl<C: Class> Section<C> {
     ///
     /// # Errors
     ///
-    /// `MalformedInput` where the range's end exceeds `usize`.
+    /// `MalformedInput` if the range's end exceeds `usize`.
     pub fn range(&self) -> Result<Range<usize>, ParseError>
         ensures { let s = section_view C.number_of self.now in MatchResult result
             (λ r. (r.start ≡ s.offset) × (r.end ≡ s.offset + s.size))
@@ -62,7 +62,7 @@ impl<C: Class> Section<C> {
         range(self.offset.widened(), self.size.widened())
     }
 
-    /// How many entries of its entry size (`sh_entsize`) the section has; 0 where that size is 0.
+    /// How many entries of its entry size (`sh_entsize`) the section has; 0 if that size is 0.
     pub fn entries(&self) -> C
         ensures { let s = section_view C.number_of self.now in C.number_of result ≡ entry_count s.size s.entry_size }
     {
@@ -72,7 +72,7 @@ impl<C: Class> Section<C> {
     /// The section's name, a slice of the file of `parent`; nothing is copied.
     ///
     /// `None` where the section of the section names, at index `shstrndx`, is truncated or lies outside the file.
-    /// `None` also where there is no text at the name's offset: it has to be UTF-8, not empty, and end with a NUL
+    /// `None` also if there is no text at the name's offset: it has to be UTF-8, not empty, and end with a NUL
     /// (gABI, "String Table").
     #[tactic(auto, using(crate::proofs::Names::name_reported))]
     pub fn name<'a, P: HasSections<'a, C>>(&self, parent: &P) -> Option<&'a str>
@@ -142,7 +142,7 @@ pub fn section_table<'a, C: Class>(
     }
 }
 
-/// The section header at `start`, of the section with this index; refused where it is truncated.
+/// The section header at `start`, of the section with this index; refused if it is truncated.
 #[inline(always)]
 pub fn section_at<C: Class>(
     bytes: &[u8],
@@ -243,7 +243,7 @@ impl<'a, C: Class> Iterator for Sections<'a, C> {
     }
 }
 
-// The section of this index, where those before it were whole; `None` where there are no more.
+// The section of this index, where those before it were whole; `None` if there are no more.
 #[inline]
 fn section_left<C: Class>(
     table: Table<'_>,
@@ -402,7 +402,7 @@ pub fn index_of<C: Class>(section: Section<C>) -> Half
     section.index
 }
 
-/// The section's bytes, a slice of the file. `MalformedInput` where their end exceeds 64 bits, `UnexpectedEof` where
+/// The section's bytes, a slice of the file. `MalformedInput` if their end exceeds 64 bits, `UnexpectedEof` if
 /// it lies past the file.
 #[tactic(auto, unfolding(crate::specs::ElfSymbols::section_data, binfarce_bytes::specs::Refusal::bytes_in_file))]
 pub fn section_data<C: Class>(file: &[u8], section: Section<C>) -> Result<&[u8], ParseError>

@@ -32,7 +32,7 @@ module _ (order : ByteOrder) (bytes : List ℕ) (n start i : ℕ) (now all : Opt
   from_is : definitions_from order bytes n start ≡ and_after (definition_at order bytes start) (λ next. definitions_from order bytes (n - 1) (start + next))
   from_is = by_count order bytes n start some
 
-  -- where none is there, all are defined
+  -- if none is there, all are defined
   pub no_more : definition_at order bytes start ≡ None → now ≡ all
   no_more none =
       sym (or_none now)

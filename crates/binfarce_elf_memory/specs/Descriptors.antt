@@ -24,7 +24,7 @@ abbrev pub descriptors_section : ElfClass → FileKind → Walk Section → Opti
 descriptors_section class kind sections names =
     if nat_eq class.symbol_length 24 && has_descriptors kind then find (λ s. is_named (codes ".opd") (name_among names s.name_offset)) sections.items else None
 
--- the section, where it has bytes in the file: a file of debugging information keeps none (SHT_NOBITS, 8)
+-- the section, if it has bytes in the file: a file of debugging information keeps none (SHT_NOBITS, 8)
 abbrev pub stored : Section → Option Section
 stored s = if nat_eq s.kind 8 then None else Some s
 

@@ -72,7 +72,7 @@ ends_of class order sections kind found = map (section_end kind) sections.items 
 abbrev pub addresses_in : List End → ℕ → List ℕ
 addresses_in ends section = map (λ e. e.address) (filter (λ e. nat_eq e.section section) ends)
 
--- a row's size: the one that it states; where that is 0, up to the least end in its section above its address, and 0 where there is none
+-- a row's size: the one that it states; if that is 0, up to the least end in its section above its address, and 0 if there is none
 unfoldable pub size_of : List End → (has_modes : Bool) → SymbolRow ℕ → ℕ
 size_of ends has_modes row =
     let address = address_of has_modes row in

@@ -62,13 +62,13 @@ load_at width order headers start =
 abbrev pub page_of : ℕ → ℕ
 page_of address = address - address % 4096
 
--- the page of the lowest address of a loaded segment, where there is one. It's the same for every size of pages where that segment has the file's first byte,
+-- the page of the lowest address of a loaded segment, if there is one. It's the same for every size of pages where that segment has the file's first byte,
 -- since its address is then a multiple of its alignment; else it's an address as good as any other to say where the file is, by a mapping of its code
 unfoldable pub load_page : Width → ByteOrder → List ℕ → Option ℕ
 load_page width order headers =
     option_map page_of (least (filter_map (λ i. load_at width order headers (i * program_length width)) (range_with_len 0 (length headers / program_length width))))
 
--- the lower one, where there are any
+-- the lower one, if there are any
 abbrev pub lower_of : Option ℕ → Option ℕ → Option ℕ
 lower_of None other = other
 lower_of (Some address) other = Some (least_of address other)
@@ -90,7 +90,7 @@ code_at width order headers start =
       align = value_at order headers start fields.align;
     }) else None
 
--- the first of several, where there is one
+-- the first of several, if there is one
 abbrev pub first_of : {X : Type 0} → List X → Option X
 first_of [] = None
 first_of (x ∷ xs) = Some x

@@ -43,7 +43,7 @@ abbrev pub is_taken : Taken → SymbolRow ℕ → Bool
 is_taken (one_section index size indirect) row = nat_eq row.section index && not (nat_eq row.size 0) && is_function_kind indirect row
 is_taken (all_sections count) row = is_of_section count row.section && is_function_kind true row
 
--- the name of such a function, where it has a valid one
+-- the name of such a function, if it has a valid one
 unfoldable pub function_name : List ℕ → Taken → SymbolRow ℕ → Option (List ℕ)
 function_name strings taken row = if is_taken taken row && not (nat_eq row.name 0) then text_at strings row.name else None
 
@@ -143,7 +143,7 @@ abbrev pub section_file_answer : SymbolTable → ElfClass → ByteOrder → List
 section_file_answer which class order file name =
     if_as_long_as class.header_length file (section_answer which class (section_table class (record { order = order; bytes = file })) name)
 
--- the name of the section of this index, where there is one and it has a name among these
+-- the name of the section of this index, if there is one and it has a name among these
 abbrev pub name_of_index : Option (List ℕ) → Walk Section → ℕ → Option (List ℕ)
 name_of_index names sections index = option_and_then (λ s. name_among names s.name_offset) (slice_get sections.items index)
 

@@ -37,7 +37,7 @@ needed_view n = record { taken = taken_view n.taken; table = table_sections_view
 abbrev pub kind_view : code_kind.FileKind → FileKind
 kind_view k = record { elf_type = k.elf_type; machine = k.machine; flags = k.flags }
 
--- the entries that a selection takes of the rows numbered from k on, where these are the versions and the sizes in memory of all rows
+-- the entries that a selection takes of the rows numbered from k on, if these are the versions and the sizes in memory of all rows
 abbrev pub sized_from : ElfClass → ByteOrder → Taken → (has_modes : Bool) → TableRows → (versions sizes : List ℕ) → ℕ → List SectionEntry
 sized_from class order taken has_modes found versions sizes k =
     filter_map (λ k. entry_taken found.strings taken has_modes (row_of class order found.rows k) (version_of order versions k) (slice_index_or sizes k 0)) (range_with_len k (row_count class found.rows - k))
@@ -54,7 +54,7 @@ selected_view f = record { entries = functions_left f; taken = taken_view f.take
 abbrev pub HoldsAllFunctions : Selected → Vec SectionFunction → Type 0
 HoldsAllFunctions selected functions = HoldsSectionFunctions selected.entries functions
 
--- the offset of the name of the version of this index, where there are versions
+-- the offset of the name of the version of this index, if there are versions
 abbrev pub name_at : Option (Bor (BTreeMap ℕ ℕ)) → ℕ → Option ℕ
 name_at None index = None
 name_at (Some offsets) index = get nat_cmp offsets.now index

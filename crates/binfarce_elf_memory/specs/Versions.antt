@@ -25,12 +25,12 @@ abbrev pub needs_section : SymbolTable → Walk Section → Option Section
 needs_section Symtab sections = None
 needs_section Dynsym sections = find (λ s. nat_eq s.kind 0x6ffffffe) sections.items
 
--- the bytes of a section, where there is one and it lies in the file; else none
+-- the bytes of a section, if there is one and it lies in the file; else none
 abbrev pub bytes_if : List ℕ → Option Section → List ℕ
 bytes_if file None = []
 bytes_if file (Some section) = unwrap_or (contents file section) []
 
--- a row's version: the number of two bytes at its place; 0 where there is none
+-- a row's version: the number of two bytes at its place; 0 if there is none
 unfoldable pub version_of : ByteOrder → (versions : List ℕ) → (row : ℕ) → ℕ
 version_of order versions row = if nat_le (row * 2 + 2) (length versions) then number order (bytes_at versions (row * 2) 2) else 0
 

@@ -99,7 +99,7 @@ fn descriptors_section(
     }
 }
 
-/// The section, where it has bytes in the file.
+/// The section, if it has bytes in the file.
 pub fn stored(section: Section<u64>) -> Option<Section<u64>>
     ensures { option_map (section_view (λ n. n)) result ≡ stored (section_view (λ n. n) section) }
 {
@@ -282,7 +282,7 @@ fn push_end(ends: &mut Vec<u128>, section: Option<Section<u64>>) -> Result<(), A
     Ok(())
 }
 
-// The section of this index, where there is one.
+// The section of this index, if there is one.
 fn section_numbered(table: Table<'_>, width: Width, index: Half) -> Option<Section<u64>>
     ensures { option_map (section_view (λ n. n)) result
         ≡ slice_get (walk (class_of width) (table_view table.entry)).items index }
@@ -314,7 +314,7 @@ fn end_number(section: Section<u64>) -> u128
     end * INDICES + u128::from(index_of(section))
 }
 
-// The index of the section of code that holds an address, by the numbers of their ends; 0 where none does.
+// The index of the section of code that holds an address, by the numbers of their ends; 0 if none does.
 #[tactic(auto, unfolding(crate::specs::Descriptors::section_holding))]
 fn section_holding(table: Table<'_>, width: Width, ends: &[u128], address: u64) -> Half
     requires rises { IsNonDecreasingBy (λ k. k) ends.now }

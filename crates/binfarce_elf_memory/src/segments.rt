@@ -50,7 +50,7 @@ pub struct CodeSegment {
 }
 
 /// Where a file with these program headers says that it is loaded: the page of 4096 bytes where its lowest loaded segment
-/// (`PT_LOAD`) begins, and its first one with code (`PF_X`). `None` where no segment is loaded.
+/// (`PT_LOAD`) begins, and its first one with code (`PF_X`). `None` if no segment is loaded.
 pub fn load_address(headers: &[u8], width: Width, byte_order: ByteOrder) -> Option<LoadAddress>
     ensures { result ≡ load_address width byte_order headers.now }
 {
@@ -79,7 +79,7 @@ fn page_of(address: Option<u64>) -> Option<u64>
     Some(address - address % 4096)
 }
 
-// The lower address, where there are any.
+// The lower address, if there are any.
 fn lower_of(address: Option<u64>, other: Option<u64>) -> Option<u64>
     ensures { result ≡ lower_of address other }
 {
@@ -90,7 +90,7 @@ fn lower_of(address: Option<u64>, other: Option<u64>) -> Option<u64>
     }
 }
 
-// The address of the segment whose program header begins at `start`, where it is loaded.
+// The address of the segment whose program header begins at `start`, if it is loaded.
 fn load_at(headers: &[u8], start: usize, width: Width, byte_order: ByteOrder) -> Option<u64>
     requires { start + program_length width ≤ length headers.now }
     ensures { result ≡ load_at width byte_order headers.now start }
@@ -135,7 +135,7 @@ fn is_code(headers: &[u8], start: usize, width: Width, byte_order: ByteOrder) ->
     kind == PT_LOAD && flags % 2 == PF_X
 }
 
-// The code segment whose program header begins at `start`, where it is one.
+// The code segment whose program header begins at `start`, if it is one.
 fn code_at(headers: &[u8], start: usize, width: Width, byte_order: ByteOrder) -> Option<CodeSegment>
     requires { start + program_length width ≤ length headers.now }
     ensures { result ≡ code_at width byte_order headers.now start }

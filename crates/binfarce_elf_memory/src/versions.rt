@@ -55,7 +55,7 @@ impl<'a> VersionNames<'a> {
 }
 
 /// The name of a version, a slice of the strings: the text at the offset that its index has. `None` for a symbol without
-/// one (the indices 0 and 1), where there is no offset, and for a name that isn't in the strings or no valid UTF-8.
+/// one (the indices 0 and 1), if there is no offset, and for a name that isn't in the strings or no valid UTF-8.
 pub fn name_by<'a>(
     strings: &'a [u8],
     offsets: &BTreeMap<Half, Word>,
@@ -118,7 +118,7 @@ struct Definition {
     next: Word,
 }
 
-// The definition that begins at `start`, where it is whole.
+// The definition that begins at `start`, if it is whole.
 #[tactic(auto, unfolding(crate::specs::Versions::definition_at))]
 fn definition_at(bytes: &[u8], start: u64, byte_order: ByteOrder) -> Option<Definition>
     ensures is { option_map definition_view result ≡ definition_at byte_order bytes.now start }
@@ -136,7 +136,7 @@ fn definition_at(bytes: &[u8], start: u64, byte_order: ByteOrder) -> Option<Defi
     })
 }
 
-/// The version of a row, where these are those of all rows; 0 where it has none.
+/// The version of a row, if these are those of all rows; 0 if it has none.
 #[inline(always)]
 #[tactic(auto, unfolding(crate::specs::Versions::version_of))]
 pub fn version_at(versions: &[u8], row: usize, byte_order: ByteOrder) -> Half
@@ -156,7 +156,7 @@ pub(crate) fn row_versions<'a, C: Class>(table: Table<'a>, which: SymbolTable) -
     }
 }
 
-// The bytes of a section, where there is one and it lies in the file.
+// The bytes of a section, if there is one and it lies in the file.
 #[tactic(auto, using(binfarce_elf::proofs::Names::contents_read))]
 pub(crate) fn bytes_if<C: Class>(file: &[u8], section: Option<Section<C>>) -> &[u8]
     ensures { result.now ≡ bytes_if file.entry.now (option_map (section_view C.number_of) section) }

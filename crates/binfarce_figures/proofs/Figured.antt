@@ -34,7 +34,7 @@ module _ (grouping : Grouping) (Shows : Option ℕ → List Share → List ℕ �
       → Takes (IsShownBy grouping Shows) (selected_answer which section file) old new o
   figured made old new o got is wrote = takes (selected_answer which section file) got.0 got.1 (IsShownBy grouping Shows) made old new o (due got made is) wrote
 
--- nothing is taken where an allocation failed
+-- nothing is taken if an allocation failed
 pub none_taken : {A : Type 0} (IsText : SelectedSymbols → List ℕ → Type 0) (answer : Option (Result SelectedSymbols Refusal)) (old : Option (List ℕ)) (result : Result A ReportError) → IsErrAnd result (λ f. f ≡ OutOfMemory) → Takes IsText answer old old (outcome_of (ended result))
 none_taken IsText answer old (Ok value) is = absurd is
 none_taken IsText answer old (Err f) is = subst (λ (e : ReportError). Takes IsText answer old old (outcome_of (Err e))) (sym is) (nothing old)

@@ -63,7 +63,7 @@ one s (name ∷ names) rises is =
     (λ e. let P : List ℕ → Type 0 = λ n. AllByRecursion (λ (y : List ℕ). slice_cmp nat_cmp n y ≡ Less) names in above s names (subst P (sym ((bytes_decides s.name name).0 e)) rises.0))
     (λ e found. one s names rises.1 found) is
 
--- also where others are among the names
+-- also if others are among the names
 pub add_up : (shares : List Share) (names : List (List ℕ)) → IsStrictlySortedBy (slice_cmp nat_cmp) names → All (Contains names) (map (λ (s : Share). s.name) shares) → chart.total (rows_by (sum_of shares) names) ≡ total shares
 add_up [] names rises every = nothing names
 add_up (s ∷ others) names rises every =

@@ -7,7 +7,7 @@ use Rattle.std.specs.Ordering.{nat_cmp, ordering_then}
 use Rattle.std.specs.declared.cmp.Ordering.{Ordering}
 use Rattle.binfarce.specs.SectionEntries.{SectionEntry, SelectedSymbols}
 
--- where an entry begins: at its address, in a range for its section alone
+-- where an entry begins: at its address, in a range for its section alone. An address and a size are below 2^64 each, so an entry ends below 2^65 in that range
 abbrev pub place_of : SectionEntry → ℕ
 place_of e = e.section * 2 ^ 65 + e.entry.address
 

@@ -69,7 +69,7 @@ abbrev pub section_keys : (names : ℕ → Option (List ℕ)) → (size : Option
 section_keys names None number = section_text (names number) number
 section_keys names (Some size) number = codes "text"
 
--- text is the key of an entry, where these are the keys of the sections
+-- text is the key of an entry, if these are the keys of the sections
 abbrev pub IsOwnKey : Key → (ℕ → List ℕ) → SectionEntry → (text : List ℕ) → Type 0
 IsOwnKey Crate sections e text = IsCrateOf e.entry.name text
 IsOwnKey Module sections e text = (crate_name : List ℕ) × (trimmed : List ℕ) × IsCrateOf e.entry.name crate_name × IsTrimmedOf e.entry.name trimmed × (text ≡ module_of crate_name trimmed)

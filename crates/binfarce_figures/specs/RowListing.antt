@@ -17,7 +17,7 @@ use Rattle.binfarce_figures.specs.Order.{IsInOrder}
 abbrev pub row_line : (ℕ → Option (List ℕ)) → Option ℕ → SectionEntry → (name : List ℕ) → List ℕ
 row_line names size e name = line_head e.entry.address e.entry.size ++ (section_part names size e.section ++ (name ++ 10 ∷ []))
 
--- the section that an object has: the selected one, which has a size, or of all sections that of its number, or null where it has no name
+-- the section that an object has: the selected one, which has a size, or of all sections that of its number, or null if it has no name
 abbrev pub section_value : (names : ℕ → Option (List ℕ)) → (selected : List ℕ) → (size : Option ℕ) → (number : ℕ) → Option (List ℕ)
 section_value names selected (Some size) number = Some selected
 section_value names selected None number = names number
@@ -39,7 +39,7 @@ word_of binding =
 abbrev pub binding_word : (info : ℕ) → Option (List ℕ)
 binding_word info = option_and_then (λ kind. word_of (info / 16)) (kind_word info)
 
--- the members of a symbol's binding, type and version, null where there is no word or name
+-- the members of a symbol's binding, type and version, null if there is no word or name
 abbrev pub symbol_members : (versions : ℕ → Option (List ℕ)) → SectionEntry → List ℕ
 symbol_members versions e = concat (
     text_member (codes "binding") (binding_word e.info) ∷ text_member (codes "kind") (kind_word e.info)

@@ -25,8 +25,8 @@ use std::marker::Model;
 const RANGE: u128 = 36893488147419103232;
 
 /// What the function symbols of a selection add to a sum of sizes: the bytes that each has, without those that an inner
-/// one has. Of several symbols of a section that have a byte, the innermost is the one that begins last, of these the
-/// shortest, and of these the one whose stored name is least. The sum of all is below 2^64.
+/// one has. If several symbols of a section have a byte, the innermost is the one that begins last; if several begin
+/// there, the shortest; if several are, the one whose stored name comes first. The sum of all is below 2^64.
 ///
 /// Contracts speak of the tables, of the size of the selected section, and of the entries: the function symbols, each
 /// with the bytes that it adds as its size.
@@ -70,7 +70,7 @@ impl<'b, 'a> Claims<'b, 'a> {
     ///
     /// # Errors
     ///
-    /// Those of `list_tables`, except `Write`; `TooLarge` where the sum of all, each byte counted once, is 2^64 or more.
+    /// Those of `list_tables`, except `Write`; `TooLarge` if the sum of all, each byte counted once, is 2^64 or more.
     pub fn of_tables(alloc: Global, tables: &'b Tables<'a>) -> Result<Claims<'b, 'a>, ReportError>
         ensures made { (which : SymbolTable) (file : List ℕ) (section : Option (List ℕ))
             → AreTablesOf which file section tables.entry.now

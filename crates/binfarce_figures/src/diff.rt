@@ -38,9 +38,9 @@ pub struct Growth {
 ///
 /// A line is `{old:>10} {new:>10} {change:>11} {key}`; the change has its sign. Before the key it has, if that is
 /// wanted, the change in per cent of the old sum, with two decimals and to the right of 10 columns, as `+12.50%`:
-/// rounded toward zero, and `new` where the old sum is 0. `[N others]` is the key of the line that sums up the changes
+/// rounded toward zero, and `new` if the old sum is 0. `[N others]` is the key of the line that sums up the changes
 /// past the first. An object has the members `file`, which is the new one's name, `name`, `old`, `new`, `change` and, if
-/// that is wanted, `percent`, which is `null` where the old sum is 0.
+/// that is wanted, `percent`, which is `null` if the old sum is 0.
 ///
 /// # Errors
 ///
@@ -76,7 +76,7 @@ pub fn diff<S: Sink>(
 ///
 /// # Errors
 ///
-/// `AllocError` where an allocation failed.
+/// `AllocError` if an allocation failed.
 pub fn sizes_of(
     alloc: Global,
     old: Option<&Claims<'_, '_>>,

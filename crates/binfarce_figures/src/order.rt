@@ -44,7 +44,7 @@ pub(crate) fn is_by_name(order: Option<Order>) -> bool
 ///
 /// # Errors
 ///
-/// `AllocError` where an allocation failed: their order is then unspecified.
+/// `AllocError` if an allocation failed: their order is then unspecified.
 pub(crate) fn sort(
     functions: &mut Vec<SectionFunction<'_>>,
     order: Option<Order>,
@@ -67,7 +67,7 @@ pub(crate) fn sort(
 ///
 /// # Errors
 ///
-/// `AllocError` where an allocation failed: their order is then unspecified.
+/// `AllocError` if an allocation failed: their order is then unspecified.
 pub(crate) fn sort_by_name(rows: &mut Vec<Row<'_, '_>>) -> Result<(), AllocError>
     ensures { OnOk result (IsByKey (λ r. r.name.now) (slice_cmp nat_cmp) rows.old.items rows.new.items) }
 {

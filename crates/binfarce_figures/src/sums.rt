@@ -76,7 +76,7 @@ pub(crate) enum Counting {
 ///
 /// # Errors
 ///
-/// `OutOfMemory` where an allocation failed: nothing is written. `Write` where a write of the sink failed: a beginning of
+/// `OutOfMemory` if an allocation failed: nothing is written. `Write` if a write of the sink failed: a beginning of
 /// the text may be written.
 pub fn sum_by<S: Sink>(
     alloc: Global,
@@ -142,7 +142,7 @@ pub(crate) fn numbers_of(
     Ok(numbers)
 }
 
-// The sum of a key, 0 where there is none.
+// The sum of a key, 0 if there is none.
 fn sum_at(numbers: &BTreeMap<String, Numbers>, key: &str) -> u64
     ensures { result ≡ (numbers_at numbers.now key.now).sum }
 {

@@ -10,7 +10,7 @@ HasAnOutput IsOutput text = (output : List ℕ) × IsOutput text output
 abbrev pub HasOneOutput : (IsOutput : (text output : List ℕ) → Type 0) (text : List ℕ) → Type 0
 HasOneOutput IsOutput text = (first second : List ℕ) → IsOutput text first → IsOutput text second → first ≡ second
 
--- what was written of text, where a write or an allocation failed, is a prefix of its output
+-- what was written of text, if a write or an allocation failed, is a prefix of its output
 abbrev pub HasPrefixWritten : (IsOutput : (text output : List ℕ) → Type 0) (text : List ℕ) → Type 0
 HasPrefixWritten IsOutput text =
     (written output : List ℕ) → IsBeginningOf IsOutput text written → IsOutput text output → (more : List ℕ) × (output ≡ written ++ more)

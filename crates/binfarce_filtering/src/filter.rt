@@ -39,7 +39,7 @@ fn limits_are()
 ///
 /// # Errors
 ///
-/// `AllocError` where an allocation failed.
+/// `AllocError` if an allocation failed.
 pub fn filter(alloc: Global, full: bool, text: &[u8]) -> Result<Vec<u8>, AllocError>
     ensures { IfOk result (λ out. IsFiltered full text.now out.items) }
 {
@@ -71,7 +71,7 @@ impl Names {
 pub struct TextFilter {
     full: bool,
     names: Names,
-    // The run that the text ends in so far, or where that is too long, more than `MAX_RUN` bytes of it.
+    // The run that the text ends in so far, or if that is too long, more than `MAX_RUN` bytes of it.
     run: Vec<u8>,
     ghost is_run: { is_run run.items ≡ true },
 }
@@ -96,7 +96,7 @@ impl TextFilter {
     ///
     /// # Errors
     ///
-    /// `AllocError` where an allocation failed. Don't use the filter after that.
+    /// `AllocError` if an allocation failed. Don't use the filter after that.
     pub fn push(&mut self, part: &[u8], out: &mut Vec<u8>) -> Result<(), AllocError>
         ensures { OnOk result
             ((more : List ℕ) × Goes self.old self.new part.now more × (out.new.items ≡ out.old.items ++ more)) }
@@ -117,7 +117,7 @@ impl TextFilter {
     ///
     /// # Errors
     ///
-    /// `AllocError` where an allocation failed.
+    /// `AllocError` if an allocation failed.
     pub fn finish(&mut self, out: &mut Vec<u8>) -> Result<(), AllocError>
         ensures { OnOk result ((more : List ℕ) × IsDone self.old more × (out.new.items ≡ out.old.items ++ more)) }
     {
@@ -245,7 +245,7 @@ fn is_mark_at(text: &[u8], at: usize) -> bool
     text[at - 1] == b'_' && (text[at] == b'Z' || text[at] == b'R')
 }
 
-// How many bytes from a position on are no `_`, of the next 16; 0 where fewer come after it.
+// How many bytes from a position on are no `_`, of the next 16; 0 if fewer come after it.
 #[inline(always)]
 fn others_at(text: &[u8], at: usize) -> usize
     requires { at < length text.now }
@@ -267,7 +267,7 @@ fn others_among(bytes: &[u8]) -> usize
     len_before(bytes, b'_', b'_', b'_')
 }
 
-// Where the run begins that ends at a position of the text; that position where none does.
+// Where the run begins that ends at a position of the text; that position if none does.
 fn run_start(text: &[u8], end: usize) -> usize
     requires within { end ≤ length text.now }
     requires after { end < length text.now → (0 < end) × (slice_index text.now (end - 1) ≡ 95) }
@@ -403,7 +403,7 @@ fn begins_v0(run: &[u8]) -> bool
     run.starts_with(b"_R") && run.len() > 2 && matches!(run[2], b'N' | b'I' | b'M' | b'X' | b'Y')
 }
 
-// The length of the name at the front of a run. `None` where none is there.
+// The length of the name at the front of a run. `None` if none is there.
 fn name_len(run: &[u8]) -> Option<usize>
     requires { (first : Bool) × (begins_name first run.now ≡ true) }
     ensures { MatchOption result ((n : ℕ) → ¬ (IsNameLength run.now n))

@@ -11,7 +11,7 @@ use std::alloc::{AllocError, Global};
 // How many bytes of a line are looked at. A longer one is no frame.
 const LONGEST: usize = 4096;
 
-/// A text with the offset of each frame behind its file, which comes byte by byte.
+/// A text that comes byte by byte, with the offset of each frame after its file.
 #[derive(Drop)]
 pub struct Frames<'a> {
     // The names of the files.
@@ -38,7 +38,7 @@ impl<'a> Frames<'a> {
     ///
     /// # Errors
     ///
-    /// `AllocError` where an allocation failed: `out` is then unspecified.
+    /// `AllocError` if an allocation failed: `out` is then unspecified.
     pub fn take(&mut self, part: &[u8], out: &mut Vec<u8>) -> Result<(), AllocError>
         ensures { OnOk result ((added : List ℕ) × (out.new.items ≡ out.old.items ++ added)
             × ((text : List ℕ) → rest self.old (part.now ++ text) ≡ added ++ rest self.new text)) }
@@ -68,7 +68,7 @@ impl<'a> Frames<'a> {
     ///
     /// # Errors
     ///
-    /// `AllocError` where an allocation failed: `out` is then unspecified.
+    /// `AllocError` if an allocation failed: `out` is then unspecified.
     pub fn end(&mut self, out: &mut Vec<u8>) -> Result<(), AllocError>
         ensures { OnOk result (out.new.items ≡ out.old.items ++ rest self.old []) }
     {

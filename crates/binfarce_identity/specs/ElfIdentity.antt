@@ -48,7 +48,7 @@ pub record Table : Type 0 where
   pub offset : ℕ
   pub count : ℕ
 
--- the section headers that a file header states; where there are none the program headers
+-- the section headers that a file header states; if there are none the program headers
 unfoldable pub table_of : Width → Header ℕ → Table
 table_of width header =
     if nat_eq header.shnum 0 then record { shape = program_shape width; offset = header.phoff; count = header.phnum }

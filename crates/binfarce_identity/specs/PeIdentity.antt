@@ -26,7 +26,7 @@ directories_offset header =
     else if nat_eq magic 0x20B then Some 112
     else None
 
--- the debug directory is data directory 6; each has 8 bytes, an address and a size. None where there are fewer, or the size is 0
+-- the debug directory is data directory 6; each has 8 bytes, an address and a size. None if there are fewer, or the size is 0
 abbrev pub debug_in : (header : List ℕ) → Option ℕ → Option Place
 debug_in header None = None
 debug_in header (Some start) =

@@ -13,7 +13,7 @@ use Rattle.binfarce_identity.specs.declared.identity.Identity as code
 abbrev pub Reading : Type 0
 Reading = readings.Reading (Option Identity)
 
--- the answer of a reading, or where that finds no identity another reading
+-- the answer of a reading, or if that finds no identity another reading
 unfoldable pub or_else : Reading → Reading → Reading
 or_else (answered (Ok None)) others = others
 or_else (answered answer) others = answered answer

@@ -66,7 +66,7 @@ pub(crate) fn read_elf<S: Source>(
     read_table(opened, log, byte_order, table)
 }
 
-// The section headers of a file, or where it has none its program headers.
+// The section headers of a file, or if it has none its program headers.
 #[tactic(auto, unfolding(crate::specs::ElfIdentity::table_of))]
 fn table_of(width: Width, place: HeaderTable) -> Table
     ensures { (order : ByteOrder) (head : List ℕ) → IsPlaceOf (class_of width) order head place

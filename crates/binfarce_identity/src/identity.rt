@@ -32,13 +32,13 @@ pub struct Identity {
 }
 
 impl Identity {
-    /// Appends its text: of a build ID its bytes in lower-case hexadecimal digits, as `readelf -n` prints it; a UUID in
-    /// upper case with hyphens, as `dwarfdump --uuid` prints it; a GUID in upper case, and behind it the age, without
+    /// Appends its text: a build ID's bytes in lower-case hexadecimal digits, as `readelf -n` prints them; a UUID in
+    /// upper case with hyphens, as `dwarfdump --uuid` prints it; a GUID in upper case and then the age, without
     /// hyphens, as symbol servers name folders.
     ///
     /// # Errors
     ///
-    /// `AllocError` where an allocation fails.
+    /// `AllocError` if an allocation fails.
     pub fn push_text(&self, text: &mut String) -> Result<(), AllocError>
         ensures { OnOk result
             (string_bytes text.new ≡ string_bytes text.old ++ text_of (identity_view self.now)) }

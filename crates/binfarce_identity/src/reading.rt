@@ -24,15 +24,15 @@ use std::alloc::Global;
 
 /// What says from which build a file of this format is: of ELF the first build ID among the notes of its sections, or of
 /// a file without section headers among those of its segments; of Mach-O its UUID; of PE the GUID and the age of its
-/// CodeView record. `None` where the file has none, and for an unknown format. Only what states it is read, each part into
+/// CodeView record. `None` if the file has none, and for an unknown format. Only what states it is read, each part into
 /// memory of its size, which is never more than the file has of it.
 ///
 /// # Errors
 ///
-/// `Refused` with `UnexpectedEof` where the file is too short for its header, or what is read ends past it, and with
+/// `Refused` with `UnexpectedEof` if the file is too short for its header, or what is read ends past it, and with
 /// `MalformedInput` for a note that ends past its section, a bad load command, or a debug directory in no section;
-/// `Unreadable` where the source can't be read at offsets, or a read of it fails, and never for a source that can't fail,
-/// such as bytes in memory; `OutOfMemory` where an allocation fails.
+/// `Unreadable` if the source can't be read at offsets, or a read of it fails, and never for a source that can't fail,
+/// such as bytes in memory; `OutOfMemory` if an allocation fails.
 pub fn read_identity<S: Source>(
     alloc: Global,
     source: &S,

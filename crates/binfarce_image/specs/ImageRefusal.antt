@@ -50,7 +50,7 @@ refusal_due image layout =
     else if nat_le (2 ^ 32) (length (bytes image layout)) then Some TooLarge
     else None
 
--- a refusal that is due is returned; `OutOfMemory` only where none is due
+-- a refusal that is due is returned; `OutOfMemory` only if none is due
 abbrev pub Refuses : Option ImageError → Result (Vec ℕ) ImageError → Type 0
 Refuses due (Ok file) = due ≡ None
 Refuses due (Err OutOfMemory) = due ≡ None

@@ -134,9 +134,9 @@ impl From<AllocError> for ImageError {
 ///
 /// # Errors
 ///
-/// In this order: `TooManySections` for more than 65,535 parts; `TableCount` where there isn't exactly one `Table`, or
-/// a `Bytes` part has kind 2; `NamesPlace` where `names_at` isn't the index of a `Bytes` part; `TooLarge` where the
-/// file would have 2^32 bytes or more. `OutOfMemory` where an allocation failed; nothing is allocated before the other
+/// In this order: `TooManySections` for more than 65,535 parts; `TableCount` if there isn't exactly one `Table`, or
+/// a `Bytes` part has kind 2; `NamesPlace` if `names_at` isn't the index of a `Bytes` part; `TooLarge` if the
+/// file would have 2^32 bytes or more. `OutOfMemory` if an allocation failed; nothing is allocated before the other
 /// checks.
 pub fn lay_out(alloc: Global, image: &Image, layout: ElfLayout) -> Result<Vec<u8>, ImageError>
     ensures file { IfOk result (λ v. v.items ≡ bytes image.now layout) }

@@ -172,7 +172,7 @@ module _ (may_fail : Bool) (known : Option (List ℕ)) (maybe : Option Held) whe
           ap Some (first ∙ take_all 512 file (omega (arith, count, ap length first, length-take 512 file)))
       by first long false whole = ap (λ (b : Bool). if b then Some file else None) (begins_so held file first long)
 
--- it may fail to be read only where the file may
+-- it may fail to be read only if the file may
 pub more_held : (may_fail : Bool) (maybe : Option Held) → may_or may_fail maybe ≡ true → may_fail ≡ true
 more_held may_fail None may = may
 more_held may_fail (Some held) may = by (is_whole held) may

@@ -78,7 +78,7 @@ IsForeign file fault = Judges (foreign_in file) (Err fault)
 abbrev pub IsUnreadable : (may_fail : Bool) → (file : List ℕ) → Fault → Type 0
 IsUnreadable may_fail file fault = (failure fault ≡ no_memory) ⊎ ((failure fault ≡ unreadable) × ((may_fail ≡ true) ⊎ (file ≡ [])))
 
--- the bytes of a loaded file are those that are read of it, and a read may fail only where the file may; or the file is refused for what it is; or it can't be read
+-- the bytes of a loaded file are those that are read of it, and a read may fail only if the file may; or the file is refused for what it is; or it can't be read
 abbrev pub Loads : (may_fail : Bool) → (file : List ℕ) → (new : Option (List ℕ)) → (may_fail_now : Bool) → Result (Unit {0}) Fault → Type 0
 Loads may_fail file new may_fail_now (Ok x) = (bytes : List ℕ) × (new ≡ Some bytes) × IsReadOf file bytes × (may_fail_now ≡ true → may_fail ≡ true) × (foreign_in file ≡ None)
 Loads may_fail file new may_fail_now (Err e) = IsForeign file e ⊎ IsUnreadable may_fail file e
@@ -87,7 +87,7 @@ Loads may_fail file new may_fail_now (Err e) = IsForeign file e ⊎ IsUnreadable
 abbrev pub IsUnread : Fault → Type 0
 IsUnread fault = (failure fault ≡ unreadable) ⊎ (failure fault ≡ no_memory)
 
--- the bytes that are read of a file in order: all where the first ones name a format, and else these alone
+-- the bytes that are read of a file in order: all if the first ones name a format, and else these alone
 abbrev pub IsJudged : (file bytes : List ℕ) → Type 0
 IsJudged file bytes = ((format_of file ≢ Unknown) × (bytes ≡ file)) ⊎ ((format_of file ≡ Unknown) × (bytes ≡ first_bytes file))
 
@@ -100,7 +100,7 @@ ReadsJudged old new (Err e) = IfSome old (λ file. (IsForeign file e × Consumes
 abbrev pub ReadsFew : (old new : Option (List ℕ)) → Type 0
 ReadsFew old new = (few : List ℕ) × (length few ≤ 512) × Consumes old new few
 
--- no more are read where these name no format, or what no reader reads; also where a read fails
+-- no more are read where these name no format, or what no reader reads; also if a read fails
 abbrev pub ReadsNoMore : (old new : Option (List ℕ)) → Type 0
 ReadsNoMore old new = IfSome old (λ file. (format_of file ≡ Unknown) ⊎ (foreign_in file ≢ None) → ReadsFew old new)
 

@@ -82,7 +82,7 @@ impl Held {
     }
 }
 
-/// A file, those of its bytes that are in memory, and the system's reason where a read of it fails.
+/// A file, those of its bytes that are in memory, and the system's reason if a read of it fails.
 #[derive(Drop)]
 pub struct OpenFile<F> {
     file: F,
@@ -130,13 +130,13 @@ impl<F> OpenFile<F> {
 }
 
 impl<F: Read + Source<Log = ()>> OpenFile<F> {
-    /// Loads the file. Of one that can be read at offsets, only the length and the first `FIRST_LENGTH` bytes; any other
-    /// to its end, or only so many first bytes where these name no format.
+    /// Loads the file: if it can be read at offsets, only the length and the first `FIRST_LENGTH` bytes; any other to
+    /// its end, or only so many first bytes if these name no format.
     ///
     /// # Errors
     ///
-    /// `Unsupported` exactly where the first `FIRST_LENGTH` bytes name what no reader reads, and no other byte is read
-    /// then; `Unreadable` where a read fails, and `OutOfMemory` where an allocation fails.
+    /// `Unsupported` exactly if the first `FIRST_LENGTH` bytes name what no reader reads, and no other byte is read
+    /// then; `Unreadable` if a read fails, and `OutOfMemory` if an allocation fails.
     pub fn load(&mut self, alloc: Global) -> Result<(), Fault>
         ensures loads { (bytes : List ℕ) → F.bytes (file_of self.old) ≡ Some bytes
             → F.remaining (file_of self.old) ≡ Some bytes
@@ -156,7 +156,7 @@ impl<F: Read + Source<Log = ()>> OpenFile<F> {
         Ok(())
     }
 
-    // The length and the first `FIRST_LENGTH` bytes of the file, or all of a shorter one. `None` where a read fails.
+    // The length and the first `FIRST_LENGTH` bytes of the file, or all of a shorter one. `None` if a read fails.
     fn first_held(&self, alloc: Global) -> io::Result<Option<Held>>
         ensures held { (file : List ℕ) → F.bytes (file_of self.now) ≡ Some file
             → IfOk result (HoldsFirst (F.may_fail (file_of self.now)) file) }
@@ -268,7 +268,7 @@ fn read_rest<R: Read>(reader: &mut R, mut bytes: Vec<u8>) -> Result<Vec<u8>, Fau
     Ok(bytes)
 }
 
-// Reads the first `FIRST_LENGTH` bytes, or all where there are fewer.
+// Reads the first `FIRST_LENGTH` bytes, or all if there are fewer.
 #[tactic(auto, using(crate::proofs::Streams::short_are))]
 fn read_first<R: Read>(reader: &mut R, bytes: &mut Vec<u8>) -> Result<(), Fault>
     requires { bytes.old.items ≡ [] }

@@ -52,7 +52,7 @@ impl<W: Write> Output<W> {
     ///
     /// # Errors
     ///
-    /// `Write` where a write fails.
+    /// `Write` if a write fails.
     pub fn end(&mut self) -> Result<(), Fault>
         ensures kept { Keeps (taken W.contents self.old) (taken W.contents self.new) }
         ensures written { OnOk result ((pending self.new ≡ []) × (has_failed self.new ≡ has_failed self.old)) }

@@ -54,7 +54,7 @@ module _ (which : SymbolTable) (file name : List ℕ) where
   unfolding AreTablesOf
   are_made list size versions made named = (made.0, made.1, made.2, made.3, named made.0 made.1)
 
-  -- an answer was there where an allocation failed after it
+  -- an answer was there if an allocation failed after it
   pub none_left : (Fits : SelectedSymbols → Type 0) (list : Selected) (result : Result Seen Fault) → GetsIn which file (Some name) (Ok list) → IsErrAnd result (λ f. f ≡ no_memory_fault) → EndsAs Fits (MemoryIn file (Some name)) (selected_answer which (Some name) file) (outcome_of result)
   none_left Fits list (Ok x) gets is = absurd is
   none_left Fits list (Err f) gets is =
@@ -130,7 +130,7 @@ module _ (e : ListError) (result : Result Seen Fault) where
       by_result (Ok x) is = absurd is
       by_result (Err f) is = subst (λ (f : Fault). Fails failed failed (failure f)) (sym is) (by_error e other)
 
--- so where an allocation failed
+-- so if an allocation failed
 pub none_taken : (IsText : SelectedSymbols → List ℕ → Type 0) (answer : Option (Result SelectedSymbols Refusal)) (old : Option (List ℕ)) (result : Result Seen Fault) → IsErrAnd result (λ f. f ≡ no_memory_fault) → Takes IsText answer old old (outcome_of result)
 none_taken IsText answer old (Ok x) is = absurd is
 none_taken IsText answer old (Err f) is = subst (λ (f : Fault). Takes IsText answer old old (failure f)) (sym is) (nothing old)

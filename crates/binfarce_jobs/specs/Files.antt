@@ -108,7 +108,7 @@ pub record Files : Type 0 where
 abbrev pub asked_files : Request → (are_several : Bool) → (may_fail : List ℕ → Bool) → (held : List ℕ → List ℕ) → Files
 asked_files asked are_several may_fail held = record { asked = asked; are_several = are_several; may_fail = may_fail; held = held }
 
--- what was written, what of it counts as taken by the sink, which takes a heading as a whole, what was reported, and the hints, where these are known
+-- what was written, what of it counts as taken by the sink, which takes a heading as a whole, what was reported, and the hints, if these are known
 pub record State : Type 0 where
   pub bytes : Option (List ℕ)
   pub taken : Option (List ℕ)
@@ -161,7 +161,7 @@ abbrev pub ShowsAll : Files → (arguments : List Argument) → (old new : State
 ShowsAll files arguments old new (Ok all) = Shows files arguments old new all
 ShowsAll files arguments old new (Err e) = ((failure e ≡ write_failed) × BreaksOff files arguments old new) ⊎ ((failure e ≡ no_memory) × StopsBefore files arguments old new)
 
--- the file at a path holds these bytes, where that is known
+-- the file at a path holds these bytes, if that is known
 abbrev pub IsHeld : (bytes_at : List ℕ → Option (List ℕ)) → (held : List ℕ → List ℕ) → Argument → Type 0
 IsHeld bytes_at held (utf8 path) = bytes_at path ≡ Some (held path)
 IsHeld bytes_at held (no_utf8 at) = Unit {0}

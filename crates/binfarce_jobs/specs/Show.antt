@@ -158,7 +158,7 @@ TakesText asked path file old new outcome = Takes (IsAskedText asked path) (answ
 abbrev pub IsShownText : Request → (path file text : List ℕ) → Type 0
 IsShownText asked path file text = IsDue (IsAskedText asked path) (answer_for asked.symbols file) text
 
--- the showing of a file may end so; that the file can't be read is reported only where MayFail says so, and that an allocation failed of any file
+-- the showing of a file may end so; that the file can't be read is reported only if MayFail says so, and that an allocation failed of any file
 abbrev pub MayEnd : (MayFail : Type 0) → Request → (file : List ℕ) → Outcome → Type 0
 MayEnd MayFail asked file outcome = ProgramEndsAs MayFail (Fits asked.kind) (MemoryFor asked.symbols file) (answer_for asked.symbols file) outcome
 

@@ -171,7 +171,7 @@ pub(crate) fn unknown_in(key: Key, sums: Sums) -> Option<Hint>
     }
 }
 
-/// The hints on a file that was shown, in which this was found: the first one only where the file can be read again.
+/// The hints on a file that was shown, in which this was found: the first one only if the file can be read again.
 pub(crate) fn hints_on<S: Source<Log = ()>>(
     alloc: Global,
     source: &S,
@@ -212,7 +212,7 @@ pub(crate) fn hints_on<S: Source<Log = ()>>(
     }
 }
 
-/// The reason that a file has none of the function symbols that are taken: exactly where it has none.
+/// The reason that a file has none of the function symbols that are taken: exactly if it has none.
 ///
 /// # Errors
 ///
@@ -267,7 +267,7 @@ fn count_of_all<S: Source<Log = ()>>(
 }
 
 /// The hints on a file that is refused for this reason: of one without a symbol table or without function symbols how many
-/// dynamic ones it has, and where its debug symbols may be, each only where the file can be read for it.
+/// dynamic ones it has, and where its debug symbols may be, each only if the file can be read for it.
 pub fn refusal_hints<S: Source<Log = ()>>(alloc: Global, source: &S, fault: &Fault) -> Hints
     ensures first { (file : List ℕ) → S.bytes source.now ≡ Some file
         → IsOrNone (words_of (dynamic_for fault.now file)) (words_of result.first) }

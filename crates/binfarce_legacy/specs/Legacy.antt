@@ -113,7 +113,7 @@ name_chars name =
 unfoldable pub legacy_chars : (elements : List Element) → List ℕ
 legacy_chars elements = join_by (λ e. name_chars e.name) (codes "::") elements
 
--- the characters before the last `:`, without the one right before it: none where that `:` is first, and all where there is no `:`
+-- the characters before the last `:`, without the one right before it: none where that `:` is first, and all if there is no `:`
 unfoldable pub without_last_part : (chars : List ℕ) → List ℕ
 without_last_part chars =
     if list_any (λ c. c == ':') chars

@@ -75,7 +75,7 @@ pub(crate) fn element(text: &[u8], at: usize) -> Option<(usize, usize)>
 }
 
 /// The position after the `E` that ends the elements at the front of `text`, and whether the last element is a hash:
-/// `17h` and 16 lower-case hexadecimal digits. `None` where `text` doesn't begin with elements and an `E`. `text` is
+/// `17h` and 16 lower-case hexadecimal digits. `None` if `text` doesn't begin with elements and an `E`. `text` is
 /// what follows the prefix of a legacy mangling; bytes after the `E` aren't checked. Nothing is allocated.
 #[inline(always)]
 pub fn elements_end(text: &[u8]) -> Option<(usize, bool)>

@@ -36,7 +36,7 @@ or_else None other = other
 abbrev pub line_parts : (line : List ℕ) → Option (List ℕ × List ℕ)
 line_parts line = or_else (split_last 9 line) (split_last 32 line)
 
--- what a name and a word behind it say: the word is a limit, in per cent only where files are compared
+-- what a name and a word behind it say: the word is a limit, in per cent only if files are compared
 abbrev pub limit_line : (compares : Bool) → (name word : List ℕ) → Option Limit → Line
 limit_line compares name word None = wrong (bad_limit word)
 limit_line compares name word (Some limit) = if is_percent (Some limit) && not compares then wrong (only_growth word) else limits (record { name = name; limit = limit })

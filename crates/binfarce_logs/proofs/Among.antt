@@ -123,7 +123,7 @@ only_second files before offset longest own k (Some h) item d is some lt value o
     ∙ ap (λ (x : List File). x ++ rest) two in
     by_longest files before offset longest is some ∙ ap (λ (x : List File). found_in_one x offset) all
 
--- no file is named, where none is among all
+-- no file is named, if none is among all
 pub none_named : (files : List File) (before : List ℕ) (offset longest k : ℕ) → longest ≡ longest_name files before → longest ≢ 0 → length files ≤ k → IsOnly longest files before k None → found_behind files before offset ≡ Err Unasked
 none_named files before offset longest k is some all none =
     by_longest files before offset longest is some ∙ ap (λ (x : List File). found_in_one x offset) (ap (λ (fs : List File). named_by longest fs before) (sym (take_all k files all)) ∙ none)

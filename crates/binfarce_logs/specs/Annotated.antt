@@ -35,12 +35,12 @@ found_among (file ∷ files) address = option_or (found_at file.0 file.1 address
 abbrev pub has_own_name : File → Bool
 has_own_name file = has_symbol file.0 (name_of file.1.path.now)
 
--- how many bytes the name of this file has that comes before an offset, at the end of `before`. 0 where none is there, and where it may be that of a
+-- how many bytes the name of this file has that comes before an offset, at the end of `before`. 0 if none is there, and where it may be that of a
 -- function of the file
 abbrev pub name_before : File → (before : List ℕ) → ℕ
 name_before file before = if has_own_name file && names_symbol (name_of file.1.path.now) before then 0 else name_len file.1.path.now before
 
--- how many bytes the longest name of a file has that comes before an offset, at the end of `before`. 0 where no file's name is there
+-- how many bytes the longest name of a file has that comes before an offset, at the end of `before`. 0 if no file's name is there
 abbrev pub longest_name : List File → (before : List ℕ) → ℕ
 longest_name [] before = 0
 longest_name (file ∷ files) before = max (name_before file before) (longest_name files before)

@@ -25,7 +25,7 @@ placed_by address place start size = if nat_le start address && nat_le (address 
   is_code = true;
 }) else None
 
--- the mapping of so many bytes at start, in which the address is that has this offset in the file, where these are known
+-- the mapping of so many bytes at start, in which the address is that has this offset in the file, if these are known
 abbrev pub made_of : (known : Option (ℕ × ℕ)) → (start size : ℕ) → Option Mapping
 made_of None start size = Some (unplaced start size)
 made_of (Some (address, place)) start size = placed_by address place start size
@@ -48,7 +48,7 @@ named_fault address text = option_map (λ mapping. (mapping, before_first (nat_e
 abbrev pub fault_behind : (text : List ℕ) → Option (Mapping × List ℕ)
 fault_behind text = option_and_then (λ address. option_and_then (named_fault address) (behind_mark (codes " in ") text)) (hexadecimal (before_first (nat_eq 32) text))
 
--- what is behind the mark of the address: the word `ip`, or where a line has none, ` ip:`. Other words may begin so, as a host's name or a program's
+-- what is behind the mark of the address: the word `ip`, or if a line has none, ` ip:`. Other words may begin so, as a host's name or a program's
 abbrev pub behind_ip : (word line : Option (List ℕ)) → Option (List ℕ)
 behind_ip (Some text) line = Some text
 behind_ip None line = line

@@ -47,7 +47,7 @@ mapping_with range permissions offset =
 abbrev pub mapping_of : (line : List ℕ) → Option Mapping
 mapping_of line = mapping_with (before_blank line) (before_blank (behind_blank line)) (before_blank (behind_blank (behind_blank line)))
 
--- a text from the first word on from which it has the form of a mapping; words are behind blanks, and one may begin at its first byte, or none does. Empty where there is none
+-- a text from the first word on from which it has the form of a mapping; words are behind blanks, and one may begin at its first byte, or none does. Empty if there is none
 abbrev pub begun_at : (may_begin : Bool) (text : List ℕ) → List ℕ
 begun_at may_begin [] = []
 begun_at may_begin (b ∷ text) = if may_begin && is_some (mapping_of (b ∷ text)) then b ∷ text else begun_at (nat_eq b 32) text
@@ -117,7 +117,8 @@ start_of mapping = option_map (λ (m : Mapping). m.start) mapping
 abbrev pub minus : (a b : ℕ) → ℕ
 minus a b = (a + (2 ^ 64 - b)) % 2 ^ 64
 
--- bytes of this segment are in the mapping: neither begins at the end of the other in the file, or past it
+-- bytes of this segment are in the mapping: neither begins at the end of the other in the file, or past it. A difference that would be below 0 is 0 here, so for
+-- the one that begins first it only says that the other one has bytes
 abbrev pub shares_bytes : CodeSegment → Mapping → Bool
 shares_bytes segment mapping = nat_lt (mapping.offset - segment.offset) segment.size && nat_lt (segment.offset - mapping.offset) mapping.size
 
@@ -147,7 +148,7 @@ base_in loaded (Some segment) mapping = base_in_segment loaded segment mapping
 abbrev pub base_by : LoadAddress → Option Mapping → Option ℕ
 base_by loaded mapping = option_and_then (base_in loaded loaded.code) mapping
 
--- the offset in the file of a mapping that may be executed, where that is known
+-- the offset in the file of a mapping that may be executed, if that is known
 abbrev pub code_offset_of : Option Mapping → Option ℕ
 code_offset_of mapping = option_and_then (λ (m : Mapping). if m.is_code && m.has_offset then Some m.offset else None) mapping
 
@@ -214,7 +215,7 @@ base_with maps end loaded None = if is_some (lowest (λ line. start_of (mapping_
 abbrev pub base_at : (maps end : List ℕ) → LoadAddress → Result ℕ NoBase
 base_at maps end loaded = base_with maps end loaded (lowest (λ line. base_by loaded (mapping_for end line)) maps)
 
--- mappings of the file's first byte, where there are any, and a base are as one loader makes them: one of them begins there. A program may have others, to
+-- mappings of the file's first byte, if there are any, and a base are as one loader makes them: one of them begins there. A program may have others, to
 -- read the file
 abbrev pub agrees : (maps end : List ℕ) → (base : ℕ) → Bool
 agrees maps end base = is_some (lowest (λ line. same_as base (first_start_of (mapping_for end line))) maps) || not (is_some (lowest (λ line. first_start_of (mapping_for end line)) maps))

@@ -32,7 +32,7 @@ ends_with_mark name mark text = ends_with nat_eq text mark && ends_with_name nam
 abbrev pub names_module : (name text : List ℕ) → Bool
 names_module name text = ends_with_mark name (codes "+") text || (ends_with_mark name (codes "(+") text || ends_with_mark name (codes " + ") text)
 
--- how many bytes the name of the file of this path has that is before an offset, which comes after the text: that of the path, or else that of the name behind its last `/`. 0 where neither is there
+-- how many bytes the name of the file of this path has that is before an offset, which comes after the text: that of the path, or else that of the name behind its last `/`. 0 if neither is there
 abbrev pub name_len : (path text : List ℕ) → ℕ
 name_len path text = if names_module path text then length path else if names_module (name_of path) text then length (name_of path) else 0
 

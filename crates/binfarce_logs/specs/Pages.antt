@@ -3,7 +3,7 @@ use Rattle.std.specs.Prelude.{◌≡◌, ℕ, ◌-◌, ◌%◌, Bool, ◌&&◌, 
 use Rattle.std.proofs.Common.{refl}
 
 -- the largest page that loads a segment of this alignment (`p_align`). Its size divides the alignment, modulo which the segment's address and its offset in
--- the file are congruent. It is 1 where none loads it, also where the alignment is 0: no page's beginning is then known
+-- the file are congruent. It is 1 if none loads it, also if the alignment is 0: no page's beginning is then known
 abbrev pub largest_page : (align : ℕ) → ℕ
 largest_page align = if nat_eq align 0 then 1 else if nat_eq (align % 65536) 0 then 65536 else if nat_eq (align % 16384) 0 then 16384 else if nat_eq (align % 4096) 0 then 4096 else 1
 

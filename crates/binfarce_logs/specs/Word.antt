@@ -19,7 +19,7 @@ is_word_byte b = is_ascii_alphanumeric b || (nat_eq b 95 || nat_eq b 45)
 abbrev pub least_digits : (before : List ℕ) → ℕ
 least_digits before = if ends_with_plus before then 1 else 4
 
--- the length of the address with a prefix that the text after `before` begins with: `0x` or `0X`, and digits up to 16, after which comes none. 0 where it begins with none
+-- the length of the address with a prefix that the text after `before` begins with: `0x` or `0X`, and digits up to 16, after which comes none. 0 if it begins with none
 abbrev pub prefixed_len : (before text : List ℕ) → ℕ
 prefixed_len before text = if has_prefix text && is_in_range (least_digits before) 16 (digits_len (drop 2 text)) then 2 + digits_len (drop 2 text) else 0
 
@@ -28,7 +28,7 @@ abbrev pub bare_len : (before text : List ℕ) → ℕ
 bare_len before text =
     if is_in_range 8 16 (digits_len text) && not (is_word_byte (slice_index before (length before - 1)) || is_word_byte (slice_index text (digits_len text))) then digits_len text else 0
 
--- the length of the address that the text after `before` begins with; one without a prefix where bare words are addresses too. 0 where it begins with none
+-- the length of the address that the text after `before` begins with; one without a prefix where bare words are addresses too. 0 if it begins with none
 abbrev pub address_len : (bare : Bool) (before text : List ℕ) → ℕ
 address_len bare before text = max (prefixed_len before text) (if bare then bare_len before text else 0)
 

@@ -47,7 +47,7 @@ fn in_brackets(address: u64, text: &[u8]) -> Option<Mapping>
     in_range(behind(len, text), Some((address, place)))
 }
 
-// The mapping of a range `START+SIZE`, in which this address is, that has this offset in the file, where these are known.
+// The mapping of a range `START+SIZE`, in which this address is, that has this offset in the file, if these are known.
 fn in_range(range: &[u8], known: Option<(u64, u64)>) -> Option<Mapping>
     ensures { result ≡ in_range known range.now }
 {

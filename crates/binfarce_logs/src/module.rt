@@ -5,7 +5,7 @@ ghost use Rattle.binfarce_logs.specs.Module.{ends_with_mark, ends_with_plus, may
 
 use crate::maps::name_of;
 
-// How many bytes the name of the file of this path has that is before an offset, which comes after the text. 0 where none
+// How many bytes the name of the file of this path has that is before an offset, which comes after the text. 0 if none
 // is.
 pub(crate) fn name_len(path: &[u8], text: &[u8]) -> usize
     ensures { result ≡ name_len path.now text.now }

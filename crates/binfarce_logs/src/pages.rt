@@ -3,7 +3,7 @@
 ghost use Rattle.std.specs.Prelude.{◌≡◌, ◌<◌};
 ghost use Rattle.binfarce_logs.specs.Pages.{beginning, largest_page, may_begin, only_beginning, page_at};
 
-// The largest page that loads a segment of this alignment; 1 where none does.
+// The largest page that loads a segment of this alignment; 1 if none does.
 pub(crate) fn largest_page(align: u64) -> u64
     ensures is { result ≡ largest_page align }
     ensures some { 0 < result }

@@ -100,7 +100,7 @@ kept_row symbols section number k =
 abbrev pub kept_rows : Symbols → Extent → ℕ → List RowAddress
 kept_rows symbols section number = filter_map (kept_row symbols section number) (range_with_len 0 (length symbols.rows / symbol_length))
 
--- the size at an address of a kept row: up to the least of these addresses above it, where there is one, else up to the section's end
+-- the size at an address of a kept row: up to the least of these addresses above it, if there is one, else up to the section's end
 abbrev pub size_in : Extent → List ℕ → ℕ → ℕ
 size_in section addresses address = unwrap_or (least_above addresses address) (section.address + section.size) - address
 
@@ -115,7 +115,7 @@ unfoldable pub entries_of : Symbols → NumberedSection → ℕ → List Entry
 entries_of symbols section number =
     if section.has_instructions then filter_map (section_entry symbols section.extent number) (arranged (kept_rows symbols section.extent number)) else []
 
--- those entries with that number, where there is such a section
+-- those entries with that number, if there is such a section
 abbrev pub entries_at : Symbols → ℕ → Option NumberedSection → List SectionEntry
 entries_at symbols number None = []
 entries_at symbols number (Some section) = in_section number (entries_of symbols section number)

@@ -103,7 +103,7 @@ abbrev pub named_table : List ℕ → Option Command → Result (Option (SymtabC
 named_table file None = Ok None
 named_table file (Some command) = whole_table file command >>= λ table. Ok (Some table)
 
--- what the command of the symbol table names, where there is one
+-- what the command of the symbol table names, if there is one
 abbrev pub table_of : List ℕ → Result (Option (SymtabCommand ℕ)) Refusal
 table_of file = symbol_command file >>= named_table file
 
@@ -112,7 +112,7 @@ pub record Symbols : Type 0 where
   pub strings : List ℕ
   pub rows : List ℕ
 
--- the tables that the symbol table's command names, which have to lie in the file; None where there is no such command
+-- the tables that the symbol table's command names, which have to lie in the file; None if there is no such command
 abbrev pub symbols_by : List ℕ → Option (SymtabCommand ℕ) → Result (Option Symbols) Refusal
 symbols_by file None = Ok None
 symbols_by file (Some table) = do
@@ -137,7 +137,7 @@ located_at text symbols = do
   text_end ← text_end_of text
   Ok (record { text_end = text_end; text_size = text.size; strings = symbols.strings; rows = symbols.rows })
 
--- the same, where there is a symbol table
+-- the same, if there is a symbol table
 abbrev pub located_by : Extent → Option Symbols → Result (Option Located) Refusal
 located_by text None = Ok None
 located_by text (Some symbols) = located_at text symbols >>= λ found. Ok (Some found)
@@ -162,7 +162,7 @@ row_addresses rows = filter_map (address_of rows) (range_with_len 0 (length rows
 abbrev pub is_candidate : SymbolRow ℕ → Bool
 is_candidate row = not (nat_eq row.name 0) && not (nat_eq (bit_and row.kind 0x0A) 0) && nat_eq row.section 1
 
--- up to the address above; where there is none up to the text's end, with no size at that end and a refusal past it
+-- up to the address above; if there is none up to the text's end, with no size at that end and a refusal past it
 abbrev pub size_up_to : Option ℕ → ℕ → ℕ → Result (Option ℕ) Refusal
 size_up_to (Some above) text_end address = Ok (Some (above - address))
 size_up_to None text_end address =
@@ -174,7 +174,7 @@ size_up_to None text_end address =
 unfoldable pub macho_size : List ℕ → ℕ → ℕ → Result (Option ℕ) Refusal
 macho_size addresses text_end address = size_up_to (least_above addresses address) text_end address
 
--- the entry, where there is a size and the name is valid
+-- the entry, if there is a size and the name is valid
 abbrev pub sized_entry : ℕ → Option ℕ → Option (List ℕ) → Option Entry
 sized_entry address None name = None
 sized_entry address (Some size) None = None

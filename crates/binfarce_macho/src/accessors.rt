@@ -37,7 +37,7 @@ impl<'a> Section<'a> {
         self.address
     }
 
-    /// Where the section's bytes begin in the file (`offset`); 0 where it has none there, as `__bss`.
+    /// Where the section's bytes begin in the file (`offset`); 0 if it has none there, as `__bss`.
     pub fn offset(&self) -> u32
         ensures { result ≡ (section_view self.now).offset }
     {
@@ -52,14 +52,14 @@ impl<'a> Section<'a> {
     }
 
     /// The section's flags (`flags`): its type in the low byte, and attributes, as 0x80000000 where it has nothing but
-    /// instructions (`S_ATTR_PURE_INSTRUCTIONS`). 0 where the file ends before them.
+    /// instructions (`S_ATTR_PURE_INSTRUCTIONS`). 0 if the file ends before them.
     pub fn flags(&self) -> u32
         ensures { result ≡ (section_view self.now).flags }
     {
         self.flags
     }
 
-    /// The section's type (`SECTION_TYPE`), the low byte of its flags: 0 for plain content (`S_REGULAR`), 1 where it is
+    /// The section's type (`SECTION_TYPE`), the low byte of its flags: 0 for plain content (`S_REGULAR`), 1 if it is
     /// filled with zeros (`S_ZEROFILL`), 2 for strings (`S_CSTRING_LITERALS`).
     pub fn section_type(&self) -> u32
         ensures { result ≡ section_type (section_view self.now) }
@@ -76,7 +76,7 @@ impl<'a> Section<'a> {
         kind == S_ZEROFILL || kind == S_GB_ZEROFILL || kind == S_THREAD_LOCAL_ZEROFILL
     }
 
-    /// How many bytes the section has in the file: its size, but 0 where it is filled with zeros in memory, or its
+    /// How many bytes the section has in the file: its size, but 0 if it is filled with zeros in memory, or its
     /// offset is 0.
     pub fn file_size(&self) -> u64
         ensures { result ≡ file_size (section_view self.now) }

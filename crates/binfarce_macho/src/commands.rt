@@ -103,7 +103,7 @@ pub(crate) fn commands(file: &[u8], header: MachoHeader) -> MachoCommandsIterato
     }
 }
 
-// The load command that begins at `offset`; refused where its head is truncated.
+// The load command that begins at `offset`; refused if its head is truncated.
 pub(crate) fn command_at(bytes: &[u8], offset: usize) -> Result<Command, UnexpectedEof>
     ensures { MatchResult result
         (λ c. (offset + 8 ≤ length bytes.now) × (command_view c ≡ command_at bytes.now offset))

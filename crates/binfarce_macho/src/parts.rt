@@ -100,7 +100,7 @@ fn text_address(bytes: &[u8], command: Command) -> Option<u64>
     }
 }
 
-// The same, of a command of a segment; refused where its name and address don't lie in the file.
+// The same, of a command of a segment; refused if its name and address don't lie in the file.
 fn text_place(bytes: &[u8], command: Command) -> Result<Option<u64>, UnexpectedEof>
     ensures { let body = body_of (command_view command) in MatchResult result
         (λ address. (body + 24 ≤ length bytes.now)

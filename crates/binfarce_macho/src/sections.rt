@@ -37,7 +37,7 @@ impl Section<'_> {
     ///
     /// # Errors
     ///
-    /// `MalformedInput` where the range's end exceeds `usize`.
+    /// `MalformedInput` if the range's end exceeds `usize`.
     pub fn range(&self) -> Result<Range<usize>, ParseError>
         ensures { let s = section_view self.now in MatchResult result
             (λ r. (r.start ≡ s.offset) × (r.end ≡ s.offset + s.size))
@@ -47,7 +47,7 @@ impl Section<'_> {
     }
 }
 
-/// The section's bytes, a slice of the file. `MalformedInput` where their end exceeds 64 bits, `UnexpectedEof` where
+/// The section's bytes, a slice of the file. `MalformedInput` if their end exceeds 64 bits, `UnexpectedEof` if
 /// it lies past the file.
 #[tactic(auto, unfolding(binfarce_bytes::specs::Refusal::bytes_in_file))]
 pub fn section_data<'a>(file: &'a [u8], section: &Section<'_>) -> Result<&'a [u8], ParseError>
@@ -175,7 +175,7 @@ fn next_section<'a>(left: &mut Left<'a>) -> Option<Result<Section<'a>, Damage>>
     }
 }
 
-// The first section that the segment has left, and the index after it; `None` where there are no more.
+// The first section that the segment has left, and the index after it; `None` if there are no more.
 fn section_left(bytes: &[u8], segment: Segment) -> Result<Option<(Section<'_>, u32)>, UnexpectedEof>
     requires inside { segment.body ≤ length bytes.now }
     requires within { segment.next ≤ section_count bytes.now segment }
@@ -216,7 +216,7 @@ fn next_segment(commands: &mut MachoCommandsIterator<'_>) -> Option<Result<Segme
     None
 }
 
-// The segment of a command whose head lies in the file, before its first section; refused where its count is truncated.
+// The segment of a command whose head lies in the file, before its first section; refused if its count is truncated.
 fn first_of_segment(bytes: &[u8], command: Command) -> Result<Segment, Damage>
     requires { command.offset + 8 ≤ length bytes.now }
     ensures { MatchResult result
@@ -284,7 +284,7 @@ pub fn section_with_name<'a>(
     })?)
 }
 
-// The section whose structure begins at `start`, where both its names are valid; refused where a field is truncated.
+// The section whose structure begins at `start`, if both its names are valid; refused if a field is truncated.
 #[tactic(auto, unfolding(crate::specs::Macho::section_at, crate::specs::Macho::section_fields))]
 pub(crate) fn section_at(bytes: &[u8], start: usize) -> Result<Option<Section<'_>>, UnexpectedEof>
     ensures { MatchResult result
@@ -313,7 +313,7 @@ pub(crate) fn section_at(bytes: &[u8], start: usize) -> Result<Option<Section<'_
     }
 }
 
-// The flags of the section whose structure begins at `start`; 0 where they are truncated.
+// The flags of the section whose structure begins at `start`; 0 if they are truncated.
 #[tactic(auto, unfolding(crate::specs::Macho::flags_at))]
 pub(crate) fn flags_at(bytes: &[u8], start: usize) -> u32
     requires { start ≤ length bytes.now }
@@ -322,7 +322,7 @@ pub(crate) fn flags_at(bytes: &[u8], start: usize) -> u32
     number_at(bytes, start + 64, ByteOrder::LittleEndian).unwrap_or(0)
 }
 
-// The name in a field's bytes: those up to the first NUL, or all where there is none.
+// The name in a field's bytes: those up to the first NUL, or all if there is none.
 #[tactic(auto, using(crate::proofs::SectionNames::name_is, crate::proofs::SectionNames::name_empty))]
 pub(crate) fn name_in(bytes: &[u8]) -> Option<&str>
     ensures { option_map (λ t. t.now) result ≡ padded_name bytes.now }

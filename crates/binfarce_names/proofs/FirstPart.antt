@@ -34,7 +34,7 @@ before_match (suc i) [] none rest at = refl
 before_match (suc i) (x ∷ xs) none rest at =
     rw (lacks (x ∷ xs) (none 0 (omega arith)), before_match i xs (λ k below. none (suc k) (omega arith)) rest at) refl
 
--- where there is no `::`
+-- if there is no `::`
 pub no_match : (s : List ℕ) → ((k : ℕ) → k ≤ length s → LacksTextAt (codes "::") s k) → first_part s ≡ s
 no_match [] none = refl
 no_match (x ∷ xs) none = rw (lacks (x ∷ xs) (none 0 (omega arith)), no_match xs (λ k below. none (suc k) (omega arith))) refl

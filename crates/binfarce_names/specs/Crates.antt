@@ -5,7 +5,7 @@ use Rattle.binfarce_names.specs.declared.demangle.Kind.{Kind}
 use Rattle.binfarce_names.specs.declared.demangle.Kind.TheVariants.{Unknown, Legacy, V0}
 use Rattle.binfarce_names.specs.Name.{Name}
 
--- a path up to its first `::`, or all of it where there is none
+-- a path up to its first `::`, or all of it if there is none
 abbrev pub first_part : (path : List ℕ) → List ℕ
 first_part [] = []
 first_part (b ∷ path) = if starts_with nat_eq (b ∷ path) (codes "::") then [] else b ∷ first_part path

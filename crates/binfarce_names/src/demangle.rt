@@ -45,14 +45,14 @@ pub struct SymbolData {
 /// A symbol's name in readable form.
 #[derive(Drop)]
 pub struct SymbolName {
-    /// Of a legacy name its whole path, and of a v0 name its path with the disambiguators of crates. An `Unknown` name
-    /// is unchanged.
+    /// A legacy name's whole path, or a v0 name's path with the disambiguators of crates. An `Unknown` name is
+    /// unchanged.
     pub complete: String,
-    /// Of a legacy name its path without the last part, whether or not that is a hash, and of a v0 name its path
-    /// without the disambiguators of crates. An `Unknown` name is unchanged.
+    /// A legacy name's path without the last part, whether or not that is a hash, or a v0 name's path without the
+    /// disambiguators of crates. An `Unknown` name is unchanged.
     pub trimmed: String,
-    /// Of a v0 name, the name of the first crate root in reading order outside back references. It may be in the path
-    /// of an impl, which isn't shown, and may be empty. `None` where there is no such root, and for other names.
+    /// A v0 name's first crate root in reading order outside back references. It may be in the path
+    /// of an impl, which isn't shown, and may be empty. `None` if there is no such root, and for other names.
     pub crate_name: Option<String>,
     /// How the name is mangled.
     pub kind: Kind,
@@ -97,7 +97,7 @@ impl SymbolName {
     ///
     /// # Errors
     ///
-    /// `AllocError` where an allocation failed.
+    /// `AllocError` if an allocation failed.
     pub fn demangle(alloc: Global, name: &str) -> Result<SymbolName, AllocError>
         ensures named { IfOk result (λ n. IsNamed name.now (name_view n)) }
     {
@@ -129,7 +129,7 @@ impl Demangler {
     ///
     /// # Errors
     ///
-    /// `AllocError` where an allocation failed.
+    /// `AllocError` if an allocation failed.
     pub fn demangle(&mut self, name: &str) -> Result<SymbolName, AllocError>
         ensures named { IfOk result (λ n. IsNamed name.now (name_view n)) }
     {
@@ -159,7 +159,7 @@ impl Demangler {
     ///
     /// # Errors
     ///
-    /// `AllocError` where an allocation failed. `text` is then unchanged.
+    /// `AllocError` if an allocation failed. `text` is then unchanged.
     pub fn push_trimmed(&mut self, text: &mut String, name: &str) -> Result<(), AllocError>
         ensures trimmed { OnOk result
             ((n : Name) × IsNamed name.now n × (string_bytes text.new ≡ string_bytes text.old ++ n.trimmed)) }
@@ -173,7 +173,7 @@ impl Demangler {
     ///
     /// # Errors
     ///
-    /// `AllocError` where an allocation failed. `text` is then unchanged.
+    /// `AllocError` if an allocation failed. `text` is then unchanged.
     pub fn push_shown(&mut self, text: &mut String, name: &str) -> Result<(), AllocError>
         ensures shown { OnOk result
             ((shown : List ℕ) × IsShown name.now shown × (string_bytes text.new ≡ string_bytes text.old ++ shown)) }
@@ -211,7 +211,7 @@ impl Demangler {
     ///
     /// # Errors
     ///
-    /// `AllocError` where an allocation failed.
+    /// `AllocError` if an allocation failed.
     pub fn short_text(
         &mut self,
         text: &mut String,
@@ -270,7 +270,7 @@ impl Demangler {
     ///
     /// # Errors
     ///
-    /// `AllocError` where an allocation failed.
+    /// `AllocError` if an allocation failed.
     pub fn crate_of(&mut self, name: &str) -> Result<Option<String>, AllocError>
         ensures crate_found { IfOk result
             (λ c. (n : Name) × IsNamed name.now n × (option_map string_bytes c ≡ crate_of n)) }
@@ -283,7 +283,7 @@ impl Demangler {
 ///
 /// # Errors
 ///
-/// `AllocError` where an allocation failed. `text` is then unchanged.
+/// `AllocError` if an allocation failed. `text` is then unchanged.
 pub fn push_trimmed(alloc: Global, text: &mut String, name: &str) -> Result<(), AllocError>
     ensures trimmed { OnOk result
         ((n : Name) × IsNamed name.now n × (string_bytes text.new ≡ string_bytes text.old ++ n.trimmed)) }
@@ -297,7 +297,7 @@ pub fn push_trimmed(alloc: Global, text: &mut String, name: &str) -> Result<(), 
 ///
 /// # Errors
 ///
-/// `AllocError` where an allocation failed. `text` is then unchanged.
+/// `AllocError` if an allocation failed. `text` is then unchanged.
 pub fn push_shown(alloc: Global, text: &mut String, name: &str) -> Result<(), AllocError>
     ensures shown { OnOk result
         ((shown : List ℕ) × IsShown name.now shown × (string_bytes text.new ≡ string_bytes text.old ++ shown)) }
@@ -307,11 +307,11 @@ pub fn push_shown(alloc: Global, text: &mut String, name: &str) -> Result<(), Al
 }
 
 /// The crate of `name`: of a v0 name its `crate_name`, and of a legacy name the first part of its path, unless that
-/// begins with `<`. `None` where there is no crate, and for other names.
+/// begins with `<`. `None` if there is no crate, and for other names.
 ///
 /// # Errors
 ///
-/// `AllocError` where an allocation failed.
+/// `AllocError` if an allocation failed.
 pub fn crate_of(alloc: Global, name: &str) -> Result<Option<String>, AllocError>
     ensures crate_found { IfOk result
         (λ c. (n : Name) × IsNamed name.now n × (option_map string_bytes c ≡ crate_of n)) }
@@ -329,7 +329,7 @@ pub fn crate_of(alloc: Global, name: &str) -> Result<Option<String>, AllocError>
 ///
 /// # Errors
 ///
-/// `AllocError` where an allocation failed. `text` is then unchanged.
+/// `AllocError` if an allocation failed. `text` is then unchanged.
 pub fn push_crate(alloc: Global, text: &mut String, name: &str) -> Result<bool, AllocError>
     ensures crate_found { IfOk result
         (λ crate_found. (n : Name) × IsNamed name.now n × GrowsByCrate (crate_of n) crate_found (string_bytes text.old)

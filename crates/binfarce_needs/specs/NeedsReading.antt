@@ -14,7 +14,7 @@ use Rattle.binfarce_needs.specs.Needs.{NeedSections, NeedTables, need_sections}
 unfoldable pub section_reading : Section → Reading (List ℕ)
 section_reading s = if nat_le (2 ^ 64) (s.offset + s.size) then answered (Err malformed_input) else part_reading s.offset s.size
 
--- those of a section, where there is one; else none
+-- those of a section, if there is one; else none
 abbrev pub reading_if : Option Section → Reading (List ℕ)
 reading_if None = answered (Ok [])
 reading_if (Some section) = section_reading section

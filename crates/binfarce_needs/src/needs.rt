@@ -87,7 +87,7 @@ fn needs_in<'a>(
     Ok(needs)
 }
 
-// The symbol of row `k`, where it is needed, and its name is valid.
+// The symbol of row `k`, if it is needed, and its name is valid.
 #[tactic(auto, unfolding(crate::specs::Needs::need_of))]
 fn need_of<'a>(
     strings: &'a [u8],

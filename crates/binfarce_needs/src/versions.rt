@@ -102,7 +102,7 @@ fn push_versions(
     Ok(left)
 }
 
-// The entry for a file that begins at `start`, where it is whole.
+// The entry for a file that begins at `start`, if it is whole.
 #[tactic(auto, unfolding(crate::specs::NeededVersions::file_at))]
 fn file_at(bytes: &[u8], start: u64, byte_order: ByteOrder) -> Option<FileEntry>
     ensures is { option_map file_view result ≡ file_at byte_order bytes.now start }
@@ -118,7 +118,7 @@ fn file_at(bytes: &[u8], start: u64, byte_order: ByteOrder) -> Option<FileEntry>
     })
 }
 
-// The entry for a version that begins at `start`, where it is whole.
+// The entry for a version that begins at `start`, if it is whole.
 #[tactic(auto, unfolding(crate::specs::NeededVersions::version_at))]
 fn version_at(bytes: &[u8], start: u64, byte_order: ByteOrder) -> Option<VersionEntry>
     ensures is { option_map version_view result ≡ version_at byte_order bytes.now start }

@@ -118,7 +118,7 @@ pub record Section : Type 0 where
 abbrev pub file_size : Section → ℕ
 file_size s = if nat_eq s.pointer_to_raw_data 0 then 0 else s.size_of_raw_data
 
--- how many bytes it has in memory: VirtualSize; where that is 0, as in object files, SizeOfRawData
+-- how many bytes it has in memory: VirtualSize; if that is 0, as in object files, SizeOfRawData
 abbrev pub memory_size : Section → ℕ
 memory_size s = if nat_eq s.virtual_size 0 then s.size_of_raw_data else s.virtual_size
 

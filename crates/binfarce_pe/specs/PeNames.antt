@@ -13,7 +13,7 @@ use Rattle.binfarce_bytes.specs.Walk.{Walk}
 use Rattle.binfarce_pe.specs.Pe.{Section}
 use Rattle.binfarce_pe.specs.PeSymbols.{table_offset, table_size}
 
--- the string table in the bytes from its beginning on: as many as its first 4 bytes state, which count themselves, or all where there are fewer
+-- the string table in the bytes from its beginning on: as many as its first 4 bytes state, which count themselves, or all if there are fewer
 unfoldable pub string_table : List ℕ → List ℕ
 string_table bytes = if nat_lt (length bytes) 4 then [] else bytes_at bytes 0 (number_in bytes 0 (field 0 4))
 
@@ -37,7 +37,7 @@ offset_in stored = if starts_with nat_eq stored (codes "/") then decimal_in (dro
 abbrev pub text_in : List ℕ → ℕ → Option (List ℕ)
 text_in strings offset = if nat_lt offset 4 then None else text_at strings offset
 
--- a section's name: the text at the offset that the stored name states, where there is one, and else the stored name
+-- a section's name: the text at the offset that the stored name states, if there is one, and else the stored name
 unfoldable pub full_name : (strings stored : List ℕ) → List ℕ
 full_name strings stored = unwrap_or (option_and_then (text_in strings) (offset_in stored)) stored
 

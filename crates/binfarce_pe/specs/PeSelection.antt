@@ -20,7 +20,7 @@ use Rattle.binfarce_pe.specs.PeRules.{SectionRules, text_rules, entries_under}
 abbrev pub base_at : List ℕ → TablePlaces → Option ℕ
 base_at file places = image_base (bytes_at file places.optional_header places.optional_header_size)
 
--- where a program or a library is loaded unless the loader chooses another address: at its image base. None without one, as in an object. Refused where the
+-- where a program or a library is loaded unless the loader chooses another address: at its image base. None without one, as in an object. Refused if the
 -- optional header's bytes that state it end past the file
 unfoldable pub load_address_at : List ℕ → TablePlaces → Result (Option ℕ) Refusal
 load_address_at file places = if_as_long_as (places.optional_header + places.optional_header_size) file (Ok (base_at file places))
@@ -127,7 +127,7 @@ section_entries rules symbols index =
 abbrev pub entries_by : Rules → CoffTable → List SectionEntry
 entries_by rules symbols = flat_map (section_entries rules symbols) (range_with_len rules.first rules.count)
 
--- the stored name of the section of this number, where there is one and its name is UTF-8
+-- the stored name of the section of this number, if there is one and its name is UTF-8
 abbrev pub name_of : SectionTable → ℕ → Option (List ℕ)
 name_of sections number =
     if nat_eq number 0 then None

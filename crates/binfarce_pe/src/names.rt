@@ -17,7 +17,7 @@ const LENGTH_LENGTH: u32 = 4;
 const MOST_DIGITS: usize = 7;
 
 /// The string table of a file whose tables are at these places, a slice of the file: as many bytes as it states, or up
-/// to the file's end. Empty where there is none.
+/// to the file's end. Empty if there is none.
 #[tactic(auto, unfolding(crate::specs::PeNames::strings_of), using(crate::proofs::Strings::outside))]
 pub fn strings_of(file: &[u8], places: TableOffsets) -> &[u8]
     requires { places_view places ≡ places_of file.now }

@@ -50,7 +50,7 @@ pub struct Text {
     pub size: u32,
 }
 
-/// The offset of the signature, from the first 4 bytes. Refused where there are fewer.
+/// The offset of the signature, from the first 4 bytes. Refused if there are fewer.
 pub fn signature_in(pointer: &[u8]) -> Result<u32, ParseError>
     ensures { MatchResult result
         (λ n. (4 ≤ length pointer.now) × (n ≡ number LittleEndian (bytes_at pointer.now 0 4)))
@@ -60,7 +60,7 @@ pub fn signature_in(pointer: &[u8]) -> Result<u32, ParseError>
 }
 
 /// The places that a file header states: `headers` begins with the signature, which is at this offset of the file.
-/// Refused where the file header is truncated.
+/// Refused if the file header is truncated.
 pub fn places_in(headers: &[u8], signature: u32) -> Result<TableOffsets, ParseError>
     ensures { MatchResult result
         (λ p. (24 ≤ length headers.now) × (places_view p ≡ places_after signature (header_after headers.now 0)))

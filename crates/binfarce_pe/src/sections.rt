@@ -39,7 +39,7 @@ impl Section<'_> {
     ///
     /// # Errors
     ///
-    /// None: the range always fits a `usize` of 64 bits. `MalformedInput` where its end exceeds one of 32 bits.
+    /// None: the range always fits a `usize` of 64 bits. `MalformedInput` if its end exceeds one of 32 bits.
     pub fn range(&self) -> Result<Range<usize>, ParseError>
         ensures { let s = section_view self.now in MatchResult result
             (λ r. (r.start ≡ s.pointer_to_raw_data) × (r.end ≡ s.pointer_to_raw_data + s.size_of_raw_data))
@@ -52,7 +52,7 @@ impl Section<'_> {
     }
 }
 
-/// The section's bytes, a slice of the file; `UnexpectedEof` where they end past the file.
+/// The section's bytes, a slice of the file; `UnexpectedEof` if they end past the file.
 #[tactic(auto, unfolding(binfarce_bytes::specs::Refusal::bytes_in_file))]
 pub fn section_data<'a>(file: &'a [u8], section: &Section<'_>) -> Result<&'a [u8], ParseError>
     ensures { Gives refusal_of (λ b. b.now) (section_data file.now (section_view section.now)) result }
@@ -146,7 +146,7 @@ impl<'a> Iterator for Sections<'a> {
 }
 
 // The first section from this index on, where the headers before it were whole, and the index after its own; `None`
-// where there are no more.
+// if there are no more.
 #[inline]
 fn section_left<'a>(
     table: Table<'a>,
@@ -235,7 +235,7 @@ fn is_accepted<'a, F: Fn(Section<'a>) -> bool>(callback: &F, section: Section<'a
     callback(section)
 }
 
-// The section whose header begins at `start`, where its name is UTF-8; refused where a field is truncated.
+// The section whose header begins at `start`, if its name is UTF-8; refused if a field is truncated.
 #[tactic(auto, unfolding(crate::specs::Pe::section_fields, crate::specs::Pe::section_at))]
 pub(crate) fn section_at(
     bytes: &[u8],
@@ -266,7 +266,7 @@ pub(crate) fn section_at(
     }
 }
 
-// The flags of the section whose header begins at `start`; 0 where they are truncated.
+// The flags of the section whose header begins at `start`; 0 if they are truncated.
 #[tactic(auto, unfolding(crate::specs::Pe::characteristics_at))]
 fn characteristics_at(bytes: &[u8], start: usize) -> u32
     requires { start ≤ length bytes.now }
@@ -275,7 +275,7 @@ fn characteristics_at(bytes: &[u8], start: usize) -> u32
     number_at(bytes, start + 36, ByteOrder::LittleEndian).unwrap_or(0)
 }
 
-// The bytes up to the first NUL, or all where there is none, as UTF-8.
+// The bytes up to the first NUL, or all if there is none, as UTF-8.
 #[tactic(auto, unfolding(binfarce_bytes::specs::Text::padded_text))]
 pub(crate) fn short_name(bytes: &[u8]) -> Option<&str>
     ensures { option_map (λ t. t.now) result ≡ padded_text bytes.now }

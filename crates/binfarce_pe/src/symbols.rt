@@ -82,7 +82,7 @@ pub(crate) fn symbol_of(table: CoffTable<'_>, number: usize) -> SymbolRow
     symbol_at(table.rows, number * SYMBOL_LENGTH).unwrap()
 }
 
-// The record that begins at `start`; refused where it is truncated.
+// The record that begins at `start`; refused if it is truncated.
 #[inline]
 #[tactic(auto, unfolding(crate::specs::PeSymbols::symbol_fields, crate::specs::PeSymbols::symbol_at))]
 fn symbol_at(rows: &[u8], start: usize) -> Result<SymbolRow, UnexpectedEof>

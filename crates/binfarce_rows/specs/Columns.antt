@@ -50,7 +50,7 @@ hundredths part whole = (10000 * part) / whole
 abbrev pub percent_digits : ℕ → List ℕ
 percent_digits n = decimal (n / 100) ++ (codes "." ++ (decimal (n / 10 % 10) ++ (decimal (n % 10) ++ codes "%")))
 
--- the change in per cent of the old number, rounded toward zero, with its sign; `new` where there was nothing
+-- the change in per cent of the old number, rounded toward zero, with its sign; `new` if there was nothing
 abbrev pub growth_text : (old new : ℕ) → List ℕ
 growth_text zero new = codes "new"
 growth_text (suc n) new = sign (suc n) new ++ percent_digits (hundredths (difference (suc n) new) (suc n))
@@ -68,7 +68,7 @@ signed_member name old new = codes ",\"" ++ (name ++ (codes "\":" ++ (minus old 
 abbrev pub percent_member : (sign : List ℕ) → ℕ → List ℕ
 percent_member sign n = codes ",\"percent\":" ++ (sign ++ (decimal (n / 100) ++ (codes "." ++ (decimal (n / 10 % 10) ++ decimal (n % 10)))))
 
--- the change in per cent of the old number; `null` where there was nothing
+-- the change in per cent of the old number; `null` if there was nothing
 abbrev pub growth_number : (old new : ℕ) → List ℕ
 growth_number zero new = codes ",\"percent\":null"
 growth_number (suc n) new = percent_member (minus (suc n) new) (hundredths (difference (suc n) new) (suc n))

@@ -12,7 +12,7 @@ use std::fmt::Write;
 ///
 /// # Errors
 ///
-/// `AllocError` where an allocation failed. The text is then unspecified.
+/// `AllocError` if an allocation failed. The text is then unspecified.
 #[tactic(auto, using(crate::proofs::Pads::address_padded, crate::proofs::Pads::size_padded))]
 pub fn push_head(text: &mut String, address: u64, size: u64) -> Result<(), AllocError>
     ensures { OnOk result (string_bytes text.new ≡ string_bytes text.old ++ line_head address size) }

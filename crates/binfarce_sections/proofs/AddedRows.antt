@@ -56,7 +56,7 @@ sum_le number name (c ∷ changes) =
     one_le true n = omega arith
     one_le false n = omega arith
 
--- the sums of a name, 0 where it has none
+-- the sums of a name, 0 if it has none
 named : (name : List ℕ) (changes : List Change) (any : Bool) → list_any (λ c. bytes_eq name c.name.now) changes ≡ any
     → or_none (if any then Some (sum_in (λ c. c.old) name changes, sum_in (λ c. c.new) name changes) else None) ≡ (sum_in (λ c. c.old) name changes, sum_in (λ c. c.new) name changes)
 named name changes true is = refl

@@ -162,6 +162,6 @@ module _ (has_percent : Bool) (style : Style) (first : Option ℕ) (changes : Li
       ∙ ap (λ (xs : List Change). flat_map (shown_row has_percent style) (take n changes) ++ change_row has_percent style (others_row xs)) (take_all (length changes - n) (drop n changes) (omega (arith, length-drop n changes)))
       ∙ rows_are (change_row has_percent style (others_row (drop n changes))) is (rw (lt-ltb n (length changes) lt) refl)
 
-  -- where there are none
+  -- if there are none
   pub rows_whole : (text : List ℕ) → n ≡ count_of first (length changes) → length changes ≤ n → text ≡ flat_map (shown_row has_percent style) (take n changes) → text ≡ change_rows has_percent style first changes
   rows_whole text is le shown = shown ∙ sym (append-nil (flat_map (shown_row has_percent style) (take n changes))) ∙ rows_are [] is (rw (le-ltb n (length changes) le) refl)

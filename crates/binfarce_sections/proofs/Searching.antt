@@ -28,7 +28,7 @@ hands_on {X = X} view walk file word e (Err f) found is =
     let P : SectionError → Type 0 = λ (g : SectionError). Hands {X = X} view (bytes_named walk file word) (Err g) in
     subst P (sym is) (found_not view walk file word e found)
 
--- where an allocation fails before the first write, nothing was taken
+-- if an allocation fails before the first write, nothing was taken
 pub untaken : (style : Style) (walk : Option (Walk Section)) (sections : Sections) (taken : Option (List ℕ)) (result : Result (Unit {0}) SectionError)
     → Opens walk (Ok sections) → IsErrAnd result (λ f. f ≡ OutOfMemory) → TakesLines style walk taken taken result
 untaken style None sections taken result opened is = absurd opened

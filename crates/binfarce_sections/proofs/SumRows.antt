@@ -31,7 +31,7 @@ split_rows style first xs n old mid new is lt shown others =
     ∙ append_assoc old (flat_map (share_row style) (map share_view (take n xs))) (others_row style (map share_view (drop n xs)))
     ∙ ap (λ (t : List ℕ). old ++ t) (rows_are style first xs n (others_row style (map share_view (drop n xs))) is (rw (lt-ltb n (length xs) lt) refl))
 
--- where there are none
+-- if there are none
 pub whole_rows : (style : Style) (first : Option ℕ) (xs : List code_share.Share) (n : ℕ) (old new : List ℕ) → n ≡ count_of first (length xs) → length xs ≤ n
     → new ≡ old ++ flat_map (share_row style) (map share_view (take n xs)) → new ≡ old ++ share_rows style first (map share_view xs)
 whole_rows style first xs n old new is le shown =

@@ -59,7 +59,7 @@ whole class order file =
       file_length = length file;
     }
 
--- so of a file that is refused where it is too short
+-- so of a file that is refused if it is too short
 by_length : {S : Type 0} (short : Bool) (seen : S → Walk Section) (given : S) → cond short (ended (Some unexpected_eof)) (seen given) ≡ walk_of seen (cond short (Err unexpected_eof) (Ok given))
 by_length true seen given = refl
 by_length false seen given = refl

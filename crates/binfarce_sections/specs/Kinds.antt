@@ -57,7 +57,7 @@ macho_type_name n =
     if nat_eq n 21 then Some (codes "THREAD_LOCAL_INIT_FUNCTION_POINTERS") else (
     if nat_eq n 22 then Some (codes "INIT_FUNC_OFFSETS") else None))))))))))))))))))))))
 
--- a type's name, where it has one
+-- a type's name, if it has one
 abbrev pub type_name : SectionType → Option (List ℕ)
 type_name (Elf n) = elf_type_name n
 type_name (Macho n) = macho_type_name n

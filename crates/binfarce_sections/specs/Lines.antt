@@ -31,7 +31,7 @@ type_value None None = text_member (codes "type") None
 abbrev pub type_member : SectionType → List ℕ
 type_member kind = type_value (type_name kind) (type_number kind)
 
--- a section as a JSON object: its file, its segment and its name, or null where it has none; its address, its offset in the file and its size in bytes; its
+-- a section as a JSON object: its file, its segment and its name, or null if it has none; its address, its offset in the file and its size in bytes; its
 -- type and its flags
 abbrev pub section_object : (file : List ℕ) → Section → List ℕ
 section_object file s = concat (

@@ -49,14 +49,14 @@ abbrev pub Hands : {X : Type 0} → (X → List ℕ) → Result (List ℕ) Lack 
 Hands view answer (Ok x) = answer ≡ Ok (view x)
 Hands view answer (Err e) = (lack : Lack) × (answer ≡ Err lack) × IsLack lack e
 
--- all bytes were taken; where a write failed, a beginning of them; otherwise none, and the error gives the reason
+-- all bytes were taken; if a write failed, a beginning of them; otherwise none, and the error gives the reason
 abbrev pub TakesBytes : Result (List ℕ) Lack → Option (List ℕ) → Option (List ℕ) → Result (Unit {0}) SectionError → Type 0
 TakesBytes answer old new (Ok x) = (bytes : List ℕ) × (answer ≡ Ok bytes) × Appends old new bytes
 TakesBytes answer old new (Err Write) = (bytes : List ℕ) × (answer ≡ Ok bytes) × AppendsBeginning old new bytes
 TakesBytes answer old new (Err e) = (lack : Lack) × (answer ≡ Err lack) × IsLack lack e × Appends old new []
 
--- the lines of the sections were taken, and then the walk's refusal is returned, if any; where a write failed, a beginning of the lines was taken;
--- where an allocation failed, or the format is unknown, nothing
+-- the lines of the sections were taken, and then the walk's refusal is returned, if any; if a write failed, a beginning of the lines was taken;
+-- if an allocation failed, or the format is unknown, nothing
 abbrev pub TakesLines : Style → Option (Walk Section) → Option (List ℕ) → Option (List ℕ) → Result (Unit {0}) SectionError → Type 0
 TakesLines style None old new result = (result ≡ Err Unknown) × Appends old new []
 TakesLines style (Some walk) old new (Ok x) = (walk.refusal ≡ None) × Appends old new (section_lines style walk.items)
@@ -65,7 +65,7 @@ TakesLines style (Some walk) old new (Err OutOfMemory) = Appends old new []
 TakesLines style (Some walk) old new (Err Write) = AppendsBeginning old new (section_lines style walk.items)
 TakesLines style (Some walk) old new (Err e) = ⊥
 
--- the same for a source's bytes. A source that may fail can be unreadable; then, and where an allocation failed, nothing was taken
+-- the same for a source's bytes. A source that may fail can be unreadable; then, and if an allocation failed, nothing was taken
 abbrev pub TakesRead : Bool → Result (List ℕ) Lack → Option (List ℕ) → Option (List ℕ) → Result (Unit {0}) SectionError → Type 0
 TakesRead may_fail answer old new (Err Unreadable) = (may_fail ≡ true) × Appends old new []
 TakesRead may_fail answer old new (Err OutOfMemory) = Appends old new []
@@ -85,14 +85,14 @@ SumsUp file_length (Some walk) (Err (Parse e)) = walk.refusal ≡ Some (refusal_
 SumsUp file_length walk (Err OutOfMemory) = Unit {0}
 SumsUp file_length walk result = ⊥
 
--- a text of this kind was taken; where a write failed, a beginning of it; where an allocation failed, nothing. There is no other error
+-- a text of this kind was taken; if a write failed, a beginning of it; if an allocation failed, nothing. There is no other error
 abbrev pub TakesText : (IsText : List ℕ → Type 0) → Option (List ℕ) → Option (List ℕ) → Result (Unit {0}) SectionError → Type 0
 TakesText IsText old new (Ok x) = (text : List ℕ) × IsText text × Appends old new text
 TakesText IsText old new (Err Write) = (text : List ℕ) × IsText text × AppendsBeginning old new text
 TakesText IsText old new (Err OutOfMemory) = Appends old new []
 TakesText IsText old new (Err e) = ⊥
 
--- whether the sink has failed afterwards: it has where a write failed; otherwise this is unchanged
+-- whether the sink has failed afterwards: it has if a write failed; otherwise this is unchanged
 abbrev pub Fails : {X : Type 0} → Bool → Bool → Result X SectionError → Type 0
 Fails old new (Err Write) = new ≡ true
 Fails old new result = new ≡ old

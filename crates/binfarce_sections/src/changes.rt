@@ -46,11 +46,11 @@ pub struct Change<'a> {
 ///
 /// A line is `{old:>10} {new:>10} {change:>11} {memory change:>11} {name}`; a change has its sign. Before the name it
 /// has, if that is wanted, the change of the bytes in the file in per cent of the old number, with two decimals and to
-/// the right of 10 columns, as `+12.50%`: rounded toward zero, and `new` where the old number is 0. `[N others]` is the
+/// the right of 10 columns, as `+12.50%`: rounded toward zero, and `new` if the old number is 0. `[N others]` is the
 /// name of the line that sums up those past the first; the last line, `[total]`, has the lengths of the files, and the
 /// memory of all sections. An object has the members `file`, which is the new one's name, `section`, which is `null`
 /// without a name, `old`, `new`, `change`, `old_memory`, `new_memory`, `memory_change` and, if that is wanted, `percent`,
-/// which is `null` where the old number is 0.
+/// which is `null` if the old number is 0.
 ///
 /// # Errors
 ///

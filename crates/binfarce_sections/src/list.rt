@@ -36,8 +36,8 @@ use std::fmt::Write;
 ///
 /// # Errors
 ///
-/// `Unknown` where the format isn't supported, and `OutOfMemory` where an allocation failed: nothing is written then.
-/// `Parse` where the reader refuses the next section: the lines of those before are written. `Write` where a write
+/// `Unknown` if the format isn't supported, and `OutOfMemory` if an allocation failed: nothing is written then.
+/// `Parse` if the reader refuses the next section: the lines of those before are written. `Write` if a write
 /// failed: a beginning of the lines may then be written.
 pub fn list_sections<S: Sink>(alloc: Global, file: &[u8], out: &mut S) -> Result<(), SectionError>
     ensures takes { TakesLines lines (sections_of (format_of file.now) file.now) (S.taken out.old)
@@ -58,7 +58,7 @@ pub fn list_sections<S: Sink>(alloc: Global, file: &[u8], out: &mut S) -> Result
 ///
 /// # Errors
 ///
-/// Those of `list_sections`, and `Unreadable` where the source can't be read at offsets, or a read of it fails: nothing
+/// Those of `list_sections`, and `Unreadable` if the source can't be read at offsets, or a read of it fails: nothing
 /// is written then.
 pub fn list_source<F: Source, S: Sink>(
     alloc: Global,
@@ -144,7 +144,7 @@ fn push_object(text: &mut String, file: &str, section: Section<'_>) -> Result<()
     Ok(())
 }
 
-/// Appends the member `type`, after a comma: the type's name, or where it has none its number; `null` in PE.
+/// Appends the member `type`, after a comma: the type's name, or if it has none its number; `null` in PE.
 pub(crate) fn push_type_member(text: &mut String, kind: SectionType) -> Result<(), AllocError>
     ensures { OnOk result (string_bytes text.new ≡ string_bytes text.old ++ type_member kind) }
 {

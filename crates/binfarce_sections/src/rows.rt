@@ -18,7 +18,7 @@ use std::collections::BTreeMap;
 ///
 /// # Errors
 ///
-/// `AllocError` where an allocation failed.
+/// `AllocError` if an allocation failed.
 pub fn bytes_by_name<'a>(
     alloc: Global,
     old: &'a SectionSums<'a>,

@@ -55,7 +55,7 @@ pub struct Section<'a> {
     /// `SizeOfRawData`, which an image rounds up.
     pub file_size: u64,
     /// How many bytes it has in memory: in ELF its size where its flags have `SHF_ALLOC`, else 0; in Mach-O its size; in
-    /// PE `VirtualSize`, or `SizeOfRawData` where that is 0, as in an object file.
+    /// PE `VirtualSize`, or `SizeOfRawData` if that is 0, as in an object file.
     pub memory_size: u64,
 }
 
@@ -109,7 +109,7 @@ impl<'a> Iterator for Sections<'a> {
 ///
 /// # Errors
 ///
-/// `Unknown` where the format isn't supported; `Parse` where the file is too short for its header.
+/// `Unknown` if the format isn't supported; `Parse` if the file is too short for its header.
 #[tactic(auto, unfolding(crate::specs::Section::sections_of))]
 pub fn sections_of(file: &[u8]) -> Result<Sections<'_>, SectionError>
     ensures opens { Opens (sections_of (format_of file.entry.now) file.entry.now) result }

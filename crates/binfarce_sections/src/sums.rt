@@ -90,8 +90,8 @@ impl<'a> SectionSums<'a> {
     ///
     /// # Errors
     ///
-    /// `Unknown` where the file's format isn't supported; `Parse` where the reader refuses a section, of all that the file
-    /// states; `OutOfMemory` where an allocation failed.
+    /// `Unknown` if the file's format isn't supported; `Parse` if the reader refuses a section, of all that the file
+    /// states; `OutOfMemory` if an allocation failed.
     pub fn of_tables(alloc: Global, tables: &'a Tables) -> Result<SectionSums<'a>, SectionError>
         ensures sums { (file : List ℕ) → AreTablesOf file tables.entry.now
             → SumsUp (length file) (sections_of (format_of file) file) result }
@@ -133,7 +133,7 @@ impl<'a> SectionSums<'a> {
 ///
 /// # Errors
 ///
-/// `OutOfMemory` where an allocation failed: nothing is written then. `Write` where a write failed: a beginning of the
+/// `OutOfMemory` if an allocation failed: nothing is written then. `Write` if a write failed: a beginning of the
 /// rows may then be written.
 pub fn sum_sections<S: Sink>(
     alloc: Global,

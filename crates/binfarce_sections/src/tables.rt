@@ -36,7 +36,7 @@ impl Tables {
     ///
     /// # Errors
     ///
-    /// `Unknown` where the format isn't supported; `Parse` where the file is too short for its header.
+    /// `Unknown` if the format isn't supported; `Parse` if the file is too short for its header.
     pub fn sections(&self) -> Result<Sections<'_>, SectionError>
         ensures opens { (file : List ℕ) → AreTablesOf file self.entry.now
             → Opens (sections_of (format_of file) file) result }
@@ -68,8 +68,8 @@ impl Tables {
 ///
 /// # Errors
 ///
-/// `Refused` where the file is too short for its header. `Unreadable` where the source can't be read at offsets, or a read
-/// of it fails; `OutOfMemory` where an allocation failed.
+/// `Refused` if the file is too short for its header. `Unreadable` if the source can't be read at offsets, or a read
+/// of it fails; `OutOfMemory` if an allocation failed.
 pub fn read<S: Source>(alloc: Global, source: &S, log: &mut S::Log) -> Result<Tables, ReadError>
     ensures reads { (file : List ℕ) → S.bytes source.now ≡ Some file
         → ReadsTables (S.may_fail source.now) file result }

@@ -72,7 +72,7 @@ pub fn words(arguments: &[String]) -> Result<(&str, &str), Fault>
 
 /// Reads a file to its end, and reports how much of its section each crate takes.
 ///
-/// `File` where it can't be read; `Report` where an allocation fails while it is read, and as `report` refuses.
+/// `File` if it can't be read; `Report` if an allocation fails while it is read, and as `report` refuses.
 pub fn run<R: Read, W: Write>(
     alloc: Global,
     file: &mut R,

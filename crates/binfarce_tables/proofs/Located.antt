@@ -33,7 +33,7 @@ walk_outside class table outside =
     let count : min table.shnum (whole_headers class table) ≡ 0 = omega arith in
     rw (count, le-ltb table.shoff (length table.file) outside) refl
 
--- nothing is found where there are no sections
+-- nothing is found if there are no sections
 pub walk_of_none : (class : ElfClass) (table : SectionTable) → table.shoff < length table.file → table.shnum ≡ 0 → walk class table ≡ ended None
 unfolding walk
 walk_of_none class table inside empty =

@@ -56,7 +56,7 @@ module _ (file : List ℕ) (places : TablePlaces) where
   unfolding table_walk
   whole begins fits = rw (lt-ltb places.sections (length file) begins, le-leb places.section_count (whole_in table) (room begins fits)) refl
 
-  -- where none is truncated, the section headers alone say the same
+  -- if none is truncated, the section headers alone say the same
   module _ (begins : places.sections < length file) (all : places.section_count ≤ whole_in table) where
     fits : (i : ℕ) → i < places.section_count → i * 40 + 24 ≤ min (places.section_count * 40) (length file - places.sections)
     fits i lt = let least : places.section_count * 40 ≤ length file + 16 - places.sections = most places.section_count (length file + 16 - places.sections) all in omega (arith, least, lt, begins)

@@ -26,7 +26,7 @@ only P x all = All-head P x [] all
 pub alone : {X : Type 0} (P : X → Type 0) (x : X) → P x → All P (x ∷ [])
 alone P x is = All-cons P x [] is (All-nil P)
 
--- of a part that is read only where it lies in the file
+-- of a part that is read only if it lies in the file
 maybe : (P : Part → Type 0) (fits : Bool) (p : Part) → P p → All P (cond fits (p ∷ []) [])
 maybe P true p is = alone P p is
 maybe P false p is = All-nil P

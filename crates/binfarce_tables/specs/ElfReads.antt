@@ -57,7 +57,7 @@ unfoldable pub found_parts : List ℕ → Result TableSections Refusal → List 
 found_parts file (Ok sections) = rows_parts file sections
 found_parts file (Err refusal) = []
 
--- a section of descriptors, where it has bytes in the file and they lie there
+-- a section of descriptors, if it has bytes in the file and they lie there
 abbrev pub descriptor_parts : List ℕ → Option Section → List Part
 descriptor_parts file None = []
 descriptor_parts file (Some section) = parts_if (stored section) (section_parts file)

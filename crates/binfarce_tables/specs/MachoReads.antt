@@ -27,7 +27,7 @@ macho_section_parts file = part 0 least_length ∷ part 0 (said_end file) ∷ wh
 abbrev pub table_parts : List ℕ → SymtabCommand ℕ → List Part
 table_parts file table = whole_part file table.strings_offset table.strings_size ++ whole_part file table.symbol_offset (symbol_length * table.row_count)
 
--- those of a file's symbol table, where it has one
+-- those of a file's symbol table, if it has one
 abbrev pub found_parts : List ℕ → Result (Option (SymtabCommand ℕ)) Refusal → List Part
 found_parts file (Ok table) = parts_if table (table_parts file)
 found_parts file (Err why) = []

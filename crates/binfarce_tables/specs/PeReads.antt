@@ -32,7 +32,7 @@ table_parts file places =
     let end = places.symbols + places.symbols_size in
     if nat_le end (length file) then part places.symbols places.symbols_size ∷ part end (length file - end) ∷ [] else []
 
--- the beginning up to the end of the section headers, or where there are none up to the end of the first byte of their table; at least the stub, but no
+-- the beginning up to the end of the section headers, or if there are none up to the end of the first byte of their table; at least the stub, but no
 -- more than the file has
 abbrev pub beginning_part : List ℕ → TablePlaces → Part
 beginning_part file places = part 0 (min (max (places.sections + max (places.section_count * section_length) 1) 64) (length file))

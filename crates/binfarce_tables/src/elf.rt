@@ -77,7 +77,7 @@ impl Parts {
         )
     }
 
-    /// The name of the section of this index, a slice of the parts; nothing is copied. `None` where there is no such
+    /// The name of the section of this index, a slice of the parts; nothing is copied. `None` if there is no such
     /// section, and where `name` of the section gives none.
     pub fn section_name(&self, number: u32) -> Option<&str>
         ensures { option_map (λ t. t.now) result ≡ (parts_view self.entry.now).section_name number }
@@ -115,9 +115,9 @@ impl Parts {
 ///
 /// # Errors
 ///
-/// `Refused` with the error of `parse` or `functions` of a reader of the whole file; `Unreadable` where the source
+/// `Refused` with the error of `parse` or `functions` of a reader of the whole file; `Unreadable` if the source
 /// can't be read at offsets, or a read of it fails, and never for a source that can't fail, such as bytes in memory;
-/// `OutOfMemory` where an allocation fails.
+/// `OutOfMemory` if an allocation fails.
 pub fn read<S: Source>(
     alloc: Global,
     source: &S,
@@ -302,7 +302,7 @@ fn read_versions<S: Source>(
     Ok(VersionParts { rows, names })
 }
 
-// The bytes of a section, where there is one and they lie in the file.
+// The bytes of a section, if there is one and they lie in the file.
 fn read_if<S: Source>(
     opened: &Opened<'_, S>,
     log: &mut S::Log,

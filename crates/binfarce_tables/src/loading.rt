@@ -16,15 +16,15 @@ use std::alloc::Global;
 
 /// Where a file of this format says that it is loaded, unless the loader chooses another address: of ELF the page of
 /// 4096 bytes of its lowest loaded segment, and its first code segment; of Mach-O the address of its first segment
-/// `__TEXT`, of PE its image base. `None` where there is none, as in an object file, and for an unknown format. Only
+/// `__TEXT`, of PE its image base. `None` if there is none, as in an object file, and for an unknown format. Only
 /// what states it is read.
 ///
 /// # Errors
 ///
-/// `Refused` with `UnexpectedEof` where the file is too short for its header, or what states the address ends past it,
-/// and with `MalformedInput` for a bad Mach-O load command before that segment; `Unreadable` where the source can't be
+/// `Refused` with `UnexpectedEof` if the file is too short for its header, or what states the address ends past it,
+/// and with `MalformedInput` for a bad Mach-O load command before that segment; `Unreadable` if the source can't be
 /// read at offsets, or a read of it fails, and never for a source that can't fail, such as bytes in memory;
-/// `OutOfMemory` where an allocation fails.
+/// `OutOfMemory` if an allocation fails.
 pub fn read_load_address<S: Source>(
     alloc: Global,
     source: &S,

@@ -57,7 +57,7 @@ impl Parts {
     ///
     /// # Errors
     ///
-    /// `OutOfMemory`, only where the file has a section.
+    /// `OutOfMemory`, only if the file has a section.
     pub fn functions(&self, alloc: Global) -> Result<Vec<SectionFunction<'_>>, ParseError>
         ensures { let tables = parts_view self.now in
             Answers HoldsSelected (λ _. tables.sections.sections ≢ []) (Ok (symbols_of tables)) result }
@@ -72,14 +72,14 @@ impl Parts {
         has_functions(&self.sections, symbols_in(&self.symbols))
     }
 
-    /// The size in bytes of the code section; `None` where all sections are selected.
+    /// The size in bytes of the code section; `None` if all sections are selected.
     pub fn section_size(&self) -> Option<u64>
         ensures { result ≡ (symbols_of (parts_view self.now)).section_size }
     {
         self.sections.size()
     }
 
-    /// The name of the section of this number, `SEGMENT,SECTION`; nothing is copied. `None` where there is no such
+    /// The name of the section of this number, `SEGMENT,SECTION`; nothing is copied. `None` if there is no such
     /// section, and where one of its two names isn't valid.
     pub fn section_name(&self, number: u32) -> Option<&str>
         ensures { option_map (λ t. t.now) result ≡ (symbols_of (parts_view self.entry.now)).section_name number }
@@ -111,8 +111,8 @@ fn bytes_of(symbols: &SymbolParts) -> SymbolBytes<'_>
 ///
 /// # Errors
 ///
-/// `Refused` with the error of `parse`, or of `selected_functions` of a reader of the whole file; `Unreadable` where the source can't be read at offsets, or a
-/// read of it fails, and never for a source that can't fail, such as bytes in memory; `OutOfMemory` where an allocation
+/// `Refused` with the error of `parse`, or of `selected_functions` of a reader of the whole file; `Unreadable` if the source can't be read at offsets, or a
+/// read of it fails, and never for a source that can't fail, such as bytes in memory; `OutOfMemory` if an allocation
 /// fails.
 pub fn read<S: Source>(
     alloc: Global,
@@ -168,7 +168,7 @@ fn error_of(e: ParseError) -> ReadError
     }
 }
 
-// The string table and the symbol table, where there is one.
+// The string table and the symbol table, if there is one.
 fn read_symbols<S: Source>(
     opened: &Opened<'_, S>,
     log: &mut S::Log,
@@ -201,8 +201,8 @@ fn read_symbols<S: Source>(
 ///
 /// # Errors
 ///
-/// `Refused` with `UnexpectedEof` for fewer than 28 bytes; `Unreadable` where the source can't be read at offsets, or a
-/// read of it fails, and never for a source that can't fail, such as bytes in memory; `OutOfMemory` where an allocation
+/// `Refused` with `UnexpectedEof` for fewer than 28 bytes; `Unreadable` if the source can't be read at offsets, or a
+/// read of it fails, and never for a source that can't fail, such as bytes in memory; `OutOfMemory` if an allocation
 /// fails.
 pub fn read_sections<S: Source>(
     alloc: Global,
@@ -229,8 +229,8 @@ pub fn read_sections<S: Source>(
 /// # Errors
 ///
 /// `Refused` with `UnexpectedEof` for fewer than 28 bytes, and with `MalformedInput` for a bad load command before that
-/// segment; `Unreadable` where the source can't be read at offsets, or a read of it fails, and never for a source that
-/// can't fail, such as bytes in memory; `OutOfMemory` where an allocation fails.
+/// segment; `Unreadable` if the source can't be read at offsets, or a read of it fails, and never for a source that
+/// can't fail, such as bytes in memory; `OutOfMemory` if an allocation fails.
 pub fn read_load_address<S: Source>(
     alloc: Global,
     source: &S,
@@ -256,7 +256,7 @@ fn address_in(commands: &[u8]) -> Result<Option<u64>, ReadError>
     Ok(load_address(commands, header)?)
 }
 
-// The prefix of the file that has the load commands; refused where the file is too short for its header.
+// The prefix of the file that has the load commands; refused if the file is too short for its header.
 fn read_commands<S: Source>(opened: &Opened<'_, S>, log: &mut S::Log) -> Result<Vec<u8>, ReadError>
     ensures answer { (file : List ℕ) → Known (S.bytes opened.now.source.now) opened.now.len file
         → Reads (S.may_fail opened.now.source.now) (λ v. v.items)
@@ -290,7 +290,7 @@ fn read_end<S: Source>(opened: &Opened<'_, S>, log: &mut S::Log) -> Result<u64, 
     Ok(commands_end(header).min(opened.len))
 }
 
-// The header in a file's first bytes; refused where it is truncated.
+// The header in a file's first bytes; refused if it is truncated.
 fn header_in(bytes: &[u8]) -> Result<MachoHeader, ParseError>
     ensures { MatchResult result
         (λ h. (28 ≤ length bytes.now) × (header_view h ≡ header_of bytes.now))

@@ -64,8 +64,8 @@ impl<S: Source> Opened<'_, S> {
     ///
     /// # Errors
     ///
-    /// `Refused` with `UnexpectedEof` where they don't all lie in the file; `Unreadable` where a read of the source
-    /// fails, and never for a source that can't fail, such as bytes in memory; `OutOfMemory` where the allocation fails.
+    /// `Refused` with `UnexpectedEof` if they don't all lie in the file; `Unreadable` if a read of the source
+    /// fails, and never for a source that can't fail, such as bytes in memory; `OutOfMemory` if the allocation fails.
     pub fn within(&self, log: &mut S::Log, offset: u64, size: u64) -> Result<Vec<u8>, ReadError>
         ensures answer { (file : List ℕ) → Known (S.bytes self.now.source.now) self.now.len file
             → Reads (S.may_fail self.now.source.now) (λ v. v.items)
@@ -87,8 +87,8 @@ impl<S: Source> Opened<'_, S> {
 ///
 /// # Errors
 ///
-/// `Unreadable` where a read of the source fails, for instance where it ends before `offset + size` (an opened file
-/// doesn't fail where `size` is 0). `OutOfMemory` where the allocation fails, and where `size` exceeds `usize`.
+/// `Unreadable` if a read of the source fails, for instance where it ends before `offset + size` (an opened file
+/// doesn't fail where `size` is 0). `OutOfMemory` if the allocation fails, and where `size` exceeds `usize`.
 pub fn part<S: Source>(
     alloc: Global,
     source: &S,

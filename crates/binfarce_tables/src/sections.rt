@@ -49,7 +49,7 @@ impl SectionParts {
         self.names.as_deref()
     }
 
-    // The name of the section of this index, where there is one and it has a name.
+    // The name of the section of this index, if there is one and it has a name.
     pub(crate) fn name_of(&self, number: u32) -> Option<&str>
         ensures { let seen = sections_view self.entry.now in
             option_map (λ t. t.now) result ≡ name_of_index seen.names seen.sections number }
@@ -79,9 +79,9 @@ impl SectionParts {
 ///
 /// # Errors
 ///
-/// `Refused` with `UnexpectedEof` where the file is too short for its header; `Unreadable` where the source can't be
+/// `Refused` with `UnexpectedEof` if the file is too short for its header; `Unreadable` if the source can't be
 /// read at offsets, or a read of it fails, and never for a source that can't fail, such as bytes in memory;
-/// `OutOfMemory` where an allocation fails.
+/// `OutOfMemory` if an allocation fails.
 pub fn read_sections<S: Source>(
     alloc: Global,
     source: &S,

@@ -84,7 +84,7 @@ at_digits t n i ends here all =
       | inr l ↦ omega arith
     ]
 
--- a text is unchanged where no `.llvm.` is before its last digits, or where there is an earlier one
+-- a text is unchanged where no `.llvm.` is before its last digits, or if there is an earlier one
 pub without_llvm-kept : (t : List ℕ) (n : ℕ) → EndsInDigits t n
     → ((i : ℕ) → n ≡ i + 6 → llvm_at t i ≡ true → NoneBelow t i → ⊥) → without_llvm t ≡ t
 without_llvm-kept t n ends lacks = elim (first_llvm t (length t)) [

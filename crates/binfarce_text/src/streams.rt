@@ -66,7 +66,7 @@ pub trait Pass<O> {
     // The bytes that were written, where they are known.
     ghost taken: { O → Option (List ℕ) };
 
-    // A write has failed, where that is known; or else the same whatever fails.
+    // A write has failed, if that is known; or else the same whatever fails.
     ghost has_failed: { O → Bool };
 
     /// Takes the next part, and appends the output so far to `out`. Don't go on after an error.
@@ -95,7 +95,7 @@ pub trait Pass<O> {
 ///
 /// # Errors
 ///
-/// `Read` where the reader failed: what came before is passed. `Write` where a write failed, and `OutOfMemory` where an
+/// `Read` if the reader failed: what came before is passed. `Write` if a write failed, and `OutOfMemory` if an
 /// allocation did: a beginning of the output was written.
 pub fn pass_stream<R: Read, O, P: Pass<O>>(
     alloc: Global,
@@ -125,7 +125,7 @@ pub fn pass_stream<R: Read, O, P: Pass<O>>(
     }
 }
 
-// Passes all that the reader gives. Returns `false` where the reader failed.
+// Passes all that the reader gives. Returns `false` if the reader failed.
 fn pass_all<R: Read, O, P: Pass<O>>(
     pass: &mut P,
     chunk: &mut [u8],
@@ -174,7 +174,7 @@ fn pass_part<O, P: Pass<O>>(
     Ok(())
 }
 
-// Takes the next bytes, and writes the output if these are the last ones or it is long; else it waits in `out`, where
+// Takes the next bytes, and writes the output if these are the last ones or it is long; else it waits in `out`, if
 // some may wait before.
 fn pass_step<O, P: Pass<O>>(
     pass: &mut P,

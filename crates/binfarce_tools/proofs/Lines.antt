@@ -57,7 +57,7 @@ module _ {L : Type 0} (IsText : L → List ℕ → Type 0) where
   takes Holds memory (Some (Ok all)) value text old new (Err (Parse p)) gets is wrote = let e = wrote.0 in absurd cc
   takes Holds memory (Some (Ok all)) value text old new (Err OutOfMemory) gets is wrote = let e = wrote.0 in absurd cc
 
-  -- nothing was written where an allocation failed
+  -- nothing was written if an allocation failed
   pub takes_nothing : (answer : Option (Result L Refusal)) (old : Option (List ℕ)) (result : Result (Unit {0}) ListError) → IsErrAnd result (λ e. e ≡ OutOfMemory) → Takes answer old old result
   takes_nothing answer old (Ok x) is = absurd is
   takes_nothing answer old (Err e) is =

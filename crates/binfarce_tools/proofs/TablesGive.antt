@@ -158,7 +158,7 @@ module _ (which : SymbolTable) (file : List ℕ) (section : Option (List ℕ)) w
   versions_are (variants.Made functions size versions) seen are is =
       fun_ext (λ version. are.4 version) ∙ ap (λ (a : SelectedSymbols). a.version_name) (some_ok (sym are.1 ∙ is))
 
-  -- a text of what the tables give is one of the file's answer, if names count only where there is no size
+  -- a text of what the tables give is one of the file's answer, if names count only if there is no size
   pub as_answered : (IsText : SelectedSymbols → Type 0) (read : Tables) (selected : Selected) (seen : SelectedSymbols) → AreTablesOf which file section read → selected_answer which section file ≡ Some (Ok seen) → HoldsLeft seen selected
       → ((entries : List SectionEntry) (size : ℕ) (names other : ℕ → Option (List ℕ)) (shares : Bool) (versions : ℕ → Option (List ℕ)) → IsText (record { entries = entries; section_size = Some size; section_name = names; shares_addresses = shares; version_name = versions })
       → IsText (record { entries = entries; section_size = Some size; section_name = other; shares_addresses = shares; version_name = versions }))

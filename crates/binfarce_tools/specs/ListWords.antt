@@ -28,7 +28,7 @@ outcome_of (Err (Parse e)) = refused (refusal_of e)
 outcome_of (Err OutOfMemory) = no_memory
 outcome_of (Err Write) = write_failed
 
--- the bytes that a sink takes of a whole text: all, or where a write failed a beginning
+-- the bytes that a sink takes of a whole text: all, or if a write failed a beginning
 abbrev pub Writes : Option (List ℕ) → Option (List ℕ) → List ℕ → Result (Unit {0}) ListError → Type 0
 Writes old new bytes (Ok _) = Appends old new bytes
 Writes old new bytes (Err e) = (e ≡ Write) × AppendsBeginning old new bytes

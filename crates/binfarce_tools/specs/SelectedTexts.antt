@@ -11,7 +11,7 @@ use Rattle.binfarce_tools.specs.Listing.{size_line}
 use Rattle.binfarce_tools.specs.Report.{Share, IsShareOf, IsReportOfShares}
 use Rattle.binfarce_tools.specs.SectionAnswer.{ReportFits}
 
--- a section in a line: its name as it is stored, or where it has none its number in brackets
+-- a section in a line: its name as it is stored, or if it has none its number in brackets
 abbrev pub section_text : Option (List ℕ) → ℕ → List ℕ
 section_text (Some name) number = name
 section_text None number = codes "[" ++ (decimal number ++ codes "]")
@@ -25,7 +25,7 @@ section_part names None number = section_text (names number) number ++ codes " "
 abbrev pub entry_line : (names : ℕ → Option (List ℕ)) → (size : Option ℕ) → SectionEntry → Name → List ℕ
 entry_line names size e name = line_head e.entry.address e.entry.size ++ (section_part names size e.section ++ (name.trimmed ++ 10 ∷ []))
 
--- line is that of the entry, with the answer of its name, where these are the sections' names and the selected one's size
+-- line is that of the entry, with the answer of its name, if these are the sections' names and the selected one's size
 abbrev pub IsLineOfSelected : (names : ℕ → Option (List ℕ)) → (size : Option ℕ) → SectionEntry → List ℕ → Type 0
 IsLineOfSelected names size e line = (name : Name) × IsNamed e.entry.name name × (line ≡ entry_line names size e name)
 

@@ -8,7 +8,7 @@ use Rattle.std.specs.Str.{bytes_eq}
 use Rattle.binfarce_tools.specs.declared.report.CrateSums.{CrateSums}
 use Rattle.binfarce_tools.specs.Report.{Share, total, sum_of}
 
--- the sum at a crate's name, 0 where it has none
+-- the sum at a crate's name, 0 if it has none
 abbrev pub sum_at : {Y : Type 0} → BTreeMap (String Y) ℕ → List ℕ → ℕ
 sum_at crates name = unwrap_or (get_by_text crates name) 0
 

@@ -35,7 +35,7 @@ AreTablesOf which file section (Made functions size versions) =
     (selected : SelectedSymbols) × (selected_answer which section file ≡ Some (Ok selected)) × (map section_function_view functions.items ≡ selected.entries)
     × (selected.section_size ≡ Some size) × ((version : ℕ) → version_names versions version ≡ selected.version_name version)
 
--- what a reading of a file with this answer gives: tables that are its own, or its refusal; or a read failed, which it may only where MayFail says so; or an allocation failed
+-- what a reading of a file with this answer gives: tables that are its own, or its refusal; or a read failed, which it may only if MayFail says so; or an allocation failed
 abbrev pub ReadsAs : {L T : Type 0} → (T → Type 0) → Type 0 → Option (Result L Refusal) → Result T ReadError → Type 0
 ReadsAs AreTables MayFail answer (Ok tables) = AreTables tables
 ReadsAs AreTables MayFail answer (Err (Refused e)) = answer ≡ Some (Err (refusal_of e))

@@ -17,7 +17,7 @@ pub data Outcome : Type 0 where
   wrong_usage : Outcome
 
 -- the outcome for a file's answer of any kind; its text can be made if Fits holds. An unknown format, a refusal and a text that can't be made are
--- reported exactly where they hold. A failed allocation may replace a refusal only if that refusal needs memory
+-- reported exactly if they hold. A failed allocation may replace a refusal only if that refusal needs memory
 abbrev pub EndsAs : {L : Type 0} → (L → Type 0) → (Result L Refusal → Type 0) → Option (Result L Refusal) → Outcome → Type 0
 EndsAs Fits NeedsMemory None outcome = outcome ≡ unknown_format
 EndsAs Fits NeedsMemory (Some (Err refusal)) outcome = (outcome ≡ refused refusal) ⊎ (NeedsMemory (Err refusal) × (outcome ≡ no_memory))
@@ -40,13 +40,13 @@ IsDue IsTextOf None text = ⊥
 abbrev pub AppendsBeginning : Option (List ℕ) → Option (List ℕ) → List ℕ → Type 0
 AppendsBeginning old new text = (beginning : List ℕ) × (others : List ℕ) × (text ≡ beginning ++ others) × Appends old new beginning
 
--- the bytes that were taken: the text that is due; where a write failed, a beginning of it; otherwise nothing
+-- the bytes that were taken: the text that is due; if a write failed, a beginning of it; otherwise nothing
 abbrev pub Takes : {L : Type 0} → (L → List ℕ → Type 0) → Option (Result L Refusal) → Option (List ℕ) → Option (List ℕ) → Outcome → Type 0
 Takes IsTextOf answer old new written = (text : List ℕ) × IsDue IsTextOf answer text × Appends old new text
 Takes IsTextOf answer old new write_failed = (text : List ℕ) × IsDue IsTextOf answer text × AppendsBeginning old new text
 Takes IsTextOf answer old new outcome = Appends old new []
 
--- whether the sink has failed afterwards: it has where a write failed; otherwise this is unchanged
+-- whether the sink has failed afterwards: it has if a write failed; otherwise this is unchanged
 abbrev pub Fails : Bool → Bool → Outcome → Type 0
 Fails old new write_failed = new ≡ true
 Fails old new outcome = new ≡ old
@@ -57,7 +57,7 @@ Leaves old new written = Unit {0}
 Leaves old new write_failed = Unit {0}
 Leaves old new outcome = new ≡ old
 
--- the text that was made was taken whole, or where a write failed a beginning of it; nothing was taken if no text was made
+-- the text that was made was taken whole, or if a write failed a beginning of it; nothing was taken if no text was made
 abbrev pub WritesMade : {Y E : Type 0} → Result (String Y) E → Option (List ℕ) → Option (List ℕ) → Outcome → Type 0
 WritesMade (Ok text) old new outcome = ((outcome ≡ written) × Appends old new (string_bytes text)) ⊎ ((outcome ≡ write_failed) × AppendsBeginning old new (string_bytes text))
 WritesMade (Err e) old new outcome = (outcome ≡ no_memory) × Appends old new []

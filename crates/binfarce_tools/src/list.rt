@@ -164,8 +164,8 @@ impl From<ParseError> for ListError {
 ///
 /// # Errors
 ///
-/// `Unknown` where the format isn't supported; `Parse` where its reader refuses the file; `OutOfMemory` where an
-/// allocation failed. Nothing is written then. `Write` where a write failed: a beginning of the listing may then be
+/// `Unknown` if the format isn't supported; `Parse` if its reader refuses the file; `OutOfMemory` if an
+/// allocation failed. Nothing is written then. `Write` if a write failed: a beginning of the listing may then be
 /// written.
 pub fn list<S: Sink>(
     alloc: Global,
@@ -185,9 +185,9 @@ pub fn list<S: Sink>(
     write_whole(out, text.as_bytes())
 }
 
-/// Lists the function symbols of a file's tables, for the selection that they were read for, as `list` does those of an
-/// ELF file's section. Of a Mach-O or PE file a section is the code section, and its function symbols are those that
-/// `selected_functions` of a reader gives. Of all sections a line is
+/// Lists the function symbols of a file's tables, for the selection that they were read for, as `list` does for an ELF
+/// file's section. In a Mach-O or PE file a section is the code section, and its function symbols are those that
+/// `selected_functions` of a reader gives. For all sections a line is
 /// `{address:016x} {size:>10} {section} {trimmed}`, with the section's name, or its number in brackets where it has
 /// none; and there is no last line.
 ///
@@ -251,7 +251,7 @@ fn listing(alloc: Global, tables: &Tables<'_>, selected: Selected<'_>) -> Result
     Ok(text)
 }
 
-// Appends the line of a function symbol to the text, with its section where there is no size.
+// Appends the line of a function symbol to the text, with its section if there is no size.
 fn push_line(
     demangler: &mut Demangler,
     text: &mut String,
@@ -273,7 +273,7 @@ fn push_line(
 ///
 /// # Errors
 ///
-/// `AllocError` where an allocation failed. The text is then unspecified.
+/// `AllocError` if an allocation failed. The text is then unspecified.
 pub fn push_section_part(
     text: &mut String,
     tables: &Tables<'_>,
@@ -296,7 +296,7 @@ pub fn push_section_part(
 ///
 /// # Errors
 ///
-/// `AllocError` where an allocation failed. The text is then unspecified.
+/// `AllocError` if an allocation failed. The text is then unspecified.
 pub fn push_section(text: &mut String, tables: &Tables<'_>, number: u32) -> Result<(), AllocError>
     ensures { OnOk result
         (string_bytes text.new ≡ string_bytes text.old ++ section_text (section_names tables.now number) number) }
@@ -307,7 +307,7 @@ pub fn push_section(text: &mut String, tables: &Tables<'_>, number: u32) -> Resu
     }
 }
 
-// Appends the last line to the text: that of the selected section's size; nothing where all sections are selected.
+// Appends the last line to the text: that of the selected section's size; nothing if all sections are selected.
 pub(crate) fn push_last_line(text: &mut String, size: Option<u64>) -> Result<(), AllocError>
     ensures { OnOk result (string_bytes text.new ≡ string_bytes text.old ++ last_line size) }
 {

@@ -60,8 +60,8 @@ impl<'a> Tables<'a> {
         Self::Whole { file, section }
     }
 
-    /// The tables, unless their function symbols are refused: then `functions` fails only where an allocation does.
-    /// Those of a file read at offsets are refused where its format is unknown.
+    /// The tables, unless their function symbols are refused: then `functions` fails only if an allocation does.
+    /// Those of a file read at offsets are refused if its format is unknown.
     ///
     /// # Errors
     ///
@@ -113,7 +113,7 @@ impl<'a> Tables<'a> {
         }
     }
 
-    /// The name of the section of this number, a slice of the tables. `None` where there is no such section, where it
+    /// The name of the section of this number, a slice of the tables. `None` if there is no such section, where it
     /// has no valid name, and where the tables are those of a whole file, or were made.
     pub fn section_name(&self, number: u32) -> Option<&str>
         ensures read { option_map (λ t. t.now) result ≡ section_names self.entry.now number }
@@ -192,8 +192,8 @@ impl<'a> Tables<'a> {
 /// # Errors
 ///
 /// `Refused` with the error of the format's reader, and `SectionIsMissing` of `.dynsym` for the dynamic symbol table of
-/// a Mach-O or PE file; `Unreadable` where the source can't be read at offsets, or a read of it fails, and never for a
-/// source that can't fail, such as bytes in memory; `OutOfMemory` where an allocation fails.
+/// a Mach-O or PE file; `Unreadable` if the source can't be read at offsets, or a read of it fails, and never for a
+/// source that can't fail, such as bytes in memory; `OutOfMemory` if an allocation fails.
 pub fn read<S: Source>(
     alloc: Global,
     source: &S,

@@ -9,7 +9,7 @@ use crate::list::{ListError, Sink};
 ///
 /// # Errors
 ///
-/// `Write` where a write of the sink failed: a beginning of the bytes was taken.
+/// `Write` if a write of the sink failed: a beginning of the bytes was taken.
 pub fn write_whole<S: Sink>(out: &mut S, bytes: &[u8]) -> Result<(), ListError>
     ensures takes { Writes (S.taken out.old) (S.taken out.new) bytes.now result }
     ensures fails { Fails (S.has_failed out.old) (S.has_failed out.new) (outcome_of result) }

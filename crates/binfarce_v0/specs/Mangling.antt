@@ -30,7 +30,7 @@ pub record HasPathAt (part : List ℕ) (at after : ℕ) : Type 0 where
   pub reads : ReadsPath part tree at after
   pub levels : path_height tree ≤ MAX_LEVELS
 
--- the path of the instantiating crate, where there is an upper-case letter
+-- the path of the instantiating crate, if there is an upper-case letter
 abbrev pub SecondPath : (is_there : Bool) (part : List ℕ) (at after : ℕ) → Type 0
 SecondPath true part at after = HasPathAt part at after
 SecondPath false part at after = after ≡ at

@@ -59,7 +59,7 @@ fn paths_end(part: &str, first: Option<usize>) -> Option<usize>
     }
 }
 
-/// The part after the prefix of a text that may begin with a v0 mangling. `None` where `text` begins with none: most
+/// The part after the prefix of a text that may begin with a v0 mangling. `None` if `text` begins with none: most
 /// names that aren't mangled are ruled out by their first bytes. Nothing is allocated.
 #[inline(always)]
 pub fn candidate(text: &str) -> Option<&str>
@@ -75,7 +75,7 @@ pub fn candidate(text: &str) -> Option<&str>
 }
 
 /// The v0 mangling that `text` begins with: the part after its prefix, and the position in that part after its paths.
-/// `None` where `text` begins with no v0 mangling whose reading has at most `MAX_LEVELS` levels. Nothing is allocated.
+/// `None` if `text` begins with no v0 mangling whose reading has at most `MAX_LEVELS` levels. Nothing is allocated.
 pub fn read(text: &str) -> Option<(&str, usize)>
     ensures { MatchOption result ((part : List ℕ) (after : ℕ) → IsMangling text.now part after → ⊥)
         (λ r. IsMangling text.now r.0.now r.1) }
@@ -106,7 +106,7 @@ pub fn print(printer: &mut Printer<'_>) -> Result<bool, AllocError>
 }
 
 /// The part of `text` after the prefix of a v0 mangling, up to its end: back references may name positions in all of
-/// it. `None` where `text` isn't a v0 mangling whose reading has at most `MAX_LEVELS` levels. Nothing is allocated.
+/// it. `None` if `text` isn't a v0 mangling whose reading has at most `MAX_LEVELS` levels. Nothing is allocated.
 pub fn mangled_part(text: &str) -> Option<&str>
     ensures { MatchOption result ((part : List ℕ) → IsV0 text.now part → ⊥) (λ p. IsV0 text.now p.now) }
 {
@@ -128,7 +128,7 @@ fn rest_from(part: &str, at: usize) -> &str
 }
 
 /// Prints what the part of a new printing unfolds to, as `print` does. `candidate` gave this part of a text. Returns
-/// what follows the mangling in the text. `None` where the text isn't a v0 mangling whose reading has at most
+/// what follows the mangling in the text. `None` if the text isn't a v0 mangling whose reading has at most
 /// `MAX_LEVELS` levels, and which unfolds to a tree of at most `MAX_LEVELS` levels and `MAX_STEPS` steps.
 ///
 /// Printing without invalid syntax outside back references also reads the first path: then only a second path is left
@@ -226,7 +226,7 @@ pub fn push_crate_name(alloc: Global, text: &mut String, name: &str) -> Result<b
     }
 }
 
-/// Both texts of the tree that the v0 mangling `text` unfolds to, and its crate. `None` where `text` isn't a v0
+/// Both texts of the tree that the v0 mangling `text` unfolds to, and its crate. `None` if `text` isn't a v0
 /// mangling that unfolds to a tree within the limits.
 ///
 /// The name is printed once. The texts are copies in memory of their lengths. The only error is a failed allocation.

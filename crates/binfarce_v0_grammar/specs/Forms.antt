@@ -20,7 +20,7 @@ abbrev pub after_byte : (at : Option ℕ) → Option ℕ
 after_byte None = None
 after_byte (Some at) = Some (at + 1)
 
--- the identifier at a position, where there is a position
+-- the identifier at a position, if there is a position
 abbrev pub identifier_at : (part : List ℕ) (at : Option ℕ) → Option (Identifier × ℕ)
 identifier_at part at = at >>= identifier part
 

@@ -35,7 +35,7 @@ identifier_of true bytes =
     let code = after_last (λ c. c == '_') bytes in
     if is_empty code then None else Some (record { ascii = before_last (λ c. c == '_') bytes; punycode = code })
 
--- as many bytes as the length says, where there are so many
+-- as many bytes as the length says, if there are so many
 unfoldable pub identifier_bytes : (part : List ℕ) (is_punycode : Bool) (start size : ℕ) → Option (UndisambiguatedIdentifier × ℕ)
 identifier_bytes part is_punycode start size =
     let end = start + size in

@@ -107,7 +107,7 @@ text_of (suc room) decoder (byte ∷ code) =
     (integer decoder.bias 0 (byte ∷ code))
 
 -- the text of an ASCII part, whose bytes are its first characters, and a code. There is none where some of the code isn't an integer, where a
--- character isn't a scalar value, and where there are too many characters
+-- character isn't a scalar value, and if there are too many characters
 unfoldable pub punycode_decoded : (ascii code : List ℕ) → Option (List ℕ)
 punycode_decoded ascii code =
     let start : Decoder = record { n = initial_n; i = 0; bias = initial_bias; output = ascii } in

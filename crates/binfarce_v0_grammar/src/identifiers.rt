@@ -24,7 +24,7 @@ pub struct UndisambiguatedIdentifier<'a> {
 /// `<identifier>`: an undisambiguated identifier with its disambiguator.
 #[derive(Clone, Copy)]
 pub struct Identifier<'a> {
-    /// 0 where none is written.
+    /// 0 if none is written.
     pub disambiguator: u64,
     pub name: UndisambiguatedIdentifier<'a>,
 }
@@ -100,7 +100,7 @@ fn identifier_bytes<'a>(
 
 /// `<undisambiguated-identifier> = ["u"] <decimal-number> ["_"] <bytes>` at a position, and the position after it.
 ///
-/// `None` where there is no number, where the part ends before as many bytes, and where a Punycode identifier has no
+/// `None` if there is no number, where the part ends before as many bytes, and where a Punycode identifier has no
 /// Punycode.
 #[inline(always)]
 #[tactic(auto, unfolding(crate::specs::Identifiers::undisambiguated_identifier))]

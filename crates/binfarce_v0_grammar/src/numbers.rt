@@ -110,7 +110,7 @@ pub fn base_62_number(part: &[u8], at: usize) -> Option<(u64, usize)>
 }
 
 /// A number after a tag, as a disambiguator after `s` or a binder after `G`: 0 without the tag, and one more than the
-/// number with it. `None` where the number is invalid.
+/// number with it. `None` if the number is invalid.
 #[inline(always)]
 #[tactic(auto, unfolding(crate::specs::Base62::optional_base_62_number))]
 pub fn optional_base_62_number(part: &[u8], tag: u8, at: usize) -> Option<(u64, usize)>
@@ -196,8 +196,8 @@ fn write_small(part: &[u8], start: usize, end: usize) -> bool
     count <= 10 || (count == 11 && are_small(part[start], part[start + 1]))
 }
 
-/// Skips an optional tag and the base-62 number after it: the position behind them. `None` where the number is invalid.
-/// Its digits are decoded only where the number may be too large.
+/// Skips an optional tag and the base-62 number after it: the position behind them. `None` if the number is invalid.
+/// Its digits are decoded only if the number may be too large.
 #[inline(always)]
 #[tactic(auto, using(crate::proofs::SkipLemmas::skips_nothing, crate::proofs::SkipLemmas::skips_small))]
 pub fn skip_optional_base_62_number(part: &[u8], tag: u8, at: usize) -> Option<usize>
@@ -219,7 +219,7 @@ pub fn skip_optional_base_62_number(part: &[u8], tag: u8, at: usize) -> Option<u
     }
 }
 
-/// `<backref>`, with its `B` at `at`: its target, and the position after it. `None` where its number is invalid or
+/// `<backref>`, with its `B` at `at`: its target, and the position after it. `None` if its number is invalid or
 /// names no position before the `B`.
 #[inline(always)]
 #[tactic(auto, unfolding(crate::specs::Base62::back_reference))]

@@ -9,7 +9,7 @@ ghost use Rattle.binfarce_v0_grammar.specs.machine.View.{lifetime_view};
 use crate::forms::Lifetime;
 use crate::numbers::byte_at;
 
-/// The position after a byte. `None` where that byte isn't there.
+/// The position after a byte. `None` if that byte isn't there.
 #[inline(always)]
 pub fn eat(part: &[u8], byte: u8, at: Option<usize>) -> Option<usize>
     requires { 0 < byte }
@@ -71,7 +71,7 @@ pub fn bound_end(binder_depth: usize, life: Lifetime, after: Option<usize>) -> O
     }
 }
 
-/// The position after a required lifetime: `None` also where there is no lifetime.
+/// The position after a required lifetime: `None` also if there is no lifetime.
 #[inline(always)]
 pub fn required_end(binder_depth: usize, life: Lifetime, after: Option<usize>) -> Option<usize>
     ensures { result ≡ required_end binder_depth (lifetime_view life) after }

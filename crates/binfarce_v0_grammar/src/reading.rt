@@ -42,7 +42,7 @@ fn read_lifetime(part: &str, at: usize) -> Option<usize>
     after
 }
 
-/// The position after the `<path>` at a position. `None` where there is no path, and where it has more than
+/// The position after the `<path>` at a position. `None` if there is no path, and if it has more than
 /// `levels_left` levels. The target of a back reference and the meaning of a lifetime's index aren't checked.
 #[cycle(reading)]
 #[tactic(auto, using(crate::proofs::ReadingComplete::path_end_at, crate::proofs::ReadingComplete::path_end_none), unfolding(crate::specs::machine::Ends::path_end, crate::specs::Forms::path_form))]

@@ -80,7 +80,7 @@ abbrev pub namespace_text : (namespace : ℕ) → List ℕ
 namespace_text namespace =
     if namespace == 'C' then codes "closure" else (if namespace == 'S' then codes "shim" else namespace ∷ [])
 
--- an identifier after a mark, or nothing where it has no character
+-- an identifier after a mark, or nothing if it has no character
 abbrev pub after_mark : (mark : List ℕ) (name : UndisambiguatedIdentifier) → List ℕ
 after_mark mark name = if is_unnamed name then [] else mark ++ identifier_text name
 

@@ -81,7 +81,7 @@ const FRAGMENT_BYTES: usize = 176;
 // end before.
 const MANY_VISITS: usize = 256;
 
-/// Forgets all fragments where an allocation failed: their ranges may no longer fit the text.
+/// Forgets all fragments if an allocation failed: their ranges may no longer fit the text.
 #[inline(always)]
 pub fn or_forget(
     kept: &mut Vec<Fragment>,
@@ -272,7 +272,7 @@ impl<'a> Printer<'a> {
         self.kept.keep(fragment)
     }
 
-    // The fragment of this index, where it has this key.
+    // The fragment of this index, if it has this key.
     #[inline(always)]
     fn fragment_at(&self, number: usize, key: FragmentKey) -> Option<&Fragment>
         requires { has_room self.now.state ≡ true }

@@ -47,7 +47,7 @@ impl Targets {
         self.far.capacity().saturating_mul(8)
     }
 
-    /// Looks for the targets of a name, where none was added yet. Nothing is allocated but for those from position 256
+    /// Looks for the targets of a name, if none was added yet. Nothing is allocated but for those from position 256
     /// on.
     #[inline(never)]
     pub fn look_for(&mut self, part: &[u8]) -> Result<(), AllocError> {

@@ -497,7 +497,7 @@ checked command given = if are_given flags.All flags.Section given then Err (exc
     else if is_some (value_given flags.Annotate given) && not (is_each flags.As given) then Err (not_each flags.As)
     else undefined_checked given >>= λ x. sums_checked command given >>= λ x. operands_checked command (is_some (value_given flags.Id given)) given.operands
 
--- the command, or help on it, where that is requested
+-- the command, or help on it, if that is requested
 abbrev pub call_with : Command → Arguments → Result Call Wrong
 call_with command given = if is_some (value_given flags.Help given) then Ok (show_help (Some command))
     else checked command given >>= λ x. Ok (run command given)

@@ -108,7 +108,7 @@ impl<'a> Arguments<'a> {
     ///
     /// # Errors
     ///
-    /// `AllocError` where an allocation fails.
+    /// `AllocError` if an allocation fails.
     pub fn operand_texts(&self, alloc: Global) -> Result<Vec<&'a str>, AllocError>
         ensures { IfOk result (λ v. map (λ t. t.now) v.items ≡ operand_texts (given_view self.now)) }
     {

@@ -2,7 +2,7 @@
 
 use std::alloc::AllocError;
 
-/// What a row gives: whether its answer is the whole one, or `AllocError` where an allocation failed for it. The failed
+/// What a row gives: whether its answer is the whole one, or `AllocError` if an allocation failed for it. The failed
 /// allocation may be one of the row's own, as for the bytes of its file.
 pub type Row = Result<bool, AllocError>;
 

@@ -1,4 +1,4 @@
-//! A source that counts its calls, and fails where a test says so.
+//! A source that counts its calls, and fails if a test says so.
 
 use binfarce_bytes::source::Source;
 use std::cell::RefCell;

@@ -73,7 +73,7 @@ fn is_right(alloc: Global, row: &Sample) -> Row {
     Ok(is_written && is_read && is_listed && is_whole(listed, out)?)
 }
 
-// Whether all was written; an error where an allocation failed, before anything was.
+// Whether all was written; an error if an allocation failed, before anything was.
 fn is_whole(ended: Result<(), SectionError>, out: Out<Expected<'_>>) -> Row {
     let out = out.into_inner();
     match ended {

@@ -27,7 +27,7 @@ pub struct LoggedPart {
 }
 
 /// A file in memory that is read at offsets, and records each part that it is asked for before it gives the part. A read
-/// fails also where the log can't grow.
+/// fails also if the log can't grow.
 #[derive(Clone, Copy)]
 pub struct Recorded<'a> {
     pub file: &'a [u8],

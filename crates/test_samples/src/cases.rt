@@ -80,7 +80,7 @@ pub fn samples_of(word: &str) -> &'static [File] {
     SAMPLES.get(range).unwrap_or(&[])
 }
 
-/// The file that these words describe; `None` where they are not understood, or name more than one sample.
+/// The file that these words describe; `None` if they are not understood, or name more than one sample.
 pub fn file_of(alloc: Global, words: &str) -> Result<Option<Vec<u8>>, AllocError> {
     let (name, changes) = words.split_once(' ').unwrap_or((words, ""));
     match samples_of(name) {
@@ -100,7 +100,7 @@ pub fn sample_with(alloc: Global, layout: Layout, changes: &str) -> Result<Vec<u
     Ok(changed(alloc, File::Elf(layout), file, changes)?.unwrap_or(Vec::new(alloc)))
 }
 
-/// A file with these changes, where its fields are those of a sample; `None` where a word is not understood.
+/// A file with these changes, where its fields are those of a sample; `None` if a word is not understood.
 pub fn changed(
     alloc: Global,
     sample: File,
@@ -116,7 +116,7 @@ pub fn changed(
     Ok(Some(file))
 }
 
-// Makes the change that a word describes. `false` where the word is not understood.
+// Makes the change that a word describes. `false` if the word is not understood.
 fn change(alloc: Global, sample: File, file: &mut Vec<u8>, word: &str) -> Result<bool, AllocError> {
     match word.split_once(':') {
         Some((place, bytes)) => match bytes_of(alloc, bytes)? {
@@ -198,7 +198,7 @@ fn number_of(word: &str) -> Option<u64> {
     }
 }
 
-/// The bytes of a text after `"`, or those that pairs of hexadecimal digits write; `None` where there are others.
+/// The bytes of a text after `"`, or those that pairs of hexadecimal digits write; `None` if there are others.
 pub fn bytes_of(alloc: Global, word: &str) -> Result<Option<Vec<u8>>, AllocError> {
     if let Some(text) = word.strip_prefix('"') {
         return Ok(Some(Vec::from_slice(alloc, text.as_bytes())?));

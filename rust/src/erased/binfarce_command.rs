@@ -126,7 +126,7 @@ fn maps_of<'a>(call: &Call<'a>) -> &'a str {
     }
 }
 
-// Runs a call, and flushes the output. `None` where the maps have no mapping: nothing is then written.
+// Runs a call, and flushes the output. `None` if the maps have no mapping: nothing is then written.
 fn answer<'a, W: Write>(
     rt: &HostRuntime,
     call: &'a Call<'_>,
@@ -193,7 +193,7 @@ struct Work<'a, 'b, W> {
 }
 
 impl<'a, W: Write> Work<'a, '_, W> {
-    // The addresses of `at`, and the maps, were read before. `None` where the maps have no mapping.
+    // The addresses of `at`, and the maps, were read before. `None` if the maps have no mapping.
     fn run(&mut self, command: Command, asked: &Addresses) -> Result<Option<Verdict>, Fault> {
         let given = self.given;
         let verdict = match command {
@@ -280,7 +280,7 @@ impl<'a, W: Write> Work<'a, '_, W> {
         }
     }
 
-    // Symbolizes addresses: those that are given, or those of standard input, one a line. `None` where the maps have no
+    // Symbolizes addresses: those that are given, or those of standard input, one a line. `None` if the maps have no
     // mapping.
     fn symbolize(&mut self, asked: &Addresses) -> Result<Option<Verdict>, Fault> {
         let words = self.given;
@@ -326,7 +326,7 @@ impl<'a, W: Write> Work<'a, '_, W> {
     }
 
     // Annotates the text of standard input, by all files that are given and not refused; nothing is written where each is.
-    // `None` where the maps have no mapping.
+    // `None` if the maps have no mapping.
     fn annotate(&mut self, asked: &Addresses) -> Result<Option<Verdict>, Fault> {
         let words = self.given;
         let alloc = self.host.rt.alloc();

@@ -8,7 +8,7 @@ use crate::shim::alloc::{AllocError, Global};
 // How many bytes of a line are looked at. A longer one is no frame.
 const LONGEST: usize = 4096;
 
-/// A text with the offset of each frame behind its file, which comes byte by byte.
+/// A text that comes byte by byte, with the offset of each frame after its file.
 pub struct Frames<'a> {
     // The names of the files.
     names: &'a [&'a [u8]],
@@ -32,7 +32,7 @@ impl<'a> Frames<'a> {
     ///
     /// # Errors
     ///
-    /// `AllocError` where an allocation failed: `out` is then unspecified.
+    /// `AllocError` if an allocation failed: `out` is then unspecified.
     pub fn take(&mut self, part: &[u8], out: &mut Vec<u8>) -> Result<(), AllocError> {
         for byte in part {
             self.push(*byte, out)?;
@@ -56,7 +56,7 @@ impl<'a> Frames<'a> {
     ///
     /// # Errors
     ///
-    /// `AllocError` where an allocation failed: `out` is then unspecified.
+    /// `AllocError` if an allocation failed: `out` is then unspecified.
     pub fn end(&mut self, out: &mut Vec<u8>) -> Result<(), AllocError> {
         self.release(true, out)?;
         Ok(())

@@ -30,7 +30,7 @@ pub fn main(rt: HostRuntime) -> ExitCode {
 ///
 /// # Errors
 ///
-/// `InvalidData` where a line is no question; the answers to those before were written. The other errors are those of the
+/// `InvalidData` if a line is no question; the answers to those before were written. The other errors are those of the
 /// reader, of the writer, and of a failed allocation.
 pub fn run<R: Read, W: Write>(alloc: Global, input: &mut R, output: &mut W) -> io::Result<()> {
     let mut bytes = Vec::new(alloc);

@@ -157,7 +157,7 @@ fn is_right(rt: &HostRuntime, tally: &Tally, has_failed: bool) -> bool {
     }
 }
 
-// What the rows of this group gave; `None` where there is no such group.
+// What the rows of this group gave; `None` if there is no such group.
 fn tally_of(alloc: Global, group: &str) -> Option<Tally> {
     let mut tally = Tally::new();
     match group {

@@ -26,7 +26,7 @@ pub fn patched(alloc: Global, file: &[u8], patches: &[Patch<'_>]) -> Result<Vec<
     Ok(copy)
 }
 
-/// The first bytes of a file, or all where it has fewer.
+/// The first bytes of a file, or all if it has fewer.
 pub fn first_bytes(file: &[u8], count: usize) -> &[u8] {
     file.get(..count).unwrap_or(file)
 }

@@ -44,7 +44,7 @@ fn bytes_of(word: &OsStr) -> &[u8] {
     word.to_str().map_or(b"\xff", str::as_bytes)
 }
 
-/// The program's name and its arguments. An error where one isn't UTF-8.
+/// The program's name and its arguments. An error if one isn't UTF-8.
 pub fn args(_: &HostRuntime) -> io::Result<impl Iterator<Item = String>> {
     let words: Option<Vec<_>> = std::env::args_os().map(|word| word.into_string().ok()).collect();
     let words = words.ok_or(io::ErrorKind::InvalidData)?;

@@ -10,7 +10,7 @@ use std::process::ExitCode;
 pub type Main = fn(HostRuntime) -> ExitCode;
 
 thread_local! {
-    // How many allocations are made until one is refused; 0 where none will be.
+    // How many allocations are made until one is refused; 0 if none will be.
     static LEFT: Cell<usize> = const { Cell::new(0) };
     static INPUT: RefCell<Vec<u8>> = const { RefCell::new(Vec::new()) };
     static OUTPUT: RefCell<Vec<u8>> = const { RefCell::new(Vec::new()) };

@@ -24,7 +24,7 @@ use Rattle.binfarce_calls.specs.declared.sections.FileRows.{FileRows}
 use Rattle.binfarce_calls.specs.RowLimits.{sized_in}
 use Rattle.binfarce_limits.specs.Rows.{NameLimit, finding_view, findings}
 
--- what was reported, and the hints that were given, where these are known
+-- what was reported, and the hints that were given, if these are known
 pub record Messages : Type 0 where
   pub reports : Option (List Refused)
   pub hints : Option (List Hinted)

@@ -27,7 +27,7 @@ firsts counting shares = map (λ s. record { name = s.name; size = (counts count
 abbrev pub seconds : Counting → List Share → List Share
 seconds counting shares = map (λ s. record { name = s.name; size = (counts counting s.size).other }) shares
 
--- the numbers of a key, 0 where it has none
+-- the numbers of a key, 0 if it has none
 abbrev pub numbers_at : BTreeMap (String Global) Numbers → (name : List ℕ) → Numbers
 numbers_at numbers name = unwrap_or (get_by_text numbers name) (record { sum = 0; other = 0 })
 

@@ -22,7 +22,7 @@ run_shown Generic zero run = run
 run_shown Generic (suc depth) run = []
 run_shown Stack depth run = run
 
--- the last of bytes, or what is before them where there are none
+-- the last of bytes, or what is before them if there are none
 abbrev pub last_of : (before : ℕ) → List ℕ → ℕ
 last_of before [] = before
 last_of before (c ∷ others) = last_of c others

@@ -13,7 +13,7 @@ abbrev pub is_refused_so : ReadError → Bool
 is_refused_so (Refused e) = is_no_symtab (refusal_of e)
 is_refused_so e = false
 
--- the tables by `.dynsym` were read, and have function symbols; or these are none; or it can't be read for them, which is reported only where MayFail says so,
+-- the tables by `.dynsym` were read, and have function symbols; or these are none; or it can't be read for them, which is reported only if MayFail says so,
 -- or an allocation failed
 abbrev pub IsDynamic : Symbols → (file : List ℕ) → (MayFail : Type 0) → Result (Option Tables) ReadError → Type 0
 IsDynamic symbols file MayFail (Ok (Some tables)) = AreTablesFor (dynamic symbols) file tables × (has_functions (answer_for (dynamic symbols) file) ≡ true)

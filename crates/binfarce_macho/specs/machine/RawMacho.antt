@@ -98,7 +98,7 @@ text_answer text table = symbols.located_by text (Some table) >>= symbols.answer
 abbrev pub HoldsInFirst : Listed → Vec SectionFunction → Type 0
 HoldsInFirst listed functions = map section_function_view functions.items ≡ in_section 1 listed.entries
 
--- the name of a row that is kept of the section of this number, where there is such a section and it holds instructions
+-- the name of a row that is kept of the section of this number, if there is such a section and it holds instructions
 abbrev pub named_in : List ℕ → ℕ → Option NumberedSection → symbols.SymbolRow ℕ → Option (List ℕ)
 named_in strings number None row = None
 named_in strings number (Some section) row = if section.has_instructions then function_name strings section.extent number row else None

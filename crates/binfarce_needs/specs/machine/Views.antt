@@ -24,7 +24,7 @@ file_view f = record { count = f.count; name = f.name; versions = f.versions; ne
 abbrev pub version_view : VersionEntry → needed.VersionEntry
 version_view v = record { index = v.index; name = v.name; next = v.next }
 
--- what is found at an index, or where nothing is in the versions that are left, is what is in all
+-- what is found at an index, or if nothing is in the versions that are left, is what is in all
 abbrev pub AreFound : (found : ℕ → Option ℕ) → (part : Version → ℕ) → (left all : List Version) → Type 0
 AreFound found part left all = (index : ℕ) → index < 32768 → option_or (found index) (of_index part left index) ≡ of_index part all index
 

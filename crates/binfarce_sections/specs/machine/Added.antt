@@ -4,7 +4,7 @@ use Rattle.std.specs.List.{list_any, sum_by}
 use Rattle.std.specs.Str.{bytes_eq}
 use Rattle.binfarce_sections.specs.declared.changes.Change.{Change}
 
--- no bytes, where there are none yet
+-- no bytes, if there are none yet
 abbrev pub or_none : Option (ℕ × ℕ) → ℕ × ℕ
 or_none (Some bytes) = bytes
 or_none None = (0, 0)

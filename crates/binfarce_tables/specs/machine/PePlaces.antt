@@ -15,7 +15,7 @@ use Rattle.binfarce_tables.specs.declared.pe.Sections.{Sections}
 abbrev pub signature_step : List ℕ → Result ℕ Refusal
 signature_step file = if_as_long_as 64 file (Ok (signature_offset file))
 
--- the places of the file's tables, where it has a file header
+-- the places of the file's tables, if it has a file header
 abbrev pub places_step : List ℕ → Result TablePlaces Refusal
 places_step file = if_as_long_as (least_length file) file (Ok (places_of file))
 

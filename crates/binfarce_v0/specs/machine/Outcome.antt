@@ -48,7 +48,7 @@ pub record HasTree (text : List ℕ) (tree : PathTree) : Type 0 where
   pub mangling : IsV0 text part
   pub unfolds : UnfoldsTo part tree
 
--- the crate root of the tree that a text unfolds to within the limits, or none where there is no such tree
+-- the crate root of the tree that a text unfolds to within the limits, or none if there is no such tree
 abbrev pub IsCrateName : List ℕ → Option (List ℕ) → Type 0
 IsCrateName text crate_name =
     ((tree : PathTree) × HasTree text tree × (crate_name ≡ option_map identifier_text (path_root tree)))

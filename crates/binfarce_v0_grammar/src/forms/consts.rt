@@ -37,7 +37,7 @@ pub enum ConstForm<'a> {
     Back(usize, usize),
 }
 
-/// The form of the const at a position, where there is a position.
+/// The form of the const at a position, if there is a position.
 #[tactic(auto, unfolding(crate::specs::Forms::const_form))]
 pub fn const_form<'a>(part: &'a str, at: Option<usize>) -> ConstForm<'a>
     requires ascii { IsAscii part.now }

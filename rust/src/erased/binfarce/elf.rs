@@ -54,12 +54,12 @@ impl<'a, C: Class> Elf<'a, C> {
     ///
     /// # Errors
     ///
-    /// `MalformedInput` where their end exceeds `usize`, `UnexpectedEof` where it lies past the file.
+    /// `MalformedInput` if their end exceeds `usize`, `UnexpectedEof` if it lies past the file.
     pub fn section_bytes(&self, section: &Section<C>) -> Result<&'a [u8], ParseError> {
         sections::section_data::<C>(self.data, *section)
     }
 
-    /// The first section that the callback accepts, in file order; `None` where it accepts none.
+    /// The first section that the callback accepts, in file order; `None` if it accepts none.
     ///
     /// A section header is read only if the callback has refused the sections before it.
     ///
@@ -82,7 +82,7 @@ impl<'a, C: Class> Elf<'a, C> {
         Ok(sections::section_with_name::<C>(self.section_table(), name)?)
     }
 
-    /// The section of this index in the section header table, counted from 0; `None` where there are fewer.
+    /// The section of this index in the section header table, counted from 0; `None` if there are fewer.
     ///
     /// # Errors
     ///
@@ -99,8 +99,8 @@ impl<'a, C: Class> Elf<'a, C> {
     /// # Errors
     ///
     /// In this order: those of `find_section`; `SymbolsSectionIsMissing`; `SectionIsMissing` of `.symtab` (the first
-    /// section of type 2, `SHT_SYMTAB`) and of `.strtab` (the section that it links to); `UnexpectedSectionType` where
-    /// that isn't of type 3 (`SHT_STRTAB`); `MalformedInput` where the string table's bytes end past `usize`, and
+    /// section of type 2, `SHT_SYMTAB`) and of `.strtab` (the section that it links to); `UnexpectedSectionType` if
+    /// that isn't of type 3 (`SHT_STRTAB`); `MalformedInput` if the string table's bytes end past `usize`, and
     /// `UnexpectedEof` past the file; the same for the symbol table's bytes; `UnexpectedEof` for a truncated last row.
     pub fn functions(&self, section_name: &str) -> Result<(Functions<'a>, u64), ParseError> {
         self.functions_by(SymbolTable::Symtab, section_name)
@@ -140,7 +140,7 @@ impl<'a, C: Class> Elf<'a, C> {
     /// # Errors
     ///
     /// In this order: `UnexpectedEof` where the section header table doesn't begin in the file, or a section header is
-    /// truncated; those of `functions`, or `dynamic_functions`, from the missing symbol table on; `OutOfMemory` where an
+    /// truncated; those of `functions`, or `dynamic_functions`, from the missing symbol table on; `OutOfMemory` if an
     /// allocation failed.
     pub fn all_functions(
         &self,
@@ -168,7 +168,7 @@ impl<'a, C: Class> Elf<'a, C> {
     ///
     /// # Errors
     ///
-    /// Those of `functions`, and `OutOfMemory` where an allocation failed; an empty list allocates nothing.
+    /// Those of `functions`, and `OutOfMemory` if an allocation failed; an empty list allocates nothing.
     pub fn symbols(
         &self,
         alloc: Global,
@@ -182,7 +182,7 @@ impl<'a, C: Class> Elf<'a, C> {
     ///
     /// # Errors
     ///
-    /// Those of `dynamic_functions`, and `OutOfMemory` where an allocation failed; an empty list allocates nothing.
+    /// Those of `dynamic_functions`, and `OutOfMemory` if an allocation failed; an empty list allocates nothing.
     pub fn dynamic_symbols(
         &self,
         alloc: Global,
@@ -222,7 +222,7 @@ pub struct Functions<'a> {
 
 impl<'a> Functions<'a> {
     /// The function symbol that an address symbolizes to, among those that are left: of those whose range holds it the
-    /// one of greatest address, and of several the first. `None` where no range holds it.
+    /// one of greatest address, and of several the first. `None` if no range holds it.
     ///
     /// A range begins at the symbol's address (`st_value`) and has its size in bytes. Each row that is left is read
     /// once; nothing is allocated or copied.

@@ -60,12 +60,12 @@ impl<'a> Pe<'a> {
     ///
     /// # Errors
     ///
-    /// `UnexpectedEof` where they end past the file.
+    /// `UnexpectedEof` if they end past the file.
     pub fn section_bytes(&self, section: &Section<'_>) -> Result<&'a [u8], ParseError> {
         sections::section_data(self.data, section)
     }
 
-    /// The first section that the callback accepts, in file order; `None` where it accepts none.
+    /// The first section that the callback accepts, in file order; `None` if it accepts none.
     ///
     /// A section header is read only if the callback has refused the sections before it. A section whose name isn't
     /// UTF-8 is skipped.
@@ -97,11 +97,11 @@ impl<'a> Pe<'a> {
     /// in bytes. It keeps rows of external functions that name the section by its number and have a name. The name is
     /// the row's own 8 bytes up to the first NUL, which may be empty but have to be UTF-8, or the text at an offset in
     /// the string table ("COFF Symbol Table"). A symbol's size is the distance to the next greater of the addresses of
-    /// the kept rows and the section's size, or 0 where none is greater.
+    /// the kept rows and the section's size, or 0 if none is greater.
     ///
     /// # Errors
     ///
-    /// In this order: those of `find_section`; `SymbolsSectionIsMissing`; `UnexpectedEof` where the symbol table, even
+    /// In this order: those of `find_section`; `SymbolsSectionIsMissing`; `UnexpectedEof` if the symbol table, even
     /// an empty one, doesn't begin in the file, or ends past it. `OutOfMemory` only instead of a list that isn't empty.
     pub fn functions(&self, alloc: Global) -> Result<(Vec<FunctionSymbol<'a>>, u64), ParseError> {
         let (functions, size) = text_functions(alloc, self.data, self.places())?;
@@ -126,21 +126,21 @@ impl<'a> Pe<'a> {
     /// without an optional header of PE32 or PE32+ is an object, and there it is the value, the offset in the section.
     /// A size ends at the next greater address of an external or static row of the section, whatever its type, or of a
     /// label whose name doesn't begin with `.`, `L` or `$`, and with the section in memory at the latest (`VirtualSize`,
-    /// or where that is 0 `SizeOfRawData`). Sections are numbered from 1 on, also those whose name isn't UTF-8. A row
+    /// or if that is 0 `SizeOfRawData`). Sections are numbered from 1 on, also those whose name isn't UTF-8. A row
     /// without a section, or whose section doesn't exist, isn't kept.
     ///
     /// # Errors
     ///
     /// In this order: `UnexpectedEof` where the section table doesn't begin in the file, or a header is truncated, as
-    /// for `find_section` with a callback that accepts no section; `UnexpectedEof` where the symbol table, even an
-    /// empty one, doesn't begin in the file, or ends past it. `OutOfMemory` only where the file has a section.
+    /// for `find_section` with a callback that accepts no section; `UnexpectedEof` if the symbol table, even an
+    /// empty one, doesn't begin in the file, or ends past it. `OutOfMemory` only if the file has a section.
     pub fn all_functions(&self, alloc: Global) -> Result<Vec<SectionFunction<'a>>, ParseError> {
         let (functions, _) = self.selected_functions(alloc, Selection::All)?;
         Ok(functions)
     }
 
     /// The function symbols of `all_functions`; by a name, whichever it is, those of the code section alone, the first
-    /// `.text`, with its size in bytes in memory (`VirtualSize`, or where that is 0 `SizeOfRawData`).
+    /// `.text`, with its size in bytes in memory (`VirtualSize`, or if that is 0 `SizeOfRawData`).
     ///
     /// Unlike `functions`, which answers as the original crate does, it takes static functions too, and addresses are
     /// virtual addresses.

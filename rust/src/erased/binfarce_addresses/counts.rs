@@ -5,14 +5,14 @@
 /// How many addresses were asked for, and how many were found. Each is at most `u64::MAX`.
 #[derive(Debug, Clone, Copy, PartialEq)]
 pub struct Counts {
-    /// How many addresses were asked for. In a text an offset into another file or into a function isn't.
+    /// How many addresses were asked for. In a text an offset into another file or into a function doesn't count.
     pub asked: u64,
     /// How many of them a function symbol holds.
     pub found: u64,
-    /// How many of them are offsets in a text behind a name that several files have: none of these answers them.
+    /// How many of them are offsets in a text after a name that several files have: none of these answers them.
     pub unclear: u64,
-    /// How many lines have no address. In a text how many offsets are into another file or a function; of given addresses
-    /// none.
+    /// How many lines have no address. In a text how many offsets are into another file or a function; for given addresses
+    /// 0.
     pub missing: u64,
 }
 

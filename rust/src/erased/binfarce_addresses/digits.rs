@@ -16,7 +16,7 @@ pub(crate) fn push_address(text: &mut Vec<u8>, address: u64) -> Result<(), Alloc
 ///
 /// # Errors
 ///
-/// `AllocError` where an allocation failed: the text is then unspecified.
+/// `AllocError` if an allocation failed: the text is then unspecified.
 #[cfg_attr(not(debug_assertions), inline(always))]
 pub fn push_offset(text: &mut Vec<u8>, offset: u64, end: u8) -> Result<(), AllocError> {
     let zeros = to_usize((offset.leading_zeros() / 4).min(15));

@@ -11,20 +11,20 @@ pub struct Lookup<'a> {
     pub base: Option<u64>,
     /// Where the file itself says that it is loaded, or these bytes: its address for the base.
     pub linked: u64,
-    /// How many bytes are at the base, where offsets in the file are looked up: the base is then the offset of the first
+    /// How many bytes are at the base, if offsets in the file are looked up: the base is then the offset of the first
     /// in the file. Offsets of other bytes have no address.
     pub size: Option<u64>,
-    /// The address in the file that an offset of 0 after its name means. Of ELF 0, since glibc and sanitizers take off
-    /// what the loader added; of Mach-O and PE `linked`, from which their offsets count.
+    /// The address in the file that an offset of 0 after its name means: in ELF 0, since glibc and sanitizers subtract
+    /// what the loader added; in Mach-O and PE `linked`, from which their offsets count.
     pub origin: u64,
     /// Whether the addresses are return addresses, as in a backtrace. The one before it is looked up, which is in the
-    /// call: a call that doesn't return may be the last instruction of its function. Where that has no function symbol,
-    /// the address itself is: a signal may have interrupted the first instruction of a function.
+    /// call: a call that doesn't return may be the last instruction of its function. If that has no function symbol,
+    /// the address itself is looked up: a signal may have interrupted the first instruction of a function.
     pub is_return: bool,
     /// How the answers are written. Objects don't have the section.
     pub form: Form<'a>,
-    /// The file's path in a text. An offset after it, or after the name behind its last `/`, is one from the origin, or
-    /// in the file with a `size`: `path+0x1f`; but not where it may be one into a function of the file that has this
+    /// The file's path in a text. An offset after it, or after the name that follows its last `/`, counts from the
+    /// origin, or in the file with a `size`: `path+0x1f`; but not if it may be one into a function of the file with this
     /// name (`push_annotated`).
     pub path: &'a [u8],
 }

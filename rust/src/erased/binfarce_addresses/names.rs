@@ -71,7 +71,7 @@ impl<'b, 'a> Names<'b, 'a> {
     ///
     /// # Errors
     ///
-    /// `AllocError` where an allocation failed.
+    /// `AllocError` if an allocation failed.
     pub fn with_room(
         alloc: Global,
         places: &'b Places<'a>,
@@ -91,7 +91,7 @@ impl<'b, 'a> Names<'b, 'a> {
     }
 
     /// What an offset behind the file's name symbolizes to: one from the file's origin, or in the file, where offsets in
-    /// it are looked up. Nothing where the address passes 64 bits.
+    /// it are looked up. Nothing if the address passes 64 bits.
     pub fn find_offset(&self, offset: u64) -> Option<Found> {
         let address = match self.lookup.size {
             Some(_) => self.lookup.in_file(offset),
@@ -115,7 +115,7 @@ impl<'b, 'a> Names<'b, 'a> {
             .collect_in(self.alloc)
     }
 
-    // Reads the first and the last byte of each name, or of the symbol's own where none is kept: a prefetch, without
+    // Reads the first and the last byte of each name, or of the symbol's own if none is kept: a prefetch, without
     // which random addresses take a fifth more.
     pub(crate) fn read_ahead(&self, answers: &[Answer]) -> Result<Vec<(u8, u8)>, AllocError> {
         answers
@@ -207,7 +207,7 @@ impl<'b, 'a> Names<'b, 'a> {
     ///
     /// # Errors
     ///
-    /// `AllocError` where an allocation failed: the text is then unspecified.
+    /// `AllocError` if an allocation failed: the text is then unspecified.
     #[cfg_attr(not(debug_assertions), inline(always))]
     pub fn push_name(&mut self, text: &mut Vec<u8>, place: usize) -> Result<(), AllocError> {
         if let Some(name) = self.name_at(place) {

@@ -26,7 +26,7 @@ pub trait RawNumber: Sized {
     /// How many bytes the number has.
     const SIZE: usize;
 
-    /// The number at the stream's offset, which doesn't move; `None` where a byte is missing.
+    /// The number at the stream's offset, which doesn't move; `None` if a byte is missing.
     fn parse(s: &mut Stream) -> Option<Self>;
 }
 
@@ -165,7 +165,7 @@ impl<'a> Stream<'a> {
         self.bytes.len().saturating_sub(self.offset)
     }
 
-    /// Moves the offset by `len` without reading bytes; fails only where it would exceed `usize`.
+    /// Moves the offset by `len` without reading bytes; fails only if it would exceed `usize`.
     #[inline]
     pub fn skip_len(&mut self, len: usize) -> Result<(), UnexpectedEof> {
         match self.offset.checked_add(len) {
@@ -183,7 +183,7 @@ impl<'a> Stream<'a> {
         self.skip_len(T::SIZE)
     }
 
-    /// The number at the offset, which moves past it; fails where a byte is missing.
+    /// The number at the offset, which moves past it; fails if a byte is missing.
     #[inline]
     pub fn read<T: RawNumber>(&mut self) -> Result<T, UnexpectedEof> {
         let offset = self.offset.checked_add(T::SIZE).ok_or(UnexpectedEof {})?;
@@ -194,7 +194,7 @@ impl<'a> Stream<'a> {
 
     /// The `len` bytes at the offset, as a slice; the offset moves past them.
     ///
-    /// Fails where the offset plus `len` exceeds `usize` or the length.
+    /// Fails if the offset plus `len` exceeds `usize` or the length.
     #[inline]
     pub fn read_bytes(&mut self, len: usize) -> Result<&'a [u8], UnexpectedEof> {
         let offset = self.offset.checked_add(len).ok_or(UnexpectedEof {})?;
@@ -204,7 +204,7 @@ impl<'a> Stream<'a> {
     }
 }
 
-/// The number at `place`; fails where a byte is missing.
+/// The number at `place`; fails if a byte is missing.
 #[inline]
 pub fn number_at<T: RawNumber>(
     bytes: &[u8],
@@ -220,7 +220,7 @@ pub fn to_index(n: u64) -> usize {
     usize::try_from(n).unwrap_or(usize::MAX)
 }
 
-/// The range of the `size` bytes from `offset` on; `MalformedInput` where its end exceeds `usize`.
+/// The range of the `size` bytes from `offset` on; `MalformedInput` if its end exceeds `usize`.
 #[inline]
 pub fn range(offset: u64, size: u64) -> Result<Range<usize>, ParseError> {
     let end = offset.checked_add(size).ok_or(ParseError::MalformedInput)?;
@@ -230,7 +230,7 @@ pub fn range(offset: u64, size: u64) -> Result<Range<usize>, ParseError> {
     }
 }
 
-/// The `size` bytes from `offset` on, a slice of `bytes`; fails where their end exceeds `usize` or the length.
+/// The `size` bytes from `offset` on, a slice of `bytes`; fails if their end exceeds `usize` or the length.
 #[inline]
 pub fn slice_at(bytes: &[u8], offset: usize, size: usize) -> Result<&[u8], UnexpectedEof> {
     let end = offset.checked_add(size).ok_or(UnexpectedEof {})?;

@@ -10,20 +10,20 @@ use crate::shim::io::{self, Error, ErrorKind};
 
 /// A source that is read at offsets.
 pub trait Source {
-    /// A log of the parts that it was asked for; `()` where none is kept.
+    /// A log of the parts that it was asked for; `()` if none is kept.
     type Log;
 
-    /// Its length in bytes. An error where it can't be read at offsets.
+    /// Its length in bytes. An error if it can't be read at offsets.
     fn length(&self) -> io::Result<u64>;
 
-    /// Fills the buffer with the bytes from the offset on. An error where they end before the buffer is full.
+    /// Fills the buffer with the bytes from the offset on. An error if they end before the buffer is full.
     fn fill_at(&self, log: &mut Self::Log, offset: u64, buf: &mut [u8]) -> io::Result<()>;
 }
 
 impl Source for File {
     type Log = ();
 
-    /// `Unsupported` where it isn't a regular file.
+    /// `Unsupported` if it isn't a regular file.
     fn length(&self) -> io::Result<u64> {
         let metadata = self.metadata()?;
         if metadata.is_file() {
@@ -58,7 +58,7 @@ impl Source for &[u8] {
 
 /// The `size` bytes from the offset on, in memory of that size.
 ///
-/// Fails with the source's error, and with `OutOfMemory` where the allocation fails.
+/// Fails with the source's error, and with `OutOfMemory` if the allocation fails.
 pub fn read_part<S: Source>(
     alloc: Global,
     source: &S,

@@ -2,7 +2,7 @@
 
 //! Texts at an offset, and texts in fixed-size fields.
 
-/// The bytes up to the first NUL, or all where there is none; a slice of `bytes`.
+/// The bytes up to the first NUL, or all if there is none; a slice of `bytes`.
 pub fn up_to_nul(bytes: &[u8]) -> &[u8] {
     match find_nul(bytes) {
         None => bytes,
@@ -12,7 +12,7 @@ pub fn up_to_nul(bytes: &[u8]) -> &[u8] {
 
 /// The text from `start` to the first NUL, as a slice of `bytes`.
 ///
-/// `None` where `start` is past the end, there is no NUL, the text is empty, or it isn't UTF-8.
+/// `None` if `start` is past the end, there is no NUL, the text is empty, or it isn't UTF-8.
 pub fn parse_null_string(bytes: &[u8], start: usize) -> Option<&str> {
     text_from(bytes, start)
 }
@@ -41,7 +41,7 @@ fn find_nul(bytes: &[u8]) -> Option<usize> {
     }
 }
 
-// The offset after the strides from `start` on that have no NUL, where there is none before `start`.
+// The offset after the strides from `start` on that have no NUL, if there is none before `start`.
 #[cfg_attr(not(debug_assertions), inline(always))]
 fn past_strides(bytes: &[u8], start: usize, stride: usize) -> usize {
     let mut at = start;
@@ -64,7 +64,7 @@ fn has_nul(bytes: &[u8]) -> bool {
     found
 }
 
-/// The bytes as a text, without a copy; `None` where they aren't UTF-8.
+/// The bytes as a text, without a copy; `None` if they aren't UTF-8.
 pub fn utf8_text(bytes: &[u8]) -> Option<&str> {
     match core::str::from_utf8(bytes) {
         Ok(text) => Some(text),

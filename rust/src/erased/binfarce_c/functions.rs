@@ -23,7 +23,7 @@ type Found = Result<(Vec<Function>, u64), ParseError>;
 #[repr(C)]
 #[derive(Clone, Copy)]
 pub struct Function {
-    /// The first byte of the name as the file stores it, in the file; null where the name is empty.
+    /// The first byte of the name as the file stores it, in the file; null if the name is empty.
     pub name: *const u8,
     /// The length of the name in bytes.
     pub name_length: usize,
@@ -286,7 +286,7 @@ fn function_of(function: FunctionSymbol<'_>) -> Function {
     }
 }
 
-/// The pointer to a text, at its first byte; null where it is empty.
+/// The pointer to a text, at its first byte; null if it is empty.
 pub(crate) fn start(text: &[u8]) -> *const u8 {
     match text {
         [] => ptr::null(),

@@ -39,7 +39,7 @@ pub struct ElfHeader {
     pub shstrndx: u16,
 }
 
-// What is given in place of a header where there is none.
+// What is given in place of a header if there is none.
 const NO_HEADER: ElfHeader = ElfHeader {
     elf_type: 0,
     machine: 0,

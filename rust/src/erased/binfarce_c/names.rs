@@ -24,7 +24,7 @@ pub struct SymbolName {
     pub trimmed_length: usize,
     /// The whole length of the crate's name in bytes.
     pub crate_length: usize,
-    /// 1 where the name has a crate, and else 0.
+    /// 1 if the name has a crate, and else 0.
     pub has_crate: u32,
 }
 
@@ -32,7 +32,7 @@ pub struct SymbolName {
 #[repr(C)]
 #[derive(Clone, Copy)]
 pub struct Mangling {
-    /// The first byte of the part, in the name; null where the part is empty.
+    /// The first byte of the part, in the name; null if the part is empty.
     pub part: *const u8,
     /// The length of the part in bytes.
     pub part_length: usize,

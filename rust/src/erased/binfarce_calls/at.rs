@@ -37,7 +37,7 @@ pub struct Given<'b, 'm, 'a> {
 // A file that is opened.
 struct Opened<F> {
     file: OpenFile<F>,
-    // Where it says that it is loaded, where that is asked for.
+    // Where it says that it is loaded, if that is asked for.
     loaded: LoadAddress,
     // The address in it that an offset of 0 after its name means.
     origin: u64,
@@ -83,7 +83,7 @@ pub enum ReadFile<F> {
 }
 
 // Opens the file at a place, and reads where it says that it is loaded, if it is asked where it is, or a text is
-// annotated. `None` where it is refused, which is reported.
+// annotated. `None` if it is refused, which is reported.
 fn open_at<F: Read + Source<Log = ()>, Y: System<F>>(
     alloc: Global,
     system: &mut Y,
@@ -107,7 +107,7 @@ fn open_at<F: Read + Source<Log = ()>, Y: System<F>>(
     }
 }
 
-// Where the file at a place says that it is loaded, and the address for an offset in a text, where these are asked for.
+// Where the file at a place says that it is loaded, and the address for an offset in a text, if these are asked for.
 fn loaded_in<S: Source<Log = ()>>(
     alloc: Global,
     file: &S,
@@ -153,7 +153,7 @@ fn place_at<F: Read + Source<Log = ()>, Y: System<F>>(
     }
 }
 
-// Why maps don't place the file of this path. `None` where they have no mapping.
+// Why maps don't place the file of this path. `None` if they have no mapping.
 fn why_unplaced<'a>(path: &'a str, why: NoBase) -> Option<Unplaced<'a>> {
     match why {
         NoBase::NotMaps => None,
@@ -167,11 +167,11 @@ fn why_unplaced<'a>(path: &'a str, why: NoBase) -> Option<Unplaced<'a>> {
 }
 
 /// Reads all files of a text, in their order. One that is refused is reported by its path, and the others follow.
-/// `None` where the maps have no mapping.
+/// `None` if the maps have no mapping.
 ///
 /// # Errors
 ///
-/// Those of `refuse`; `OutOfMemory` where an allocation for the list fails.
+/// Those of `refuse`; `OutOfMemory` if an allocation for the list fails.
 pub fn read_files<F: Read + Source<Log = ()>, Y: System<F>>(
     alloc: Global,
     system: &mut Y,
@@ -193,7 +193,7 @@ pub fn read_files<F: Read + Source<Log = ()>, Y: System<F>>(
 }
 
 // The tables in which addresses of the file at a path are looked up, and the symbol table that they are read by: a hint
-// says that it isn't the one that is asked for. `None` where the file is refused, which is reported.
+// says that it isn't the one that is asked for. `None` if the file is refused, which is reported.
 fn tables_for<F: Read + Source<Log = ()>, Y: System<F>>(
     alloc: Global,
     system: &mut Y,
@@ -267,7 +267,7 @@ pub fn read_file<F: Read + Source<Log = ()>, Y: System<F>>(
 ///
 /// # Errors
 ///
-/// `OutOfMemory` where an allocation for the list fails.
+/// `OutOfMemory` if an allocation for the list fails.
 pub fn places_of_files<'b, F: Read + Source<Log = ()>, Y: System<F>>(
     alloc: Global,
     system: &mut Y,

@@ -66,7 +66,7 @@ pub struct Sizes<'a> {
 ///
 /// # Errors
 ///
-/// `Write` where a write fails, and `OutOfMemory` where an allocation for the text fails.
+/// `Write` if a write fails, and `OutOfMemory` if an allocation for the text fails.
 pub fn compare<F: Read + Source<Log = ()>, Y: System<F>, W: Write>(
     alloc: Global,
     system: &mut Y,
@@ -171,7 +171,7 @@ fn write_section_changes<F: Read + Source<Log = ()>, Y: System<F>, W: Write>(
     Ok(is_above(system, pair, growth, rows))
 }
 
-// The file at this path, and its section tables. `None` where it is refused, which is reported.
+// The file at this path, and its section tables. `None` if it is refused, which is reported.
 fn sections_at<F: Read + Source<Log = ()>, Y: System<F>>(
     alloc: Global,
     system: &mut Y,
@@ -189,7 +189,7 @@ fn sections_at<F: Read + Source<Log = ()>, Y: System<F>>(
     }
 }
 
-// The bytes of a file by its sections. `None` where it is refused, which is reported, or was before.
+// The bytes of a file by its sections. `None` if it is refused, which is reported, or was before.
 fn section_sums<'b, F: Read + Source<Log = ()>, Y: System<F>>(
     alloc: Global,
     system: &mut Y,
@@ -208,7 +208,7 @@ fn section_sums<'b, F: Read + Source<Log = ()>, Y: System<F>>(
     }
 }
 
-// The file at this path, and its tables. `None` where it is refused, which is reported.
+// The file at this path, and its tables. `None` if it is refused, which is reported.
 fn read_at<F: Read + Source<Log = ()>, Y: System<F>>(
     alloc: Global,
     system: &mut Y,
@@ -227,7 +227,7 @@ fn read_at<F: Read + Source<Log = ()>, Y: System<F>>(
     }
 }
 
-// What the function symbols of a file add. `None` where it is refused, which is reported, or was before.
+// What the function symbols of a file add. `None` if it is refused, which is reported, or was before.
 fn sums_of<'b, F: Read + Source<Log = ()>, Y: System<F>>(
     alloc: Global,
     system: &mut Y,

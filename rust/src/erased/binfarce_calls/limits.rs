@@ -21,7 +21,7 @@ const TOTAL: &str = "[total]";
 ///
 /// # Errors
 ///
-/// `AllocError` where an allocation fails.
+/// `AllocError` if an allocation fails.
 pub(crate) fn changed_rows(
     alloc: Global,
     limits: &[RowLimit<'_>],
@@ -67,7 +67,7 @@ impl Rows for KeyRows<'_> {
 ///
 /// # Errors
 ///
-/// `AllocError` where an allocation fails.
+/// `AllocError` if an allocation fails.
 pub(crate) fn section_rows(
     alloc: Global,
     limits: &[RowLimit<'_>],
@@ -97,7 +97,7 @@ impl Rows for SizeRows<'_> {
 ///
 /// # Errors
 ///
-/// `AllocError` where an allocation fails.
+/// `AllocError` if an allocation fails.
 pub(crate) fn changed_sections(
     alloc: Global,
     limits: &[RowLimit<'_>],

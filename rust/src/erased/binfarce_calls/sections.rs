@@ -25,7 +25,7 @@ use crate::shim::io::{Read, Write};
 ///
 /// # Errors
 ///
-/// `Write` where a write fails.
+/// `Write` if a write fails.
 pub fn show_section<F: Read + Source<Log = ()>, Y: System<F>, W: Write>(
     alloc: Global,
     system: &mut Y,
@@ -53,7 +53,7 @@ pub fn show_section<F: Read + Source<Log = ()>, Y: System<F>, W: Write>(
 ///
 /// # Errors
 ///
-/// `Write` where a write fails, and `OutOfMemory` where an allocation for a heading, or for the name of an argument that
+/// `Write` if a write fails, and `OutOfMemory` if an allocation for a heading, or for the name of an argument that
 /// isn't UTF-8, fails.
 pub fn sum_files<F: Read + Source<Log = ()>, Y: System<F>, W: Write>(
     alloc: Global,

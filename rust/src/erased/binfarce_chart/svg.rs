@@ -17,9 +17,9 @@ const UNKNOWN: &str = "[unknown]";
 
 /// The picture of these sizes, as a whole SVG document: a bar for each, the greatest first.
 ///
-/// The sum of the sizes has to be below 2^64. Of `Some(n)` the first n bars are shown, of `None` the first 39 where there
-/// are more than 40; if some are left, one bar more sums up all of them. The largest bar has the whole width, and each
-/// other its part of that, but a bar of a size above 0 at least 0.30 per cent. Beside it is its share of the sum, in
+/// The sum of the sizes has to be below 2^64. `Some(n)` shows the first n bars, and `None` the first 39 if there
+/// are more than 40; if some are left, one more bar sums up all of them. The largest bar has the whole width, and each
+/// other its part of that, but a bar of a size above 0 has at least 0.30 per cent. Beside it is its share of the sum, in
 /// hundredths of a per cent, which adds up to 100.00 with the others, and its size in KiB, or from 1 MiB on in MiB. The
 /// title is above the bars, with the sum and, if it is given, `section_size`. Below them a line says what `[unknown]` is,
 /// if a bar that is shown has that name. Without bars the picture says `no function symbols`. Names and the title are

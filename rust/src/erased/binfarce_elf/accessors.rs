@@ -12,18 +12,18 @@ const SHF_ALLOC: u64 = 2;
 
 impl<C: Class> Section<C> {
     /// The section's type (`sh_type`): 1 for code and data (`SHT_PROGBITS`), 2 for the symbol table (`SHT_SYMTAB`), 3
-    /// for a string table (`SHT_STRTAB`), 8 where it has no bytes in the file (`SHT_NOBITS`).
+    /// for a string table (`SHT_STRTAB`), 8 if it has no bytes in the file (`SHT_NOBITS`).
     pub fn section_type(&self) -> Word {
         self.kind
     }
 
-    /// The section's flags (`sh_flags`): 1 where it is writable in memory (`SHF_WRITE`), 2 where it has memory
-    /// (`SHF_ALLOC`), 4 where it has instructions (`SHF_EXECINSTR`), and others.
+    /// The section's flags (`sh_flags`): 1 if it is writable in memory (`SHF_WRITE`), 2 if it has memory
+    /// (`SHF_ALLOC`), 4 if it has instructions (`SHF_EXECINSTR`), and others.
     pub fn flags(&self) -> C {
         self.flags
     }
 
-    /// The address of the section's first byte in memory (`sh_addr`); 0 where it has none.
+    /// The address of the section's first byte in memory (`sh_addr`); 0 if it has none.
     pub fn address(&self) -> C {
         self.address
     }
@@ -39,7 +39,7 @@ impl<C: Class> Section<C> {
         self.size
     }
 
-    /// How many bytes the section has in the file: its size, but 0 where its type is `SHT_NOBITS`.
+    /// How many bytes the section has in the file: its size, but 0 if its type is `SHT_NOBITS`.
     pub fn file_size(&self) -> u64 {
         if self.kind == SHT_NOBITS {
             0

@@ -74,7 +74,7 @@ pub trait Class: RawNumber + Copy {
     /// The word in the wider class's type.
     fn widened(self) -> u64;
 
-    /// How many entries of a size there are in this size; 0 where the entry size is 0.
+    /// How many entries of a size there are in this size; 0 if the entry size is 0.
     fn entries_of(self, entry_size: Self) -> Self;
 }
 
@@ -114,7 +114,7 @@ impl Class for u64 {
     }
 }
 
-/// The row at `start` of a symbol table of this class; refused where it is truncated.
+/// The row at `start` of a symbol table of this class; refused if it is truncated.
 #[cfg_attr(not(debug_assertions), inline(always))]
 pub fn row_at(
     width: Width,

@@ -78,7 +78,7 @@ fn descriptors_section(
     }
 }
 
-/// The section, where it has bytes in the file.
+/// The section, if it has bytes in the file.
 pub fn stored(section: Section<u64>) -> Option<Section<u64>> {
     const SHT_NOBITS: Word = 8;
     if section.section_type() == SHT_NOBITS {
@@ -220,7 +220,7 @@ fn push_end(ends: &mut Vec<u128>, section: Option<Section<u64>>) -> Result<(), A
     Ok(())
 }
 
-// The section of this index, where there is one.
+// The section of this index, if there is one.
 fn section_numbered(table: Table<'_>, width: Width, index: Half) -> Option<Section<u64>> {
     if index >= table.shnum {
         return None;
@@ -245,7 +245,7 @@ fn end_number(section: Section<u64>) -> u128 {
     end * INDICES + u128::from(index_of(section))
 }
 
-// The index of the section of code that holds an address, by the numbers of their ends; 0 where none does.
+// The index of the section of code that holds an address, by the numbers of their ends; 0 if none does.
 fn section_holding(table: Table<'_>, width: Width, ends: &[u128], address: u64) -> Half {
     match key_above(ends, u128::from(address) * INDICES + (INDICES - 1)) {
         None => 0,

@@ -33,7 +33,7 @@ pub struct HeaderTable {
     pub phnum: Half,
 }
 
-/// These fields of the header of a file of this class. `UnexpectedEof` where the header is truncated.
+/// These fields of the header of a file of this class. `UnexpectedEof` if the header is truncated.
 pub fn place_in(file: &[u8], width: Width, byte_order: ByteOrder) -> Result<HeaderTable, ParseError> {
     match width {
         Width::Bits32 => place_of::<u32>(file, byte_order),
@@ -54,7 +54,7 @@ fn place_of<C: Class>(file: &[u8], byte_order: ByteOrder) -> Result<HeaderTable,
     })
 }
 
-/// The section header at `start` in a file of this class; refused where it is truncated.
+/// The section header at `start` in a file of this class; refused if it is truncated.
 #[cfg_attr(not(debug_assertions), inline(always))]
 pub fn section_at(
     bytes: &[u8],
@@ -181,7 +181,7 @@ impl<'a> Iterator for AnySections<'a> {
     }
 }
 
-/// The sections of `count` section headers, in order; `UnexpectedEof` where a header is truncated, or there are no
+/// The sections of `count` section headers, in order; `UnexpectedEof` if a header is truncated, or there are no
 /// bytes.
 pub fn sections_in(
     headers: &[u8],
@@ -197,7 +197,7 @@ pub fn sections_in(
 }
 
 /// The sections of a file of this class, in order, and the section names, where the file has them. Nothing is copied.
-/// `UnexpectedEof` where the file header is truncated.
+/// `UnexpectedEof` if the file header is truncated.
 pub fn sections_of_file(
     file: &[u8],
     width: Width,

@@ -47,7 +47,7 @@ pub struct CodeSegment {
 }
 
 /// Where a file with these program headers says that it is loaded: the page of 4096 bytes where its lowest loaded segment
-/// (`PT_LOAD`) begins, and its first one with code (`PF_X`). `None` where no segment is loaded.
+/// (`PT_LOAD`) begins, and its first one with code (`PF_X`). `None` if no segment is loaded.
 pub fn load_address(headers: &[u8], width: Width, byte_order: ByteOrder) -> Option<LoadAddress> {
     let address = load_page(headers, width, byte_order)?;
     let code = code_segment(headers, width, byte_order);
@@ -69,7 +69,7 @@ fn page_of(address: Option<u64>) -> Option<u64> {
     Some(address - address % 4096)
 }
 
-// The lower address, where there are any.
+// The lower address, if there are any.
 fn lower_of(address: Option<u64>, other: Option<u64>) -> Option<u64> {
     match (address, other) {
         (None, other) => other,
@@ -78,7 +78,7 @@ fn lower_of(address: Option<u64>, other: Option<u64>) -> Option<u64> {
     }
 }
 
-// The address of the segment whose program header begins at `start`, where it is loaded.
+// The address of the segment whose program header begins at `start`, if it is loaded.
 fn load_at(headers: &[u8], start: usize, width: Width, byte_order: ByteOrder) -> Option<u64> {
     let kind: Word = number_at(headers, start, byte_order).unwrap();
     if kind != PT_LOAD {
@@ -114,7 +114,7 @@ fn is_code(headers: &[u8], start: usize, width: Width, byte_order: ByteOrder) ->
     kind == PT_LOAD && flags % 2 == PF_X
 }
 
-// The code segment whose program header begins at `start`, where it is one.
+// The code segment whose program header begins at `start`, if it is one.
 fn code_at(headers: &[u8], start: usize, width: Width, byte_order: ByteOrder) -> Option<CodeSegment> {
     if !is_code(headers, start, width, byte_order) {
         return None;

@@ -228,7 +228,7 @@ pub(crate) fn needed_of<C: Class>(
     })
 }
 
-// Refused where a section header is truncated.
+// Refused if a section header is truncated.
 fn whole_sections<C: Class>(table: Table<'_>) -> Result<(), UnexpectedEof> {
     let room = table.data.len().saturating_sub(table.shoff) / C::SECTION_LENGTH;
     if table.shoff < table.data.len() && usize::from(table.shnum) <= room {
@@ -268,7 +268,7 @@ impl<'a> Functions<'a> {
     }
 
     /// The function symbol that an address symbolizes to, among those that are left: of those whose range holds it the
-    /// one of greatest address, and of several the first. `None` where no range holds it.
+    /// one of greatest address, and of several the first. `None` if no range holds it.
     ///
     /// A range begins at the symbol's address (`st_value`) and has its size in bytes. Each row that is left is read
     /// once; nothing is allocated or copied.

@@ -45,7 +45,7 @@ impl<'a> VersionNames<'a> {
 }
 
 /// The name of a version, a slice of the strings: the text at the offset that its index has. `None` for a symbol without
-/// one (the indices 0 and 1), where there is no offset, and for a name that isn't in the strings or no valid UTF-8.
+/// one (the indices 0 and 1), if there is no offset, and for a name that isn't in the strings or no valid UTF-8.
 pub fn name_by<'a>(
     strings: &'a [u8],
     offsets: &BTreeMap<Half, Word>,
@@ -100,7 +100,7 @@ struct Definition {
     next: Word,
 }
 
-// The definition that begins at `start`, where it is whole.
+// The definition that begins at `start`, if it is whole.
 fn definition_at(bytes: &[u8], start: u64, byte_order: ByteOrder) -> Option<Definition> {
     let place = to_index(start);
     slice_at(bytes, place, 20).ok()?;
@@ -114,7 +114,7 @@ fn definition_at(bytes: &[u8], start: u64, byte_order: ByteOrder) -> Option<Defi
     })
 }
 
-/// The version of a row, where these are those of all rows; 0 where it has none.
+/// The version of a row, if these are those of all rows; 0 if it has none.
 #[cfg_attr(not(debug_assertions), inline(always))]
 pub fn version_at(versions: &[u8], row: usize, byte_order: ByteOrder) -> Half {
     number_at(versions, row.saturating_mul(2), byte_order).unwrap_or(0)
@@ -128,7 +128,7 @@ pub(crate) fn row_versions<'a, C: Class>(table: Table<'a>, which: SymbolTable) -
     }
 }
 
-// The bytes of a section, where there is one and it lies in the file.
+// The bytes of a section, if there is one and it lies in the file.
 pub(crate) fn bytes_if<C: Class>(file: &[u8], section: Option<Section<C>>) -> &[u8] {
     match section {
         None => &[],

@@ -38,7 +38,7 @@ pub(crate) fn is_by_name(order: Option<Order>) -> bool {
 ///
 /// # Errors
 ///
-/// `AllocError` where an allocation failed: their order is then unspecified.
+/// `AllocError` if an allocation failed: their order is then unspecified.
 pub(crate) fn sort(
     functions: &mut Vec<SectionFunction<'_>>,
     order: Option<Order>,
@@ -58,7 +58,7 @@ pub(crate) fn sort(
 ///
 /// # Errors
 ///
-/// `AllocError` where an allocation failed: their order is then unspecified.
+/// `AllocError` if an allocation failed: their order is then unspecified.
 pub(crate) fn sort_by_name(rows: &mut Vec<Row<'_, '_>>) -> Result<(), AllocError> {
     rows.sort_by_key(|row| row.name)
 }

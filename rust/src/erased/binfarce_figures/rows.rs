@@ -274,7 +274,7 @@ impl Listing<'_, '_> {
 ///
 /// # Errors
 ///
-/// `AllocError` where an allocation failed. The text is then unspecified.
+/// `AllocError` if an allocation failed. The text is then unspecified.
 pub fn put_name(
     demangler: &mut Demangler,
     text: &mut String,

@@ -27,7 +27,7 @@ pub const MAX_TEXT: usize = 1 << 20;
 ///
 /// # Errors
 ///
-/// `AllocError` where an allocation failed.
+/// `AllocError` if an allocation failed.
 pub fn filter(alloc: Global, full: bool, text: &[u8]) -> Result<Vec<u8>, AllocError> {
     let mut names = Names::new(alloc);
     let mut out = Vec::new(alloc);
@@ -55,7 +55,7 @@ impl Names {
 pub struct TextFilter {
     full: bool,
     names: Names,
-    // The run that the text ends in so far, or where that is too long, more than `MAX_RUN` bytes of it.
+    // The run that the text ends in so far, or if that is too long, more than `MAX_RUN` bytes of it.
     run: Vec<u8>,
 }
 
@@ -75,7 +75,7 @@ impl TextFilter {
     ///
     /// # Errors
     ///
-    /// `AllocError` where an allocation failed. Don't use the filter after that.
+    /// `AllocError` if an allocation failed. Don't use the filter after that.
     pub fn push(&mut self, part: &[u8], out: &mut Vec<u8>) -> Result<(), AllocError> {
         if self.run.is_empty() {
             return self.push_text(part, out);
@@ -93,7 +93,7 @@ impl TextFilter {
     ///
     /// # Errors
     ///
-    /// `AllocError` where an allocation failed.
+    /// `AllocError` if an allocation failed.
     pub fn finish(&mut self, out: &mut Vec<u8>) -> Result<(), AllocError> {
         self.show_run(&[], out)
     }
@@ -182,7 +182,7 @@ fn is_mark_at(text: &[u8], at: usize) -> bool {
     text[at - 1] == b'_' && (text[at] == b'Z' || text[at] == b'R')
 }
 
-// How many bytes from a position on are no `_`, of the next 16; 0 where fewer come after it.
+// How many bytes from a position on are no `_`, of the next 16; 0 if fewer come after it.
 #[cfg_attr(not(debug_assertions), inline(always))]
 fn others_at(text: &[u8], at: usize) -> usize {
     if text.len() - at <= STRIDE {
@@ -197,7 +197,7 @@ fn others_among(bytes: &[u8]) -> usize {
     len_before(bytes, b'_', b'_', b'_')
 }
 
-// Where the run begins that ends at a position of the text; that position where none does.
+// Where the run begins that ends at a position of the text; that position if none does.
 fn run_start(text: &[u8], end: usize) -> usize {
     let mut start = end;
     let mut at = end;
@@ -297,7 +297,7 @@ fn begins_v0(run: &[u8]) -> bool {
     run.starts_with(b"_R") && run.len() > 2 && matches!(run[2], b'N' | b'I' | b'M' | b'X' | b'Y')
 }
 
-// The length of the name at the front of a run. `None` where none is there.
+// The length of the name at the front of a run. `None` if none is there.
 fn name_len(run: &[u8]) -> Option<usize> {
     let added = usize::from(!begins_symbol(run));
     let len = symbol_len(&run[added..])?;

@@ -20,8 +20,8 @@ const CHUNK: usize = 1 << 16;
 ///
 /// # Errors
 ///
-/// `Read` where the reader failed: what came before is filtered, as if the stream ended there. `Write` where the writer
-/// failed, and `OutOfMemory` where an allocation did: a beginning of the output was written.
+/// `Read` if the reader failed: what came before is filtered, as if the stream ended there. `Write` if the writer
+/// failed, and `OutOfMemory` if an allocation did: a beginning of the output was written.
 pub fn filter_stream<R: Read, W: Write>(
     alloc: Global,
     full: bool,

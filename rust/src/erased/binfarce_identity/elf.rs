@@ -49,7 +49,7 @@ pub(crate) fn read_elf<S: Source>(
     read_table(opened, log, byte_order, table)
 }
 
-// The section headers of a file, or where it has none its program headers.
+// The section headers of a file, or if it has none its program headers.
 fn table_of(width: Width, place: HeaderTable) -> Table {
     if place.shnum == 0 {
         Table {

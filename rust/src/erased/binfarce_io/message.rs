@@ -79,7 +79,7 @@ pub fn unplaced_fault(alloc: Global, why: &Unplaced<'_>) -> Fault {
     }
 }
 
-/// Why a file is refused: that it has no section of the name that is asked for; the system's reason, where a read or a
+/// Why a file is refused: that it has no section of the name that is asked for; the system's reason, if a read or a
 /// write failed; or that there is no memory for these words.
 pub fn message_of(
     alloc: Global,

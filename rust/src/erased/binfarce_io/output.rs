@@ -40,7 +40,7 @@ impl<W: Write> Output<W> {
     ///
     /// # Errors
     ///
-    /// `Write` where a write fails.
+    /// `Write` if a write fails.
     pub fn end(&mut self) -> Result<(), Fault> {
         while self.done < self.heading.len() {
             match self.writer.write(&self.heading[self.done..]) {

@@ -25,7 +25,7 @@ use crate::shim::io::Read;
 ///
 /// # Errors
 ///
-/// `NoAddress` with the first word that isn't an address; `OutOfMemory` where an allocation fails.
+/// `NoAddress` with the first word that isn't an address; `OutOfMemory` if an allocation fails.
 pub fn read_addresses<'a>(alloc: Global, words: &[&'a str]) -> Result<Vec<u64>, Wrong<'a>> {
     let mut addresses = Vec::new(alloc);
     for word in words {
@@ -94,7 +94,7 @@ fn is_no_symtab(e: ReadError) -> bool {
     )
 }
 
-// The tables by `.dynsym`. `None` where these are refused, or have no function symbol.
+// The tables by `.dynsym`. `None` if these are refused, or have no function symbol.
 fn dynamic_tables<S: Source<Log = ()>>(
     alloc: Global,
     source: &S,
@@ -194,7 +194,7 @@ pub fn places_of<'a>(alloc: Global, tables: &'a Tables<'_>) -> Result<Places<'a>
 ///
 /// # Errors
 ///
-/// Those of `answer_all`, before anything of `input` is read; `Input` where it can't be read.
+/// Those of `answer_all`, before anything of `input` is read; `Input` if it can't be read.
 pub fn answer_input<I: Read, K: Sink>(
     alloc: Global,
     tables: &Tables<'_>,

@@ -29,13 +29,13 @@ pub trait System<F: Read + Source<Log = ()>> {
     fn hint(&mut self, path: &str, hint: Hint);
 }
 
-/// Shows the file at each path, in order. Of several arguments, each file is shown under a line with its path. A file
-/// that is refused, and an argument that isn't UTF-8, is reported, and the others follow. The hints on each file follow
-/// what is written or reported of it; one says that a sum exceeds its limit.
+/// Shows the file at each path, in order. If there are several arguments, each file is shown under a line with its path.
+/// A file that is refused, and an argument that isn't UTF-8, is reported, and the others follow. The hints on each file
+/// come after what is written or reported of it; one says that a sum exceeds its limit.
 ///
 /// # Errors
 ///
-/// `Write` where a write fails, and `OutOfMemory` where an allocation for a heading, or for the name of an argument that
+/// `Write` if a write fails, and `OutOfMemory` if an allocation for a heading, or for the name of an argument that
 /// isn't UTF-8, fails.
 pub fn show_files<F: Read + Source<Log = ()>, Y: System<F>, W: Write>(
     alloc: Global,
@@ -57,7 +57,7 @@ pub fn show_files<F: Read + Source<Log = ()>, Y: System<F>, W: Write>(
 ///
 /// # Errors
 ///
-/// `OutOfMemory` where an allocation for its name fails.
+/// `OutOfMemory` if an allocation for its name fails.
 pub fn refuse_argument<F: Read + Source<Log = ()>, Y: System<F>>(
     alloc: Global,
     system: &mut Y,
@@ -105,7 +105,7 @@ fn show_file<F: Read + Source<Log = ()>, Y: System<F>, W: Write>(
 ///
 /// # Errors
 ///
-/// `AllocError` where an allocation fails.
+/// `AllocError` if an allocation fails.
 pub fn heading(alloc: Global, path: &str, are_several: bool) -> Result<Vec<u8>, AllocError> {
     if !are_several {
         return Ok(Vec::new(alloc));
@@ -116,7 +116,7 @@ pub fn heading(alloc: Global, path: &str, are_several: bool) -> Result<Vec<u8>, 
     Vec::from_slice(alloc, text.as_bytes())
 }
 
-// Shows the source after what is left of the heading, which is written also where the text is empty.
+// Shows the source after what is left of the heading, which is written also if the text is empty.
 fn show_source<S: Source<Log = ()>, W: Write>(
     alloc: Global,
     asked: &Request<'_>,
@@ -129,7 +129,7 @@ fn show_source<S: Source<Log = ()>, W: Write>(
     Ok(seen)
 }
 
-/// Opens the file at this path, and loads it. `None` where it can't be opened or read, or where its first bytes name
+/// Opens the file at this path, and loads it. `None` if it can't be opened or read, or if its first bytes name
 /// what no reader reads, which is reported.
 pub fn open_input<F: Read + Source<Log = ()>, Y: System<F>>(
     alloc: Global,

@@ -83,9 +83,9 @@ pub struct Seen {
 ///
 /// # Errors
 ///
-/// Those of `read`. Of a Mach-O or PE file `.text` is the code section, and `SymbolsSectionIsMissing` refuses any other
-/// name. A PE file without a symbol table is refused as an ELF file without one, by `SectionIsMissing` of `.symtab`, and a
-/// file with code that has no function symbol by `SectionIsMissing` of these.
+/// Those of `read`. In a Mach-O or PE file `.text` is the code section, and `SymbolsSectionIsMissing` refuses any other
+/// name. A PE file without a symbol table is refused like an ELF file without one, by `SectionIsMissing` of `.symtab`, and
+/// a file with code but no function symbol by `SectionIsMissing` of function symbols.
 pub fn tables_of<S: Source<Log = ()>>(
     alloc: Global,
     source: &S,
@@ -198,7 +198,7 @@ fn form_for<'a>(asked: &Request<'a>, path: &'a str) -> Form<'a> {
 ///
 /// # Errors
 ///
-/// `Unreadable` where a read fails; `Unknown`, `Parse`, `OutOfMemory` and `Write` as in `list`, `TooLarge` as in
+/// `Unreadable` if a read fails; `Unknown`, `Parse`, `OutOfMemory` and `Write` as in `list`, `TooLarge` as in
 /// `sum_by`. Only after `Write` a beginning may be written.
 pub fn show<S: Source<Log = ()>, K: Sink>(
     alloc: Global,

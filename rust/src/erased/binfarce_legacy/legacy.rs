@@ -15,7 +15,7 @@ fn part_after_prefix(text: &str) -> Option<&str> {
     after_prefix(text, "_ZN", "ZN", "__ZN")
 }
 
-/// The part of `text` after the prefix of a legacy mangling, and the suffix after its `E` in that part. `None` where
+/// The part of `text` after the prefix of a legacy mangling, and the suffix after its `E` in that part. `None` if
 /// `text` isn't a legacy mangling. Nothing is copied.
 pub fn mangling(text: &str) -> Option<(&str, &str)> {
     let part = part_after_prefix(text)?;
@@ -116,7 +116,7 @@ pub fn complete(alloc: Global, part: &str) -> Result<String, AllocError> {
 }
 
 /// Appends the beginning of a mangling's readable text to `text`: the first element's name in readable form, and `::`
-/// if another element follows. Of a name that begins with an escaped `<`, only that `<` is written. `part` is what
+/// if another element follows. If the name begins with an escaped `<`, only that `<` is written. `part` is what
 /// follows the prefix. The only error is a failed allocation.
 pub fn push_front(text: &mut String, part: &str) -> Result<(), AllocError> {
     let bytes = part.as_bytes();

@@ -75,7 +75,7 @@ pub(crate) enum Line<'a> {
 /// # Errors
 ///
 /// An `Unread` for the first line that can't be taken: it has no limit, or what is none; a limit in per cent where no
-/// files are compared; or a name that a line before it has. `OutOfMemory` where an allocation fails.
+/// files are compared; or a name that a line before it has. `OutOfMemory` if an allocation fails.
 pub fn read_limits<'a>(
     alloc: Global,
     text: &'a str,

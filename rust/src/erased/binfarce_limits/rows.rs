@@ -51,7 +51,7 @@ impl fmt::Display for Finding {
 ///
 /// # Errors
 ///
-/// `AllocError` where an allocation fails.
+/// `AllocError` if an allocation fails.
 pub fn judge<R: Rows>(
     alloc: Global,
     limits: &[RowLimit<'_>],

@@ -61,7 +61,7 @@ pub fn words(arguments: &[String]) -> Result<(&str, &str), Fault> {
 
 /// Reads a file to its end, and lists the function symbols of its section.
 ///
-/// `File` where it can't be read; `List` where an allocation fails while it is read, and as `list` refuses.
+/// `File` if it can't be read; `List` if an allocation fails while it is read, and as `list` refuses.
 pub fn run<R: Read, W: Write>(
     alloc: Global,
     file: &mut R,

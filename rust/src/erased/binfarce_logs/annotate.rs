@@ -33,7 +33,7 @@ use crate::shim::io::Read;
 ///
 /// # Errors
 ///
-/// `AllocError` where an allocation failed: `out` is then unspecified.
+/// `AllocError` if an allocation failed: `out` is then unspecified.
 pub fn push_annotated(
     alloc: Global,
     modules: &[Module<'_>],
@@ -52,8 +52,8 @@ pub fn push_annotated(
 ///
 /// # Errors
 ///
-/// `Read` where the reader failed: what came before is annotated, as if the stream ended there. `Write` where a write
-/// failed, and `OutOfMemory` where an allocation did: a beginning was written.
+/// `Read` if the reader failed: what came before is annotated, as if the stream ended there. `Write` if a write
+/// failed, and `OutOfMemory` if an allocation did: a beginning was written.
 pub fn annotate_stream<R: Read, S: Sink>(
     alloc: Global,
     modules: &[Module<'_>],
@@ -119,7 +119,7 @@ impl File<'_> {
         self.names.path().len() + 5
     }
 
-    // How many bytes the file's name has that is before an offset, which comes after this text. 0 where none is, and where
+    // How many bytes the file's name has that is before an offset, which comes after this text. 0 if none is, and where
     // it may be that of a function of the file.
     fn name_before(&self, before: &[u8]) -> usize {
         let path = self.names.path();
@@ -155,7 +155,7 @@ fn reach_of(names: &[File<'_>]) -> usize {
     reach
 }
 
-// What is found for a number that comes after `before`: the place of the file, and what is found there. An error where it
+// What is found for a number that comes after `before`: the place of the file, and what is found there. An error if it
 // isn't asked for, or several files are named.
 fn find_by(
     names: &[File<'_>],
@@ -199,7 +199,7 @@ fn find_behind(
     }
 }
 
-// How many bytes the longest name of a file has that is before an offset, which comes after `before`. 0 where none is.
+// How many bytes the longest name of a file has that is before an offset, which comes after `before`. 0 if none is.
 fn longest_name(names: &[File<'_>], before: &[u8]) -> usize {
     let mut longest: usize = 0;
     for file in names {

@@ -62,7 +62,7 @@ enum Wanted<'a> {
 /// line as in `/proc/PID/maps`, or such words at its end: it begins at the first word from which the line has this form,
 /// and words are behind blanks. So is what Linux says of a fault: `ip ADDRESS .. in NAME[PLACE,START+SIZE]`, with the
 /// offset in the file of what is at the address. A mapping is one of the file if its path ends with the given one, after
-/// a `/` if there is one, or is the same; where none is, if it ends so with the name behind the last `/` of the given
+/// a `/` if there is one, or is the same; if none is, if it ends so with the name behind the last `/` of the given
 /// one. A ` (deleted)` after a path isn't part of it, nor is a carriage return. Nothing is allocated.
 ///
 /// Pages may have 4, 16 or 64 KiB, if their size divides the alignment of the code. A debug file has no bytes of its
@@ -211,7 +211,7 @@ fn begun(line: &[u8]) -> &[u8] {
     begun_at(without_return(line))
 }
 
-// A text from the first word on from which it has the form of a mapping. Empty where there is none.
+// A text from the first word on from which it has the form of a mapping. Empty if there is none.
 fn begun_at(text: &[u8]) -> &[u8] {
     let mut may_begin = true;
     for at in 0..text.len() {

@@ -4,7 +4,7 @@
 
 use crate::erased::binfarce_logs::maps::name_of;
 
-// How many bytes the name of the file of this path has that is before an offset, which comes after the text. 0 where none
+// How many bytes the name of the file of this path has that is before an offset, which comes after the text. 0 if none
 // is.
 pub(crate) fn name_len(path: &[u8], text: &[u8]) -> usize {
     if names_module(path, text) {

@@ -2,7 +2,7 @@
 
 //! Where a mapping of a segment begins, for each size of pages by which it may be loaded: 4, 16 and 64 KiB.
 
-// The largest page that loads a segment of this alignment; 1 where none does.
+// The largest page that loads a segment of this alignment; 1 if none does.
 pub(crate) fn largest_page(align: u64) -> u64 {
     if align == 0 {
         1

@@ -76,7 +76,7 @@ pub(crate) fn commands(file: &[u8], header: MachoHeader) -> MachoCommandsIterato
     }
 }
 
-// The load command that begins at `offset`; refused where its head is truncated.
+// The load command that begins at `offset`; refused if its head is truncated.
 pub(crate) fn command_at(bytes: &[u8], offset: usize) -> Result<Command, UnexpectedEof> {
     let mut s = Stream::new_at(bytes, offset, ByteOrder::LittleEndian)?;
     let kind = s.read()?;

@@ -39,7 +39,7 @@ struct Kept<'a> {
 }
 
 /// The function symbols of a selection of a file with this header, and the size in bytes of the code section, `None` for
-/// all sections: the answer of `selected_functions` of a reader, with its refusals. `OutOfMemory` only where the file has
+/// all sections: the answer of `selected_functions` of a reader, with its refusals. `OutOfMemory` only if the file has
 /// a section.
 pub fn functions_of_file<'a>(
     alloc: Global,
@@ -55,7 +55,7 @@ pub fn functions_of_file<'a>(
 }
 
 /// The function symbols of the selected sections: by section, and in each by address and at equal addresses in table
-/// order. Only a failed allocation is an error, and it comes only where there is a section.
+/// order. Only a failed allocation is an error, and it comes only if there is a section.
 pub fn functions_of<'a>(
     alloc: Global,
     selected: &SelectedSections,
@@ -68,7 +68,7 @@ pub fn functions_of<'a>(
 }
 
 /// The function symbols of the text of a file with this header, and the text's size in bytes: those of `functions` of a
-/// reader, with its refusals; each has section number 1. `OutOfMemory` only where the symbol table has an address.
+/// reader, with its refusals; each has section number 1. `OutOfMemory` only if the symbol table has an address.
 pub fn text_functions<'a>(
     alloc: Global,
     file: &'a [u8],
@@ -96,7 +96,7 @@ fn functions_of_text<'a>(
     Ok(functions)
 }
 
-// The address where the text ends; `MalformedInput` where that exceeds 64 bits.
+// The address where the text ends; `MalformedInput` if that exceeds 64 bits.
 fn text_end(text: Extent) -> Result<u64, ParseError> {
     text.address
         .checked_add(text.size)
@@ -377,7 +377,7 @@ fn push_kept<'a>(
     Ok(())
 }
 
-// The bytes from an address in the section to the address above or, where there is none, to the section's end.
+// The bytes from an address in the section to the address above or, if there is none, to the section's end.
 fn size_in(section: Extent, above: Option<u64>, address: u64) -> u64 {
     match above {
         None => section.size - (address - section.address),

@@ -18,7 +18,7 @@ pub(crate) const MAX_SECT: u8 = 255;
 // `S_ATTR_PURE_INSTRUCTIONS` and `S_ATTR_SOME_INSTRUCTIONS`.
 const S_ATTR_INSTRUCTIONS: u32 = 0x8000_0400;
 
-/// A section: where it is in memory, whether it holds instructions, and its name as `SEGMENT,SECTION`, `None` where one
+/// A section: where it is in memory, whether it holds instructions, and its name as `SEGMENT,SECTION`, `None` if one
 /// of the two isn't valid.
 pub struct NumberedSection {
     pub extent: Extent,
@@ -48,7 +48,7 @@ impl SelectedSections {
         }
     }
 
-    /// The name of the section of this number, `SEGMENT,SECTION`; nothing is copied. `None` where there is no such
+    /// The name of the section of this number, `SEGMENT,SECTION`; nothing is copied. `None` if there is no such
     /// section, and where one of its two names isn't valid.
     pub fn name(&self, number: u32) -> Option<&str> {
         name_of(&self.sections, number)
@@ -65,7 +65,7 @@ fn name_of(sections: &[NumberedSection], number: u32) -> Option<&str> {
 
 /// The sections of a file with this header, of which this selection takes all, or by whatever name the code section.
 /// Refused as `find_section` of a reader is with a callback that accepts none, and then with `SymbolsSectionIsMissing`
-/// where the code section is selected and missing. `OutOfMemory` comes only where the file has a section.
+/// where the code section is selected and missing. `OutOfMemory` comes only if the file has a section.
 pub fn selected_sections(
     alloc: Global,
     file: &[u8],
@@ -77,7 +77,7 @@ pub fn selected_sections(
     Ok(SelectedSections { sections, code })
 }
 
-// The code section, where it is selected; refused where it is missing.
+// The code section, where it is selected; refused if it is missing.
 fn code_of(
     sections: &[NumberedSection],
     selection: Selection<'_>,
@@ -112,7 +112,7 @@ fn is_code(section: &NumberedSection) -> bool {
 }
 
 // Where the structures of a file's sections begin, in the order of the sections' numbers, up to number 255. Refused as
-// `find_section` of a reader is with a callback that accepts none; `OutOfMemory` comes only where the file has a
+// `find_section` of a reader is with a callback that accepts none; `OutOfMemory` comes only if the file has a
 // section.
 fn section_starts(alloc: Global, file: &[u8], header: MachoHeader) -> Result<Vec<usize>, ParseError> {
     let mut starts = Vec::new(alloc);
@@ -125,7 +125,7 @@ fn section_starts(alloc: Global, file: &[u8], header: MachoHeader) -> Result<Vec
     Ok(starts)
 }
 
-// Adds the sections of a segment command, up to number 255; refused where one is truncated.
+// Adds the sections of a segment command, up to number 255; refused if one is truncated.
 fn push_sections(starts: &mut Vec<usize>, file: &[u8], body: usize) -> Result<(), ParseError> {
     if !none_truncated(file, body) {
         return Err(ParseError::UnexpectedEof);

@@ -79,7 +79,7 @@ fn text_address(bytes: &[u8], command: Command) -> Option<u64> {
     }
 }
 
-// The same, of a command of a segment; refused where its name and address don't lie in the file.
+// The same, of a command of a segment; refused if its name and address don't lie in the file.
 fn text_place(bytes: &[u8], command: Command) -> Result<Option<u64>, UnexpectedEof> {
     let body = command.offset.checked_add(8).ok_or(UnexpectedEof {})?;
     let mut s = Stream::new_at(bytes, body, ByteOrder::LittleEndian)?;

@@ -31,13 +31,13 @@ impl Section<'_> {
     ///
     /// # Errors
     ///
-    /// `MalformedInput` where the range's end exceeds `usize`.
+    /// `MalformedInput` if the range's end exceeds `usize`.
     pub fn range(&self) -> Result<Range<usize>, ParseError> {
         range(self.offset as u64, self.size)
     }
 }
 
-/// The section's bytes, a slice of the file. `MalformedInput` where their end exceeds 64 bits, `UnexpectedEof` where
+/// The section's bytes, a slice of the file. `MalformedInput` if their end exceeds 64 bits, `UnexpectedEof` if
 /// it lies past the file.
 pub fn section_data<'a>(file: &'a [u8], section: &Section<'_>) -> Result<&'a [u8], ParseError> {
     let (offset, size) = (section.offset as u64, section.size);
@@ -131,7 +131,7 @@ fn next_section<'a>(left: &mut Left<'a>) -> Option<Result<Section<'a>, Damage>> 
     }
 }
 
-// The first section that the segment has left, and the index after it; `None` where there are no more.
+// The first section that the segment has left, and the index after it; `None` if there are no more.
 fn section_left(bytes: &[u8], segment: Segment) -> Result<Option<(Section<'_>, u32)>, UnexpectedEof> {
     for index in segment.next..segment.count {
         let start = segment.body + 64 + index as usize * SECTION_LENGTH;
@@ -159,7 +159,7 @@ fn next_segment(commands: &mut MachoCommandsIterator<'_>) -> Option<Result<Segme
     None
 }
 
-// The segment of a command whose head lies in the file, before its first section; refused where its count is truncated.
+// The segment of a command whose head lies in the file, before its first section; refused if its count is truncated.
 fn first_of_segment(bytes: &[u8], command: Command) -> Result<Segment, Damage> {
     let body = command.offset + 8;
     match number_at(bytes, body + 56, ByteOrder::LittleEndian) {
@@ -209,7 +209,7 @@ pub fn section_with_name<'a>(
     })?)
 }
 
-// The section whose structure begins at `start`, where both its names are valid; refused where a field is truncated.
+// The section whose structure begins at `start`, if both its names are valid; refused if a field is truncated.
 pub(crate) fn section_at(bytes: &[u8], start: usize) -> Result<Option<Section<'_>>, UnexpectedEof> {
     let mut s = Stream::new_at(bytes, start, ByteOrder::LittleEndian)?;
     let section_name = s.read_bytes(16)?;
@@ -233,12 +233,12 @@ pub(crate) fn section_at(bytes: &[u8], start: usize) -> Result<Option<Section<'_
     }
 }
 
-// The flags of the section whose structure begins at `start`; 0 where they are truncated.
+// The flags of the section whose structure begins at `start`; 0 if they are truncated.
 pub(crate) fn flags_at(bytes: &[u8], start: usize) -> u32 {
     number_at(bytes, start + 64, ByteOrder::LittleEndian).unwrap_or(0)
 }
 
-// The name in a field's bytes: those up to the first NUL, or all where there is none.
+// The name in a field's bytes: those up to the first NUL, or all if there is none.
 pub(crate) fn name_in(bytes: &[u8]) -> Option<&str> {
     let name = up_to_nul(bytes);
     if name.is_empty() {

@@ -35,14 +35,14 @@ pub struct SymbolData {
 
 /// A symbol's name in readable form.
 pub struct SymbolName {
-    /// Of a legacy name its whole path, and of a v0 name its path with the disambiguators of crates. An `Unknown` name
-    /// is unchanged.
+    /// A legacy name's whole path, or a v0 name's path with the disambiguators of crates. An `Unknown` name is
+    /// unchanged.
     pub complete: String,
-    /// Of a legacy name its path without the last part, whether or not that is a hash, and of a v0 name its path
-    /// without the disambiguators of crates. An `Unknown` name is unchanged.
+    /// A legacy name's path without the last part, whether or not that is a hash, or a v0 name's path without the
+    /// disambiguators of crates. An `Unknown` name is unchanged.
     pub trimmed: String,
-    /// Of a v0 name, the name of the first crate root in reading order outside back references. It may be in the path
-    /// of an impl, which isn't shown, and may be empty. `None` where there is no such root, and for other names.
+    /// A v0 name's first crate root in reading order outside back references. It may be in the path
+    /// of an impl, which isn't shown, and may be empty. `None` if there is no such root, and for other names.
     pub crate_name: Option<String>,
     /// How the name is mangled.
     pub kind: Kind,
@@ -79,7 +79,7 @@ impl SymbolName {
     ///
     /// # Errors
     ///
-    /// `AllocError` where an allocation failed.
+    /// `AllocError` if an allocation failed.
     pub fn demangle(alloc: Global, name: &str) -> Result<SymbolName, AllocError> {
         Demangler::new(alloc).demangle(name)
     }
@@ -105,7 +105,7 @@ impl Demangler {
     ///
     /// # Errors
     ///
-    /// `AllocError` where an allocation failed.
+    /// `AllocError` if an allocation failed.
     pub fn demangle(&mut self, name: &str) -> Result<SymbolName, AllocError> {
         let stripped = without_llvm(name);
         if let Some((part, _)) = legacy::mangling(stripped) {
@@ -133,7 +133,7 @@ impl Demangler {
     ///
     /// # Errors
     ///
-    /// `AllocError` where an allocation failed. `text` is then unchanged.
+    /// `AllocError` if an allocation failed. `text` is then unchanged.
     pub fn push_trimmed(&mut self, text: &mut String, name: &str) -> Result<(), AllocError> {
         let _ = self.push_and_rest(text, name)?;
         Ok(())
@@ -143,7 +143,7 @@ impl Demangler {
     ///
     /// # Errors
     ///
-    /// `AllocError` where an allocation failed. `text` is then unchanged.
+    /// `AllocError` if an allocation failed. `text` is then unchanged.
     pub fn push_shown(&mut self, text: &mut String, name: &str) -> Result<(), AllocError> {
         let mut shown = String::new(self.memory.alloc);
         let rest = self.push_and_rest(&mut shown, name)?;
@@ -172,7 +172,7 @@ impl Demangler {
     ///
     /// # Errors
     ///
-    /// `AllocError` where an allocation failed.
+    /// `AllocError` if an allocation failed.
     pub fn short_text(
         &mut self,
         text: &mut String,
@@ -220,7 +220,7 @@ impl Demangler {
     ///
     /// # Errors
     ///
-    /// `AllocError` where an allocation failed.
+    /// `AllocError` if an allocation failed.
     pub fn crate_of(&mut self, name: &str) -> Result<Option<String>, AllocError> {
         crate_of(self.memory.alloc, name)
     }
@@ -230,7 +230,7 @@ impl Demangler {
 ///
 /// # Errors
 ///
-/// `AllocError` where an allocation failed. `text` is then unchanged.
+/// `AllocError` if an allocation failed. `text` is then unchanged.
 pub fn push_trimmed(alloc: Global, text: &mut String, name: &str) -> Result<(), AllocError> {
     Demangler::new(alloc).push_trimmed(text, name)
 }
@@ -240,17 +240,17 @@ pub fn push_trimmed(alloc: Global, text: &mut String, name: &str) -> Result<(), 
 ///
 /// # Errors
 ///
-/// `AllocError` where an allocation failed. `text` is then unchanged.
+/// `AllocError` if an allocation failed. `text` is then unchanged.
 pub fn push_shown(alloc: Global, text: &mut String, name: &str) -> Result<(), AllocError> {
     Demangler::new(alloc).push_shown(text, name)
 }
 
 /// The crate of `name`: of a v0 name its `crate_name`, and of a legacy name the first part of its path, unless that
-/// begins with `<`. `None` where there is no crate, and for other names.
+/// begins with `<`. `None` if there is no crate, and for other names.
 ///
 /// # Errors
 ///
-/// `AllocError` where an allocation failed.
+/// `AllocError` if an allocation failed.
 pub fn crate_of(alloc: Global, name: &str) -> Result<Option<String>, AllocError> {
     let mut text = String::new(alloc);
     if push_crate(alloc, &mut text, name)? {
@@ -265,7 +265,7 @@ pub fn crate_of(alloc: Global, name: &str) -> Result<Option<String>, AllocError>
 ///
 /// # Errors
 ///
-/// `AllocError` where an allocation failed. `text` is then unchanged.
+/// `AllocError` if an allocation failed. `text` is then unchanged.
 pub fn push_crate(alloc: Global, text: &mut String, name: &str) -> Result<bool, AllocError> {
     let stripped = without_llvm(name);
     match legacy::mangling(stripped) {

@@ -44,11 +44,11 @@ pub(crate) struct NeedSections {
 ///
 /// # Errors
 ///
-/// `Refused` with `UnexpectedEof` where the file is too short for its header, or what is read ends past it, with
+/// `Refused` with `UnexpectedEof` if the file is too short for its header, or what is read ends past it, with
 /// `MalformedInput` for a section whose end is no number of 64 bits, with `SectionIsMissing` of `.symtab` for a file with
 /// neither symbol table, and with `SectionIsMissing` or `UnexpectedSectionType` for one whose strings aren't in a string
-/// table; `Unreadable` where the source can't be read at offsets, or a read of it fails, and never for a source that can't
-/// fail, such as bytes in memory; `OutOfMemory` where an allocation fails.
+/// table; `Unreadable` if the source can't be read at offsets, or a read of it fails, and never for a source that can't
+/// fail, such as bytes in memory; `OutOfMemory` if an allocation fails.
 pub fn read_needs<S: Source>(
     alloc: Global,
     source: &S,
@@ -136,7 +136,7 @@ fn read_tables<S: Source>(
     })
 }
 
-// The bytes of a section, where there is one; else none.
+// The bytes of a section, if there is one; else none.
 fn read_if<S: Source>(
     opened: &Opened<'_, S>,
     log: &mut S::Log,

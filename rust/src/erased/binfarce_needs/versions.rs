@@ -92,7 +92,7 @@ fn push_versions(
     Ok(left)
 }
 
-// The entry for a file that begins at `start`, where it is whole.
+// The entry for a file that begins at `start`, if it is whole.
 fn file_at(bytes: &[u8], start: u64, byte_order: ByteOrder) -> Option<FileEntry> {
     let place = to_index(start);
     slice_at(bytes, place, ENTRY_LENGTH).ok()?;
@@ -104,7 +104,7 @@ fn file_at(bytes: &[u8], start: u64, byte_order: ByteOrder) -> Option<FileEntry>
     })
 }
 
-// The entry for a version that begins at `start`, where it is whole.
+// The entry for a version that begins at `start`, if it is whole.
 fn version_at(bytes: &[u8], start: u64, byte_order: ByteOrder) -> Option<VersionEntry> {
     let place = to_index(start);
     slice_at(bytes, place, ENTRY_LENGTH).ok()?;

@@ -23,7 +23,7 @@ impl<'a> Section<'a> {
         self.virtual_size
     }
 
-    /// Where the section's bytes begin in the file (`PointerToRawData`); 0 where it has none there.
+    /// Where the section's bytes begin in the file (`PointerToRawData`); 0 if it has none there.
     pub fn offset(&self) -> u32 {
         self.pointer_to_raw_data
     }
@@ -34,12 +34,12 @@ impl<'a> Section<'a> {
     }
 
     /// The section's flags (`Characteristics`): 0x20 where it has code (`IMAGE_SCN_CNT_CODE`), 0x80000000 where it is
-    /// writable in memory (`IMAGE_SCN_MEM_WRITE`), and others. 0 where the file ends before them.
+    /// writable in memory (`IMAGE_SCN_MEM_WRITE`), and others. 0 if the file ends before them.
     pub fn characteristics(&self) -> u32 {
         self.characteristics
     }
 
-    /// How many bytes of the file are the section's: `SizeOfRawData`, but 0 where `PointerToRawData` is 0.
+    /// How many bytes of the file are the section's: `SizeOfRawData`, but 0 if `PointerToRawData` is 0.
     pub fn file_size(&self) -> u32 {
         if self.pointer_to_raw_data == 0 {
             0
@@ -48,7 +48,7 @@ impl<'a> Section<'a> {
         }
     }
 
-    /// How many bytes the section has in memory: `VirtualSize`, or `SizeOfRawData` where that is 0, as in an object
+    /// How many bytes the section has in memory: `VirtualSize`, or `SizeOfRawData` if that is 0, as in an object
     /// file.
     pub fn memory_size(&self) -> u32 {
         if self.virtual_size == 0 {

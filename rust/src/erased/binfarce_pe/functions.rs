@@ -100,7 +100,7 @@ fn whole_sections(sections: Table<'_>) -> Result<Table<'_>, ParseError> {
 }
 
 /// The index and the size in bytes of the code section among section headers of which none is truncated, if the
-/// selection is of one section. `SymbolsSectionIsMissing` where it is missing.
+/// selection is of one section. `SymbolsSectionIsMissing` if it is missing.
 pub fn code_of(sections: Table<'_>, selection: Selection<'_>) -> Result<Option<Text>, ParseError> {
     match selection {
         Selection::All => Ok(None),
@@ -125,7 +125,7 @@ fn code_section(sections: Table<'_>) -> Option<Section<'_>> {
     }
 }
 
-/// The name of the section of this number, where there is one and its stored name is UTF-8: a part of the headers, or
+/// The name of the section of this number, if there is one and its stored name is UTF-8: a part of the headers, or
 /// of the strings, which are the bytes from the string table's beginning on.
 pub fn section_name<'a>(sections: Table<'a>, strings: &'a [u8], number: u32) -> Option<&'a str> {
     let index = number.checked_sub(1)?;
@@ -447,7 +447,7 @@ fn size_at(sections: SelectedSections<'_>, address: u64, above: Option<u64>, bou
     }
 }
 
-// The distance from the address to the least of the text's size and `above` that is greater; 0 where neither is.
+// The distance from the address to the least of the text's size and `above` that is greater; 0 if neither is.
 fn size_up_to(address: u64, above: Option<u64>, text_size: u64) -> u64 {
     let end = match above {
         None => text_size,

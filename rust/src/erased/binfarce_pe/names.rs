@@ -15,7 +15,7 @@ const LENGTH_LENGTH: u32 = 4;
 const MOST_DIGITS: usize = 7;
 
 /// The string table of a file whose tables are at these places, a slice of the file: as many bytes as it states, or up
-/// to the file's end. Empty where there is none.
+/// to the file's end. Empty if there is none.
 pub fn strings_of(file: &[u8], places: TableOffsets) -> &[u8] {
     let offset = to_index(places.symbols.saturating_add(places.symbols_size));
     if offset == 0 {

@@ -44,13 +44,13 @@ pub struct Text {
     pub size: u32,
 }
 
-/// The offset of the signature, from the first 4 bytes. Refused where there are fewer.
+/// The offset of the signature, from the first 4 bytes. Refused if there are fewer.
 pub fn signature_in(pointer: &[u8]) -> Result<u32, ParseError> {
     Ok(number_at(pointer, 0, ByteOrder::LittleEndian)?)
 }
 
 /// The places that a file header states: `headers` begins with the signature, which is at this offset of the file.
-/// Refused where the file header is truncated.
+/// Refused if the file header is truncated.
 pub fn places_in(headers: &[u8], signature: u32) -> Result<TableOffsets, ParseError> {
     let header = header_after(headers, 0)?;
     Ok(places_after(signature, header))

@@ -31,7 +31,7 @@ impl Section<'_> {
     ///
     /// # Errors
     ///
-    /// None: the range always fits a `usize` of 64 bits. `MalformedInput` where its end exceeds one of 32 bits.
+    /// None: the range always fits a `usize` of 64 bits. `MalformedInput` if its end exceeds one of 32 bits.
     pub fn range(&self) -> Result<Range<usize>, ParseError> {
         range(
             self.pointer_to_raw_data as u64,
@@ -40,7 +40,7 @@ impl Section<'_> {
     }
 }
 
-/// The section's bytes, a slice of the file; `UnexpectedEof` where they end past the file.
+/// The section's bytes, a slice of the file; `UnexpectedEof` if they end past the file.
 pub fn section_data<'a>(file: &'a [u8], section: &Section<'_>) -> Result<&'a [u8], ParseError> {
     let (offset, size) = (section.pointer_to_raw_data, section.size_of_raw_data);
     Ok(slice_at(file, to_usize(offset), to_usize(size))?)
@@ -103,7 +103,7 @@ impl<'a> Iterator for Sections<'a> {
 }
 
 // The first section from this index on, where the headers before it were whole, and the index after its own; `None`
-// where there are no more.
+// if there are no more.
 #[inline]
 fn section_left<'a>(
     table: Table<'a>,
@@ -168,7 +168,7 @@ fn is_accepted<'a, F: Fn(Section<'a>) -> bool>(callback: &F, section: Section<'a
     callback(section)
 }
 
-// The section whose header begins at `start`, where its name is UTF-8; refused where a field is truncated.
+// The section whose header begins at `start`, if its name is UTF-8; refused if a field is truncated.
 pub(crate) fn section_at(
     bytes: &[u8],
     start: usize,
@@ -194,12 +194,12 @@ pub(crate) fn section_at(
     }
 }
 
-// The flags of the section whose header begins at `start`; 0 where they are truncated.
+// The flags of the section whose header begins at `start`; 0 if they are truncated.
 fn characteristics_at(bytes: &[u8], start: usize) -> u32 {
     number_at(bytes, start + 36, ByteOrder::LittleEndian).unwrap_or(0)
 }
 
-// The bytes up to the first NUL, or all where there is none, as UTF-8.
+// The bytes up to the first NUL, or all if there is none, as UTF-8.
 pub(crate) fn short_name(bytes: &[u8]) -> Option<&str> {
     utf8_text(up_to_nul(bytes))
 }

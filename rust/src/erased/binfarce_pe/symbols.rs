@@ -67,7 +67,7 @@ pub(crate) fn symbol_of(table: CoffTable<'_>, number: usize) -> SymbolRow {
     symbol_at(table.rows, number * SYMBOL_LENGTH).unwrap()
 }
 
-// The record that begins at `start`; refused where it is truncated.
+// The record that begins at `start`; refused if it is truncated.
 #[inline]
 fn symbol_at(rows: &[u8], start: usize) -> Result<SymbolRow, UnexpectedEof> {
     let mut s = Stream::new_at(rows, start, ByteOrder::LittleEndian)?;

@@ -14,7 +14,7 @@ pub fn count_of(first: Option<usize>, all: usize) -> usize {
 ///
 /// # Errors
 ///
-/// `AllocError` where an allocation failed. The text is then unspecified.
+/// `AllocError` if an allocation failed. The text is then unspecified.
 pub fn push_size(text: &mut String, size: u64) -> Result<(), AllocError> {
     write!(text, "{size:>10} ")
 }
@@ -29,19 +29,19 @@ pub fn hundredths(part: u64, whole: u64) -> u128 {
 ///
 /// # Errors
 ///
-/// `AllocError` where an allocation failed. The text is then unspecified.
+/// `AllocError` if an allocation failed. The text is then unspecified.
 pub fn push_change(alloc: Global, text: &mut String, old: u128, new: u128) -> Result<(), AllocError> {
     let mut change = String::new(alloc);
     write!(change, "{}{}", sign(old, new), old.abs_diff(new))?;
     push_padded(text, change.as_str(), 11)
 }
 
-/// Appends a change in per cent of the old number, `new` where that is 0, to the right of 10 columns, and a blank, if it
+/// Appends a change in per cent of the old number, `new` if that is 0, to the right of 10 columns, and a blank, if it
 /// is wanted.
 ///
 /// # Errors
 ///
-/// `AllocError` where an allocation failed. The text is then unspecified.
+/// `AllocError` if an allocation failed. The text is then unspecified.
 pub fn push_growth(
     alloc: Global,
     text: &mut String,
@@ -60,7 +60,7 @@ pub fn push_growth(
 ///
 /// # Errors
 ///
-/// `AllocError` where an allocation failed. The text is then unspecified.
+/// `AllocError` if an allocation failed. The text is then unspecified.
 pub fn push_percent_member(text: &mut String, sign: &str, n: u128) -> Result<(), AllocError> {
     let per_cent = n / 100;
     write!(
@@ -71,11 +71,11 @@ pub fn push_percent_member(text: &mut String, sign: &str, n: u128) -> Result<(),
     )
 }
 
-/// Appends the member of a change in per cent of the old number, `null` where that is 0, after a comma, if it is wanted.
+/// Appends the member of a change in per cent of the old number, `null` if that is 0, after a comma, if it is wanted.
 ///
 /// # Errors
 ///
-/// `AllocError` where an allocation failed. The text is then unspecified.
+/// `AllocError` if an allocation failed. The text is then unspecified.
 pub fn push_growth_member(
     text: &mut String,
     has_percent: bool,
@@ -96,7 +96,7 @@ pub fn push_growth_member(
 ///
 /// # Errors
 ///
-/// `AllocError` where an allocation failed. The text is then unspecified.
+/// `AllocError` if an allocation failed. The text is then unspecified.
 pub fn push_signed_member(
     text: &mut String,
     name: &str,

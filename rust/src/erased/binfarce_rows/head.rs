@@ -10,7 +10,7 @@ use crate::shim::alloc::AllocError;
 ///
 /// # Errors
 ///
-/// `AllocError` where an allocation failed. The text is then unspecified.
+/// `AllocError` if an allocation failed. The text is then unspecified.
 pub fn push_head(text: &mut String, address: u64, size: u64) -> Result<(), AllocError> {
     if size >= 10_000_000_000 {
         return write!(text, "{address:016x} {size:>10} ");

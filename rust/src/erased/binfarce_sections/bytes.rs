@@ -20,9 +20,9 @@ use crate::shim::alloc::Global;
 ///
 /// # Errors
 ///
-/// `Unknown` where the format isn't one that is read; `Parse` where the reader refuses the file before the section is
-/// found; `NoSection` where no section has the name; `NoBytes` where the section has no bytes in the file
-/// (`SHT_NOBITS`, in Mach-O an offset of 0, in PE no raw data); `PastEnd` where its bytes end past the file.
+/// `Unknown` if the format isn't one that is read; `Parse` if the reader refuses the file before the section is
+/// found; `NoSection` if no section has the name; `NoBytes` where the section has no bytes in the file
+/// (`SHT_NOBITS`, in Mach-O an offset of 0, in PE no raw data); `PastEnd` if its bytes end past the file.
 pub fn section_bytes<'a>(file: &'a [u8], name: &str) -> Result<&'a [u8], SectionError> {
     match first_section(file, name)? {
         Some(section) => bytes_of(file, section),
@@ -34,7 +34,7 @@ pub fn section_bytes<'a>(file: &'a [u8], name: &str) -> Result<&'a [u8], Section
 ///
 /// # Errors
 ///
-/// Those of `section_bytes`, before anything is written; `Write` where a write failed: a beginning of the bytes may
+/// Those of `section_bytes`, before anything is written; `Write` if a write failed: a beginning of the bytes may
 /// then be written.
 pub fn write_section<S: Sink>(file: &[u8], name: &str, out: &mut S) -> Result<(), SectionError> {
     write_all(section_bytes(file, name)?, out)
@@ -50,8 +50,8 @@ fn write_all<S: Sink>(bytes: &[u8], out: &mut S) -> Result<(), SectionError> {
 ///
 /// # Errors
 ///
-/// Those of `write_section`. Before anything is written, also `Unreadable` where the source can't be read at offsets,
-/// or a read of it fails, and `OutOfMemory` where an allocation fails.
+/// Those of `write_section`. Before anything is written, also `Unreadable` if the source can't be read at offsets,
+/// or a read of it fails, and `OutOfMemory` if an allocation fails.
 pub fn write_section_of<F: Source, S: Sink>(
     alloc: Global,
     source: &F,

@@ -12,7 +12,7 @@ use crate::shim::collections::BTreeMap;
 ///
 /// # Errors
 ///
-/// `AllocError` where an allocation failed.
+/// `AllocError` if an allocation failed.
 pub fn bytes_by_name<'a>(
     alloc: Global,
     old: &'a SectionSums<'a>,

@@ -40,7 +40,7 @@ pub struct Section<'a> {
     /// `SizeOfRawData`, which an image rounds up.
     pub file_size: u64,
     /// How many bytes it has in memory: in ELF its size where its flags have `SHF_ALLOC`, else 0; in Mach-O its size; in
-    /// PE `VirtualSize`, or `SizeOfRawData` where that is 0, as in an object file.
+    /// PE `VirtualSize`, or `SizeOfRawData` if that is 0, as in an object file.
     pub memory_size: u64,
 }
 
@@ -85,7 +85,7 @@ impl<'a> Iterator for Sections<'a> {
 ///
 /// # Errors
 ///
-/// `Unknown` where the format isn't supported; `Parse` where the file is too short for its header.
+/// `Unknown` if the format isn't supported; `Parse` if the file is too short for its header.
 pub fn sections_of(file: &[u8]) -> Result<Sections<'_>, SectionError> {
     match detect_format(file) {
         Format::Elf32 { byte_order } => Ok(open_elf(file, Width::Bits32, byte_order)?),

@@ -28,7 +28,7 @@ impl Tables {
     ///
     /// # Errors
     ///
-    /// `Unknown` where the format isn't supported; `Parse` where the file is too short for its header.
+    /// `Unknown` if the format isn't supported; `Parse` if the file is too short for its header.
     pub fn sections(&self) -> Result<Sections<'_>, SectionError> {
         match self {
             Tables::Elf(parts) => Ok(elf_sections_of(parts)),
@@ -54,8 +54,8 @@ impl Tables {
 ///
 /// # Errors
 ///
-/// `Refused` where the file is too short for its header. `Unreadable` where the source can't be read at offsets, or a read
-/// of it fails; `OutOfMemory` where an allocation failed.
+/// `Refused` if the file is too short for its header. `Unreadable` if the source can't be read at offsets, or a read
+/// of it fails; `OutOfMemory` if an allocation failed.
 pub fn read<S: Source>(alloc: Global, source: &S, log: &mut S::Log) -> Result<Tables, ReadError> {
     let format = read_format(alloc, source, log)?;
     read_as(alloc, source, log, format)

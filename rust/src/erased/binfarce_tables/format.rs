@@ -16,8 +16,8 @@ const MAGIC_LENGTH: u64 = 8;
 ///
 /// # Errors
 ///
-/// `Unreadable` where the source can't be read at offsets, or the read fails, and never for a source that can't fail,
-/// such as bytes in memory; `OutOfMemory` where the allocation fails.
+/// `Unreadable` if the source can't be read at offsets, or the read fails, and never for a source that can't fail,
+/// such as bytes in memory; `OutOfMemory` if the allocation fails.
 pub fn read_format<S: Source>(
     alloc: Global,
     source: &S,

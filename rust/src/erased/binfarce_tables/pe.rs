@@ -70,13 +70,13 @@ impl Parts {
         has_functions(self.sections.chosen(), symbols)
     }
 
-    /// The size in bytes of the code section in memory; `None` where all sections are selected.
+    /// The size in bytes of the code section in memory; `None` if all sections are selected.
     pub fn section_size(&self) -> Option<u64> {
         self.sections.chosen().section_size()
     }
 
     /// The name of the section of this number, which is one more than its index; one of more than 8 bytes is taken from
-    /// the string table, where it is there. It is a slice of the parts; nothing is copied. `None` where there is no such
+    /// the string table, where it is there. It is a slice of the parts; nothing is copied. `None` if there is no such
     /// section, and where its stored name isn't UTF-8.
     pub fn section_name(&self, number: u32) -> Option<&str> {
         section_name(self.sections.headers(), &self.records.strings, number)
@@ -114,9 +114,9 @@ fn table_of(headers: &[u8], count: u16) -> Table<'_> {
 ///
 /// # Errors
 ///
-/// `Refused` with the error of `parse` or `selected_functions` of a reader of the whole file; `Unreadable` where the source
+/// `Refused` with the error of `parse` or `selected_functions` of a reader of the whole file; `Unreadable` if the source
 /// can't be read at offsets, or a read of it fails, and never for a source that can't fail, such as bytes in memory;
-/// `OutOfMemory` where an allocation fails.
+/// `OutOfMemory` if an allocation fails.
 pub fn read<S: Source>(
     alloc: Global,
     source: &S,
@@ -158,16 +158,16 @@ pub struct SectionParts {
     pub strings: Vec<u8>,
 }
 
-/// Reads the parts of a file that have its sections: the prefix up to the end of the section headers, or where there are
+/// Reads the parts of a file that have its sections: the prefix up to the end of the section headers, or if there are
 /// none up to the end of the first byte after the file header; and if the name of a section is in the string table,
 /// this table, after its length, which is 4 bytes. Each takes no more memory than the file has of it. The signature isn't
 /// checked.
 ///
 /// # Errors
 ///
-/// `Refused` with `UnexpectedEof` where the file is too short for its file header; `Unreadable` where the source can't
+/// `Refused` with `UnexpectedEof` if the file is too short for its file header; `Unreadable` if the source can't
 /// be read at offsets, or a read of it fails, and never for a source that can't fail, such as bytes in memory;
-/// `OutOfMemory` where an allocation fails.
+/// `OutOfMemory` if an allocation fails.
 pub fn read_sections<S: Source>(
     alloc: Global,
     source: &S,
@@ -245,9 +245,9 @@ fn read_string_table<S: Source>(
 ///
 /// # Errors
 ///
-/// `Refused` with `UnexpectedEof` where the file is too short for its file header, or for these bytes of the optional
-/// header; `Unreadable` where the source can't be read at offsets, or a read of it fails, and never for a source that
-/// can't fail, such as bytes in memory; `OutOfMemory` where an allocation fails.
+/// `Refused` with `UnexpectedEof` if the file is too short for its file header, or for these bytes of the optional
+/// header; `Unreadable` if the source can't be read at offsets, or a read of it fails, and never for a source that
+/// can't fail, such as bytes in memory; `OutOfMemory` if an allocation fails.
 pub fn read_load_address<S: Source>(
     alloc: Global,
     source: &S,
@@ -264,9 +264,9 @@ pub fn read_load_address<S: Source>(
 ///
 /// # Errors
 ///
-/// `Refused` with `UnexpectedEof` where the file is too short for its file header; `Unreadable` where the source can't
+/// `Refused` with `UnexpectedEof` if the file is too short for its file header; `Unreadable` if the source can't
 /// be read at offsets, or a read of it fails, and never for a source that can't fail, such as bytes in memory;
-/// `OutOfMemory` where an allocation fails.
+/// `OutOfMemory` if an allocation fails.
 pub fn has_symbols<S: Source>(
     alloc: Global,
     source: &S,

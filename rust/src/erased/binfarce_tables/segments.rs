@@ -19,9 +19,9 @@ use crate::shim::alloc::Global;
 ///
 /// # Errors
 ///
-/// `Refused` with `UnexpectedEof` where the file is too short for its header, or its program headers end past it;
-/// `Unreadable` where the source can't be read at offsets, or a read of it fails, and never for a source that can't
-/// fail, such as bytes in memory; `OutOfMemory` where an allocation fails.
+/// `Refused` with `UnexpectedEof` if the file is too short for its header, or its program headers end past it;
+/// `Unreadable` if the source can't be read at offsets, or a read of it fails, and never for a source that can't
+/// fail, such as bytes in memory; `OutOfMemory` if an allocation fails.
 pub fn read_load_address<S: Source>(
     alloc: Global,
     source: &S,

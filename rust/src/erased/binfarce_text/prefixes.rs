@@ -7,7 +7,7 @@ fn after<'a>(text: &'a str, prefix: &str) -> Option<&'a str> {
     text.strip_prefix(prefix)
 }
 
-/// The rest of `text` after the first of three prefixes that it begins with. `None` where it begins with none of them.
+/// The rest of `text` after the first of three prefixes that it begins with. `None` if it begins with none of them.
 /// Nothing is copied.
 pub fn after_prefix<'a>(text: &'a str, first: &str, second: &str, third: &str) -> Option<&'a str> {
     if let Some(part) = after(text, first) {

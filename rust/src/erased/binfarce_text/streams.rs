@@ -61,7 +61,7 @@ pub trait Pass<O> {
 ///
 /// # Errors
 ///
-/// `Read` where the reader failed: what came before is passed. `Write` where a write failed, and `OutOfMemory` where an
+/// `Read` if the reader failed: what came before is passed. `Write` if a write failed, and `OutOfMemory` if an
 /// allocation did: a beginning of the output was written.
 pub fn pass_stream<R: Read, O, P: Pass<O>>(
     alloc: Global,
@@ -83,7 +83,7 @@ pub fn pass_stream<R: Read, O, P: Pass<O>>(
     }
 }
 
-// Passes all that the reader gives. Returns `false` where the reader failed.
+// Passes all that the reader gives. Returns `false` if the reader failed.
 fn pass_all<R: Read, O, P: Pass<O>>(
     pass: &mut P,
     chunk: &mut [u8],
@@ -122,7 +122,7 @@ fn pass_part<O, P: Pass<O>>(
     Ok(())
 }
 
-// Takes the next bytes, and writes the output if these are the last ones or it is long; else it waits in `out`, where
+// Takes the next bytes, and writes the output if these are the last ones or it is long; else it waits in `out`, if
 // some may wait before.
 fn pass_step<O, P: Pass<O>>(
     pass: &mut P,

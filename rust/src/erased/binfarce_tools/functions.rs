@@ -112,7 +112,7 @@ impl<'a> Selected<'a> {
 ///
 /// # Errors
 ///
-/// `Unknown` where the format isn't supported; `Parse` where its reader refuses the file; `OutOfMemory` where an
+/// `Unknown` if the format isn't supported; `Parse` if its reader refuses the file; `OutOfMemory` if an
 /// allocation failed.
 pub fn functions_of_file<'a>(
     alloc: Global,

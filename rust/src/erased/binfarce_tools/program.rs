@@ -36,7 +36,7 @@ pub trait Fault: fmt::Display + From<Failure> {
     fn status(&self) -> u8;
 }
 
-/// The arguments after the program's own name. `Usage` where they can't be taken, as where one isn't UTF-8.
+/// The arguments after the program's own name. `Usage` if they can't be taken, as where one isn't UTF-8.
 pub fn arguments(rt: &HostRuntime) -> Result<Vec<String>, Failure> {
     let words = env::args(rt).map_err(|_| Failure::Usage)?.skip(1);
     words.collect_in(rt.alloc()).map_err(|_| Failure::Usage)
@@ -53,7 +53,7 @@ pub fn file_and_section(arguments: &[String]) -> Result<(&str, &str), Failure> {
     }
 }
 
-/// The file at this path, to be read. `File` where it can't be opened.
+/// The file at this path, to be read. `File` if it can't be opened.
 pub fn open(rt: &HostRuntime, path: &str) -> Result<File, Failure> {
     File::open(rt, path).map_err(|_| Failure::File)
 }
@@ -69,7 +69,7 @@ pub fn is_read_at_offsets<S: Source<Log = ()>>(file: &S) -> bool {
     }
 }
 
-// The failure for a reader's error: `OutOfMemory` where an allocation failed, and `File` for any other.
+// The failure for a reader's error: `OutOfMemory` if an allocation failed, and `File` for any other.
 fn read_failure(e: io::Error) -> Failure {
     match e.kind() {
         ErrorKind::OutOfMemory => Failure::OutOfMemory,
@@ -88,7 +88,7 @@ fn read_failure_at(e: ReadError) -> Failure {
 
 /// The bytes up to the reader's end.
 ///
-/// `File` where the reader fails; `OutOfMemory` where an allocation fails, or the reader reports that one did.
+/// `File` if the reader fails; `OutOfMemory` if an allocation fails, or the reader reports that one did.
 pub fn read_whole<R: Read>(alloc: Global, file: &mut R) -> Result<Vec<u8>, Failure> {
     let mut bytes = Vec::new(alloc);
     file.read_to_end(&mut bytes).map_err(read_failure)?;
@@ -104,7 +104,7 @@ pub enum Contents {
 /// What a program reads of a source, at offsets, for the function symbols of a section. Of an ELF file only the headers,
 /// the symbol table and the names are read.
 ///
-/// `File` where it can't be read; `Refused` with the error of the ELF reader; `OutOfMemory` where an allocation fails.
+/// `File` if it can't be read; `Refused` with the error of the ELF reader; `OutOfMemory` if an allocation fails.
 pub fn contents_at<S: Source<Log = ()>>(
     alloc: Global,
     source: &S,
@@ -136,7 +136,7 @@ fn read_contents<S: Source<Log = ()>>(
     }
 }
 
-/// The result of a program: the fault of its work if it has one, and else `Write` where the flush after it failed.
+/// The result of a program: the fault of its work if it has one, and else `Write` if the flush after it failed.
 pub fn finish<F: From<Failure>>(flushed: io::Result<()>, ended: Result<(), F>) -> Result<(), F> {
     ended?;
     flushed.map_err(|_| Failure::Write)?;

@@ -75,7 +75,7 @@ impl From<ListError> for ReportError {
 ///
 /// # Errors
 ///
-/// Those of `list`; `TooLarge` where the sum of all sizes is 2^64 or more. Only after `Write` a beginning of the report
+/// Those of `list`; `TooLarge` if the sum of all sizes is 2^64 or more. Only after `Write` a beginning of the report
 /// may be written.
 pub fn report<S: Sink>(
     alloc: Global,
@@ -112,7 +112,7 @@ struct CrateSums {
     total: u64,
 }
 
-// The sums of the functions. `TooLarge` where the sum of all exceeds 64 bits.
+// The sums of the functions. `TooLarge` if the sum of all exceeds 64 bits.
 fn crate_sums(alloc: Global, functions: Functions<'_>) -> Result<CrateSums, ReportError> {
     let mut crates = BTreeMap::new(alloc);
     let mut total = 0u64;
@@ -138,11 +138,11 @@ fn add_function(
     add_size(alloc, crates, text.as_str(), function.size)
 }
 
-/// Adds a size to the sum of a name, up to 2^64 - 1. The name is copied where there is no sum yet.
+/// Adds a size to the sum of a name, up to 2^64 - 1. The name is copied if there is no sum yet.
 ///
 /// # Errors
 ///
-/// `AllocError` where an allocation failed. The sums are then unspecified.
+/// `AllocError` if an allocation failed. The sums are then unspecified.
 pub fn add_size(
     alloc: Global,
     crates: &mut BTreeMap<String, u64>,
@@ -162,7 +162,7 @@ pub fn add_size(
 ///
 /// # Errors
 ///
-/// `AllocError` where an allocation failed. The text is then unspecified.
+/// `AllocError` if an allocation failed. The text is then unspecified.
 pub fn put_crate(alloc: Global, text: &mut String, name: &str) -> Result<(), AllocError> {
     text.clear();
     if push_crate(alloc, text, name)? {
@@ -176,7 +176,7 @@ pub fn put_crate(alloc: Global, text: &mut String, name: &str) -> Result<(), All
 ///
 /// # Errors
 ///
-/// `OutOfMemory` where it wasn't made, and `Write` where a write failed.
+/// `OutOfMemory` if it wasn't made, and `Write` if a write failed.
 pub fn write_made<S: Sink>(out: &mut S, made: Result<String, AllocError>) -> Result<(), ReportError> {
     let text = made?;
     write_whole(out, text.as_bytes())?;

@@ -8,7 +8,7 @@ use crate::erased::binfarce_tools::list::{ListError, Sink};
 ///
 /// # Errors
 ///
-/// `Write` where a write of the sink failed: a beginning of the bytes was taken.
+/// `Write` if a write of the sink failed: a beginning of the bytes was taken.
 pub fn write_whole<S: Sink>(out: &mut S, bytes: &[u8]) -> Result<(), ListError> {
     let mut at = 0;
     while at < bytes.len() {

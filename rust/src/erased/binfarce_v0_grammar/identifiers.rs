@@ -19,7 +19,7 @@ pub struct UndisambiguatedIdentifier<'a> {
 /// `<identifier>`: an undisambiguated identifier with its disambiguator.
 #[derive(Clone, Copy)]
 pub struct Identifier<'a> {
-    /// 0 where none is written.
+    /// 0 if none is written.
     pub disambiguator: u64,
     pub name: UndisambiguatedIdentifier<'a>,
 }
@@ -75,7 +75,7 @@ fn identifier_bytes<'a>(
 
 /// `<undisambiguated-identifier> = ["u"] <decimal-number> ["_"] <bytes>` at a position, and the position after it.
 ///
-/// `None` where there is no number, where the part ends before as many bytes, and where a Punycode identifier has no
+/// `None` if there is no number, where the part ends before as many bytes, and where a Punycode identifier has no
 /// Punycode.
 #[cfg_attr(not(debug_assertions), inline(always))]
 pub fn undisambiguated_at<'a>(

@@ -5,7 +5,7 @@
 use crate::erased::binfarce_v0_grammar::forms::Lifetime;
 use crate::erased::binfarce_v0_grammar::numbers::byte_at;
 
-/// The position after a byte. `None` where that byte isn't there.
+/// The position after a byte. `None` if that byte isn't there.
 #[cfg_attr(not(debug_assertions), inline(always))]
 pub fn eat(part: &[u8], byte: u8, at: Option<usize>) -> Option<usize> {
     let at = at?;
@@ -55,7 +55,7 @@ pub fn bound_end(binder_depth: usize, life: Lifetime, after: Option<usize>) -> O
     }
 }
 
-/// The position after a required lifetime: `None` also where there is no lifetime.
+/// The position after a required lifetime: `None` also if there is no lifetime.
 #[cfg_attr(not(debug_assertions), inline(always))]
 pub fn required_end(binder_depth: usize, life: Lifetime, after: Option<usize>) -> Option<usize> {
     match life {

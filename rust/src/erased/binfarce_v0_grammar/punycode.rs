@@ -28,7 +28,7 @@ const MAX_DELTA: u64 = 0xFFFF_FFFF;
 /// The text of an ASCII part and a code: the parts of a v0 identifier before and after its last `_`. Each byte of the
 /// ASCII part is a character, and an empty code inserts none. Nothing is allocated.
 ///
-/// `None` where the code isn't a sequence of deltas in the digits `a` to `z` and `0` to `9`, where it inserts a code
+/// `None` if the code isn't a sequence of deltas in the digits `a` to `z` and `0` to `9`, where it inserts a code
 /// point that isn't a Unicode scalar value, and where the text would have more than 128 characters.
 pub fn decode(ascii: &[u8], code: &[u8]) -> Option<Decoded> {
     if ascii.len() > MOST_CHARACTERS {

@@ -32,7 +32,7 @@ fn read_lifetime(part: &str, at: usize) -> Option<usize> {
     after
 }
 
-/// The position after the `<path>` at a position. `None` where there is no path, and where it has more than
+/// The position after the `<path>` at a position. `None` if there is no path, and if it has more than
 /// `levels_left` levels. The target of a back reference and the meaning of a lifetime's index aren't checked.
 pub fn read_path(part: &str, levels_left: usize, at: usize) -> Option<usize> {
     if levels_left == 0 {

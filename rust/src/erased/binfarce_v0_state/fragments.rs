@@ -76,7 +76,7 @@ const FRAGMENT_BYTES: usize = 176;
 // end before.
 const MANY_VISITS: usize = 256;
 
-/// Forgets all fragments where an allocation failed: their ranges may no longer fit the text.
+/// Forgets all fragments if an allocation failed: their ranges may no longer fit the text.
 #[cfg_attr(not(debug_assertions), inline(always))]
 pub fn or_forget(
     kept: &mut Vec<Fragment>,
@@ -235,7 +235,7 @@ impl<'a> Printer<'a> {
         self.kept.keep(fragment)
     }
 
-    // The fragment of this index, where it has this key.
+    // The fragment of this index, if it has this key.
     #[cfg_attr(not(debug_assertions), inline(always))]
     fn fragment_at(&self, number: usize, key: FragmentKey) -> Option<&Fragment> {
         let fragment = self.kept.fragments.get(number)?;

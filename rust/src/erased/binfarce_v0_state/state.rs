@@ -185,7 +185,7 @@ impl<'a> Printer<'a> {
         }
     }
 
-    /// Appends the text that was written, with the disambiguators of crates if they are written; or `other` where more
+    /// Appends the text that was written, with the disambiguators of crates if they are written; or `other` if more
     /// was written than is counted. A failed allocation leaves `out` unchanged.
     pub fn push_text(&self, alloc: Global, out: &mut String, other: &str) -> Result<(), AllocError> {
         if !self.is_whole() {

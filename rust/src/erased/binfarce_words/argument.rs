@@ -47,7 +47,7 @@ impl<'a> fmt::Display for Argument<'a> {
 ///
 /// # Errors
 ///
-/// `AllocError` where an allocation fails.
+/// `AllocError` if an allocation fails.
 pub fn arguments_of<'a>(
     alloc: Global,
     texts: &'a [Option<String>],

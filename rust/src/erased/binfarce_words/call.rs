@@ -29,7 +29,7 @@ pub enum Call<'a> {
 ///
 /// A `Wrong` that names what is wrong: `NotUtf8` with the position of the first argument that isn't UTF-8, before
 /// anything else, unless the call is one of `list` or `size`, and right, and each such argument is an operand;
-/// `OutOfMemory` where an allocation fails.
+/// `OutOfMemory` if an allocation fails.
 pub fn read_call<'a>(alloc: Global, arguments: &[Argument<'a>]) -> Result<Call<'a>, Wrong<'a>> {
     let read = read_arguments(alloc, arguments);
     match first_not_utf8(arguments) {

@@ -86,7 +86,7 @@ impl<'a> Arguments<'a> {
     ///
     /// # Errors
     ///
-    /// `AllocError` where an allocation fails.
+    /// `AllocError` if an allocation fails.
     pub fn operand_texts(&self, alloc: Global) -> Result<Vec<&'a str>, AllocError> {
         let mut texts = Vec::new(alloc);
         for operand in &self.operands {

@@ -24,7 +24,7 @@ const LIMITS: [Limits; 5] = [
     (usize::MAX, None),
 ];
 
-// Whether the call reports that all was written, or that a write failed; `None` where it refuses otherwise.
+// Whether the call reports that all was written, or that a write failed; `None` if it refuses otherwise.
 fn all_written(alloc: Global, what: &str, file: &[u8], out: &mut Out<Target>) -> Option<bool> {
     match what {
         "list" => match list(alloc, file, ".text", out) {

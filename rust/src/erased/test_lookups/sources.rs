@@ -1,6 +1,6 @@
 // From crates/test_lookups/src/sources.rt, by tools/erase.
 
-//! A source that counts its calls, and fails where a test says so.
+//! A source that counts its calls, and fails if a test says so.
 
 use crate::erased::binfarce_bytes::source::Source;
 use core::cell::RefCell;

@@ -101,7 +101,7 @@ fn is_reported_of(alloc: Global, file: File) -> Row {
 const PICTURE: &str =
     "<svg xmlns=\"http://www.w3.org/2000/svg\" width=\"800\" height=\"120\" viewBox=\"0 0 800 120\" font-family=\"sans-serif\" font-size=\"16\">\n<title>Size by crate: file</title>\n<rect width=\"800\" height=\"100%\" fill=\"#fff\"/>\n<text x=\"8\" y=\"25\" font-weight=\"bold\">file</text>\n<text x=\"8\" y=\"49\">sum 0.0 KiB, text 0.0 KiB: share of the sum and size by crate</text>\n<svg y=\"64\" height=\"24\"><svg width=\"248\"><text x=\"8\" y=\"18\">123foo</text></svg><svg x=\"252\" width=\"324\"><rect y=\"3\" width=\"100%\" height=\"18\" fill=\"#e6e6e6\"/><rect y=\"3\" width=\"100.00%\" height=\"18\" fill=\"#245\"/></svg><text x=\"664\" y=\"18\" text-anchor=\"end\">50.00%</text><text x=\"792\" y=\"18\" text-anchor=\"end\">0.0 KiB</text></svg>\n<svg y=\"88\" height=\"24\"><svg width=\"248\"><text x=\"8\" y=\"18\">foo</text></svg><svg x=\"252\" width=\"324\"><rect y=\"3\" width=\"100%\" height=\"18\" fill=\"#e6e6e6\"/><rect y=\"3\" width=\"100.00%\" height=\"18\" fill=\"#245\"/></svg><text x=\"664\" y=\"18\" text-anchor=\"end\">50.00%</text><text x=\"792\" y=\"18\" text-anchor=\"end\">0.0 KiB</text></svg>\n</svg>\n";
 
-// The name of a function before `foo::bar`, and the report of both or its picture; `TooLarge` where the first
+// The name of a function before `foo::bar`, and the report of both or its picture; `TooLarge` if the first
 // function's size is 2^64 - 1.
 const REPORTS: [(&str, Reported); 4] = [
     ("_RNvC6_123foo3bar", Reported::Picture(PICTURE)),

@@ -21,7 +21,7 @@ fn filtered(
     (ended, target.taken)
 }
 
-/// Appends what is shown of a text that comes whole, or `unchanged`; of one of up to 1,000 bytes also where short,
+/// Appends what is shown of a text that comes whole, or `unchanged`; of one of up to 1,000 bytes also if short,
 /// interrupted and failed calls give something else.
 pub fn push_streamed(alloc: Global, line: &mut String, text: &[u8]) -> io::Result<()> {
     let whole = Target::taking(alloc, usize::MAX);
@@ -112,7 +112,7 @@ fn are_interrupted_calls_the_same(alloc: Global, text: &[u8], shown: &[u8]) -> b
     ended == Ok(()) && target.target.taken.as_slice() == shown && is_flushed
 }
 
-// A failed flush is a failed write, also where nothing is written.
+// A failed flush is a failed write, also if nothing is written.
 fn are_failed_flushes_reported(alloc: Global, text: &[u8]) -> bool {
     let unflushed = Cell::new(0);
     let mut source = Source::of(text);

@@ -1,5 +1,5 @@
 //! A program without std: it prints what names and a file in memory are, each line from a buffer of 200 bytes. Then it panics, and its
-//! handler prints a name, also where every allocation is refused. Rust's std would bring a second handler, which rustc refuses.
+//! handler prints a name, also if every allocation is refused. Rust's std would bring a second handler, which rustc refuses.
 #![no_std]
 #![no_main]
 

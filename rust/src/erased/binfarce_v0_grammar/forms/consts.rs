@@ -32,7 +32,7 @@ pub enum ConstForm<'a> {
     Back(usize, usize),
 }
 
-/// The form of the const at a position, where there is a position.
+/// The form of the const at a position, if there is a position.
 pub fn const_form<'a>(part: &'a str, at: Option<usize>) -> ConstForm<'a> {
     let Some(at) = at else {
         return ConstForm::Nothing;

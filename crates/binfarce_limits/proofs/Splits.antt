@@ -1,4 +1,4 @@
--- What is before and behind the last such character of a text.
+-- What is before and after the last such character of a text.
 use Rattle.std.proofs.Common.{◌≡◌, ◌≢◌, ◌∙◌, ◌==◌, ◌<◌, ◌++◌, ℕ, suc, Bool, true, false, List, [], ◌∷◌, Option, Some, None, MatchOption, Bor, length, get_or, take, drop, ap, ap₂, arith, refl, sym, take-append-drop, if◌then◌else◌}
 use Rattle.std.proofs.lemmas.Bool.Decides.{nat_tests}
 use Rattle.std.proofs.lemmas.Str.Pattern.{NoCharPasses-char, drop_at_char}
@@ -19,7 +19,7 @@ none_in c (x ∷ xs) free =
     ap (behind c x xs) (none_in c xs (λ i lt. free (suc i) (omega arith)))
     ∙ ap (λ (b : Bool). if b then Some ([], xs) else None) (not_it x c (free 0 (omega arith)))
 
--- it has one, and no other behind it
+-- it has one, and no other after it
 last_in : (c : ℕ) (front back : List ℕ) → split_last c back ≡ None → split_last c (front ++ c ∷ back) ≡ Some (front, back)
 last_in c [] back none = ap (behind c c back) none ∙ ap (λ (b : Bool). if b then Some ([], back) else None) (it c)
 last_in c (x ∷ front) back none = ap (behind c x (front ++ c ∷ back)) (last_in c front back none)

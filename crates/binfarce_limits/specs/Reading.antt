@@ -6,7 +6,7 @@ use Rattle.binfarce_words.specs.Words.{is_percent, limit_in}
 use Rattle.binfarce_words.specs.declared.takes.Limit.{Limit}
 use Rattle.binfarce_limits.specs.Rows.{NameLimit}
 
--- why a line can't be taken: it has no limit behind a name, or what is none; a limit on growth, where files aren't compared; or a name that a line before it has
+-- why a line can't be taken: it has no limit after a name, or what is none; a limit on growth, where files aren't compared; or a name that a line before it has
 pub data Why : Type 0 where
   no_limit : Why
   bad_limit : (word : List ℕ) → Why
@@ -19,7 +19,7 @@ pub data Line : Type 0 where
   wrong : (why : Why) → Line
   limits : (limit : NameLimit) → Line
 
--- the parts before and behind the last such byte of a text, if it has one
+-- the parts before and after the last such byte of a text, if it has one
 abbrev pub behind : (c first : ℕ) → (others : List ℕ) → (found : Option (List ℕ × List ℕ)) → Option (List ℕ × List ℕ)
 behind c first others (Some (front, back)) = Some (first ∷ front, back)
 behind c first others None = if first == c then Some ([], others) else None
@@ -28,7 +28,7 @@ abbrev pub split_last : (c : ℕ) → (text : List ℕ) → Option (List ℕ × 
 split_last c [] = None
 split_last c (first ∷ others) = behind c first others (split_last c others)
 
--- those before and behind the last tab of a line, or if it has none its last blank
+-- those before and after the last tab of a line, or if it has none its last blank
 abbrev pub or_else : {X : Type 0} → (one other : Option X) → Option X
 or_else (Some x) other = Some x
 or_else None other = other
@@ -36,7 +36,7 @@ or_else None other = other
 abbrev pub line_parts : (line : List ℕ) → Option (List ℕ × List ℕ)
 line_parts line = or_else (split_last 9 line) (split_last 32 line)
 
--- what a name and a word behind it say: the word is a limit, in per cent only if files are compared
+-- what a name and a word after it say: the word is a limit, in per cent only if files are compared
 abbrev pub limit_line : (compares : Bool) → (name word : List ℕ) → Option Limit → Line
 limit_line compares name word None = wrong (bad_limit word)
 limit_line compares name word (Some limit) = if is_percent (Some limit) && not compares then wrong (only_growth word) else limits (record { name = name; limit = limit })

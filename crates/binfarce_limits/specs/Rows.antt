@@ -19,7 +19,7 @@ pub record NameLimit : Type 0 where
 abbrev pub limit_view : RowLimit → NameLimit
 limit_view l = record { name = l.name.now; limit = l.limit }
 
--- what is said of a limit: what is more than it, or that no row has its name
+-- a finding on a limit: what is more than it, or that no row has its name
 pub record Found : Type 0 where
   pub name : List ℕ
   pub limit : Limit
@@ -34,7 +34,7 @@ abbrev pub exceeded : NameLimit → (more : Option Excess) → List Found
 exceeded limit (Some more) = record { name = limit.name; limit = limit.limit; excess = Some more } ∷ []
 exceeded limit None = []
 
--- what is said of a limit, by what is counted for its row: nothing of a row within it
+-- the finding on a limit, by what is counted for its row: none if that is within it
 abbrev pub judged : Option Counted → NameLimit → List Found
 judged (Some count) limit = exceeded limit (excess_of count limit.limit)
 judged None limit = record { name = limit.name; limit = limit.limit; excess = None } ∷ []

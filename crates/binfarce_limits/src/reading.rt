@@ -16,9 +16,9 @@ use std::fmt;
 /// Why limits aren't read. Lines are counted from 1 on.
 #[derive(Debug, Clone, Copy, PartialEq)]
 pub enum Unread<'a> {
-    /// The line at this number has no limit behind a name.
+    /// The line at this number has no limit after a name.
     NoLimit(usize),
-    /// What is behind the name in this line is no limit.
+    /// What comes after the name in this line is no limit.
     BadLimit(usize, &'a str),
     /// The limit in this line is one on growth, and files aren't compared.
     OnlyGrowth(usize, &'a str),
@@ -69,9 +69,9 @@ impl From<AllocError> for Unread<'_> {
 pub(crate) enum Line<'a> {
     // Nothing: it is blank, or begins with `#`.
     Nothing,
-    // It has no limit behind a name.
+    // It has no limit after a name.
     NoLimit,
-    // What is behind the name is no limit.
+    // What comes after the name is no limit.
     BadLimit(&'a str),
     // The limit is one on growth, and files aren't compared.
     OnlyGrowth(&'a str),
@@ -81,7 +81,7 @@ pub(crate) enum Line<'a> {
 
 /// The limits in a text, in the order of their lines. `compares` says whether files are compared.
 ///
-/// A line is a row's name, and behind its last tab, or if it has none behind its last blank, a limit as `--fail-above`
+/// A line is a row's name, and after its last tab, or if it has none after its last blank, a limit as `--fail-above`
 /// takes; white space around a line, a name and a limit counts for nothing. A line without anything, and one that begins
 /// with `#`, has no limit.
 ///
@@ -183,7 +183,7 @@ fn line_of(line: &str, compares: bool) -> Line<'_>
     }
 }
 
-// What is before and behind the last tab of a line, or if it has none its last blank.
+// What is before and after the last tab of a line, or if it has none its last blank.
 fn line_parts(line: &str) -> Option<(&str, &str)>
     ensures { option_map (λ p. (p.0.now, p.1.now)) result ≡ line_parts line.entry.now }
 {

@@ -30,7 +30,7 @@ pub trait Rows {
         ensures { result ≡ counted self.now name.now };
 }
 
-/// What is said of a limit: that its row is above it, or that there is no such row.
+/// A finding on a limit: its row is above it, or there is no such row.
 #[derive(Debug, Drop)]
 pub struct Finding {
     /// The row's name.
@@ -59,7 +59,7 @@ impl fmt::Display for Finding {
     }
 }
 
-/// What is said of limits, in their order: of each whose row is above it, and of each that has no row.
+/// The findings on limits, in their order: one on each whose row is above it, and on each that has no row.
 ///
 /// # Errors
 ///
@@ -79,7 +79,7 @@ pub fn judge<R: Rows>(
     Ok(found)
 }
 
-// Adds what is said of a limit, by what is counted for its row, if there is one.
+// Adds the finding on a limit, if there is one, by what is counted for its row.
 fn push_judged(
     alloc: Global,
     found: &mut Vec<Finding>,

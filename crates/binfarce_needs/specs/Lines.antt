@@ -20,7 +20,7 @@ use Rattle.binfarce_needs.specs.declared.lines.Lack.TheVariants.{UnknownFormat, 
 use Rattle.binfarce_needs.specs.declared.lines.Other.{Other}
 use Rattle.binfarce_needs.specs.declared.lines.Other.TheVariants.{Macho, Pe}
 
--- the version behind a name, as nm(1) writes a needed one
+-- the version after a name, as nm(1) writes a needed one
 abbrev pub version_part : Option (List ℕ) → List ℕ
 version_part None = []
 version_part (Some version) = codes "@" ++ version

@@ -1,10 +1,10 @@
--- The versions that a file needs of others, and their names (LSB Core Generic, "Version Requirements"). Files of both classes have the same layouts.
+-- The versions that a file needs from others, and their names (LSB Core Generic, "Version Requirements"). Files of both classes have the same layouts.
 use Rattle.std.specs.Prelude.{ℕ, zero, suc, ◌+◌, ◌/◌, List, [], ◌∷◌, ◌++◌, length, take, find, Option, Some, None, nat_eq, nat_le, if◌then◌else◌}
 use Rattle.std.specs.Option.{option_map}
 use Rattle.binfarce_bytes.specs.declared.ByteOrder.{ByteOrder}
 use Rattle.binfarce_bytes.specs.Field.{field, value_at}
 
--- an entry for a file (Verneed): how many versions are needed of it (vn_cnt), the offset of its name (vn_file), how far behind the entry's beginning the first
+-- an entry for a file (Verneed): how many versions are needed from it (vn_cnt), the offset of its name (vn_file), how far after the entry's beginning the first
 -- version's is (vn_aux), and how far the next file's entry (vn_next)
 pub record FileEntry : Type 0 where
   pub count : ℕ

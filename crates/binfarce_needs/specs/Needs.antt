@@ -1,4 +1,4 @@
--- What an ELF file needs of others: its undefined symbols (System V gABI, "Symbol Table"), with their versions (LSB Core Generic, "Symbol Versioning").
+-- What an ELF file needs from others: its undefined symbols (System V gABI, "Symbol Table"), with their versions (LSB Core Generic, "Symbol Versioning").
 use Rattle.std.specs.Prelude.{ℕ, Bool, List, ◌&&◌, Option, Some, None, Result, Ok, not, nat_eq, if◌then◌else◌}
 use Rattle.std.specs.Option.{option_map}
 use Rattle.std.specs.List.{range_with_len, filter_map}
@@ -42,7 +42,7 @@ pub record NeedTables : Type 0 where
   pub versions : List ℕ
   pub needed : List ℕ
 
--- a symbol that is needed: its stored name, its info, the name of its version, and that of the file that the version is of
+-- a symbol that is needed: its stored name, its info, the name of its version, and that of the file that the version comes from
 pub record Need : Type 0 where
   pub name : List ℕ
   pub info : ℕ

@@ -1,4 +1,4 @@
-//! What an ELF file needs of others: its undefined symbols, with their versions and the files that these are of.
+//! What an ELF file needs from others: its undefined symbols, with their versions and the files that these come from.
 #![tactic(auto)]
 
 mod lines;

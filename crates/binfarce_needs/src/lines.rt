@@ -79,7 +79,7 @@ pub fn unread(other: Other) -> &'static str
 
 /// A line for each symbol that an ELF file needs: what is shown of its name, and its version as `nm` writes it,
 /// `memcpy@GLIBC_2.14`; or an object with the members `file`, `name`, `raw` (the stored name), `binding`, `version` and
-/// `from`, the file that the version is of. The first 8 bytes, which name the format, and those that `read_needs` reads
+/// `from`, the file that the version comes from. The first 8 bytes, which name the format, and those of `read_needs`
 /// are read.
 ///
 /// # Errors
@@ -180,7 +180,7 @@ fn push_row(
     }
 }
 
-// Appends a version behind a name, if there is one.
+// Appends a version after a name, if there is one.
 fn push_version(text: &mut String, version: Option<&str>) -> Result<(), AllocError>
     ensures { OnOk result (string_bytes text.new
         ≡ string_bytes text.old ++ version_part (option_map (λ t. t.now) version.entry)) }

@@ -35,7 +35,7 @@ pub struct Tables {
     pub strings: Vec<u8>,
     /// The versions of the rows (`SHT_GNU_versym`), if the file has them.
     pub versions: Vec<u8>,
-    /// The versions that are needed of other files (`SHT_GNU_verneed`), if the file has them.
+    /// The versions that are needed from other files (`SHT_GNU_verneed`), if the file has them.
     pub needed: Vec<u8>,
 }
 
@@ -48,7 +48,7 @@ pub(crate) struct NeedSections {
 }
 
 /// Reads the tables of an ELF file of this class, numbers in the given order: the dynamic symbol table, its strings, the
-/// versions of its rows and those that are needed of other files; of a file without it the symbol table `.symtab` and
+/// versions of its rows and those that are needed from other files; of a file without it the symbol table `.symtab` and
 /// its strings. They are found by the file header and all section headers. Each is read once, into memory of its size,
 /// which is never more than the file has of it. No other byte is read. The magic number isn't checked.
 ///

@@ -1,4 +1,4 @@
-//! The versions that a file needs of others (LSB Core Generic, "Version Requirements").
+//! The versions that a file needs from others (LSB Core Generic, "Version Requirements").
 
 ghost use Rattle.std.specs.Prelude.{◌≡◌, ◌≤◌, ◌++◌, List, [], length, take, IfOk, IfSome};
 ghost use Rattle.std.specs.Option.{option_map};
@@ -22,7 +22,7 @@ pub(crate) struct Offsets {
     pub files: BTreeMap<Half, Word>,
 }
 
-// What an entry for a file says: how many versions are needed of it, the offset of its name, and how far behind its
+// What an entry for a file says: how many versions are needed from it, the offset of its name, and how far after its
 // beginning the first version's entry and the next file's begin.
 #[derive(Clone, Copy)]
 struct FileEntry {
@@ -32,7 +32,7 @@ struct FileEntry {
     next: Word,
 }
 
-// What an entry for a version says: its index, the offset of its name, and how far behind its beginning the next begins.
+// What an entry for a version says: its index, the offset of its name, and how far after its beginning the next begins.
 #[derive(Clone, Copy)]
 struct VersionEntry {
     index: Half,

@@ -1,6 +1,6 @@
 // From crates/binfarce_needs/src/lib.rt, by tools/erase.
 
-//! What an ELF file needs of others: its undefined symbols, with their versions and the files that these are of.
+//! What an ELF file needs from others: its undefined symbols, with their versions and the files that these come from.
 
 pub(crate) mod lines;
 pub(crate) mod needs;

@@ -1,6 +1,6 @@
 // From crates/test_needs/src/main.rt, by tools/erase.
 
-//! Answers what files need of others: `stdin` has the files, a line each, and `stdout` their answers.
+//! Answers what files need from others: `stdin` has the files, a line each, and `stdout` their answers.
 //!
 //! A line begins with `lines`, `full`, `raw` or `objects`, the form of the answer. Then come the bytes of the file in
 //! hexadecimal digits, in words; `9*00` is nine bytes of zero. Or it begins with `names`, before a name of which the texts

@@ -22,7 +22,7 @@ pub enum Excess {
     Has(u64),
     /// What a sum grew by.
     Grew(u64),
-    /// The same, and so many hundredths of a per cent of the old sum.
+    /// What a sum grew by, also in hundredths of a per cent of the old sum.
     GrewBy(u64, u128),
 }
 

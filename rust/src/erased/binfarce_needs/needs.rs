@@ -23,7 +23,7 @@ pub struct Need<'a> {
     pub info: u8,
     /// The name of its version, if it has one: `GLIBC_2.34`.
     pub version: Option<&'a str>,
-    /// The name of the file that the version is of: `libc.so.6`.
+    /// The name of the file that the version comes from: `libc.so.6`.
     pub from: Option<&'a str>,
 }
 
